@@ -1,11 +1,17 @@
+//! Texts, names, environments and tokens: what the bytes of a job file, a script or a request say.
 //!
+//! Everything above this crate holds its texts as [`Text`], its names as [`Name`] and its lists as [`Items`], which contracts see
 //! as the list of their bytes or items, without where they lie in memory.
 #![tactic(auto)]
 
+pub mod env;
 pub mod fault;
 pub mod items;
+pub mod name;
 pub mod text;
 
+pub use env::Env;
 pub use fault::TextFault;
 pub use items::Items;
+pub use name::Name;
 pub use text::Text;
