@@ -1,0 +1,20 @@
+//! What should have happened: the values that everybody speaks, and the definitions of a run over its history.
+//!
+//! `specs/` says what a run means; the crates above cite it and add nothing.
+#![tactic(auto)]
+
+pub mod event;
+pub mod input;
+pub mod output;
+pub mod process;
+pub mod request;
+pub mod state;
+pub mod who;
+
+pub use event::Event;
+pub use input::Input;
+pub use output::{Order, Output};
+pub use process::{How, Process};
+pub use request::{Answer, Command, Request};
+pub use state::{Goal, State};
+pub use who::Who;
