@@ -1,1 +1,15 @@
+pub mod Answers
+pub mod Chronicle
+pub mod Due
+pub mod Events
+pub mod Held
+pub mod Life
+pub mod Moves
+pub mod Offers
+pub mod Outputs
+pub mod Queue
+pub mod Readings
 pub mod Requests
+pub mod Seen
+pub mod Tests
+pub mod Work

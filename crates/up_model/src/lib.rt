@@ -4,17 +4,21 @@
 #![tactic(auto)]
 
 pub mod event;
+pub mod files;
 pub mod input;
 pub mod output;
 pub mod process;
 pub mod request;
 pub mod state;
+pub mod step;
 pub mod who;
 
 pub use event::Event;
+pub use files::JobDef;
 pub use input::Input;
 pub use output::{Order, Output};
 pub use process::{How, Process};
 pub use request::{Answer, Command, Request};
 pub use state::{Goal, State};
+pub use step::Step;
 pub use who::Who;
