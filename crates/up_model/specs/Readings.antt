@@ -12,23 +12,34 @@ use Rattle.up_model.specs.declared.input.Input.TheVariants as input
 use Rattle.up_model.specs.Chronicle.{Entry, Origin, Given, Queued, Finished, Made, Aimed, Restarted, Released, Entered, Ordered, Outside, Entering, Spoilt}
 use Rattle.up_model.specs.Tests.{same_process, same_who}
 
+-- the entry at a place
+abbrev pub entry_at : ℕ → List Entry → Option Entry
+entry_at place [] = None
+entry_at place (entry ∷ c) = if length c == place then Some entry else entry_at place c
+
+abbrev pub event_of : Option Entry → Option Event
+event_of (Some (Queued origin event)) = Some event
+event_of other = None
+
 -- the event that was queued at a place
 abbrev pub event_at : ℕ → List Entry → Option Event
-event_at place [] = None
-event_at place (Queued origin event ∷ c) = if length c == place then Some event else event_at place c
-event_at place (entry ∷ c) = event_at place c
+event_at place c = event_of (entry_at place c)
+
+abbrev pub made_of : Option Entry → Option (ℕ × List ℕ)
+made_of (Some (Made job name)) = Some (job, name)
+made_of other = None
 
 -- the job and the name of the instance that was made at a place
 abbrev pub made_at : ℕ → List Entry → Option (ℕ × List ℕ)
-made_at place [] = None
-made_at place (Made job name ∷ c) = if length c == place then Some (job, name) else made_at place c
-made_at place (entry ∷ c) = made_at place c
+made_at place c = made_of (entry_at place c)
+
+abbrev pub id_of : Option Entry → Option ℕ
+id_of (Some (Given (input.Request id request))) = Some id
+id_of other = None
 
 -- the number under which the request at a place is answered
 abbrev pub id_at : ℕ → List Entry → Option ℕ
-id_at place [] = None
-id_at place (Given (input.Request id request) ∷ c) = if length c == place then Some id else id_at place c
-id_at place (entry ∷ c) = id_at place c
+id_at place c = id_of (entry_at place c)
 
 -- a place, unless it is the given one
 abbrev pub without : ℕ → Option ℕ → Option ℕ

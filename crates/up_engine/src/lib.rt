@@ -1,0 +1,7 @@
+//! The engine: what to do now. Its contract is the model's run.
+#![tactic(auto)]
+
+mod reading;
+mod record;
+
+pub use record::{Expression, Origin, Record};
