@@ -21,16 +21,45 @@ pub enum Origin {
 #[derive(Drop)]
 pub enum Record {
     Given(Input),
-    Queued { origin: Origin, event: Event },
+    Queued {
+        origin: Origin,
+        event: Event,
+    },
     Handled(usize),
-    Offered { expression: Expression, event: usize },
-    Fired { expression: Expression, taken: Items<usize> },
+    Offered {
+        expression: Expression,
+        event: usize,
+    },
+    Fired {
+        expression: Expression,
+        taken: Items<usize>,
+    },
     Finished(usize),
-    Made { job: usize, name: Text },
-    Aimed { instance: usize, goal: Goal, environment: Env, holders: Items<usize> },
+    Made {
+        job: usize,
+        name: Text,
+    },
+    Aimed {
+        instance: usize,
+        goal: Goal,
+        environment: Env,
+        holders: Items<usize>,
+    },
     Released(usize),
-    Entered { instance: usize, state: State },
-    Ordered { instance: usize, process: Process },
-    Signalled { instance: usize, signal: u8 },
-    Replied { request: usize, answer: Answer },
+    Entered {
+        instance: usize,
+        state: State,
+    },
+    Ordered {
+        instance: usize,
+        process: Process,
+    },
+    Signalled {
+        instance: usize,
+        signal: u8,
+    },
+    Replied {
+        request: usize,
+        answer: Answer,
+    },
 }
