@@ -43,10 +43,7 @@ fn first_after(
         Record::Offered {
             expression: other,
             event,
-        } if same_expression(*other, expression) => match before {
-            Some(place) => Some(place),
-            None => matched(earlier, *event, leaf),
-        },
+        } if same_expression(*other, expression) => before.or(matched(earlier, *event, leaf)),
         Record::Fired {
             expression: other,
             ..
