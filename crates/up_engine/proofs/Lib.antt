@@ -1,2 +1,3 @@
 pub mod Chronicles
+pub mod QueueLemmas
 pub mod SeenLemmas
