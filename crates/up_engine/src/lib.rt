@@ -1,6 +1,7 @@
 //! The engine: what to do now. Its contract is the model's run.
 #![tactic(auto)]
 
+mod book;
 mod queue;
 mod reading;
 mod record;
