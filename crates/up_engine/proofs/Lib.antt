@@ -1,3 +1,4 @@
 pub mod Chronicles
+pub mod EventLemmas
 pub mod QueueLemmas
 pub mod SeenLemmas

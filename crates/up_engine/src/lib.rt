@@ -2,6 +2,7 @@
 #![tactic(auto)]
 
 mod book;
+mod events;
 mod queue;
 mod reading;
 mod record;

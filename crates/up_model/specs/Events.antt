@@ -31,25 +31,29 @@ stopping who = record { name = codes "stopping"; vars = about who ++ result }
 abbrev pub stopped : Who → Event
 stopped who = record { name = codes "stopped"; vars = about who ++ result }
 
+abbrev pub with_event : Option Event → List Event → List Event
+with_event None events = events
+with_event (Some event) events = event ∷ events
+
 -- the events at these places
 abbrev pub events_at : List ℕ → List Entry → List Event
 events_at [] c = []
 events_at (place ∷ places) c = with_event (event_at place c) (events_at places c)
-  where
-    with_event : Option Event → List Event → List Event
-    with_event None events = events
-    with_event (Some event) events = event ∷ events
 
 -- the variables of the events are set in turn
 abbrev pub collected : List (List ℕ × List ℕ) → List Event → List (List ℕ × List ℕ)
 collected bindings [] = bindings
 collected bindings (event ∷ events) = collected (set_all bindings event.vars) events
 
+-- the names of further events, each after a space
+abbrev pub more_names : List Event → List ℕ
+more_names [] = []
+more_names (event ∷ events) = 32 ∷ event.name ++ more_names events
+
 -- the names of the events, separated by a space
 abbrev pub names_of : List Event → List ℕ
 names_of [] = []
-names_of (event ∷ []) = event.name
-names_of (event ∷ next ∷ events) = event.name ++ 32 ∷ names_of (next ∷ events)
+names_of (event ∷ events) = event.name ++ more_names events
 
 -- the environment of a start by these events (init(5), "Job environment")
 abbrev pub start_env : List (List ℕ × List ℕ) → List Event → Who → List (List ℕ × List ℕ)
