@@ -3,6 +3,7 @@
 
 mod book;
 mod events;
+mod moves;
 mod queue;
 mod reading;
 mod record;
