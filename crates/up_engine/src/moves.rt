@@ -239,3 +239,29 @@ fn move_one(
     enter(alloc, book, job, instance, lives, from, to)?;
     Ok(true)
 }
+
+// Moves the job's instance, if it may leave its state.
+#[tactic(auto, using(crate::proofs::MoveLemmas::move_in_one))]
+fn move_in(alloc: Global, book: &mut Book, job: &JobDef, place: usize) -> Result<bool, AllocError>
+    ensures entries { OnOk result (book.new ≡ model.move_in job.now (read.instances_of place book.old) book.old ++ book.old) }
+    ensures any { IfOk result (λ moved. moved ≡ is_any (model.move_in job.now (read.instances_of place book.old) book.old)) }
+{
+    match book.instance_of(place, "") {
+        Some(instance) => move_one(alloc, book, job, instance),
+        None => Ok(false),
+    }
+}
+
+/// Moves the first instance, job by job, that may leave its state, and answers whether there was one.
+#[tactic(auto, using(crate::proofs::MoveLemmas::move_left))]
+pub fn move_first(alloc: Global, book: &mut Book, jobs: &[JobDef]) -> Result<bool, AllocError>
+    ensures entries { OnOk result (book.new ≡ model.move_from jobs.now 0 book.old ++ book.old) }
+    ensures any { IfOk result (λ moved. moved ≡ is_any (model.move_from jobs.now 0 book.old)) }
+{
+    for (place, job) in jobs.iter().enumerate() {
+        if move_in(alloc, book, job, place)? {
+            return Ok(true);
+        }
+    }
+    Ok(false)
+}
