@@ -18,9 +18,9 @@ pub or_else-none : (entries others : List Entry) → is_any entries ≡ false �
 or_else-none [] others none = refl
 or_else-none (entry ∷ entries) others none = cc
 
-pub none-nil : (entries : List Entry) → is_any entries ≡ false → entries ≡ []
-none-nil [] none = refl
-none-nil (entry ∷ entries) none = cc
+pub none_nil : (entries : List Entry) → is_any entries ≡ false → entries ≡ []
+none_nil [] none = refl
+none_nil (entry ∷ entries) none = cc
 
 abbrev pub move_found : JobDef → List Entry → Option ℕ → List Entry
 move_found job c None = []

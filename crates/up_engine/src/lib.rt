@@ -4,6 +4,7 @@
 mod book;
 mod events;
 mod moves;
+mod offers;
 mod queue;
 mod reading;
 mod record;
