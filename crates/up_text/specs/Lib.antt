@@ -1,1 +1,3 @@
 pub mod Fault
+pub mod Lexer
+pub mod Tokens

@@ -4,8 +4,12 @@
 
 pub mod fault;
 pub mod items;
+pub mod lexer;
 pub mod text;
+pub mod token;
 
 pub use fault::TextFault;
 pub use items::Items;
+pub use lexer::Lexer;
 pub use text::Text;
+pub use token::Token;

@@ -1,0 +1,37 @@
+-- What a lexer has left to read.
+use Rattle.std.specs.Prelude.{◌≡◌, ℕ, ◌+◌, ◌<◌, ◌^◌, Bool, true, false, not, ◌||◌, List, [], ◌∷◌, ◌++◌, length, filter}
+use Rattle.std.specs.List.{flat_map}
+use Rattle.up_text.specs.declared.lexer.Lexer.TheInside.{Inside}
+use Rattle.up_text.specs.Tokens.{Lexeme, End, Outside, rows, ended, is_filled, is_line_feed, is_blank, is_hash}
+
+-- the stanzas of these rows, each with its end
+abbrev pub finished : List (List Lexeme) → List Lexeme
+finished rows = flat_map ended (filter is_filled rows)
+
+-- the same where the first row is the rest of a stanza, which may be empty
+abbrev pub unfinished : List (List Lexeme) → List Lexeme
+unfinished [] = End ∷ []
+unfinished (row ∷ rows) = ended row ++ finished rows
+
+-- what a text means from this line on, inside a stanza or before one
+unfoldable pub left : Bool → ℕ → List ℕ → List Lexeme
+left true line text = unfinished (rows Outside line text)
+left false line text = finished (rows Outside line text)
+
+-- a byte of a token
+unfoldable pub is_part : ℕ → Bool
+is_part byte = not (is_line_feed byte || (is_blank byte || is_hash byte))
+
+-- the text is empty or begins with a token
+abbrev pub is_at_token : List ℕ → Bool
+is_at_token [] = true
+is_at_token (byte ∷ text) = is_part byte
+
+-- what a lexer has left to read
+abbrev pub left_of : Inside → List Lexeme
+left_of lexer = left lexer.inside lexer.line lexer.rest.now
+
+-- its line numbers fit, and outside a stanza it stands at a token or at the end
+pub record IsAtRest (lexer : Inside) : Type 0 where
+  pub in_range : lexer.line + length lexer.rest.now < 2 ^ 32
+  pub at_token : lexer.inside ≡ false → is_at_token lexer.rest.now ≡ true
