@@ -5,7 +5,7 @@ use Rattle.std.proofs.lemmas.Bool.Decides.{nat_tests}
 use Rattle.std.proofs.lemmas.List.{append-nil}
 use Rattle.std.proofs.lemmas.List.Splits.{slice_split-cons_no}
 use Rattle.std.specs.List.{filter, list_all, onto_first, position_or_len, prefix_len, slice_split}
-use Rattle.up_text.specs.Lexer.{is_part}
+use Rattle.up_text.specs.Lexer.{is_part, begins_part}
 use Rattle.up_text.specs.Tokens.{Mark, Part, Gap, Stop, Mode, Outside, Comment, Lexeme, is_line_feed, is_blank, is_hash, mark_of, mode_after, line_after, marks, is_stop, is_gap, is_filled, spelled, line_of, meaning, lexeme, words, rows}
 
 -- there is always a first piece
@@ -106,11 +106,6 @@ rows-hash line byte text hash =
     let is = hash-is byte hash in
     let opens : rows Outside line (byte ∷ text) ≡ rows Comment line text = simp (is.0, hash) at (rows-gap Outside line byte text (simp (is.0, is.1, hash))) in
     simp (is.0, one-add) (opens ∙ rows-comment line text)
-
--- a text that doesn't begin with a byte of a token
-abbrev pub begins_part : List ℕ → Bool
-begins_part [] = false
-begins_part (byte ∷ text) = is_part byte
 
 -- the marks of the bytes of a token
 abbrev pub parts : ℕ → List ℕ → List Mark

@@ -1,8 +1,11 @@
 -- What a lexer has left to read.
-use Rattle.std.specs.Prelude.{◌≡◌, ℕ, ◌+◌, ◌<◌, ◌^◌, Bool, true, false, not, ◌||◌, List, [], ◌∷◌, ◌++◌, length, filter}
+use Rattle.std.specs.Prelude.{◌≡◌, ◌⊎◌, ℕ, ◌+◌, ◌<◌, ◌^◌, Bool, true, false, not, ◌||◌, List, [], ◌∷◌, ◌++◌, length, filter, Result, Ok, Err}
 use Rattle.std.specs.List.{flat_map}
+use Rattle.up_text.specs.declared.fault.TextFault.{TextFault}
+use Rattle.up_text.specs.declared.fault.TextFault.TheVariants.{Memory}
 use Rattle.up_text.specs.declared.lexer.Lexer.TheInside.{Inside}
-use Rattle.up_text.specs.Tokens.{Lexeme, End, Outside, rows, ended, is_filled, is_line_feed, is_blank, is_hash}
+use Rattle.up_text.specs.declared.token.Token.{Token}
+use Rattle.up_text.specs.Tokens.{Lexeme, Word, Bad, End, Outside, rows, ended, is_filled, is_line_feed, is_blank, is_hash}
 
 -- the stanzas of these rows, each with its end
 abbrev pub finished : List (List Lexeme) → List Lexeme
@@ -22,7 +25,22 @@ left false line text = finished (rows Outside line text)
 unfoldable pub is_part : ℕ → Bool
 is_part byte = not (is_line_feed byte || (is_blank byte || is_hash byte))
 
--- the text is empty or begins with a token
+-- a text that begins with a token
+abbrev pub begins_part : List ℕ → Bool
+begins_part [] = false
+begins_part (byte ∷ text) = is_part byte
+
+-- a text that begins with a blank or a comment
+abbrev pub begins_gap : List ℕ → Bool
+begins_gap [] = false
+begins_gap (byte ∷ text) = is_blank byte || is_hash byte
+
+-- a text that begins with a line feed
+abbrev pub begins_feed : List ℕ → Bool
+begins_feed [] = false
+begins_feed (byte ∷ text) = is_line_feed byte
+
+-- a text that is empty or begins with a token
 abbrev pub is_at_token : List ℕ → Bool
 is_at_token [] = true
 is_at_token (byte ∷ text) = is_part byte
@@ -35,3 +53,9 @@ left_of lexer = left lexer.inside lexer.line lexer.rest.now
 pub record IsAtRest (lexer : Inside) : Type 0 where
   pub in_range : lexer.line + length lexer.rest.now < 2 ^ 32
   pub at_token : lexer.inside ≡ false → is_at_token lexer.rest.now ≡ true
+
+-- what one spelling gives: its token, or the fault of memory; or why it is refused
+abbrev pub Gives : Lexeme → Result Token TextFault → Type 0
+Gives (Word token) result = (result ≡ Ok token) ⊎ (result ≡ Err Memory)
+Gives (Bad fault) result = result ≡ Err fault
+Gives End result = Unit {0}
