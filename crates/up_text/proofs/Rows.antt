@@ -5,7 +5,7 @@ use Rattle.std.proofs.lemmas.Bool.Decides.{nat_tests}
 use Rattle.std.proofs.lemmas.List.{append-nil}
 use Rattle.std.proofs.lemmas.List.Splits.{slice_split-cons_no}
 use Rattle.std.specs.List.{filter, list_all, onto_first, position_or_len, prefix_len, slice_split}
-use Rattle.up_text.specs.Lexer.{is_part, begins_part}
+use Rattle.up_text.specs.Lexer.{is_part, begins}
 use Rattle.up_text.specs.Tokens.{Mark, Part, Gap, Stop, Mode, Outside, Comment, Lexeme, is_line_feed, is_blank, is_hash, mark_of, mode_after, line_after, marks, is_stop, is_gap, is_filled, spelled, line_of, meaning, lexeme, words, rows}
 
 -- there is always a first piece
@@ -52,6 +52,10 @@ hash-is byte hash = (grind (arith, nat_tests), grind (arith, nat_tests))
 pub feed-is : (byte : ℕ) → is_line_feed byte ≡ true → is_hash byte ≡ false
 unfolding is_line_feed is_hash
 feed-is byte feed = grind (arith, nat_tests)
+
+pub feed-blank : (byte : ℕ) → is_line_feed byte ≡ true → is_blank byte ≡ false
+unfolding is_line_feed is_blank
+feed-blank byte feed = grind (arith, nat_tests)
 
 -- a byte of a token is no line feed, no blank and no #
 pub part-is : (byte : ℕ) → is_part byte ≡ true → (is_line_feed byte ≡ false) × (is_blank byte ≡ false) × (is_hash byte ≡ false)
@@ -147,7 +151,7 @@ words-parts line byte bytes (Part l b ∷ row) opens = absurd (false≢true open
 words-parts line byte bytes (Stop ∷ row) opens = absurd (false≢true opens)
 
 -- behind a token the first piece begins with a gap or is empty
-opens_gap-first : (line : ℕ) (text : List ℕ) → begins_part text ≡ false → (first : List Mark) × (others : List (List Mark)) × (slice_split is_stop (marks Outside line text) ≡ first ∷ others) × (opens_gap first ≡ true)
+opens_gap-first : (line : ℕ) (text : List ℕ) → begins is_part text ≡ false → (first : List Mark) × (others : List (List Mark)) × (slice_split is_stop (marks Outside line text) ≡ first ∷ others) × (opens_gap first ≡ true)
 opens_gap-first line [] none = ([], [], refl, refl)
 opens_gap-first line (byte ∷ text) none =
     let ms = marks (mode_after Outside byte) (line_after line byte) text in
@@ -161,7 +165,7 @@ opens_gap-first line (byte ∷ text) none =
     ] refl
 
 -- a token in front is the first lexeme of the first row
-pub rows-parts : (line byte : ℕ) (bytes rest : List ℕ) → list_all is_part (byte ∷ bytes) ≡ true → begins_part rest ≡ false → (row : List Lexeme) × (others : List (List Lexeme)) × (rows Outside line rest ≡ row ∷ others) × (rows Outside line ((byte ∷ bytes) ++ rest) ≡ (meaning line (byte ∷ bytes) ∷ row) ∷ others)
+pub rows-parts : (line byte : ℕ) (bytes rest : List ℕ) → list_all is_part (byte ∷ bytes) ≡ true → begins is_part rest ≡ false → (row : List Lexeme) × (others : List (List Lexeme)) × (rows Outside line rest ≡ row ∷ others) × (rows Outside line ((byte ∷ bytes) ++ rest) ≡ (meaning line (byte ∷ bytes) ∷ row) ∷ others)
 unfolding rows
 rows-parts line byte bytes rest all none =
     let pieces = opens_gap-first line rest none in

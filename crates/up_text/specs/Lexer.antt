@@ -25,20 +25,15 @@ left false line text = finished (rows Outside line text)
 unfoldable pub is_part : ℕ → Bool
 is_part byte = not (is_line_feed byte || (is_blank byte || is_hash byte))
 
--- a text that begins with a token
-abbrev pub begins_part : List ℕ → Bool
-begins_part [] = false
-begins_part (byte ∷ text) = is_part byte
+-- a text whose first byte passes
+abbrev pub begins : (ℕ → Bool) → List ℕ → Bool
+begins passes [] = false
+begins passes (byte ∷ text) = passes byte
 
--- a text that begins with a blank or a comment
-abbrev pub begins_gap : List ℕ → Bool
-begins_gap [] = false
-begins_gap (byte ∷ text) = is_blank byte || is_hash byte
-
--- a text that begins with a line feed
-abbrev pub begins_feed : List ℕ → Bool
-begins_feed [] = false
-begins_feed (byte ∷ text) = is_line_feed byte
+-- a text that is empty or begins with a line feed
+abbrev pub is_line_end : List ℕ → Bool
+is_line_end [] = true
+is_line_end (byte ∷ text) = is_line_feed byte
 
 -- a text that is empty or begins with a token
 abbrev pub is_at_token : List ℕ → Bool

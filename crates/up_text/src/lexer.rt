@@ -1,8 +1,8 @@
 //! Reads the tokens of a job file or a script.
-ghost use Rattle.std.specs.Prelude.{◌≡◌, ◌⊎◌, ◌↔◌, ◌+◌, ◌<◌, ◌≤◌, ◌^◌, ℕ, Bool, true, false, List, [], ◌∷◌, Some, None, IsTrue, length, drop, find};
+ghost use Rattle.std.specs.Prelude.{◌≡◌, ◌⊎◌, ◌↔◌, ◌+◌, ◌<◌, ◌≤◌, ◌^◌, ℕ, Bool, true, false, List, [], ◌∷◌, Some, None, IsTrue, length, drop, find, not};
 ghost use Rattle.std.specs.List.{prefix_len, position_or_len};
-ghost use Rattle.up_text.specs.Lexer.{left, is_part, begins_part, begins_gap, begins_feed, is_at_token, Gives};
-ghost use Rattle.up_text.specs.Tokens.{is_line_feed, is_blank, is_hash, is_quoting, fault_of, meaning, token_of, lexemes, Reads};
+ghost use Rattle.up_text.specs.Lexer.{left, is_part, begins, is_line_end, is_at_token, Gives};
+ghost use Rattle.up_text.specs.Tokens.{Word, is_line_feed, is_blank, is_hash, is_quoting, meaning, token_of, lexemes, Reads};
 
 use crate::fault::TextFault;
 use crate::text::Text;
@@ -81,4 +81,98 @@ fn first_quoting(bytes: &[u8]) -> Option<u8>
     ensures { result ≡ find is_quoting bytes.now }
 {
     bytes.iter().copied().find(|byte| is_quoting(*byte))
+}
+
+// Whether the text begins with a comment.
+#[tactic(auto, unfolding(crate::specs::Tokens::is_hash))]
+fn begins_comment(text: &str) -> bool
+    ensures { result ≡ begins is_hash text.now }
+{
+    text.as_bytes().first() == Some(&b'#')
+}
+
+#[tactic(auto, unfolding(crate::specs::Tokens::is_line_feed))]
+fn begins_feed(text: &str) -> bool
+    ensures { result ≡ begins is_line_feed text.now }
+{
+    text.as_bytes().first() == Some(&b'\n')
+}
+
+// The text behind the blanks that it begins with.
+fn after_blanks(text: &str) -> &str
+    ensures { result.now ≡ drop (prefix_len is_blank text.now) text.now }
+{
+    &text[blanks_len(text.as_bytes())..]
+}
+
+// The text from the end of its line on.
+fn from_line_end(text: &str) -> &str
+    ensures { result.now ≡ drop (position_or_len is_line_feed text.now) text.now }
+{
+    &text[line_len(text.as_bytes())..]
+}
+
+// The text behind its first line feed.
+fn after_feed(text: &str) -> &str
+    requires { begins is_line_feed text.now ≡ true }
+    ensures { result.now ≡ drop 1 text.now }
+{
+    &text[1..]
+}
+
+// The text behind the blanks and the comment that it begins with, which is at a token or at a line end.
+fn after_gap(text: &str) -> &str
+    ensures same { (inside : Bool) (line : ℕ) → left inside line result.now ≡ left inside line text.now }
+    ensures passed { begins is_part result.now ≡ not (is_line_end result.now) }
+    ensures shorter { length result.now ≤ length text.now }
+{
+    let after = after_blanks(text);
+    if begins_comment(after) { from_line_end(after) } else { after }
+}
+
+// The line and the text of the next token, or of the text's end, behind gaps and line feeds.
+fn next_stanza(text: &str, line: u32) -> (u32, &str)
+    requires { line + length text.now < 2 ^ 32 }
+    ensures same { left false result.0 result.1.now ≡ left false line text.now }
+    ensures at_token { is_at_token result.1.now ≡ true }
+    ensures in_range { result.0 + length result.1.now < 2 ^ 32 }
+{
+    let mut line = line;
+    let mut rest = after_gap(text);
+    while begins_feed(rest) {
+        line += 1;
+        rest = after_gap(after_feed(rest));
+    }
+    (line, rest)
+}
+
+// The spelling that the text begins with, and what stands behind it.
+fn split_spelling(text: &str) -> (&str, &str)
+    requires { begins is_part text.now ≡ true }
+    ensures same { (inside : Bool) (line : ℕ)
+        → left inside line text.now ≡ meaning line result.0.now ∷ left true line result.1.now }
+    ensures shorter { length result.1.now ≤ length text.now }
+{
+    text.split_at(spelling_len(text.as_bytes()))
+}
+
+fn make_token(alloc: Global, line: u32, text: &str, plain: bool) -> Result<Token, TextFault>
+    ensures { Gives (Word (token_of line text.now plain)) result }
+{
+    let text = Text::from_str(alloc, text)?;
+    Ok(Token { line, text, plain })
+}
+
+// What a spelling means.
+fn read_spelling(alloc: Global, spelling: &str, line: u32) -> Result<Token, TextFault>
+    ensures { Gives (meaning line spelling.now) result }
+{
+    if spelling == "\"\"" {
+        return make_token(alloc, line, "", false);
+    }
+    match first_quoting(spelling.as_bytes()) {
+        None => make_token(alloc, line, spelling, true),
+        Some(b'\\') => Err(TextFault::TrailingBackslash),
+        Some(_) => Err(TextFault::UnterminatedQuote),
+    }
 }
