@@ -1,11 +1,13 @@
 -- How what is left to read goes on from one byte or one token to the next.
-use Rattle.std.proofs.Common.{◌≡◌, ◌≢◌, ℕ, ◌+◌, ◌≤◌, Bool, true, false, cond, not, ◌||◌, List, [], ◌∷◌, ◌++◌, length, take, drop, refl, sym, ap, ◌∙◌, subst, one-add, arith}
-use Rattle.std.proofs.lemmas.Bool.{and_from}
+use Rattle.std.proofs.Common.{◌≡◌, ℕ, ◌+◌, ◌<◌, Bool, true, false, cond, not, ◌||◌, List, [], ◌∷◌, ◌++◌, Some, None, Ok, Err, inl, inr, ⊎_elim, length, take, drop, refl, sym, ap, ◌∙◌, subst, one-add, arith}
+use Rattle.std.proofs.lemmas.Bool.{and_from, true≢false}
 use Rattle.std.proofs.lemmas.List.{take-append-drop}
 use Rattle.std.specs.List.{list_all, position_or_len, prefix_len}
-use Rattle.up_text.proofs.Rows.{rows-nil, rows-feed, rows-blanks, rows-hash, rows-parts}
-use Rattle.up_text.specs.Lexer.{left, finished, unfinished, is_part, begins, is_line_end, is_at_token}
-use Rattle.up_text.specs.Tokens.{Lexeme, End, Outside, rows, meaning, is_line_feed, is_blank, is_hash}
+use Rattle.up_text.proofs.Rows.{rows-nil, rows-feed, rows-blanks, rows-hash, rows-parts, rows-filled}
+use Rattle.up_text.specs.Lexer.{left, finished, unfinished, is_part, begins, is_line_end, Gives}
+use Rattle.up_text.specs.declared.fault.TextFault.{TextFault}
+use Rattle.up_text.specs.declared.token.Token.{Token}
+use Rattle.up_text.specs.Tokens.{Lexeme, Word, Bad, End, Outside, Reads, rows, ended, lexemes, meaning, is_line_feed, is_blank, is_hash}
 
 or-false : (b : Bool) → (b || false) ≡ b
 or-false true = refl
@@ -45,11 +47,6 @@ begins-line_end (byte ∷ text) =
       true ↦ λ feed. simp feed
     | false ↦ λ _. subst Goal (sym (one-add _)) (begins-line_end text)
     ] refl
-
--- where neither a line end nor a gap begins, the text is empty or at a token
-pub is_at_token-from : (text : List ℕ) → begins is_part text ≡ not (is_line_end text) → begins is_line_feed text ≡ false → is_at_token text ≡ true
-is_at_token-from [] passed no_feed = refl
-is_at_token-from (byte ∷ text) passed no_feed = simp no_feed at passed
 
 -- a line feed ends a stanza
 pub left-feed : (line : ℕ) (text : List ℕ) → begins is_line_feed text ≡ true → left true line text ≡ End ∷ left false (line + 1) (drop 1 text)
@@ -113,3 +110,67 @@ left-spelling inside line (byte ∷ text) part =
     let whole : byte ∷ (take n text ++ drop n text) ≡ byte ∷ text = ap (λ bs. byte ∷ bs) (take-append-drop n text) in
     let now : Goal (1 + n) = subst Goal (sym (one-add n)) (sym (ap (left inside line) whole) ∙ joined) in
     subst (λ b. Goal (cond b (1 + n) 0)) (sym part) now
+
+pub begins-length : (p : ℕ → Bool) (text : List ℕ) → begins p text ≡ true → 0 < length text
+begins-length p [] first = absurd (cc)
+begins-length p (byte ∷ text) first = omega arith
+
+-- a line's end ends the stanza
+pub left-line_end : (line : ℕ) (text : List ℕ) → is_line_end text ≡ true → left true line text ≡ End ∷ left false line text
+left-line_end line [] ends = left-nil_inside line ∙ ap (λ later. End ∷ later) (sym (left-nil line))
+left-line_end line (byte ∷ text) ends = left-feed line (byte ∷ text) ends ∙ ap (λ later. End ∷ later) (sym (left-empty_line line (byte ∷ text) ends))
+
+-- behind all stanzas nothing is left
+pub left-end : (line : ℕ) (text : List ℕ) → is_line_end text ≡ true → begins is_line_feed text ≡ false → left false line text ≡ []
+left-end line [] ends no_feed = left-nil line
+left-end line (byte ∷ text) ends no_feed = absurd (true≢false (sym ends ∙ no_feed))
+
+-- what reading a line's end gives
+pub Reads-line_end : (inside : Bool) (line : ℕ) (text : List ℕ) → is_line_end text ≡ true → (inside ≡ false → begins is_line_feed text ≡ false) → Reads (left inside line text) (Ok None) (left false line text)
+Reads-line_end true line text ends no_feed = rw (left-line_end line text ends) (refl, refl)
+Reads-line_end false line text ends no_feed = rw (left-end line text ends (no_feed refl)) (refl, refl)
+
+-- what reading a token gives
+pub Reads-token : (read : Lexeme) (later : List Lexeme) (token : Token) → Gives read (Ok token) → Reads (read ∷ later) (Ok (Some token)) later
+Reads-token (Word t) later token gives = ⊎_elim (λ same. inl (cc, refl)) (λ fault. absurd (cc)) gives
+Reads-token (Bad f) later token gives = absurd (cc)
+Reads-token End later token gives = absurd gives
+
+-- what reading a refused spelling gives, or one for which there is no memory
+pub Reads-fault : (read : Lexeme) (later : List Lexeme) (fault : TextFault) → Gives read (Err fault) → Reads (read ∷ later) (Err fault) (read ∷ later)
+Reads-fault (Word t) later fault gives = ⊎_elim (λ token. absurd (cc)) (λ same. inr (cc, refl)) gives
+Reads-fault (Bad f) later fault gives = (cc, refl)
+Reads-fault End later fault gives = absurd gives
+
+ended-filled : (row : List Lexeme) (later : List Lexeme) → ended row ++ later ≡ [] → ⊥
+ended-filled [] later none = cc
+ended-filled (first ∷ row) later none = cc
+
+-- inside a stanza its end is left
+left-inside : (line : ℕ) (text : List ℕ) → left true line text ≡ [] → ⊥
+unfolding left
+left-inside line text none =
+    let parts = rows-filled line text in
+    ended-filled parts.0 (finished parts.1) (sym (ap unfinished parts.2) ∙ none)
+
+-- outside a stanza a token is left, unless the text is at its end
+left-outside : (line : ℕ) (text : List ℕ) → begins is_part text ≡ not (is_line_end text) → begins is_line_feed text ≡ false → left false line text ≡ [] → text ≡ []
+left-outside line [] passed no_feed none = refl
+left-outside line (byte ∷ text) passed no_feed none =
+    let part : is_part byte ≡ true = simp no_feed at passed in
+    let filled = left-spelling false line (byte ∷ text) part in
+    absurd (cc)
+
+-- nothing is left only at the end of the text and outside a stanza
+pub end-from_left : (inside : Bool) (line : ℕ) (text : List ℕ) → begins is_part text ≡ not (is_line_end text) → (inside ≡ false → begins is_line_feed text ≡ false) → left inside line text ≡ [] → (inside ≡ false) × (text ≡ [])
+end-from_left true line text passed no_feed none = absurd (left-inside line text none)
+end-from_left false line text passed no_feed none = (refl, left-outside line text passed (no_feed refl) none)
+
+-- and there nothing is left
+pub left-at_end : (inside : Bool) (line : ℕ) (text : List ℕ) → inside ≡ false → text ≡ [] → left inside line text ≡ []
+left-at_end inside line text outside empty = rw (outside, empty) (left-nil line)
+
+-- what is left of a whole text
+pub left-start : (text : List ℕ) → left false 1 text ≡ lexemes text
+unfolding left
+left-start text = refl

@@ -2,7 +2,6 @@
 use Rattle.std.proofs.Common.{◌≡◌, ℕ, ◌+◌, Bool, true, false, cond, not, ◌||◌, List, [], ◌∷◌, ◌++◌, map, drop, refl, sym, ap, ◌∙◌, subst, one-add, arith}
 use Rattle.std.proofs.lemmas.Bool.{or_parts, not-true, not-false, and_parts, false≢true}
 use Rattle.std.proofs.lemmas.Bool.Decides.{nat_tests}
-use Rattle.std.proofs.lemmas.List.{append-nil}
 use Rattle.std.proofs.lemmas.List.Splits.{slice_split-cons_no}
 use Rattle.std.specs.List.{filter, list_all, onto_first, position_or_len, prefix_len, slice_split}
 use Rattle.up_text.specs.Lexer.{is_part, begins}
@@ -39,6 +38,13 @@ rows-stop mode line byte text is_stop =
 pub rows-nil : (mode : Mode) (line : ℕ) → rows mode line [] ≡ [] ∷ []
 unfolding rows
 rows-nil mode line = refl
+
+-- there is always a first row
+pub rows-filled : (line : ℕ) (text : List ℕ) → (row : List Lexeme) × (others : List (List Lexeme)) × (rows Outside line text ≡ row ∷ others)
+unfolding rows
+rows-filled line text =
+    let pieces = slice_split-filled is_stop (marks Outside line text) in
+    (words pieces.0, map words pieces.1, ap (map words) pieces.2)
 
 -- a blank is neither a line feed nor the # of a comment
 pub blank-is : (byte : ℕ) → is_blank byte ≡ true → (is_line_feed byte ≡ false) × (is_hash byte ≡ false)

@@ -35,22 +35,18 @@ abbrev pub is_line_end : List ℕ → Bool
 is_line_end [] = true
 is_line_end (byte ∷ text) = is_line_feed byte
 
--- a text that is empty or begins with a token
-abbrev pub is_at_token : List ℕ → Bool
-is_at_token [] = true
-is_at_token (byte ∷ text) = is_part byte
-
 -- what a lexer has left to read
 abbrev pub left_of : Inside → List Lexeme
 left_of lexer = left lexer.inside lexer.line lexer.rest.now
 
--- its line numbers fit, and outside a stanza it stands at a token or at the end
+-- its line numbers fit, it stands at a token or at a line end, and outside a stanza no empty line is left before it
 pub record IsAtRest (lexer : Inside) : Type 0 where
   pub in_range : lexer.line + length lexer.rest.now < 2 ^ 32
-  pub at_token : lexer.inside ≡ false → is_at_token lexer.rest.now ≡ true
+  pub passed : begins is_part lexer.rest.now ≡ not (is_line_end lexer.rest.now)
+  pub no_empty_line : lexer.inside ≡ false → begins is_line_feed lexer.rest.now ≡ false
 
 -- what one spelling gives: its token, or the fault of memory; or why it is refused
 abbrev pub Gives : Lexeme → Result Token TextFault → Type 0
 Gives (Word token) result = (result ≡ Ok token) ⊎ (result ≡ Err Memory)
 Gives (Bad fault) result = result ≡ Err fault
-Gives End result = Unit {0}
+Gives End result = ⊥

@@ -1,7 +1,7 @@
 //! Reads the tokens of a job file or a script.
 ghost use Rattle.std.specs.Prelude.{◌≡◌, ◌⊎◌, ◌↔◌, ◌+◌, ◌<◌, ◌≤◌, ◌^◌, ℕ, Bool, true, false, List, [], ◌∷◌, Some, None, IsTrue, length, drop, find, not};
 ghost use Rattle.std.specs.List.{prefix_len, position_or_len};
-ghost use Rattle.up_text.specs.Lexer.{left, is_part, begins, is_line_end, is_at_token, Gives};
+ghost use Rattle.up_text.specs.Lexer.{left, is_part, begins, is_line_end, Gives};
 ghost use Rattle.up_text.specs.Tokens.{Word, is_line_feed, is_blank, is_hash, is_quoting, meaning, token_of, lexemes, Reads};
 
 use crate::fault::TextFault;
@@ -14,7 +14,8 @@ use std::marker::Model;
 /// Reads the tokens of a text, as init(5) says.
 #[derive(Debug, Drop)]
 pub struct Lexer<'a> {
-    // What is left of the text. Outside a stanza it begins with a token or is empty.
+    // What is left of the text. It begins with a token or is at a line end, and outside a stanza no empty line is left before
+    // the token.
     rest: &'a str,
     // The line of its first byte.
     line: u32,
@@ -98,6 +99,12 @@ fn begins_feed(text: &str) -> bool
     text.as_bytes().first() == Some(&b'\n')
 }
 
+fn is_line_end(text: &str) -> bool
+    ensures { result ≡ is_line_end text.now }
+{
+    text.is_empty() || begins_feed(text)
+}
+
 // The text behind the blanks that it begins with.
 fn after_blanks(text: &str) -> &str
     ensures { result.now ≡ drop (prefix_len is_blank text.now) text.now }
@@ -134,12 +141,13 @@ fn after_gap(text: &str) -> &str
 fn next_stanza(text: &str, line: u32) -> (u32, &str)
     requires { line + length text.now < 2 ^ 32 }
     ensures same { left false result.0 result.1.now ≡ left false line text.now }
-    ensures at_token { is_at_token result.1.now ≡ true }
+    ensures passed { begins is_part result.1.now ≡ not (is_line_end result.1.now) }
+    ensures no_empty_line { begins is_line_feed result.1.now ≡ false }
     ensures in_range { result.0 + length result.1.now < 2 ^ 32 }
 {
     let mut line = line;
     let mut rest = after_gap(text);
-    while begins_feed(rest) {
+    'lines: while begins_feed(rest) {
         line += 1;
         rest = after_gap(after_feed(rest));
     }
@@ -164,6 +172,7 @@ fn make_token(alloc: Global, line: u32, text: &str, plain: bool) -> Result<Token
 }
 
 // What a spelling means.
+#[tactic(auto, unfolding(crate::specs::Tokens::meaning, crate::specs::Tokens::fault_of))]
 fn read_spelling(alloc: Global, spelling: &str, line: u32) -> Result<Token, TextFault>
     ensures { Gives (meaning line spelling.now) result }
 {
@@ -174,5 +183,46 @@ fn read_spelling(alloc: Global, spelling: &str, line: u32) -> Result<Token, Text
         None => make_token(alloc, line, spelling, true),
         Some(b'\\') => Err(TextFault::TrailingBackslash),
         Some(_) => Err(TextFault::UnterminatedQuote),
+    }
+}
+
+impl<'a> Lexer<'a> {
+    /// A lexer at the beginning of a text. It borrows the text and takes no memory.
+    pub fn new(text: &'a str) -> Self
+        requires { length text.now < 4294967295 }
+        ensures { result ≡ lexemes text.now }
+    {
+        let (line, rest) = next_stanza(text, 1);
+        Lexer {
+            rest,
+            line,
+            inside: false,
+        }
+    }
+
+    /// Whether nothing is left to read. After a `None` this tells the end of the text from the end of a stanza.
+    pub fn at_end(&self) -> bool
+        ensures { IsTrue result ↔ (self.now ≡ []) }
+    {
+        !self.inside && self.rest.is_empty()
+    }
+
+    /// The next token, or `None` at the end of a stanza and at the end of the text. A refused spelling is refused again at
+    /// each later call; where memory was refused, the next call reads the token again.
+    pub fn next(&mut self, alloc: Global) -> Result<Option<Token>, TextFault>
+        ensures { Reads self.old result self.new }
+    {
+        if is_line_end(self.rest) {
+            let (line, rest) = next_stanza(self.rest, self.line);
+            self.line = line;
+            self.rest = rest;
+            self.inside = false;
+            return Ok(None);
+        }
+        let (spelling, rest) = split_spelling(self.rest);
+        let token = read_spelling(alloc, spelling, self.line)?;
+        self.rest = after_gap(rest);
+        self.inside = true;
+        Ok(Some(token))
     }
 }

@@ -1,5 +1,3 @@
-use Rattle.std.proofs.Common.{sym, subst}
-use Rattle.std.specs.Str.{IsCharBoundary}
 use Rattle.up_text.proofs.Cuts.{IsCharBoundary-behind, blank-ascii}
 use Rattle.up_text.specs.Tokens.{is_blank}
 use Rattle.up_text.proofs.lexer.after_blanks.Goals as goal
