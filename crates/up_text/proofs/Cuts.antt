@@ -16,9 +16,9 @@ IsCharBoundary-behind p text utf8 ascii =
     let within = prefix_len-le-length p text in
     ⊎_elim
     (λ some.
-        let last = prefix_len_passes p text (n - 1) 0 (omega arith) in
-        let back : n - 1 + 1 ≡ n = omega arith in
-        subst (IsCharBoundary text) back (IsCharBoundary-after_ascii text (n - 1) utf8 (omega arith) (ascii _ last)))
+    let last = prefix_len_passes p text (n - 1) 0 (omega arith) in
+    let back : n - 1 + 1 ≡ n = omega arith in
+    subst (IsCharBoundary text) back (IsCharBoundary-after_ascii text (n - 1) utf8 (omega arith) (ascii _ last)))
     (λ none. let zero : 0 ≡ n = omega arith in subst (IsCharBoundary text) zero (IsCharBoundary-start text utf8))
     (cases_lt 0 n)
 

@@ -1,13 +1,11 @@
 -- How what is left to read goes on from one byte or one token to the next.
-use Rattle.std.proofs.Common.{◌≡◌, ℕ, ◌+◌, ◌<◌, Bool, true, false, cond, not, ◌||◌, List, [], ◌∷◌, ◌++◌, Some, None, Ok, Err, inl, inr, ⊎_elim, length, take, drop, refl, sym, ap, ◌∙◌, subst, one-add, arith}
+use Rattle.std.proofs.Common.{◌≡◌, ℕ, ◌+◌, ◌<◌, Bool, true, false, cond, not, ◌||◌, List, [], ◌∷◌, ◌++◌, None, Ok, length, take, drop, refl, sym, ap, ◌∙◌, subst, one-add, arith}
 use Rattle.std.proofs.lemmas.Bool.{and_from, true≢false}
 use Rattle.std.proofs.lemmas.List.{take-append-drop}
 use Rattle.std.specs.List.{list_all, position_or_len, prefix_len}
 use Rattle.up_text.proofs.Rows.{rows-nil, rows-feed, rows-blanks, rows-hash, rows-parts, rows-filled}
-use Rattle.up_text.specs.Lexer.{left, finished, unfinished, is_part, begins, is_line_end, Gives}
-use Rattle.up_text.specs.declared.fault.TextFault.{TextFault}
-use Rattle.up_text.specs.declared.token.Token.{Token}
-use Rattle.up_text.specs.Tokens.{Lexeme, Word, Bad, End, Outside, Reads, rows, ended, lexemes, meaning, is_line_feed, is_blank, is_hash}
+use Rattle.up_text.specs.Lexer.{left, finished, unfinished, is_part, begins, is_line_end}
+use Rattle.up_text.specs.Tokens.{Lexeme, End, Outside, Reads, rows, ended, lexemes, meaning, is_line_feed, is_blank, is_hash}
 
 or-false : (b : Bool) → (b || false) ≡ b
 or-false true = refl
@@ -33,8 +31,8 @@ begins-blanks [] other = refl
 begins-blanks (byte ∷ text) other =
     let Goal : ℕ → Type 0 = λ n. begins is_hash (drop n (byte ∷ text)) ≡ false → begins is_part (drop n (byte ∷ text)) ≡ not (is_line_end (drop n (byte ∷ text))) in
     elim (is_blank byte) as (λ b. is_blank byte ≡ b → Goal (cond b (1 + prefix_len is_blank text) 0)) [
-      true ↦ λ _. subst Goal (sym (one-add _)) (begins-blanks text)
-    | false ↦ λ no_blank no_hash. simp (no_blank, no_hash, or-false)
+      | true ↦ λ _. subst Goal (sym (one-add _)) (begins-blanks text)
+      | false ↦ λ no_blank no_hash. simp (no_blank, no_hash, or-false)
     ] refl other
 
 -- a line's end begins no token
@@ -44,8 +42,8 @@ begins-line_end [] = refl
 begins-line_end (byte ∷ text) =
     let Goal : ℕ → Type 0 = λ n. begins is_part (drop n (byte ∷ text)) ≡ not (is_line_end (drop n (byte ∷ text))) in
     elim (is_line_feed byte) as (λ b. is_line_feed byte ≡ b → Goal (cond (not b) (1 + position_or_len is_line_feed text) 0)) [
-      true ↦ λ feed. simp feed
-    | false ↦ λ _. subst Goal (sym (one-add _)) (begins-line_end text)
+      | true ↦ λ feed. simp feed
+      | false ↦ λ _. subst Goal (sym (one-add _)) (begins-line_end text)
     ] refl
 
 -- a line feed ends a stanza
@@ -85,8 +83,8 @@ list_all-take p [] = refl
 list_all-take p (byte ∷ text) =
     let Goal : ℕ → Type 0 = λ n. list_all p (take n (byte ∷ text)) ≡ true in
     elim (p byte) as (λ b. p byte ≡ b → Goal (cond b (1 + prefix_len p text) 0)) [
-      true ↦ λ passes. subst Goal (sym (one-add _)) (and_from _ _ passes (list_all-take p text))
-    | false ↦ λ _. refl
+      | true ↦ λ passes. subst Goal (sym (one-add _)) (and_from _ _ passes (list_all-take p text))
+      | false ↦ λ _. refl
     ] refl
 
 -- and behind it no byte of a token
@@ -95,8 +93,8 @@ begins-drop p [] = refl
 begins-drop p (byte ∷ text) =
     let Goal : ℕ → Type 0 = λ n. begins p (drop n (byte ∷ text)) ≡ false in
     elim (p byte) as (λ b. p byte ≡ b → Goal (cond b (1 + prefix_len p text) 0)) [
-      true ↦ λ _. subst Goal (sym (one-add _)) (begins-drop p text)
-    | false ↦ λ fails. fails
+      | true ↦ λ _. subst Goal (sym (one-add _)) (begins-drop p text)
+      | false ↦ λ fails. fails
     ] refl
 
 -- a text that begins with a token: its spelling's meaning is read first
@@ -106,7 +104,7 @@ left-spelling inside line (byte ∷ text) part =
     let n = prefix_len is_part text in
     let Goal : ℕ → Type 0 = λ k. left inside line (byte ∷ text) ≡ meaning line (take k (byte ∷ text)) ∷ left true line (drop k (byte ∷ text)) in
     let joined : left inside line (byte ∷ (take n text ++ drop n text)) ≡ meaning line (byte ∷ take n text) ∷ left true line (drop n text) =
-        left-parts inside line byte (take n text) (drop n text) (and_from _ _ part (list_all-take is_part text)) (begins-drop is_part text) in
+    left-parts inside line byte (take n text) (drop n text) (and_from _ _ part (list_all-take is_part text)) (begins-drop is_part text) in
     let whole : byte ∷ (take n text ++ drop n text) ≡ byte ∷ text = ap (λ bs. byte ∷ bs) (take-append-drop n text) in
     let now : Goal (1 + n) = subst Goal (sym (one-add n)) (sym (ap (left inside line) whole) ∙ joined) in
     subst (λ b. Goal (cond b (1 + n) 0)) (sym part) now
@@ -129,18 +127,6 @@ left-end line (byte ∷ text) ends no_feed = absurd (true≢false (sym ends ∙ 
 pub Reads-line_end : (inside : Bool) (line : ℕ) (text : List ℕ) → is_line_end text ≡ true → (inside ≡ false → begins is_line_feed text ≡ false) → Reads (left inside line text) (Ok None) (left false line text)
 Reads-line_end true line text ends no_feed = rw (left-line_end line text ends) (refl, refl)
 Reads-line_end false line text ends no_feed = rw (left-end line text ends (no_feed refl)) (refl, refl)
-
--- what reading a token gives
-pub Reads-token : (read : Lexeme) (later : List Lexeme) (token : Token) → Gives read (Ok token) → Reads (read ∷ later) (Ok (Some token)) later
-Reads-token (Word t) later token gives = ⊎_elim (λ same. inl (cc, refl)) (λ fault. absurd (cc)) gives
-Reads-token (Bad f) later token gives = absurd (cc)
-Reads-token End later token gives = absurd gives
-
--- what reading a refused spelling gives, or one for which there is no memory
-pub Reads-fault : (read : Lexeme) (later : List Lexeme) (fault : TextFault) → Gives read (Err fault) → Reads (read ∷ later) (Err fault) (read ∷ later)
-Reads-fault (Word t) later fault gives = ⊎_elim (λ token. absurd (cc)) (λ same. inr (cc, refl)) gives
-Reads-fault (Bad f) later fault gives = (cc, refl)
-Reads-fault End later fault gives = absurd gives
 
 ended-filled : (row : List Lexeme) (later : List Lexeme) → ended row ++ later ≡ [] → ⊥
 ended-filled [] later none = cc

@@ -13,8 +13,8 @@ slice_split-filled p [] = ([], [], refl)
 slice_split-filled p (x ∷ xs) =
     let later = slice_split-filled p xs in
     elim (p x) as (λ b. (first : List _) × (others : List (List _)) × (cond b ([] ∷ slice_split p xs) (onto_first x (slice_split p xs)) ≡ first ∷ others)) [
-      true ↦ ([], slice_split p xs, refl)
-    | false ↦ (x ∷ later.0, later.1, ap (onto_first x) later.2)
+      | true ↦ ([], slice_split p xs, refl)
+      | false ↦ (x ∷ later.0, later.1, ap (onto_first x) later.2)
     ]
 
 -- a gap in front changes no row
@@ -92,8 +92,8 @@ pub rows-blanks : (line : ℕ) (text : List ℕ) → rows Outside line text ≡ 
 rows-blanks line [] = refl
 rows-blanks line (byte ∷ text) =
     elim (is_blank byte) as (λ b. is_blank byte ≡ b → rows Outside line (byte ∷ text) ≡ rows Outside line (drop (cond b (1 + prefix_len is_blank text) 0) (byte ∷ text))) [
-      true ↦ λ blank. rw one-add (rows-blank line byte text blank ∙ rows-blanks line text)
-    | false ↦ λ _. refl
+      | true ↦ λ blank. rw one-add (rows-blank line byte text blank ∙ rows-blanks line text)
+      | false ↦ λ _. refl
     ] refl
 
 -- at a line feed a comment ends
@@ -101,11 +101,11 @@ pub rows-comment : (line : ℕ) (text : List ℕ) → rows Comment line text ≡
 rows-comment line [] = rows-nil Comment line ∙ sym (rows-nil Outside line)
 rows-comment line (byte ∷ text) =
     elim (is_line_feed byte) as (λ b. is_line_feed byte ≡ b → rows Comment line (byte ∷ text) ≡ rows Outside line (drop (cond (not b) (1 + position_or_len is_line_feed text) 0) (byte ∷ text))) [
-      true ↦ λ feed.
+      | true ↦ λ feed.
           let inside : rows Comment line (byte ∷ text) ≡ [] ∷ rows Outside (line + 1) text = simp feed at (rows-stop Comment line byte text (simp feed)) in
           let outside : rows Outside line (byte ∷ text) ≡ [] ∷ rows Outside (line + 1) text = rows-feed line byte text feed in
           inside ∙ sym outside
-    | false ↦ λ other.
+      | false ↦ λ other.
           let inside : rows Comment line (byte ∷ text) ≡ rows Comment line text = simp other at (rows-gap Comment line byte text (simp other)) in
           rw one-add (inside ∙ rows-comment line text)
     ] refl
@@ -164,8 +164,8 @@ opens_gap-first line (byte ∷ text) none =
     let pieces = slice_split-filled is_stop ms in
     let Goal : Mark → Type 0 = λ m. (first : List Mark) × (others : List (List Mark)) × (slice_split is_stop (m ∷ ms) ≡ first ∷ others) × (opens_gap first ≡ true) in
     elim (is_line_feed byte) as (λ feed. is_line_feed byte ≡ feed → Goal (cond feed Stop (cond (is_blank byte || is_hash byte) Gap (Part line byte)))) [
-      true ↦ λ _. ([], slice_split is_stop ms, refl, refl)
-    | false ↦ λ other.
+      | true ↦ λ _. ([], slice_split is_stop ms, refl, refl)
+      | false ↦ λ other.
           let gap : (is_blank byte || is_hash byte) ≡ true = not_part byte none other in
           subst (λ b. Goal (cond b Gap (Part line byte))) (sym gap) (Gap ∷ pieces.0, pieces.1, ap (onto_first Gap) pieces.2, refl)
     ] refl
@@ -174,12 +174,11 @@ opens_gap-first line (byte ∷ text) none =
 pub rows-parts : (line byte : ℕ) (bytes rest : List ℕ) → list_all is_part (byte ∷ bytes) ≡ true → begins is_part rest ≡ false → (row : List Lexeme) × (others : List (List Lexeme)) × (rows Outside line rest ≡ row ∷ others) × (rows Outside line ((byte ∷ bytes) ++ rest) ≡ (meaning line (byte ∷ bytes) ∷ row) ∷ others)
 unfolding rows
 rows-parts line byte bytes rest all none =
-    let pieces = opens_gap-first line rest none in
-    (
+    let pieces = opens_gap-first line rest none in (
       words pieces.0,
       map words pieces.1,
       ap (map words) pieces.2,
       ap (λ ms. map words (slice_split is_stop ms)) (marks-parts line (byte ∷ bytes) rest all)
-      ∙ ap (map words) (slice_split-parts is_stop line (byte ∷ bytes) (marks Outside line rest) pieces.0 pieces.1 (λ b. refl) pieces.2)
-      ∙ ap (λ row. row ∷ map words pieces.1) (words-parts line byte bytes pieces.0 pieces.3),
+          ∙ ap (map words) (slice_split-parts is_stop line (byte ∷ bytes) (marks Outside line rest) pieces.0 pieces.1 (λ b. refl) pieces.2)
+          ∙ ap (λ row. row ∷ map words pieces.1) (words-parts line byte bytes pieces.0 pieces.3),
     )

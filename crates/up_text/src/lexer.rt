@@ -134,7 +134,11 @@ fn after_gap(text: &str) -> &str
     ensures shorter { length result.now ≤ length text.now }
 {
     let after = after_blanks(text);
-    if begins_comment(after) { from_line_end(after) } else { after }
+    if begins_comment(after) {
+        from_line_end(after)
+    } else {
+        after
+    }
 }
 
 // The line and the text of the next token, or of the text's end, behind gaps and line feeds.
@@ -226,3 +230,6 @@ impl<'a> Lexer<'a> {
         Ok(Some(token))
     }
 }
+
+#[cfg(test)]
+mod tests;

@@ -9,7 +9,7 @@ invariant-lines l = record {
   same : left false l.line l.rest ≡ left false l.fn.line l.fn.text;
   passed : begins is_part l.rest ≡ not (is_line_end l.rest);
   is_text : shadow (Utf8 l.rest);
-  in_range : l.line + length l.rest < 2 ^ 32
+  in_range : l.line + length l.rest < 2 ^ 32;
 }
 
 abbrev pub decreases-lines : goal.decreases-lines
