@@ -6,8 +6,7 @@ use Rattle.up_text.specs.declared.fault.TextFault.{TextFault}
 use Rattle.up_text.specs.declared.fault.TextFault.TheVariants.{UnterminatedQuote, TrailingBackslash, Memory}
 use Rattle.up_text.specs.declared.token.Token.{Token}
 
--- what a byte of the text is: a byte of a token, and the line that it stands on; a blank, or a byte of a comment; a line
--- end that ends the stanza
+-- what a byte is: one of a token, with its line; a blank or one of a comment; a line end that ends the stanza
 pub data Mark : Type 0 where
   Part : (line byte : ℕ) → Mark
   Gap : Mark
@@ -106,8 +105,7 @@ abbrev pub unless_quoting : ℕ → List ℕ → Option ℕ → Lexeme
 unless_quoting line bytes None = Word (token_of line bytes true)
 unless_quoting line bytes (Some byte) = Bad (fault_of byte)
 
--- what the bytes of a spelling mean: two double quotes alone are the empty token, and quotes and backslashes are else
--- refused
+-- what a spelling's bytes mean: two double quotes alone are the empty token; else quotes and backslashes are refused
 unfoldable pub meaning : ℕ → List ℕ → Lexeme
 meaning line bytes =
     if bytes_eq bytes (34 ∷ 34 ∷ []) then Word (token_of line [] false)
@@ -137,9 +135,8 @@ ended stanza = stanza ++ End ∷ []
 abbrev pub lexemes : List ℕ → List Lexeme
 lexemes text = flat_map ended (stanzas text)
 
--- what reading gives and leaves, from what was left before: at the text's end nothing; at a stanza's end nothing, and the
--- end is passed; at a token that token, or the fault of memory and nothing is passed; at a refused spelling its fault,
--- which is never passed
+-- what one reading gives and leaves: nothing at the text's end; nothing at a stanza's end, which is passed; the fault of a
+-- refused spelling, which is never passed; a token, which is passed, or the fault of memory, where it is not
 abbrev pub Reads : List Lexeme → Result (Option Token) TextFault → List Lexeme → Type 0
 Reads [] result new = (result ≡ Ok None) × (new ≡ [])
 Reads (End ∷ later) result new = (result ≡ Ok None) × (new ≡ later)

@@ -110,7 +110,12 @@ fn reads_stanzas(rt: HostRuntime) {
         for step in case.steps {
             assert!(rt; !lexer.at_end(), "before {step:?} of {text:?}");
             refused = matches!(step, Step::Refused(_));
-            check_step(&rt, lexer.next(rt.alloc()), *step);
+            let mut read = lexer.next(rt.alloc());
+            // Where one allocation is made to fail, the next call reads the same.
+            if matches!(read, Err(TextFault::Memory)) {
+                read = lexer.next(rt.alloc());
+            }
+            check_step(&rt, read, *step);
         }
         assert_eq!(rt; lexer.at_end(), !refused, "behind {text:?}");
     }
