@@ -1,4 +1,5 @@
 pub mod Chronicles
+pub mod DueLemmas
 pub mod EventLemmas
 pub mod MoveLemmas
 pub mod OfferLemmas

@@ -32,6 +32,6 @@ offer_left base jobs i event d c within =
 
 -- where a job has nothing to be offered, what is left is with the others
 pub offer_step : (base : List (List ℕ × List ℕ)) (jobs : List JobDef) (i event : ℕ) (job : JobDef) (c : List Entry) → i < length jobs → job ≡ get_or jobs i job
-  → is_any (offer_of_job base job i event c) ≡ false → offer_from base (drop (i + 1) jobs) (i + 1) event c ≡ offer_from base (drop i jobs) i event c
+    → is_any (offer_of_job base job i event c) ≡ false → offer_from base (drop (i + 1) jobs) (i + 1) event c ≡ offer_from base (drop i jobs) i event c
 offer_step base jobs i event job c within is none =
     sym (offer_left base jobs i event job c within ∙ or_else-none (offer_of_job base (get_or jobs i job) i event c) _ (rw (← is) none))

@@ -2,6 +2,7 @@
 #![tactic(auto)]
 
 mod book;
+mod due;
 mod events;
 mod moves;
 mod offers;
