@@ -1,5 +1,5 @@
 -- The records as entries of the chronicle.
-use Rattle.std.specs.Prelude.{ℕ, false, List, [], ◌∷◌, ◌++◌}
+use Rattle.std.specs.Prelude.{ℕ, false, List, [], ◌∷◌, ◌++◌, Option, None, Some}
 use Rattle.up_engine.specs.declared.record.Expression.{Expression}
 use Rattle.up_engine.specs.declared.record.Expression.TheVariants as expression
 use Rattle.up_engine.specs.declared.record.Origin.{Origin}
@@ -35,3 +35,8 @@ entry_of (record_of.Replied request answer) = model.Replied request answer
 abbrev pub chronicle : List Record → List model.Entry
 chronicle [] = []
 chronicle (first ∷ records) = chronicle records ++ entry_of first ∷ []
+
+-- the entry of a record, where there is one
+abbrev pub entries_of : Option Record → List model.Entry
+entries_of None = []
+entries_of (Some found) = entry_of found ∷ []

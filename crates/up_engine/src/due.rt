@@ -1,25 +1,23 @@
 //! What is due, the effect of an input, and whether it is expected.
 ghost use Rattle.std.specs.Prelude.{◌≡◌, ◌++◌, ◌∷◌, [], Option, map, IfOk, OnOk, option_map};
-ghost use Rattle.up_model.specs.declared.input.Input.TheVariants as input;
-ghost use Rattle.up_model.specs.declared.state.Goal.TheVariants.{Stop as goal_stop};
 ghost use Rattle.up_model.specs.Answers as answer;
 ghost use Rattle.up_model.specs.Chronicle as entry;
 ghost use Rattle.up_model.specs.Due as model;
-ghost use Rattle.up_model.specs.Held as held;
-ghost use Rattle.up_model.specs.Moves.{where_true};
-ghost use Rattle.up_model.specs.Readings as read;
 ghost use Rattle.up_model.specs.Tests as test;
+ghost use Rattle.up_model.specs.Requests as request;
 ghost use Rattle.up_engine.specs.Moved.{is_any};
+ghost use Rattle.up_engine.specs.Records.{entries_of};
 ghost use Rattle.up_engine.specs.Queues.{live_of};
 
 use crate::book::Book;
 use crate::moves::move_first;
 use crate::offers::offer_next;
 use crate::queue::Live;
-use crate::record::{Expression, Record};
+use crate::record::{Origin, Record};
+use crate::turn::turn_event;
 use std::alloc::{AllocError, Global};
-use up_model::{Goal, Input, JobDef, Process, State, Who};
-use up_text::{Env, Items};
+use up_model::{Answer, Command, Goal, Input, JobDef, Process, State, Who};
+use up_text::{Env, Items, Text};
 
 /// Does the first thing that is due, and answers whether anything was.
 #[tactic(auto, using(crate::proofs::MoveLemmas::none_nil), unfolding(up_model::specs::Due::due))]
@@ -49,6 +47,15 @@ fn instance_named(book: &Book, jobs: &[JobDef], who: &Who) -> Option<usize>
         }
     }
     None
+}
+
+fn is_start(goal: Goal) -> bool
+    ensures { result ≡ test.is_start goal }
+{
+    match goal {
+        Goal::Start => true,
+        Goal::Stop => false,
+    }
 }
 
 fn is_main(process: Process) -> bool
@@ -96,4 +103,100 @@ pub fn is_expected(book: &Book, jobs: &[JobDef], given: &Input) -> bool
         },
         Input::Emit(_) | Input::Request { .. } | Input::Clock(_) | Input::Turn => true,
     }
+}
+
+// The answer to a command that nothing carries out.
+fn not_supported(alloc: Global, command: Command) -> Result<Answer, AllocError>
+    ensures { IfOk result (λ answer. answer ≡ request.not_supported command) }
+{
+    let mut text = String::from_str(alloc, "Not supported: ")?;
+    text.push_str(command.name())?;
+    let text = Text::new(text);
+    Ok(Answer { ok: false, text })
+}
+
+// The record by which an instance's goal becomes stop, where it is start; the holders stay.
+fn give_up(alloc: Global, book: &Book, instance: usize) -> Result<Option<Record>, AllocError>
+    ensures { IfOk result (λ found. entries_of found ≡ model.give_up instance book.now) }
+{
+    if !is_start(book.goal(instance)) {
+        return Ok(None);
+    }
+    let holders = Items::new(Vec::from_slice(alloc, book.holders(instance))?);
+    let environment = Env::new(alloc);
+    let goal = Goal::Stop;
+    Ok(Some(Record::Aimed {
+        instance,
+        goal,
+        environment,
+        holders,
+    }))
+}
+
+// What a refused process does to its instance.
+fn refused(alloc: Global, book: &Book, found: Option<usize>, process: Process) -> Result<Option<Record>, AllocError>
+    ensures { IfOk result (λ next. entries_of next ≡ model.refused found process book.now) }
+{
+    match found {
+        Some(instance) if is_main(process) => give_up(alloc, book, instance),
+        _ => Ok(None),
+    }
+}
+
+// What a process that ended does to its instance.
+fn ended(alloc: Global, book: &Book, found: Option<usize>, process: Process) -> Result<Option<Record>, AllocError>
+    ensures { IfOk result (λ next. entries_of next ≡ model.ended found process book.now) }
+{
+    match found {
+        Some(instance) if is_main(process) && is_running(book.state_of(instance)) => give_up(alloc, book, instance),
+        _ => Ok(None),
+    }
+}
+
+// What a turn does to its event.
+fn turned(found: Option<Live>) -> Option<Record>
+    ensures { entries_of result ≡ model.turned (option_map live_of found) }
+{
+    match found {
+        Some(live) if live.handled => Some(Record::Finished(live.place)),
+        Some(live) => Some(Record::Handled(live.place)),
+        None => None,
+    }
+}
+
+// What an input does beside being given, where that is one entry at most.
+#[tactic(auto, unfolding(up_model::specs::Due::effect))]
+fn effect(alloc: Global, jobs: &[JobDef], book: &Book, given: &Input) -> Result<Option<Record>, AllocError>
+    ensures { IfOk result (λ next. model.effect jobs.now given.now book.now ≡ entries_of next ++ entry.Given given.now ∷ []) }
+{
+    match given {
+        Input::Emit(event) => {
+            let event = event.copy()?;
+            let origin = Origin::Outside;
+            Ok(Some(Record::Queued { origin, event }))
+        }
+        Input::Request { request, .. } => {
+            let answer = not_supported(alloc, request.command)?;
+            Ok(Some(Record::Replied {
+                request: book.len(),
+                answer,
+            }))
+        }
+        Input::Refused { who, process } => refused(alloc, book, instance_named(book, jobs, who), *process),
+        Input::Ended { who, process, .. } => ended(alloc, book, instance_named(book, jobs, who), *process),
+        Input::Turn => Ok(turned(turn_event(book, jobs))),
+        Input::Spawned { .. } | Input::Clock(_) => Ok(None),
+    }
+}
+
+/// Takes an input in, with its own effect.
+pub fn act(alloc: Global, jobs: &[JobDef], book: &mut Book, given: Input) -> Result<(), AllocError>
+    ensures { OnOk result (book.new ≡ model.effect jobs.now given book.old ++ book.old) }
+{
+    let effect = effect(alloc, jobs, book, &given)?;
+    book.add(Record::Given(given))?;
+    if let Some(next) = effect {
+        book.add(next)?;
+    }
+    Ok(())
 }

@@ -9,5 +9,6 @@ mod offers;
 mod queue;
 mod reading;
 mod record;
+mod turn;
 
 pub use record::{Expression, Origin, Record};

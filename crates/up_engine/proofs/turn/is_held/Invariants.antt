@@ -1,0 +1,6 @@
+use Rattle.std.proofs.Common.{◌≡◌, drop, nat_lt}
+use Rattle.up_model.specs.Held as held
+use Rattle.up_engine.proofs.turn.is_held.Given as goal
+
+abbrev pub invariant-loop-place : goal.invariant-loop-place
+invariant-loop-place l = nat_lt 0 (held.count_from (drop l.place l.jobs) l.place l.event l.book) ≡ held.is_held l.jobs l.event l.book
