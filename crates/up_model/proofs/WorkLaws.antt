@@ -19,8 +19,11 @@ use Rattle.up_model.proofs.Sparing.{IsOf, job_share, spared, spared-offerings, s
 use Rattle.up_model.proofs.MoveLaws.{moves-fewer, moves-are_of, entering-moves, entering-less}
 use Rattle.up_model.proofs.OfferLaws.{Lessens, stop_offer-lessens, start_offer-lessens, start_offer-makes}
 
--- entries that leave the jobs from a place on less to do, and those before it as much
+-- entries about a job and an instance that leave the jobs from a place on less to do, and those before it as much
 pub record Lowers (offers : Bool) (jobs : List JobDef) (from : ℕ) (c es : List Entry) : Type 0 where
+  pub whose : ℕ
+  pub place : ℕ
+  pub of : AllByRecursion (IsOf whose place) es
   pub same : offering (es ++ c) ≡ offering c
   pub before : (k : ℕ) → k < from → job_share offers k (es ++ c) ≡ job_share offers k c
   pub less : work_from offers jobs from (es ++ c) < work_from offers jobs from c
@@ -32,6 +35,9 @@ IsApart job p c = (k q : ℕ) → (job == k) ≡ false → instance_of k [] c �
 -- what leaves one job less to do lowers the work of the jobs from it on
 pub lowers-here : (offers : Bool) (job : JobDef) (jobs : List JobDef) (at p : ℕ) (c es : List Entry) → IsApart at p c → Lessens offers at p c es → Lowers offers (job ∷ jobs) at c es
 lowers-here offers job jobs at p c es apart lessens = record {
+    whose = at;
+    place = p;
+    of = lessens.of;
     same = spared-offerings at p es c lessens.of;
     before = λ k earlier. let other = ne_eqb at k (λ same. omega arith) in (spared offers at p k es c lessens.of other (λ q. apart k q other)).1;
     less = sum _ _ _ _ lessens.less (spared-work_from offers at p es c lessens.of apart jobs (at + 1) (omega arith))
@@ -43,6 +49,9 @@ lowers-here offers job jobs at p c es apart lessens = record {
 -- and the work of the jobs from an earlier one on
 pub lowers-later : (offers : Bool) (job : JobDef) (jobs : List JobDef) (from : ℕ) (c es : List Entry) → Lowers offers jobs (from + 1) c es → Lowers offers (job ∷ jobs) from c es
 lowers-later offers job jobs from c es lowers = record {
+    whose = lowers.whose;
+    place = lowers.place;
+    of = lowers.of;
     same = lowers.same;
     before = λ k earlier. lowers.before k (omega arith);
     less = sum _ _ _ _ (lowers.before from (omega arith)) lowers.less
@@ -152,13 +161,17 @@ offer_next-lowers base jobs None c = inl refl
 offer_next-lowers base jobs (Some event) c = offer_from-lowers base jobs 0 event c
 
 -- what is due
+pub due-lowers : (base : List (List ℕ × List ℕ)) (jobs : List JobDef) (c : List Entry) → (due base jobs c ≡ []) ⊎ Lowers (is_some (offering c)) jobs 0 c (due base jobs c)
+unfolding due
+due-lowers base jobs c =
+    or_else-either (Lowers (is_some (offering c)) jobs 0 c) (move_from jobs 0 c) (offer_next base jobs (offering c) c)
+    (move_from-lowers (is_some (offering c)) jobs 0 c)
+    (offer_next-lowers base jobs (offering c) c)
+
+-- either nothing is due, or doing it leaves less work
 pub falls : (base : List (List ℕ × List ℕ)) (jobs : List JobDef) (c : List Entry) → (due base jobs c ≡ []) ⊎ (work jobs (due base jobs c ++ c) < work jobs c)
-unfolding due work
-falls base jobs c =
-    less (or_else (move_from jobs 0 c) (offer_next base jobs (offering c) c))
-    (or_else-either (Lowers (is_some (offering c)) jobs 0 c) (move_from jobs 0 c) (offer_next base jobs (offering c) c)
-      (move_from-lowers (is_some (offering c)) jobs 0 c)
-      (offer_next-lowers base jobs (offering c) c))
+unfolding work
+falls base jobs c = less (due base jobs c) (due-lowers base jobs c)
   where
     less : (es : List Entry) → (es ≡ []) ⊎ Lowers (is_some (offering c)) jobs 0 c es → (es ≡ []) ⊎ (work_from (is_some (offering (es ++ c))) jobs 0 (es ++ c) < work_from (is_some (offering c)) jobs 0 c)
     less es (inl none) = inl none
