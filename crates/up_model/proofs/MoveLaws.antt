@@ -1,86 +1,59 @@
 -- A move: what its entries leave alone, and that it leaves its instance fewer moves.
-use Rattle.std.proofs.Common.{◌≡◌, ℕ, ◌+◌, ◌*◌, ◌<◌, ◌==◌, Bool, true, false, ◌&&◌, ◌||◌, not, List, [], ◌∷◌, ◌++◌, length, Option, None, Some, is_some, if◌then◌else◌, refl, sym, ◌∙◌, ap, subst, arith, eq-eqb}
+use Rattle.std.proofs.Common.{◌≡◌, ℕ, ◌<◌, Bool, true, false, ◌||◌, not, List, [], ◌∷◌, ◌++◌, None, Some, is_some, if◌then◌else◌, refl, sym, ◌∙◌, ap, subst, arith, eq-eqb}
 use Rattle.std.specs.List.{AllByRecursion}
 use Rattle.up_model.specs.declared.state.Goal.{Goal}
 use Rattle.up_model.specs.declared.state.Goal.TheVariants.{Start, Stop}
 use Rattle.up_model.specs.declared.state.State.{State}
-use Rattle.up_model.specs.declared.state.State.TheVariants.{Waiting, Starting, PreStart, Spawned, PostStart, Running, PreStop, Stopping, Killed, PostStop}
+use Rattle.up_model.specs.declared.state.State.TheVariants.{Waiting, Starting, Spawned, PostStart, Running, PreStop, Stopping, Killed}
 use Rattle.up_model.specs.declared.process.Process.TheVariants.{Main}
 use Rattle.up_model.specs.declared.who.Who.{Who}
 use Rattle.up_model.specs.declared.files.job.JobDef.{JobDef}
 use Rattle.up_model.specs.Chronicle.{Entry, Given, Queued, Offered, Made, Aimed, Released, Entered, Ordered, Signalled, Entering, Expression, StartOn, StopOn}
 use Rattle.up_model.specs.Readings.{without, instance_of, goal, state_of, is_blocking, blocker}
-use Rattle.up_model.specs.Life.{if_whole, next_state, may_leave, is_pre_stop}
+use Rattle.up_model.specs.Life.{next_state, may_leave, is_pre_stop}
 use Rattle.up_model.specs.Seen.{was_offered}
 use Rattle.up_model.specs.Moves.{where_true, kill_signal, entering}
-use Rattle.up_model.specs.Offers.{is_newborn, offering}
+use Rattle.up_model.specs.Offers.{is_newborn}
 use Rattle.up_model.specs.Work.{moves}
-use Rattle.up_model.proofs.Sparing.{IsOf, offer_share, job_share, job_share-gone, job_share-moved}
-use Rattle.up_model.specs.Events.{starting, started, stopping, stopped}
+use Rattle.up_model.proofs.Sparing.{same-append, IsOf, job_share, job_share-gone, job_share-moved}
+use Rattle.up_model.specs.Events.{started}
 
 -- an instance can't make more than five moves
 pub moves-few : (aim : Goal) (from : State) (blocked : Bool) → moves aim from blocked < 6
-moves-few Start Waiting blocked = omega arith
 moves-few Start Starting true = omega arith
 moves-few Start Starting false = omega arith
-moves-few Start PreStart blocked = omega arith
-moves-few Start Spawned blocked = omega arith
-moves-few Start PostStart blocked = omega arith
-moves-few Start Running blocked = omega arith
-moves-few Start PreStop blocked = omega arith
 moves-few Start Stopping true = omega arith
 moves-few Start Stopping false = omega arith
-moves-few Start Killed blocked = omega arith
-moves-few Start PostStop blocked = omega arith
-moves-few Stop Waiting blocked = omega arith
 moves-few Stop Starting true = omega arith
 moves-few Stop Starting false = omega arith
-moves-few Stop PreStart blocked = omega arith
-moves-few Stop Spawned blocked = omega arith
-moves-few Stop PostStart blocked = omega arith
-moves-few Stop Running blocked = omega arith
-moves-few Stop PreStop blocked = omega arith
 moves-few Stop Stopping true = omega arith
 moves-few Stop Stopping false = omega arith
-moves-few Stop Killed blocked = omega arith
-moves-few Stop PostStop blocked = omega arith
+moves-few Start from blocked = omega arith
+moves-few Stop from blocked = omega arith
+
+-- on or back from post-start and pre-stop there are fewer than two moves left
+whole-fewer : (b : Bool) → moves Start (if b then Running else Stopping) (is_blocking (if b then Running else Stopping)) < 2
+whole-fewer true = omega arith
+whole-fewer false = omega arith
 
 -- the next state has fewer moves left, with its own event in the queue
 pub moves-fewer : (aim : Goal) (from : State) (blocked has_main awaited lives : Bool) → may_leave aim from blocked has_main awaited lives ≡ true
     → moves aim (next_state aim from has_main lives) (is_blocking (next_state aim from has_main lives)) < moves aim from blocked
-moves-fewer Start Waiting blocked has_main awaited lives may = omega arith
 moves-fewer Start Starting true has_main awaited lives may = cc
 moves-fewer Start Starting false has_main awaited lives may = omega arith
-moves-fewer Start PreStart blocked has_main awaited lives may = omega arith
-moves-fewer Start Spawned blocked has_main awaited lives may = omega arith
-moves-fewer Start PostStart blocked has_main awaited lives may = whole (not has_main || lives)
-  where
-    whole : (b : Bool) → moves Start (if b then Running else Stopping) (is_blocking (if b then Running else Stopping)) < 2
-    whole true = omega arith
-    whole false = omega arith
-moves-fewer Start Running blocked has_main awaited lives may = omega arith
-moves-fewer Start PreStop blocked has_main awaited lives may = whole (not has_main || lives)
-  where
-    whole : (b : Bool) → moves Start (if b then Running else Stopping) (is_blocking (if b then Running else Stopping)) < 2
-    whole true = omega arith
-    whole false = omega arith
+moves-fewer Start PostStart blocked has_main awaited lives may = whole-fewer (not has_main || lives)
+moves-fewer Start PreStop blocked has_main awaited lives may = whole-fewer (not has_main || lives)
 moves-fewer Start Stopping true has_main awaited lives may = cc
 moves-fewer Start Stopping false has_main awaited lives may = omega arith
-moves-fewer Start Killed blocked has_main awaited lives may = omega arith
-moves-fewer Start PostStop blocked has_main awaited lives may = omega arith
 moves-fewer Stop Waiting blocked has_main awaited lives may = cc
 moves-fewer Stop Starting true has_main awaited lives may = cc
 moves-fewer Stop Starting false has_main awaited lives may = omega arith
-moves-fewer Stop PreStart blocked has_main awaited lives may = omega arith
-moves-fewer Stop Spawned blocked has_main awaited lives may = omega arith
-moves-fewer Stop PostStart blocked has_main awaited lives may = omega arith
 moves-fewer Stop Running blocked has_main awaited true may = omega arith
 moves-fewer Stop Running blocked has_main awaited false may = omega arith
-moves-fewer Stop PreStop blocked has_main awaited lives may = omega arith
 moves-fewer Stop Stopping true has_main awaited lives may = cc
 moves-fewer Stop Stopping false has_main awaited lives may = omega arith
-moves-fewer Stop Killed blocked has_main awaited lives may = omega arith
-moves-fewer Stop PostStop blocked has_main awaited lives may = omega arith
+moves-fewer Start from blocked has_main awaited lives may = omega arith
+moves-fewer Stop from blocked has_main awaited lives may = omega arith
 
 -- whether an instance is gone on entering a state
 abbrev pub is_waiting : State → Bool
@@ -96,7 +69,8 @@ IsMove p (Ordered instance process) = Unit {0}
 IsMove p (Signalled instance signal by_timer) = Unit {0}
 IsMove p entry = ⊥
 
-move-is_of : (job p : ℕ) (e : Entry) → IsMove p e → IsOf job p e
+-- which is due
+pub move-is_of : (job p : ℕ) (e : Entry) → IsMove p e → IsOf job p e
 move-is_of job p (Queued (Entering instance entered) event) is = is
 move-is_of job p (Released instance failed) is = is
 move-is_of job p (Entered instance entered) is = is
@@ -104,43 +78,29 @@ move-is_of job p (Ordered instance process) is = is
 move-is_of job p (Signalled instance signal by_timer) is = is
 move-is_of job p e is = absurd is
 
-pub moves-are_of : (job p : ℕ) (es : List Entry) → AllByRecursion (IsMove p) es → AllByRecursion (IsOf job p) es
-moves-are_of job p [] is = is
-moves-are_of job p (e ∷ es) is = (move-is_of job p e is.0, moves-are_of job p es is.1)
-
--- it leaves goals, births and offers alone
+-- it leaves goals alone
 move-goal : (p q : ℕ) (e : Entry) (c : List Entry) → IsMove p e → goal q (e ∷ c) ≡ goal q c
 move-goal p q (Aimed i aim environment its) c is = absurd is
 move-goal p q e c is = refl
 
+-- which instances were made in this step
 move-newborn : (p q : ℕ) (e : Entry) (c : List Entry) → IsMove p e → is_newborn q (e ∷ c) ≡ is_newborn q c
 move-newborn p q (Given input) c is = absurd is
 move-newborn p q (Made job name) c is = absurd is
 move-newborn p q e c is = refl
 
+-- and what was offered the event
 move-offered : (p : ℕ) (expression : Expression) (e : Entry) (c : List Entry) → IsMove p e → was_offered expression (e ∷ c) ≡ was_offered expression c
 move-offered p expression (Given input) c is = absurd is
 move-offered p expression (Offered other event) c is = absurd is
 move-offered p expression e c is = refl
-
-pub moves-goal : (p q : ℕ) (es c : List Entry) → AllByRecursion (IsMove p) es → goal q (es ++ c) ≡ goal q c
-moves-goal p q [] c is = refl
-moves-goal p q (e ∷ es) c is = move-goal p q e (es ++ c) is.0 ∙ moves-goal p q es c is.1
-
-pub moves-newborn : (p q : ℕ) (es c : List Entry) → AllByRecursion (IsMove p) es → is_newborn q (es ++ c) ≡ is_newborn q c
-moves-newborn p q [] c is = refl
-moves-newborn p q (e ∷ es) c is = move-newborn p q e (es ++ c) is.0 ∙ moves-newborn p q es c is.1
-
-pub moves-offered : (p : ℕ) (expression : Expression) (es c : List Entry) → AllByRecursion (IsMove p) es → was_offered expression (es ++ c) ≡ was_offered expression c
-moves-offered p expression [] c is = refl
-moves-offered p expression (e ∷ es) c is = move-offered p expression e (es ++ c) is.0 ∙ moves-offered p expression es c is.1
 
 -- what holds with and without the entries of a test holds with those that the test lets in
 pub either : (P : List Entry → Type 0) (b : Bool) (xs ys : List Entry) → P (xs ++ ys) → P ys → P (where_true b xs ++ ys)
 either P true xs ys h other = h
 either P false xs ys h other = other
 
--- entering a state is a move into it
+-- what an instance does on entering a state is its move
 pub entering-moves : (job : JobDef) (who : Who) (p : ℕ) (lives : Bool) (from to : State) → AllByRecursion (IsMove p) (entering job who p lives from to)
 entering-moves job who p lives from Waiting = (tt, (refl, (refl, tt)))
 entering-moves job who p lives from Starting = (refl, (refl, tt))
@@ -151,6 +111,7 @@ entering-moves job who p lives from Stopping = (refl, (refl, tt))
 entering-moves job who p lives from Killed = either (AllByRecursion (IsMove p)) lives (Signalled p kill_signal false ∷ []) (Entered p Killed ∷ []) (tt, (refl, tt)) (refl, tt)
 entering-moves job who p lives from to = (refl, tt)
 
+-- the instance is then in that state
 pub entering-state : (job : JobDef) (who : Who) (p : ℕ) (lives : Bool) (from to : State) (c : List Entry) → state_of p (entering job who p lives from to ++ c) ≡ to
 entering-state job who p lives from Waiting c = rw (eq-eqb p p refl) refl
 entering-state job who p lives from Starting c = rw (eq-eqb p p refl) refl
@@ -192,18 +153,25 @@ entering-less offers job who at p lives from to c found fewer = by_case (is_wait
   where
     is : AllByRecursion (IsMove p) (entering job who p lives from to)
     is = entering-moves job who p lives from to
+
     d : List Entry
     d = entering job who p lives from to ++ c
+
     left : moves (goal p d) (state_of p d) (is_some (blocker p d)) ≡ moves (goal p c) to (is_blocking to)
-    left = ap (λ aim. moves aim (state_of p d) (is_some (blocker p d))) (moves-goal p p (entering job who p lives from to) c is)
+    left = ap (λ aim. moves aim (state_of p d) (is_some (blocker p d))) (same-append (goal p) (IsMove p) (move-goal p p) (entering job who p lives from to) c is)
         ∙ ap (λ s. moves (goal p c) s (is_some (blocker p d))) (entering-state job who p lives from to c)
         ∙ entering-blocker job who p lives from to c (goal p c)
+
     start : was_offered (StartOn at) d ≡ was_offered (StartOn at) c
-    start = moves-offered p (StartOn at) (entering job who p lives from to) c is
+    start = same-append (was_offered (StartOn at)) (IsMove p) (move-offered p (StartOn at)) (entering job who p lives from to) c is
+
     gone : instance_of at [] d ≡ without p (instance_of at [] c) → instance_of at [] d ≡ None
     gone e = e ∙ ap (without p) found ∙ rw (eq-eqb p p refl) refl
+
     by_case : (b : Bool) → instance_of at [] d ≡ (if b then without p (instance_of at [] c) else instance_of at [] c) → job_share offers at d < job_share offers at c
     by_case true e = job_share-gone offers at p c d found (gone e) start (omega arith)
     by_case false e =
-        job_share-moved offers at p c d found (e ∙ found) start (moves-newborn p p (entering job who p lives from to) c is) (moves-offered p (StopOn p) (entering job who p lives from to) c is)
+        job_share-moved offers at p c d found (e ∙ found) start
+        (same-append (is_newborn p) (IsMove p) (move-newborn p p) (entering job who p lives from to) c is)
+        (same-append (was_offered (StopOn p)) (IsMove p) (move-offered p (StopOn p)) (entering job who p lives from to) c is)
         (subst (λ n. n < moves (goal p c) (state_of p c) (is_some (blocker p c))) (sym left) fewer)

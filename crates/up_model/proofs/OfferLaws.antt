@@ -1,19 +1,16 @@
 -- An offer leaves one expression fewer to be offered, which counts for more than the moves that it can bring.
-use Rattle.std.proofs.Common.{◌≡◌, ℕ, suc, ◌+◌, ◌*◌, ◌<◌, ◌==◌, Bool, true, false, ◌&&◌, ◌||◌, not, List, [], ◌∷◌, ◌++◌, length, Option, None, Some, is_some, if◌then◌else◌, refl, sym, ◌∙◌, ap, subst, arith, eq-eqb}
+use Rattle.std.proofs.Common.{◌≡◌, ℕ, suc, ◌+◌, ◌<◌, Bool, true, false, ◌||◌, not, List, [], ◌∷◌, ◌++◌, length, None, Some, is_some, refl, ◌∙◌, ap, arith, eq-eqb}
 use Rattle.std.proofs.Math.Bool.{or-true}
 use Rattle.std.specs.List.{AllByRecursion}
 use Rattle.up_model.specs.declared.state.Goal.TheVariants.{Start, Stop}
-use Rattle.up_model.specs.declared.who.Who.{Who}
 use Rattle.up_model.specs.declared.files.job.JobDef.{JobDef}
-use Rattle.up_model.specs.Chronicle.{Entry, Offered, Fired, Made, Aimed, Released, StartOn, StopOn}
-use Rattle.up_model.specs.Readings.{Instance, instance_of, goal, state_of, blocker}
+use Rattle.up_model.specs.Chronicle.{Entry, Offered, Fired, Aimed, Released, StartOn, StopOn}
+use Rattle.up_model.specs.Readings.{instance_of, goal, state_of, blocker}
 use Rattle.up_model.specs.Seen.{Sight, seen, holds, taken, was_offered}
 use Rattle.up_model.specs.Events.{events_at, start_env}
-use Rattle.up_model.specs.Moves.{where_true}
 use Rattle.up_model.specs.Offers.{is_newborn, stop_by, stop_offer, start_by, start_offer}
 use Rattle.up_model.specs.Tests.{is_start}
 use Rattle.up_model.specs.Work.{moves}
-use Rattle.up_model.proofs.Places.{instance_of-older, instance_of-apart, older-other}
 use Rattle.up_model.proofs.Sparing.{IsOf, offer_share, job_share, job_share-some, job_share-none}
 use Rattle.up_model.proofs.MoveLaws.{moves-few, either}
 
@@ -48,29 +45,35 @@ pub stop_offer-offers : (job : JobDef) (at p event : ℕ) (c : List Entry) → O
 stop_offer-offers job at p event c =
     either (OffersStop at p c) (holds job.stop_on sights) (stop_by p events c ++ Fired (StopOn p) events ∷ []) (Offered (StopOn p) event ∷ [])
     (either (λ es. OffersStop at p c (es ++ Offered (StopOn p) event ∷ [])) (is_start (goal p c)) (Aimed p Stop [] events ∷ Released p false ∷ []) (Fired (StopOn p) events ∷ [])
-      (record { of = (refl, (tt, (tt, (refl, tt)))); still = refl; offered = rw (eq-eqb p p refl) refl; start = refl })
-      (record { of = (tt, (refl, tt)); still = refl; offered = rw (eq-eqb p p refl) refl; start = refl }))
+    (record { of = (refl, (tt, (tt, (refl, tt)))); still = refl; offered = rw (eq-eqb p p refl) refl; start = refl })
+    (record { of = (tt, (refl, tt)); still = refl; offered = rw (eq-eqb p p refl) refl; start = refl }))
     (record { of = (refl, tt); still = refl; offered = rw (eq-eqb p p refl) refl; start = refl })
   where
     sights : List Sight
     sights = seen (StopOn p) (Offered (StopOn p) event ∷ c)
+
     events : List ℕ
     events = taken job.stop_on sights
 
+-- which leaves the job less to do
 pub stop_offer-lessens : (job : JobDef) (at p event : ℕ) (c : List Entry) → instance_of at [] c ≡ Some p → (is_newborn p c || was_offered (StopOn p) c) ≡ false → Lessens true at p c (stop_offer job p event c)
 stop_offer-lessens job at p event c found left = record { of = offers.of; less = less _ _ _ _ _ (moves-few (goal p d) (state_of p d) (is_some (blocker p d))) now before }
   where
     offers : OffersStop at p c (stop_offer job p event c)
     offers = stop_offer-offers job at p event c
+
     d : List Entry
     d = stop_offer job p event c ++ c
+
     before : job_share true at c ≡ moves (goal p c) (state_of p c) (is_some (blocker p c)) + 6 + 0 + offer_share true (was_offered (StartOn at) c)
     before = job_share-some true at p c found
         ∙ ap (λ done. moves (goal p c) (state_of p c) (is_some (blocker p c)) + offer_share true done + 0 + offer_share true (was_offered (StartOn at) c)) left
+
     now : job_share true at d ≡ moves (goal p d) (state_of p d) (is_some (blocker p d)) + 0 + 0 + offer_share true (was_offered (StartOn at) c)
     now = job_share-some true at p d (offers.still ∙ found)
         ∙ ap (λ done. moves (goal p d) (state_of p d) (is_some (blocker p d)) + offer_share true done + 0 + offer_share true (was_offered (StartOn at) d)) (ap (λ done. is_newborn p d || done) offers.offered ∙ or-true (is_newborn p d))
         ∙ ap (λ done. moves (goal p d) (state_of p d) (is_some (blocker p d)) + 0 + 0 + offer_share true done) offers.start
+
     less : (m n j k y : ℕ) → j < 6 → m ≡ j + 0 + 0 + y → n ≡ k + 6 + 0 + y → m < n
     less m n j k y few now before = omega arith
 
@@ -80,32 +83,39 @@ start_offer-offers base job at p event c found =
     rw found
     (either (OffersStart at p c) (holds job.start_on sights) (start_by base job at events (Some p) fired ++ Fired (StartOn at) events ∷ []) (Offered (StartOn at) event ∷ [])
     (either (λ es. OffersStart at p c (es ++ Offered (StartOn at) event ∷ [])) (not (is_start (goal p c))) (Aimed p Start (start_env base (events_at events fired) (record { job = job.name; instance = [] })) events ∷ Released p false ∷ []) (Fired (StartOn at) events ∷ [])
-      (record { of = (refl, (tt, (tt, (refl, tt)))); still = refl; newborn = refl; stop = refl; offered = rw (eq-eqb at at refl) refl })
-      (record { of = (tt, (refl, tt)); still = refl; newborn = refl; stop = refl; offered = rw (eq-eqb at at refl) refl }))
+    (record { of = (refl, (tt, (tt, (refl, tt)))); still = refl; newborn = refl; stop = refl; offered = rw (eq-eqb at at refl) refl })
+    (record { of = (tt, (refl, tt)); still = refl; newborn = refl; stop = refl; offered = rw (eq-eqb at at refl) refl }))
     (record { of = (refl, tt); still = refl; newborn = refl; stop = refl; offered = rw (eq-eqb at at refl) refl }))
   where
     sights : List Sight
     sights = seen (StartOn at) (Offered (StartOn at) event ∷ c)
+
     events : List ℕ
     events = taken job.start_on sights
+
     fired : List Entry
     fired = Fired (StartOn at) events ∷ Offered (StartOn at) event ∷ c
 
+-- which leaves the job less to do
 pub start_offer-lessens : (base : List (List ℕ × List ℕ)) (job : JobDef) (at p event : ℕ) (c : List Entry) → instance_of at [] c ≡ Some p → was_offered (StartOn at) c ≡ false → Lessens true at p c (start_offer base job at event c)
 start_offer-lessens base job at p event c found left = record { of = offers.of; less = less _ _ _ _ _ (moves-few (goal p d) (state_of p d) (is_some (blocker p d))) now before }
   where
     offers : OffersStart at p c (start_offer base job at event c)
     offers = start_offer-offers base job at p event c found
+
     d : List Entry
     d = start_offer base job at event c ++ c
+
     before : job_share true at c ≡ moves (goal p c) (state_of p c) (is_some (blocker p c)) + offer_share true (is_newborn p c || was_offered (StopOn p) c) + 0 + 6
     before = job_share-some true at p c found
         ∙ ap (λ done. moves (goal p c) (state_of p c) (is_some (blocker p c)) + offer_share true (is_newborn p c || was_offered (StopOn p) c) + 0 + offer_share true done) left
+
     now : job_share true at d ≡ moves (goal p d) (state_of p d) (is_some (blocker p d)) + offer_share true (is_newborn p c || was_offered (StopOn p) c) + 0 + 0
     now = job_share-some true at p d (offers.still ∙ found)
         ∙ ap (λ new. moves (goal p d) (state_of p d) (is_some (blocker p d)) + offer_share true (new || was_offered (StopOn p) d) + 0 + offer_share true (was_offered (StartOn at) d)) offers.newborn
         ∙ ap (λ done. moves (goal p d) (state_of p d) (is_some (blocker p d)) + offer_share true (is_newborn p c || done) + 0 + offer_share true (was_offered (StartOn at) d)) offers.stop
         ∙ ap (λ done. moves (goal p d) (state_of p d) (is_some (blocker p d)) + offer_share true (is_newborn p c || was_offered (StopOn p) c) + 0 + offer_share true done) offers.offered
+
     less : (m n j k x : ℕ) → j < 6 → m ≡ j + x + 0 + 0 → n ≡ k + x + 0 + 6 → m < n
     less m n j k x few now before = omega arith
 
@@ -115,12 +125,15 @@ new-less at p c es none left offers = less _ _ _ (moves-few (goal p d) (state_of
   where
     d : List Entry
     d = es ++ c
+
     before : job_share true at c ≡ 0 + 6
     before = job_share-none true at c none ∙ ap (λ done. 0 + offer_share true done) left
+
     now : job_share true at d ≡ moves (goal p d) (state_of p d) (is_some (blocker p d)) + 0 + 0 + 0
     now = job_share-some true at p d offers.made
         ∙ ap (λ new. moves (goal p d) (state_of p d) (is_some (blocker p d)) + offer_share true (new || was_offered (StopOn p) d) + 0 + offer_share true (was_offered (StartOn at) d)) offers.newborn
         ∙ ap (λ done. moves (goal p d) (state_of p d) (is_some (blocker p d)) + 0 + 0 + offer_share true done) offers.offered
+
     less : (m n j : ℕ) → j < 6 → m ≡ j + 0 + 0 + 0 → n ≡ 0 + 6 → m < n
     less m n j few now before = omega arith
 
@@ -141,15 +154,21 @@ pub start_offer-makes : (base : List (List ℕ × List ℕ)) (job : JobDef) (at 
 start_offer-makes base job at event c none left =
     rw none
     (either (Lessens true at p c) (holds job.start_on sights) (start_by base job at events None fired ++ Fired (StartOn at) events ∷ []) (Offered (StartOn at) event ∷ [])
-    (record { of = (refl, (refl, (tt, (refl, tt)))); less = new-less at p c (start_by base job at events None fired ++ Fired (StartOn at) events ∷ Offered (StartOn at) event ∷ []) none left
-        (record { made = rw (eq-eqb at at refl) refl; newborn = rw (eq-eqb p p refl) refl; offered = rw (eq-eqb at at refl) refl }) })
+    (record {
+      of = (refl, (refl, (tt, (refl, tt))));
+      less = new-less at p c (start_by base job at events None fired ++ Fired (StartOn at) events ∷ Offered (StartOn at) event ∷ []) none left
+          (record { made = rw (eq-eqb at at refl) refl; newborn = rw (eq-eqb p p refl) refl; offered = rw (eq-eqb at at refl) refl });
+    })
     (record { of = (refl, tt); less = none-less at c (Offered (StartOn at) event ∷ []) none left none (rw (eq-eqb at at refl) refl) }))
   where
     p : ℕ
     p = suc (suc (length c))
+
     sights : List Sight
     sights = seen (StartOn at) (Offered (StartOn at) event ∷ c)
+
     events : List ℕ
     events = taken job.start_on sights
+
     fired : List Entry
     fired = Fired (StartOn at) events ∷ Offered (StartOn at) event ∷ c

@@ -18,6 +18,7 @@ without-some place p (Some other) e = by_case (other == place) e
 pub older-other : (p q : ℕ) → q < p → (p == q) ≡ false
 older-other p q h = ne_eqb p q (λ e. omega arith)
 
+-- a place stays older when an entry is added
 longer : (p n : ℕ) → p < n → p < suc n
 longer p n h = omega arith
 

@@ -1,6 +1,5 @@
 -- The queue: its events stand by age, and what it says of an event.
-use Rattle.std.proofs.Common.{◌≡◌, ℕ, suc, ◌<◌, ◌≤◌, ◌==◌, Bool, true, false, ◌||◌, not, List, [], ◌∷◌, ◌++◌, length, Option, None, Some, if◌then◌else◌, refl, sym, ◌∙◌, ap, arith, eqb-true, eq-eqb, ne_eqb, subst}
-use Rattle.std.proofs.lemmas.Bool.{eqb-false}
+use Rattle.std.proofs.Common.{◌≡◌, ℕ, suc, ◌<◌, ◌==◌, Bool, true, false, ◌||◌, not, List, [], ◌∷◌, ◌++◌, length, Option, None, Some, if◌then◌else◌, refl, ◌∙◌, ap, arith, eqb-true, eq-eqb, ne_eqb, subst}
 use Rattle.std.specs.List.{AllByRecursion}
 use Rattle.up_model.specs.declared.files.job.JobDef.{JobDef}
 use Rattle.up_model.specs.Chronicle.{Entry, Queued, Handled, Finished}
@@ -14,15 +13,17 @@ younger-append : (p n : ℕ) (lives : List Live) → AllByRecursion (λ other. p
 younger-append p n [] h last = (last, tt)
 younger-append p n (live ∷ lives) h last = (h.0, younger-append p n lives h.1 last)
 
+-- the ages then go on by one
 AreByAge-append : (n : ℕ) (lives : List Live) → AreByAge lives n → AreByAge (lives ++ live_at n false ∷ []) (suc n)
 AreByAge-append n [] h = (omega arith, tt, tt)
 AreByAge-append n (live ∷ lives) h = (omega arith, younger-append live.place n lives h.1 h.0, AreByAge-append n lives h.2)
 
+-- the end may come later
 AreByAge-later : (n : ℕ) (lives : List Live) → AreByAge lives n → AreByAge lives (suc n)
 AreByAge-later n [] h = tt
 AreByAge-later n (live ∷ lives) h = (omega arith, h.1, AreByAge-later n lives h.2)
 
--- marking an event, and taking it out, leave the ages
+-- marking an event leaves the rest younger
 younger-with_handled : (p event : ℕ) (lives : List Live) → AllByRecursion (λ other. p < other.place) lives → AllByRecursion (λ other. p < other.place) (with_handled event lives)
 younger-with_handled p event [] h = tt
 younger-with_handled p event (live ∷ lives) h = by_case (live.place == event) (younger-with_handled p event lives h.1)
@@ -32,6 +33,7 @@ younger-with_handled p event (live ∷ lives) h = by_case (live.place == event) 
     by_case true rest = (h.0, rest)
     by_case false rest = (h.0, rest)
 
+-- and leaves the ages
 AreByAge-with_handled : (n event : ℕ) (lives : List Live) → AreByAge lives n → AreByAge (with_handled event lives) n
 AreByAge-with_handled n event [] h = tt
 AreByAge-with_handled n event (live ∷ lives) h = by_case (live.place == event) (younger-with_handled live.place event lives h.1) (AreByAge-with_handled n event lives h.2)
@@ -41,6 +43,7 @@ AreByAge-with_handled n event (live ∷ lives) h = by_case (live.place == event)
     by_case true younger rest = (h.0, younger, rest)
     by_case false younger rest = (h.0, younger, rest)
 
+-- taking an event out leaves the rest younger
 younger-without_event : (p event : ℕ) (lives : List Live) → AllByRecursion (λ other. p < other.place) lives → AllByRecursion (λ other. p < other.place) (without_event event lives)
 younger-without_event p event [] h = tt
 younger-without_event p event (live ∷ lives) h = by_case (live.place == event) (younger-without_event p event lives h.1)
@@ -50,6 +53,7 @@ younger-without_event p event (live ∷ lives) h = by_case (live.place == event)
     by_case true rest = rest
     by_case false rest = (h.0, rest)
 
+-- and leaves the ages
 AreByAge-without_event : (n event : ℕ) (lives : List Live) → AreByAge lives n → AreByAge (without_event event lives) n
 AreByAge-without_event n event [] h = tt
 AreByAge-without_event n event (live ∷ lives) h = by_case (live.place == event) (younger-without_event live.place event lives h.1) (AreByAge-without_event n event lives h.2)
@@ -77,6 +81,7 @@ abbrev pub first_status : Option Bool → Option Bool → Option Bool
 first_status None other = other
 first_status (Some handled) other = Some handled
 
+-- an event at the end
 pub status-append : (event n : ℕ) (handled : Bool) (lives : List Live) → status event (lives ++ live_at n handled ∷ []) ≡ first_status (status event lives) (if n == event then Some handled else None)
 status-append event n handled [] = refl
 status-append event n handled (live ∷ lives) = by_case (live.place == event) (status-append event n handled lives)
@@ -95,7 +100,7 @@ status-older event n (live ∷ lives) handled h e = by_case (live.place == event
     by_case true same e ih = subst (λ place. place < n) (eqb-true live.place event same) h.0
     by_case false differs e ih = ih e
 
--- marking an event
+-- an event that is marked was handled
 pub status-with_handled : (event : ℕ) (lives : List Live) (handled : Bool) → status event lives ≡ Some handled → status event (with_handled event lives) ≡ Some true
 status-with_handled event [] handled e = cc
 status-with_handled event (live ∷ lives) handled e = by_case (live.place == event) refl e (status-with_handled event lives handled)
@@ -106,6 +111,7 @@ status-with_handled event (live ∷ lives) handled e = by_case (live.place == ev
     by_case true same e ih = rw same refl
     by_case false other e ih = rw other (ih e)
 
+-- and the others are as they were
 pub status-with_handled_other : (event other : ℕ) (lives : List Live) → (event == other) ≡ false → status other (with_handled event lives) ≡ status other lives
 status-with_handled_other event other [] h = refl
 status-with_handled_other event other (live ∷ lives) h = by_case (live.place == event) refl (status-with_handled_other event other lives h)
@@ -115,7 +121,7 @@ status-with_handled_other event other (live ∷ lives) h = by_case (live.place =
     by_case true same ih = rw (ap (λ place. place == other) (eqb-true live.place event same) ∙ h) ih
     by_case false differs ih = ap (λ rest. if live.place == other then Some live.handled else rest) ih
 
--- taking an event out
+-- an event that is taken out is gone
 pub status-without_event : (event : ℕ) (lives : List Live) → status event (without_event event lives) ≡ None
 status-without_event event [] = refl
 status-without_event event (live ∷ lives) = by_case (live.place == event) refl (status-without_event event lives)
@@ -124,6 +130,7 @@ status-without_event event (live ∷ lives) = by_case (live.place == event) refl
     by_case true same ih = ih
     by_case false differs ih = rw differs ih
 
+-- and the others are as they were
 pub status-without_event_other : (event other : ℕ) (lives : List Live) → (event == other) ≡ false → status other (without_event event lives) ≡ status other lives
 status-without_event_other event other [] h = refl
 status-without_event_other event other (live ∷ lives) h = by_case (live.place == event) refl (status-without_event_other event other lives h)
@@ -133,7 +140,7 @@ status-without_event_other event other (live ∷ lives) h = by_case (live.place 
     by_case true same ih = rw (ap (λ place. place == other) (eqb-true live.place event same) ∙ h) ih
     by_case false differs ih = ap (λ rest. if live.place == other then Some live.handled else rest) ih
 
--- the event of a turn is in the queue
+-- what holds of all events of the queue holds of a turn's
 pub turn_event-all : (P : Live → Type 0) (jobs : List JobDef) (lives : List Live) (c : List Entry) (live : Live) → AllByRecursion P lives → turn_event jobs lives c ≡ Some live → P live
 turn_event-all P jobs [] c live h e = cc
 turn_event-all P jobs (first ∷ lives) c live h e = by_case (not first.handled || not (is_held jobs first.place c)) e (turn_event-all P jobs lives c live h.1)
@@ -142,6 +149,7 @@ turn_event-all P jobs (first ∷ lives) c live h e = by_case (not first.handled 
     by_case true e ih = let same : first ≡ live = cc in subst P same h.0
     by_case false e ih = ih e
 
+-- the event of a turn is in the queue
 pub turn_event-status : (n : ℕ) (jobs : List JobDef) (lives : List Live) (c : List Entry) (live : Live) → AreByAge lives n → turn_event jobs lives c ≡ Some live → status live.place lives ≡ Some live.handled
 turn_event-status n jobs [] c live h e = cc
 turn_event-status n jobs (first ∷ lives) c live h e = by_case (not first.handled || not (is_held jobs first.place c)) e (turn_event-status n jobs lives c live h.2)

@@ -75,6 +75,7 @@ settle_rest (suc n) base jobs c h = by_case (falls base jobs c) (settle_rest n b
     by_case (inl none) ih = ap (due base jobs) (settle_still (suc n) base jobs c none) ∙ none
     by_case (inr less) ih = ih (omega arith)
 
+-- and the count that `after` gives is enough
 pub settle_rests : (base : List (List ℕ × List ℕ)) (jobs : List JobDef) (c : List Entry) → due base jobs (settle (work jobs c) base jobs c) ≡ []
 settle_rests base jobs c = settle_rest (work jobs c) base jobs c (omega arith)
 
