@@ -3,7 +3,7 @@ use Rattle.std.proofs.Common.{◌≡◌, ℕ, suc, ◌<◌, ◌==◌, Bool, true
 use Rattle.std.proofs.lemmas.Bool.{and_parts, eqb-false}
 use Rattle.up_model.specs.declared.state.State.TheVariants as state
 use Rattle.up_model.specs.Chronicle.{Entry, Made, Entered}
-use Rattle.up_model.specs.Readings.{without, made_at, instance_of}
+use Rattle.up_model.specs.Readings.{without, instance_of}
 
 -- what is left of a place without another was that place
 pub without-some : (place p : ℕ) (o : Option ℕ) → without place o ≡ Some p → o ≡ Some p
@@ -33,27 +33,27 @@ instance_of-older job name (Made other its ∷ c) p e = by_case ((other == job) 
 instance_of-older job name (Entered i state.Waiting ∷ c) p e = longer p (length c) (instance_of-older job name c p (without-some i p (instance_of job name c) e))
 instance_of-older job name (entry ∷ c) p e = longer p (length c) (instance_of-older job name c p e)
 
--- it was made for its job
-pub instance_of-made : (job : ℕ) (name : List ℕ) (c : List Entry) (p : ℕ) → instance_of job name c ≡ Some p → (its : List ℕ) × (made_at p c ≡ Some (job, its))
-instance_of-made job name [] p e = cc
-instance_of-made job name (Made other its ∷ c) p e = by_case ((other == job) && bytes_eq its name) refl (instance_of-made job name c p) e
+-- the job for which an instance was made at a place
+abbrev maker : ℕ → List Entry → ℕ
+maker place [] = 0
+maker place (Made job name ∷ c) = if length c == place then job else maker place c
+maker place (entry ∷ c) = maker place c
+
+-- an instance was made for its job
+instance_of-maker : (job : ℕ) (name : List ℕ) (c : List Entry) (p : ℕ) → instance_of job name c ≡ Some p → maker p c ≡ job
+instance_of-maker job name [] p e = cc
+instance_of-maker job name (Made other its ∷ c) p e = by_case ((other == job) && bytes_eq its name) refl (instance_of-maker job name c p) e
   where
-    by_case : (b : Bool) → ((other == job) && bytes_eq its name) ≡ b → (instance_of job name c ≡ Some p → (its : List ℕ) × (made_at p c ≡ Some (job, its)))
-        → (if b then Some (length c) else instance_of job name c) ≡ Some p → (name : List ℕ) × ((if length c == p then Some (other, its) else made_at p c) ≡ Some (job, name))
+    by_case : (b : Bool) → ((other == job) && bytes_eq its name) ≡ b → (instance_of job name c ≡ Some p → maker p c ≡ job)
+        → (if b then Some (length c) else instance_of job name c) ≡ Some p → (if length c == p then other else maker p c) ≡ job
     by_case true h ih e =
         let at : length c ≡ p = cc in
-        let whose : other ≡ job = eqb-true other job (and_parts _ _ h).0 in
-        (its, rw (eq-eqb (length c) p at) (rw whose refl))
-    by_case false h ih e = let made = ih e in (made.0, rw (older-other (length c) p (instance_of-older job name c p e)) made.1)
-instance_of-made job name (Entered i state.Waiting ∷ c) p e = instance_of-made job name c p (without-some i p (instance_of job name c) e)
-instance_of-made job name (entry ∷ c) p e = instance_of-made job name c p e
-
--- the job of which an instance was made
-abbrev owner : Option (ℕ × List ℕ) → ℕ
-owner None = 0
-owner (Some made) = made.0
+        rw (eq-eqb (length c) p at) (eqb-true other job (and_parts _ _ h).0)
+    by_case false h ih e = rw (older-other (length c) p (instance_of-older job name c p e)) (ih e)
+instance_of-maker job name (Entered i state.Waiting ∷ c) p e = instance_of-maker job name c p (without-some i p (instance_of job name c) e)
+instance_of-maker job name (entry ∷ c) p e = instance_of-maker job name c p e
 
 -- the instances of two jobs are at two places
 pub instance_of-apart : (job other : ℕ) (name its : List ℕ) (c : List Entry) (p q : ℕ) → (job == other) ≡ false → instance_of job name c ≡ Some p → instance_of other its c ≡ Some q → (p == q) ≡ false
 instance_of-apart job other name its c p q h e f = ne_eqb p q (λ same.
-    eqb-false job other h (sym (ap owner (instance_of-made job name c p e).1) ∙ ap (λ place. owner (made_at place c)) same ∙ ap owner (instance_of-made other its c q f).1))
+    eqb-false job other h (sym (instance_of-maker job name c p e) ∙ ap (λ place. maker place c) same ∙ instance_of-maker other its c q f))
