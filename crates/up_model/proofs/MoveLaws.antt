@@ -15,7 +15,7 @@ use Rattle.up_model.specs.Seen.{was_offered}
 use Rattle.up_model.specs.Moves.{where_true, kill_signal, entering}
 use Rattle.up_model.specs.Offers.{is_newborn}
 use Rattle.up_model.specs.Work.{moves}
-use Rattle.up_model.proofs.Sparing.{same-append, IsOf, job_share, job_share-gone, job_share-moved}
+use Rattle.up_model.proofs.Sparing.{same-append, moves_at, IsOf, job_share, job_share-gone, job_share-moved}
 use Rattle.up_model.specs.Events.{started}
 
 -- an instance can't make more than five moves
@@ -147,7 +147,7 @@ entering-instance job who p lives from to c k = refl
 
 -- a move into a state from which there are fewer leaves its job less to do
 pub entering-less : (offers : Bool) (job : JobDef) (who : Who) (at p : ℕ) (lives : Bool) (from to : State) (c : List Entry) → instance_of at [] c ≡ Some p
-    → moves (goal p c) to (is_blocking to) < moves (goal p c) (state_of p c) (is_some (blocker p c))
+    → moves (goal p c) to (is_blocking to) < moves_at p c
     → job_share offers at (entering job who p lives from to ++ c) < job_share offers at c
 entering-less offers job who at p lives from to c found fewer = by_case (is_waiting to) (entering-instance job who p lives from to c at)
   where
@@ -157,7 +157,7 @@ entering-less offers job who at p lives from to c found fewer = by_case (is_wait
     d : List Entry
     d = entering job who p lives from to ++ c
 
-    left : moves (goal p d) (state_of p d) (is_some (blocker p d)) ≡ moves (goal p c) to (is_blocking to)
+    left : moves_at p d ≡ moves (goal p c) to (is_blocking to)
     left = ap (λ aim. moves aim (state_of p d) (is_some (blocker p d))) (same-append (goal p) (IsMove p) (move-goal p p) (entering job who p lives from to) c is)
         ∙ ap (λ s. moves (goal p c) s (is_some (blocker p d))) (entering-state job who p lives from to c)
         ∙ entering-blocker job who p lives from to c (goal p c)
@@ -174,4 +174,4 @@ entering-less offers job who at p lives from to c found fewer = by_case (is_wait
         job_share-moved offers at p c d found (e ∙ found) start
         (same-append (is_newborn p) (IsMove p) (move-newborn p p) (entering job who p lives from to) c is)
         (same-append (was_offered (StopOn p)) (IsMove p) (move-offered p (StopOn p)) (entering job who p lives from to) c is)
-        (subst (λ n. n < moves (goal p c) (state_of p c) (is_some (blocker p c))) (sym left) fewer)
+        (subst (λ n. n < moves_at p c) (sym left) fewer)

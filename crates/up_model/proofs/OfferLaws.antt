@@ -10,7 +10,6 @@ use Rattle.up_model.specs.Seen.{Sight, seen, holds, taken, was_offered}
 use Rattle.up_model.specs.Events.{events_at, start_env}
 use Rattle.up_model.specs.Offers.{is_newborn, stop_by, stop_offer, start_by, start_offer}
 use Rattle.up_model.specs.Tests.{is_start}
-use Rattle.up_model.specs.Work.{moves}
 use Rattle.up_model.proofs.Sparing.{IsOf, offer_share, job_share, job_share-some, job_share-none}
 use Rattle.up_model.proofs.MoveLaws.{moves-few, either}
 
@@ -56,29 +55,27 @@ stop_offer-offers job at p event c =
     events = taken job.stop_on sights
 
 -- which leaves the job less to do
-pub stop_offer-lessens : (job : JobDef) (at p event : ℕ) (c : List Entry) → instance_of at [] c ≡ Some p → (is_newborn p c || was_offered (StopOn p) c) ≡ false → Lessens true at p c (stop_offer job p event c)
-stop_offer-lessens job at p event c found left = record { of = offers.of; less = less _ _ _ _ _ (moves-few (goal p d) (state_of p d) (is_some (blocker p d))) now before }
+pub stop_offer-lessens : (job : JobDef) (at p event : ℕ) (c : List Entry) → instance_of at [] c ≡ Some p → (is_newborn p c || was_offered (StopOn p) c) ≡ false
+    → Lessens true at p c (stop_offer job p event c)
+stop_offer-lessens job at p event c found left = record {
+  of = offers.of;
+  less = less _ _ _ _ (offer_share true (was_offered (StartOn at) c)) (moves-few (goal p d) (state_of p d) (is_some (blocker p d)))
+      (job_share-some true at p d true (was_offered (StartOn at) c) (offers.still ∙ found) (ap (λ done. is_newborn p d || done) offers.offered ∙ or-true (is_newborn p d)) offers.start)
+      (job_share-some true at p c false (was_offered (StartOn at) c) found left refl);
+}
   where
-    offers : OffersStop at p c (stop_offer job p event c)
-    offers = stop_offer-offers job at p event c
-
     d : List Entry
     d = stop_offer job p event c ++ c
 
-    before : job_share true at c ≡ moves (goal p c) (state_of p c) (is_some (blocker p c)) + 6 + 0 + offer_share true (was_offered (StartOn at) c)
-    before = job_share-some true at p c found
-        ∙ ap (λ done. moves (goal p c) (state_of p c) (is_some (blocker p c)) + offer_share true done + 0 + offer_share true (was_offered (StartOn at) c)) left
-
-    now : job_share true at d ≡ moves (goal p d) (state_of p d) (is_some (blocker p d)) + 0 + 0 + offer_share true (was_offered (StartOn at) c)
-    now = job_share-some true at p d (offers.still ∙ found)
-        ∙ ap (λ done. moves (goal p d) (state_of p d) (is_some (blocker p d)) + offer_share true done + 0 + offer_share true (was_offered (StartOn at) d)) (ap (λ done. is_newborn p d || done) offers.offered ∙ or-true (is_newborn p d))
-        ∙ ap (λ done. moves (goal p d) (state_of p d) (is_some (blocker p d)) + 0 + 0 + offer_share true done) offers.start
+    offers : OffersStop at p c (stop_offer job p event c)
+    offers = stop_offer-offers job at p event c
 
     less : (m n j k y : ℕ) → j < 6 → m ≡ j + 0 + 0 + y → n ≡ k + 6 + 0 + y → m < n
     less m n j k y few now before = omega arith
 
 -- the job's `start on` is offered, where it has an instance
-pub start_offer-offers : (base : List (List ℕ × List ℕ)) (job : JobDef) (at p event : ℕ) (c : List Entry) → instance_of at [] c ≡ Some p → OffersStart at p c (start_offer base job at event c)
+pub start_offer-offers : (base : List (List ℕ × List ℕ)) (job : JobDef) (at p event : ℕ) (c : List Entry) → instance_of at [] c ≡ Some p
+    → OffersStart at p c (start_offer base job at event c)
 start_offer-offers base job at p event c found =
     rw found
     (either (OffersStart at p c) (holds job.start_on sights) (start_by base job at events (Some p) fired ++ Fired (StartOn at) events ∷ []) (Offered (StartOn at) event ∷ [])
@@ -97,53 +94,50 @@ start_offer-offers base job at p event c found =
     fired = Fired (StartOn at) events ∷ Offered (StartOn at) event ∷ c
 
 -- which leaves the job less to do
-pub start_offer-lessens : (base : List (List ℕ × List ℕ)) (job : JobDef) (at p event : ℕ) (c : List Entry) → instance_of at [] c ≡ Some p → was_offered (StartOn at) c ≡ false → Lessens true at p c (start_offer base job at event c)
-start_offer-lessens base job at p event c found left = record { of = offers.of; less = less _ _ _ _ _ (moves-few (goal p d) (state_of p d) (is_some (blocker p d))) now before }
+pub start_offer-lessens : (base : List (List ℕ × List ℕ)) (job : JobDef) (at p event : ℕ) (c : List Entry) → instance_of at [] c ≡ Some p
+    → was_offered (StartOn at) c ≡ false
+    → Lessens true at p c (start_offer base job at event c)
+start_offer-lessens base job at p event c found left = record {
+  of = offers.of;
+  less = less _ _ _ _ (offer_share true stop) (moves-few (goal p d) (state_of p d) (is_some (blocker p d)))
+      (job_share-some true at p d stop true (offers.still ∙ found) same offers.offered)
+      (job_share-some true at p c stop false found refl left);
+}
   where
-    offers : OffersStart at p c (start_offer base job at event c)
-    offers = start_offer-offers base job at p event c found
-
     d : List Entry
     d = start_offer base job at event c ++ c
 
-    before : job_share true at c ≡ moves (goal p c) (state_of p c) (is_some (blocker p c)) + offer_share true (is_newborn p c || was_offered (StopOn p) c) + 0 + 6
-    before = job_share-some true at p c found
-        ∙ ap (λ done. moves (goal p c) (state_of p c) (is_some (blocker p c)) + offer_share true (is_newborn p c || was_offered (StopOn p) c) + 0 + offer_share true done) left
+    offers : OffersStart at p c (start_offer base job at event c)
+    offers = start_offer-offers base job at p event c found
 
-    now : job_share true at d ≡ moves (goal p d) (state_of p d) (is_some (blocker p d)) + offer_share true (is_newborn p c || was_offered (StopOn p) c) + 0 + 0
-    now = job_share-some true at p d (offers.still ∙ found)
-        ∙ ap (λ new. moves (goal p d) (state_of p d) (is_some (blocker p d)) + offer_share true (new || was_offered (StopOn p) d) + 0 + offer_share true (was_offered (StartOn at) d)) offers.newborn
-        ∙ ap (λ done. moves (goal p d) (state_of p d) (is_some (blocker p d)) + offer_share true (is_newborn p c || done) + 0 + offer_share true (was_offered (StartOn at) d)) offers.stop
-        ∙ ap (λ done. moves (goal p d) (state_of p d) (is_some (blocker p d)) + offer_share true (is_newborn p c || was_offered (StopOn p) c) + 0 + offer_share true done) offers.offered
+    stop : Bool
+    stop = is_newborn p c || was_offered (StopOn p) c
+
+    same : (is_newborn p d || was_offered (StopOn p) d) ≡ stop
+    same = cc (offers.newborn, offers.stop)
 
     less : (m n j k x : ℕ) → j < 6 → m ≡ j + x + 0 + 0 → n ≡ k + x + 0 + 6 → m < n
     less m n j k x few now before = omega arith
 
 -- a job that got an instance has at most its moves to do
-new-less : (at p : ℕ) (c es : List Entry) → instance_of at [] c ≡ None → was_offered (StartOn at) c ≡ false → OffersNew at p c es → job_share true at (es ++ c) < job_share true at c
-new-less at p c es none left offers = less _ _ _ (moves-few (goal p d) (state_of p d) (is_some (blocker p d))) now before
+new-less : (at p : ℕ) (c es : List Entry) → instance_of at [] c ≡ None → was_offered (StartOn at) c ≡ false → OffersNew at p c es
+    → job_share true at (es ++ c) < job_share true at c
+new-less at p c es none left offers =
+    less _ _ _ (moves-few (goal p d) (state_of p d) (is_some (blocker p d)))
+    (job_share-some true at p d true true offers.made (ap (λ new. new || was_offered (StopOn p) d) offers.newborn) offers.offered)
+    (job_share-none true at c false none left)
   where
     d : List Entry
     d = es ++ c
-
-    before : job_share true at c ≡ 0 + 6
-    before = job_share-none true at c none ∙ ap (λ done. 0 + offer_share true done) left
-
-    now : job_share true at d ≡ moves (goal p d) (state_of p d) (is_some (blocker p d)) + 0 + 0 + 0
-    now = job_share-some true at p d offers.made
-        ∙ ap (λ new. moves (goal p d) (state_of p d) (is_some (blocker p d)) + offer_share true (new || was_offered (StopOn p) d) + 0 + offer_share true (was_offered (StartOn at) d)) offers.newborn
-        ∙ ap (λ done. moves (goal p d) (state_of p d) (is_some (blocker p d)) + 0 + 0 + offer_share true done) offers.offered
 
     less : (m n j : ℕ) → j < 6 → m ≡ j + 0 + 0 + 0 → n ≡ 0 + 6 → m < n
     less m n j few now before = omega arith
 
 -- and one that did not has nothing
-none-less : (at : ℕ) (c es : List Entry) → instance_of at [] c ≡ None → was_offered (StartOn at) c ≡ false → instance_of at [] (es ++ c) ≡ None → was_offered (StartOn at) (es ++ c) ≡ true
+none-less : (at : ℕ) (c es : List Entry) → instance_of at [] c ≡ None → was_offered (StartOn at) c ≡ false → instance_of at [] (es ++ c) ≡ None
+    → was_offered (StartOn at) (es ++ c) ≡ true
     → job_share true at (es ++ c) < job_share true at c
-none-less at c es none left still offered =
-    let before : job_share true at c ≡ 0 + 6 = job_share-none true at c none ∙ ap (λ done. 0 + offer_share true done) left in
-    let now : job_share true at (es ++ c) ≡ 0 + 0 = job_share-none true at (es ++ c) still ∙ ap (λ done. 0 + offer_share true done) offered in
-    less _ _ now before
+none-less at c es none left still offered = less _ _ (job_share-none true at (es ++ c) true still offered) (job_share-none true at c false none left)
   where
     less : (m n : ℕ) → m ≡ 0 + 0 → n ≡ 0 + 6 → m < n
     less m n now before = omega arith

@@ -54,6 +54,7 @@ instance_of-maker job name (Entered i state.Waiting ∷ c) p e = instance_of-mak
 instance_of-maker job name (entry ∷ c) p e = instance_of-maker job name c p e
 
 -- the instances of two jobs are at two places
-pub instance_of-apart : (job other : ℕ) (name its : List ℕ) (c : List Entry) (p q : ℕ) → (job == other) ≡ false → instance_of job name c ≡ Some p → instance_of other its c ≡ Some q → (p == q) ≡ false
+pub instance_of-apart : (job other : ℕ) (name its : List ℕ) (c : List Entry) (p q : ℕ) → (job == other) ≡ false → instance_of job name c ≡ Some p
+    → instance_of other its c ≡ Some q → (p == q) ≡ false
 instance_of-apart job other name its c p q h e f = ne_eqb p q (λ same.
     eqb-false job other h (sym (instance_of-maker job name c p e) ∙ ap (λ place. maker place c) same ∙ instance_of-maker other its c q f))

@@ -9,7 +9,8 @@ use Rattle.up_model.specs.Due.{turn_event}
 use Rattle.up_model.specs.Laws.{AreByAge}
 
 -- an event at the end, which is younger than all
-younger-append : (p n : ℕ) (lives : List Live) → AllByRecursion (λ other. p < other.place) lives → p < n → AllByRecursion (λ other. p < other.place) (lives ++ live_at n false ∷ [])
+younger-append : (p n : ℕ) (lives : List Live) → AllByRecursion (λ other. p < other.place) lives → p < n
+    → AllByRecursion (λ other. p < other.place) (lives ++ live_at n false ∷ [])
 younger-append p n [] h last = (last, tt)
 younger-append p n (live ∷ lives) h last = (h.0, younger-append p n lives h.1 last)
 
@@ -24,7 +25,8 @@ AreByAge-later n [] h = tt
 AreByAge-later n (live ∷ lives) h = (omega arith, h.1, AreByAge-later n lives h.2)
 
 -- marking an event leaves the rest younger
-younger-with_handled : (p event : ℕ) (lives : List Live) → AllByRecursion (λ other. p < other.place) lives → AllByRecursion (λ other. p < other.place) (with_handled event lives)
+younger-with_handled : (p event : ℕ) (lives : List Live) → AllByRecursion (λ other. p < other.place) lives
+    → AllByRecursion (λ other. p < other.place) (with_handled event lives)
 younger-with_handled p event [] h = tt
 younger-with_handled p event (live ∷ lives) h = by_case (live.place == event) (younger-with_handled p event lives h.1)
   where
@@ -44,7 +46,8 @@ AreByAge-with_handled n event (live ∷ lives) h = by_case (live.place == event)
     by_case false younger rest = (h.0, younger, rest)
 
 -- taking an event out leaves the rest younger
-younger-without_event : (p event : ℕ) (lives : List Live) → AllByRecursion (λ other. p < other.place) lives → AllByRecursion (λ other. p < other.place) (without_event event lives)
+younger-without_event : (p event : ℕ) (lives : List Live) → AllByRecursion (λ other. p < other.place) lives
+    → AllByRecursion (λ other. p < other.place) (without_event event lives)
 younger-without_event p event [] h = tt
 younger-without_event p event (live ∷ lives) h = by_case (live.place == event) (younger-without_event p event lives h.1)
   where
@@ -82,7 +85,8 @@ first_status None other = other
 first_status (Some handled) other = Some handled
 
 -- an event at the end
-pub status-append : (event n : ℕ) (handled : Bool) (lives : List Live) → status event (lives ++ live_at n handled ∷ []) ≡ first_status (status event lives) (if n == event then Some handled else None)
+pub status-append : (event n : ℕ) (handled : Bool) (lives : List Live)
+    → status event (lives ++ live_at n handled ∷ []) ≡ first_status (status event lives) (if n == event then Some handled else None)
 status-append event n handled [] = refl
 status-append event n handled (live ∷ lives) = by_case (live.place == event) (status-append event n handled lives)
   where
@@ -96,7 +100,8 @@ pub status-older : (event n : ℕ) (lives : List Live) (handled : Bool) → AreB
 status-older event n [] handled h e = cc
 status-older event n (live ∷ lives) handled h e = by_case (live.place == event) refl e (status-older event n lives handled h.2)
   where
-    by_case : (b : Bool) → (live.place == event) ≡ b → (if b then Some live.handled else status event lives) ≡ Some handled → (status event lives ≡ Some handled → event < n) → event < n
+    by_case : (b : Bool) → (live.place == event) ≡ b → (if b then Some live.handled else status event lives) ≡ Some handled
+        → (status event lives ≡ Some handled → event < n) → event < n
     by_case true same e ih = subst (λ place. place < n) (eqb-true live.place event same) h.0
     by_case false differs e ih = ih e
 
@@ -126,7 +131,8 @@ pub status-without_event : (event : ℕ) (lives : List Live) → status event (w
 status-without_event event [] = refl
 status-without_event event (live ∷ lives) = by_case (live.place == event) refl (status-without_event event lives)
   where
-    by_case : (b : Bool) → (live.place == event) ≡ b → status event (without_event event lives) ≡ None → status event (if b then without_event event lives else live ∷ without_event event lives) ≡ None
+    by_case : (b : Bool) → (live.place == event) ≡ b → status event (without_event event lives) ≡ None
+        → status event (if b then without_event event lives else live ∷ without_event event lives) ≡ None
     by_case true same ih = ih
     by_case false differs ih = rw differs ih
 
@@ -141,7 +147,8 @@ status-without_event_other event other (live ∷ lives) h = by_case (live.place 
     by_case false differs ih = ap (λ rest. if live.place == other then Some live.handled else rest) ih
 
 -- what holds of all events of the queue holds of a turn's
-pub turn_event-all : (P : Live → Type 0) (jobs : List JobDef) (lives : List Live) (c : List Entry) (live : Live) → AllByRecursion P lives → turn_event jobs lives c ≡ Some live → P live
+pub turn_event-all : (P : Live → Type 0) (jobs : List JobDef) (lives : List Live) (c : List Entry) (live : Live) → AllByRecursion P lives
+    → turn_event jobs lives c ≡ Some live → P live
 turn_event-all P jobs [] c live h e = cc
 turn_event-all P jobs (first ∷ lives) c live h e = by_case (not first.handled || not (is_held jobs first.place c)) e (turn_event-all P jobs lives c live h.1)
   where
@@ -150,11 +157,13 @@ turn_event-all P jobs (first ∷ lives) c live h e = by_case (not first.handled 
     by_case false e ih = ih e
 
 -- the event of a turn is in the queue
-pub turn_event-status : (n : ℕ) (jobs : List JobDef) (lives : List Live) (c : List Entry) (live : Live) → AreByAge lives n → turn_event jobs lives c ≡ Some live → status live.place lives ≡ Some live.handled
+pub turn_event-status : (n : ℕ) (jobs : List JobDef) (lives : List Live) (c : List Entry) (live : Live) → AreByAge lives n → turn_event jobs lives c ≡ Some live
+    → status live.place lives ≡ Some live.handled
 turn_event-status n jobs [] c live h e = cc
 turn_event-status n jobs (first ∷ lives) c live h e = by_case (not first.handled || not (is_held jobs first.place c)) e (turn_event-status n jobs lives c live h.2)
   where
-    by_case : (b : Bool) → (if b then Some first else turn_event jobs lives c) ≡ Some live → (turn_event jobs lives c ≡ Some live → status live.place lives ≡ Some live.handled)
+    by_case : (b : Bool) → (if b then Some first else turn_event jobs lives c) ≡ Some live
+        → (turn_event jobs lives c ≡ Some live → status live.place lives ≡ Some live.handled)
         → (if first.place == live.place then Some first.handled else status live.place lives) ≡ Some live.handled
     by_case true e ih = let same : first ≡ live = cc in subst (λ it. (if first.place == it.place then Some first.handled else status it.place lives) ≡ Some it.handled) same (rw (eq-eqb first.place first.place refl) refl)
     by_case false e ih =
@@ -162,7 +171,8 @@ turn_event-status n jobs (first ∷ lives) c live h e = by_case (not first.handl
         rw (ne_eqb first.place live.place (λ same. omega arith)) (ih e)
 
 -- and isn't held where it was handled
-pub turn_event-held : (jobs : List JobDef) (lives : List Live) (c : List Entry) (live : Live) → turn_event jobs lives c ≡ Some live → live.handled ≡ true → is_held jobs live.place c ≡ false
+pub turn_event-held : (jobs : List JobDef) (lives : List Live) (c : List Entry) (live : Live) → turn_event jobs lives c ≡ Some live → live.handled ≡ true
+    → is_held jobs live.place c ≡ false
 turn_event-held jobs [] c live e handled = cc
 turn_event-held jobs (first ∷ lives) c live e handled =
     by_case first.handled (is_held jobs first.place c) refl refl e (λ rest. turn_event-held jobs lives c live rest handled)

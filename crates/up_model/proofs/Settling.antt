@@ -15,7 +15,8 @@ settle_still zero base jobs c none = refl
 settle_still (suc n) base jobs c none = ap (λ es. settle n base jobs (es ++ c)) none ∙ settle_still n base jobs c none
 
 -- a count is as good as another, where both are enough
-pub settle_enough : (n m : ℕ) (base : List (List ℕ × List ℕ)) (jobs : List JobDef) (c : List Entry) → work jobs c ≤ n → work jobs c ≤ m → settle n base jobs c ≡ settle m base jobs c
+pub settle_enough : (n m : ℕ) (base : List (List ℕ × List ℕ)) (jobs : List JobDef) (c : List Entry) → work jobs c ≤ n → work jobs c ≤ m
+    → settle n base jobs c ≡ settle m base jobs c
 unfolding settle
 settle_enough zero zero base jobs c h k = refl
 settle_enough zero (suc m) base jobs c h k = by_case (falls base jobs c)
@@ -37,17 +38,20 @@ settle_enough (suc n) (suc m) base jobs c h k = by_case (falls base jobs c) (set
     by_case (inr less) ih = ih (omega arith) (omega arith)
 
 -- what is due is done first
-pub settle_first : (n : ℕ) (base : List (List ℕ × List ℕ)) (jobs : List JobDef) (c : List Entry) → work jobs (due base jobs c ++ c) < n → settle (work jobs (due base jobs c ++ c)) base jobs (due base jobs c ++ c) ≡ settle n base jobs c
+pub settle_first : (n : ℕ) (base : List (List ℕ × List ℕ)) (jobs : List JobDef) (c : List Entry) → work jobs (due base jobs c ++ c) < n
+    → settle (work jobs (due base jobs c ++ c)) base jobs (due base jobs c ++ c) ≡ settle n base jobs c
 unfolding settle
 settle_first zero base jobs c h = absurd (omega arith)
 settle_first (suc n) base jobs c h = settle_enough (work jobs (due base jobs c ++ c)) n base jobs (due base jobs c ++ c) (omega arith) (omega arith)
 
 -- doing once what is due changes nothing of what comes out
-pub settle_next : (base : List (List ℕ × List ℕ)) (jobs : List JobDef) (c : List Entry) → settle (work jobs (due base jobs c ++ c)) base jobs (due base jobs c ++ c) ≡ settle (work jobs c) base jobs c
+pub settle_next : (base : List (List ℕ × List ℕ)) (jobs : List JobDef) (c : List Entry)
+    → settle (work jobs (due base jobs c ++ c)) base jobs (due base jobs c ++ c) ≡ settle (work jobs c) base jobs c
 unfolding settle
 settle_next base jobs c = by_case (falls base jobs c)
   where
-    by_case : (due base jobs c ≡ []) ⊎ (work jobs (due base jobs c ++ c) < work jobs c) → settle (work jobs (due base jobs c ++ c)) base jobs (due base jobs c ++ c) ≡ settle (work jobs c) base jobs c
+    by_case : (due base jobs c ≡ []) ⊎ (work jobs (due base jobs c ++ c) < work jobs c)
+        → settle (work jobs (due base jobs c ++ c)) base jobs (due base jobs c ++ c) ≡ settle (work jobs c) base jobs c
     by_case (inl none) = ap (λ es. settle (work jobs (es ++ c)) base jobs (es ++ c)) none
     by_case (inr less) = settle_first (work jobs c) base jobs c less
 

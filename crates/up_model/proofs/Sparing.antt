@@ -34,6 +34,10 @@ instance_share offers found c = work_in offers (instance_at [] found) c
 abbrev pub job_share : Bool → ℕ → List Entry → ℕ
 job_share offers job c = instance_share offers (instance_of job [] c) c + offer_share offers (was_offered (StartOn job) c)
 
+-- the moves that an instance has left
+abbrev pub moves_at : ℕ → List Entry → ℕ
+moves_at p c = moves (goal p c) (state_of p c) (is_some (blocker p c))
+
 -- an entry that is due, about a job and an instance of it
 abbrev pub IsOf : ℕ → ℕ → Entry → Type 0
 IsOf job p (Queued (Entering instance entered) event) = instance ≡ p
@@ -90,7 +94,8 @@ without-other p None h = refl
 without-other p (Some q) h = rw (ne_eqb q p (λ same. eqb-false p q (h q refl) (sym same))) refl
 
 -- which instance another job has
-spared-instance : (job p k : ℕ) (e : Entry) (c : List Entry) → IsOf job p e → (job == k) ≡ false → ((q : ℕ) → instance_of k [] c ≡ Some q → (p == q) ≡ false) → instance_of k [] (e ∷ c) ≡ instance_of k [] c
+spared-instance : (job p k : ℕ) (e : Entry) (c : List Entry) → IsOf job p e → (job == k) ≡ false → ((q : ℕ) → instance_of k [] c ≡ Some q → (p == q) ≡ false)
+    → instance_of k [] (e ∷ c) ≡ instance_of k [] c
 spared-instance job p k (Made other name) c of h apart = rw of (rw h refl)
 spared-instance job p k (Entered i state.Waiting) c of h apart = rw of (without-other p (instance_of k [] c) apart)
 spared-instance job p k e c of h apart = refl
@@ -102,7 +107,8 @@ spared-offering job p (Handled event) c of = absurd of
 spared-offering job p e c of = refl
 
 -- the work of another job's instance
-spared-instance_share : (offers : Bool) (job p : ℕ) (o : Option ℕ) (e : Entry) (c : List Entry) → IsOf job p e → ((q : ℕ) → o ≡ Some q → ((p == q) ≡ false) × (q < length c))
+spared-instance_share : (offers : Bool) (job p : ℕ) (o : Option ℕ) (e : Entry) (c : List Entry) → IsOf job p e
+    → ((q : ℕ) → o ≡ Some q → ((p == q) ≡ false) × (q < length c))
     → instance_share offers o (e ∷ c) ≡ instance_share offers o c
 spared-instance_share offers job p None e c of h = refl
 spared-instance_share offers job p (Some q) e c of h =
@@ -110,7 +116,8 @@ spared-instance_share offers job p (Some q) e c of h =
     simp (spared-goal job p q e c of apart, spared-state job p q e c of apart, spared-blocker job p q e c of apart, spared-newborn job p q e c of (h q refl).1, spared-stop job p q e c of apart)
 
 -- and the work of another job
-spared-job_share : (offers : Bool) (job p k : ℕ) (e : Entry) (c : List Entry) → IsOf job p e → (job == k) ≡ false → ((q : ℕ) → instance_of k [] c ≡ Some q → (p == q) ≡ false)
+spared-job_share : (offers : Bool) (job p k : ℕ) (e : Entry) (c : List Entry) → IsOf job p e → (job == k) ≡ false
+    → ((q : ℕ) → instance_of k [] c ≡ Some q → (p == q) ≡ false)
     → job_share offers k (e ∷ c) ≡ job_share offers k c
 spared-job_share offers job p k e c of h apart =
     let stays = spared-instance job p k e c of h apart in
@@ -121,7 +128,8 @@ spared-job_share offers job p k e c of h apart =
     ∙ ap (λ done. instance_share offers (instance_of k [] c) c + offer_share offers done) start
 
 -- several such entries leave another job's instance and its work alone
-pub spared : (offers : Bool) (job p k : ℕ) (es c : List Entry) → AllByRecursion (IsOf job p) es → (job == k) ≡ false → ((q : ℕ) → instance_of k [] c ≡ Some q → (p == q) ≡ false)
+pub spared : (offers : Bool) (job p k : ℕ) (es c : List Entry) → AllByRecursion (IsOf job p) es → (job == k) ≡ false
+    → ((q : ℕ) → instance_of k [] c ≡ Some q → (p == q) ≡ false)
     → (instance_of k [] (es ++ c) ≡ instance_of k [] c) × (job_share offers k (es ++ c) ≡ job_share offers k c)
 spared offers job p k [] c of h apart = (refl, refl)
 spared offers job p k (e ∷ es) c of h apart =
@@ -143,22 +151,28 @@ spared-work_from offers job p es c of apart (other ∷ jobs) from later =
     ap (λ share. share + work_from offers jobs (from + 1) (es ++ c)) (spared offers job p from es c of here (λ q. apart from q here)).1
     ∙ ap (λ rest. job_share offers from c + rest) (spared-work_from offers job p es c of apart jobs (from + 1) (omega arith))
 
--- the work of a job with an instance
-pub job_share-some : (offers : Bool) (job p : ℕ) (c : List Entry) → instance_of job [] c ≡ Some p
-    → job_share offers job c ≡ moves (goal p c) (state_of p c) (is_some (blocker p c)) + offer_share offers (is_newborn p c || was_offered (StopOn p) c) + 0 + offer_share offers (was_offered (StartOn job) c)
-job_share-some offers job p c found = ap (λ o. instance_share offers o c + offer_share offers (was_offered (StartOn job) c)) found
+-- the work of a job with an instance, by whether their expressions are still to be offered
+pub job_share-some : (offers : Bool) (job p : ℕ) (c : List Entry) (stop start : Bool) → instance_of job [] c ≡ Some p
+    → (is_newborn p c || was_offered (StopOn p) c) ≡ stop → was_offered (StartOn job) c ≡ start
+    → job_share offers job c ≡ moves_at p c + offer_share offers stop + 0 + offer_share offers start
+job_share-some offers job p c stop start found stops starts =
+    ap (λ o. instance_share offers o c + offer_share offers (was_offered (StartOn job) c)) found
+    ∙ ap (λ done. moves_at p c + offer_share offers done + 0 + offer_share offers (was_offered (StartOn job) c)) stops
+    ∙ ap (λ done. moves_at p c + offer_share offers stop + 0 + offer_share offers done) starts
 
--- of a job without
-pub job_share-none : (offers : Bool) (job : ℕ) (c : List Entry) → instance_of job [] c ≡ None → job_share offers job c ≡ 0 + offer_share offers (was_offered (StartOn job) c)
-job_share-none offers job c found = ap (λ o. instance_share offers o c + offer_share offers (was_offered (StartOn job) c)) found
+-- and of a job without
+pub job_share-none : (offers : Bool) (job : ℕ) (c : List Entry) (start : Bool) → instance_of job [] c ≡ None → was_offered (StartOn job) c ≡ start
+    → job_share offers job c ≡ 0 + offer_share offers start
+job_share-none offers job c start found starts =
+    ap (λ o. instance_share offers o c + offer_share offers (was_offered (StartOn job) c)) found ∙ ap (λ done. 0 + offer_share offers done) starts
 
 -- a job has less to do when its instance is gone that had moves left
 pub job_share-gone : (offers : Bool) (job p : ℕ) (c d : List Entry) → instance_of job [] c ≡ Some p → instance_of job [] d ≡ None
-    → was_offered (StartOn job) d ≡ was_offered (StartOn job) c → 0 < moves (goal p c) (state_of p c) (is_some (blocker p c)) → job_share offers job d < job_share offers job c
+    → was_offered (StartOn job) d ≡ was_offered (StartOn job) c → 0 < moves_at p c → job_share offers job d < job_share offers job c
 job_share-gone offers job p c d found gone start some =
-    let before = job_share-some offers job p c found in
-    let now = job_share-none offers job d gone ∙ ap (λ done. 0 + offer_share offers done) start in
-    less _ _ (offer_share offers (is_newborn p c || was_offered (StopOn p) c)) (offer_share offers (was_offered (StartOn job) c)) _ some now before
+    less _ _ (offer_share offers (is_newborn p c || was_offered (StopOn p) c)) (offer_share offers (was_offered (StartOn job) c)) _ some
+    (job_share-none offers job d (was_offered (StartOn job) c) gone start)
+    (job_share-some offers job p c _ _ found refl refl)
   where
     less : (m n x y k : ℕ) → 0 < k → m ≡ 0 + y → n ≡ k + x + 0 + y → m < n
     less m n x y k some now before = omega arith
@@ -166,14 +180,11 @@ job_share-gone offers job p c d found gone start some =
 -- and when its instance has fewer moves left
 pub job_share-moved : (offers : Bool) (job p : ℕ) (c d : List Entry) → instance_of job [] c ≡ Some p → instance_of job [] d ≡ Some p
     → was_offered (StartOn job) d ≡ was_offered (StartOn job) c → is_newborn p d ≡ is_newborn p c → was_offered (StopOn p) d ≡ was_offered (StopOn p) c
-    → moves (goal p d) (state_of p d) (is_some (blocker p d)) < moves (goal p c) (state_of p c) (is_some (blocker p c)) → job_share offers job d < job_share offers job c
+    → moves_at p d < moves_at p c → job_share offers job d < job_share offers job c
 job_share-moved offers job p c d found still start newborn stop fewer =
-    let before = job_share-some offers job p c found in
-    let now = job_share-some offers job p d still
-    ∙ ap (λ new. moves (goal p d) (state_of p d) (is_some (blocker p d)) + offer_share offers (new || was_offered (StopOn p) d) + 0 + offer_share offers (was_offered (StartOn job) d)) newborn
-    ∙ ap (λ done. moves (goal p d) (state_of p d) (is_some (blocker p d)) + offer_share offers (is_newborn p c || done) + 0 + offer_share offers (was_offered (StartOn job) d)) stop
-    ∙ ap (λ done. moves (goal p d) (state_of p d) (is_some (blocker p d)) + offer_share offers (is_newborn p c || was_offered (StopOn p) c) + 0 + offer_share offers done) start in
-    less _ _ (offer_share offers (is_newborn p c || was_offered (StopOn p) c)) (offer_share offers (was_offered (StartOn job) c)) _ _ fewer now before
+    less _ _ (offer_share offers (is_newborn p c || was_offered (StopOn p) c)) (offer_share offers (was_offered (StartOn job) c)) _ _ fewer
+    (job_share-some offers job p d (is_newborn p c || was_offered (StopOn p) c) (was_offered (StartOn job) c) still (cc) start)
+    (job_share-some offers job p c _ _ found refl refl)
   where
     less : (m n x y j k : ℕ) → j < k → m ≡ j + x + 0 + y → n ≡ k + x + 0 + y → m < n
     less m n x y j k fewer now before = omega arith

@@ -34,13 +34,15 @@ pub record Keeps (c : List Entry) : Type 0 where
   pub orderly : IsOrderly c
 
 -- what holds of an event still holds when neither count changed
-standing-later : (event : ℕ) (c d : List Entry) (o : Option Bool) → handled_times event d ≡ handled_times event c → finished_times event d ≡ finished_times event c → length c ≤ length d → Standing event c o → Standing event d o
+standing-later : (event : ℕ) (c d : List Entry) (o : Option Bool) → handled_times event d ≡ handled_times event c → finished_times event d ≡ finished_times event c
+    → length c ≤ length d → Standing event c o → Standing event d o
 standing-later event c d None h f longer s = (f ∙ s.0 ∙ sym h, rw h s.1, λ later. h ∙ s.2 (omega arith))
 standing-later event c d (Some false) h f longer s = (h ∙ s.0, f ∙ s.1)
 standing-later event c d (Some true) h f longer s = (h ∙ s.0, f ∙ s.1)
 
 -- a new event was neither handled nor finished
-standing-queued : (event : ℕ) (c d : List Entry) (o : Option Bool) (b : Bool) → (length c == event) ≡ b → handled_times event d ≡ handled_times event c → finished_times event d ≡ finished_times event c → length c ≤ length d
+standing-queued : (event : ℕ) (c d : List Entry) (o : Option Bool) (b : Bool) → (length c == event) ≡ b → handled_times event d ≡ handled_times event c
+    → finished_times event d ≡ finished_times event c → length c ≤ length d
     → Standing event c o → Standing event d (first_status o (if b then Some false else None))
 standing-queued event c d (Some false) b same h f longer s = standing-later event c d (Some false) h f longer s
 standing-queued event c d (Some true) b same h f longer s = standing-later event c d (Some true) h f longer s
@@ -88,7 +90,8 @@ handled-keeps event c here keeps = record {
     now : Standing event c (Some false)
     now = subst (Standing event c) here (keeps.standing event)
 
-    by_case : (other : ℕ) (b : Bool) → (event == other) ≡ b → Standing other c (status other (queue c)) → Standing other (Handled event ∷ c) (status other (with_handled event (queue c)))
+    by_case : (other : ℕ) (b : Bool) → (event == other) ≡ b → Standing other c (status other (queue c))
+        → Standing other (Handled event ∷ c) (status other (with_handled event (queue c)))
     by_case other false differs s = rw (status-with_handled_other event other (queue c) differs) (standing-later other c (Handled event ∷ c) (status other (queue c)) (rw differs refl) refl (le_suc (length c)) s)
     by_case other true same s =
         subst (λ it. Standing it (Handled event ∷ c) (status it (with_handled event (queue c)))) (eqb-true event other same)
@@ -104,7 +107,8 @@ finished-keeps event c here keeps = record {
     now : Standing event c (Some true)
     now = subst (Standing event c) here (keeps.standing event)
 
-    by_case : (other : ℕ) (b : Bool) → (event == other) ≡ b → Standing other c (status other (queue c)) → Standing other (Finished event ∷ c) (status other (without_event event (queue c)))
+    by_case : (other : ℕ) (b : Bool) → (event == other) ≡ b → Standing other c (status other (queue c))
+        → Standing other (Finished event ∷ c) (status other (without_event event (queue c)))
     by_case other false differs s = rw (status-without_event_other event other (queue c) differs) (standing-later other c (Finished event ∷ c) (status other (queue c)) refl (rw differs refl) (le_suc (length c)) s)
     by_case other true same s =
         let old : event < length c = status-older event (length c) (queue c) true (queue_by_age c) here in
@@ -112,7 +116,8 @@ finished-keeps event c here keeps = record {
         (rw (status-without_event event (queue c)) (rw (eq-eqb event event refl) (ap (λ n. 1 + n) now.1 ∙ sym now.0), le_of_eq now.0, λ later. absurd (omega arith)))
 
 -- so a turn leaves the counts fitting
-turned-keeps : (jobs : List JobDef) (c : List Entry) (found : Option Live) → turn_event jobs (queue c) c ≡ found → Keeps (Given input.Turn ∷ c) → Keeps (turned found ++ Given input.Turn ∷ c)
+turned-keeps : (jobs : List JobDef) (c : List Entry) (found : Option Live) → turn_event jobs (queue c) c ≡ found → Keeps (Given input.Turn ∷ c)
+    → Keeps (turned found ++ Given input.Turn ∷ c)
 turned-keeps jobs c None found keeps = keeps
 turned-keeps jobs c (Some live) found keeps = by_case live.handled refl
   where
@@ -216,7 +221,8 @@ pub handled_once : (base : List (List ℕ × List ℕ)) (jobs : List JobDef) (in
 handled_once base jobs inputs event = (orderly_once (after_all base jobs [] inputs) event (reached-keeps base jobs inputs)).1
 
 -- it finishes no more often
-pub finished_once : (base : List (List ℕ × List ℕ)) (jobs : List JobDef) (inputs : List Input) (event : ℕ) → finished_times event (after_all base jobs [] inputs) ≤ handled_times event (after_all base jobs [] inputs)
+pub finished_once : (base : List (List ℕ × List ℕ)) (jobs : List JobDef) (inputs : List Input) (event : ℕ)
+    → finished_times event (after_all base jobs [] inputs) ≤ handled_times event (after_all base jobs [] inputs)
 finished_once base jobs inputs event = (orderly_once (after_all base jobs [] inputs) event (reached-keeps base jobs inputs)).0
 
 -- and in that order
@@ -233,11 +239,13 @@ quiet-finishes : (es rest : List Entry) (event : ℕ) → AllByRecursion IsQuiet
 quiet-finishes es rest event quiet e = (subst (AllByRecursion IsQuiet) e quiet).0
 
 -- a turn finishes none that is held
-turned-finishes : (jobs : List JobDef) (c rest : List Entry) (event : ℕ) (found : Option Live) → turn_event jobs (queue c) c ≡ found → turned found ++ Given input.Turn ∷ [] ≡ Finished event ∷ rest → is_held jobs event c ≡ false
+turned-finishes : (jobs : List JobDef) (c rest : List Entry) (event : ℕ) (found : Option Live) → turn_event jobs (queue c) c ≡ found
+    → turned found ++ Given input.Turn ∷ [] ≡ Finished event ∷ rest → is_held jobs event c ≡ false
 turned-finishes jobs c rest event None found e = cc
 turned-finishes jobs c rest event (Some live) found e = by_case live.handled refl e
   where
-    by_case : (b : Bool) → live.handled ≡ b → (if b then Finished live.place ∷ [] else Handled live.place ∷ []) ++ Given input.Turn ∷ [] ≡ Finished event ∷ rest → is_held jobs event c ≡ false
+    by_case : (b : Bool) → live.handled ≡ b → (if b then Finished live.place ∷ [] else Handled live.place ∷ []) ++ Given input.Turn ∷ [] ≡ Finished event ∷ rest
+        → is_held jobs event c ≡ false
     by_case true handled e =
         let same : live.place ≡ event = cc in
         subst (λ it. is_held jobs it c ≡ false) same (turn_event-held jobs (queue c) c live found handled)

@@ -33,7 +33,8 @@ abbrev pub IsApart : ℕ → ℕ → List Entry → Type 0
 IsApart job p c = (k q : ℕ) → (job == k) ≡ false → instance_of k [] c ≡ Some q → (p == q) ≡ false
 
 -- what leaves one job less to do lowers the work of the jobs from it on
-pub lowers-here : (offers : Bool) (job : JobDef) (jobs : List JobDef) (at p : ℕ) (c es : List Entry) → IsApart at p c → Lessens offers at p c es → Lowers offers (job ∷ jobs) at c es
+pub lowers-here : (offers : Bool) (job : JobDef) (jobs : List JobDef) (at p : ℕ) (c es : List Entry) → IsApart at p c → Lessens offers at p c es
+    → Lowers offers (job ∷ jobs) at c es
 lowers-here offers job jobs at p c es apart lessens = record {
   whose = at;
   place = p;
@@ -47,7 +48,8 @@ lowers-here offers job jobs at p c es apart lessens = record {
     sum m n j k less same = omega arith
 
 -- and the work of the jobs from an earlier one on
-pub lowers-later : (offers : Bool) (job : JobDef) (jobs : List JobDef) (from : ℕ) (c es : List Entry) → Lowers offers jobs (from + 1) c es → Lowers offers (job ∷ jobs) from c es
+pub lowers-later : (offers : Bool) (job : JobDef) (jobs : List JobDef) (from : ℕ) (c es : List Entry) → Lowers offers jobs (from + 1) c es
+    → Lowers offers (job ∷ jobs) from c es
 lowers-later offers job jobs from c es lowers = record {
   whose = lowers.whose;
   place = lowers.place;
@@ -125,7 +127,8 @@ move_from-lowers offers (job ∷ jobs) from c =
         it (inl none) = inl none
         it (inr lessens) = inr (lowers-here offers job jobs from p c _ (apart from p c found) lessens)
 
-    later : (move_from jobs (from + 1) c ≡ []) ⊎ Lowers offers jobs (from + 1) c (move_from jobs (from + 1) c) → (move_from jobs (from + 1) c ≡ []) ⊎ Lowers offers (job ∷ jobs) from c (move_from jobs (from + 1) c)
+    later : (move_from jobs (from + 1) c ≡ []) ⊎ Lowers offers jobs (from + 1) c (move_from jobs (from + 1) c)
+        → (move_from jobs (from + 1) c ≡ []) ⊎ Lowers offers (job ∷ jobs) from c (move_from jobs (from + 1) c)
     later (inl none) = inl none
     later (inr lowers) = inr (lowers-later offers job jobs from c _ lowers)
 
@@ -145,7 +148,8 @@ stop_offer_in-lowers job jobs from event c (Some p) found =
     (inl refl)
 
 -- an offer to a `start on` does
-start_offer-lowers : (base : List (List ℕ × List ℕ)) (job : JobDef) (jobs : List JobDef) (from event : ℕ) (c : List Entry) (o : Option ℕ) → instance_of from [] c ≡ o → was_offered (StartOn from) c ≡ false
+start_offer-lowers : (base : List (List ℕ × List ℕ)) (job : JobDef) (jobs : List JobDef) (from event : ℕ) (c : List Entry) (o : Option ℕ) → instance_of from [] c ≡ o
+    → was_offered (StartOn from) c ≡ false
     → Lowers true (job ∷ jobs) from c (start_offer base job from event c)
 start_offer-lowers base job jobs from event c (Some p) found left = lowers-here true job jobs from p c _ (apart from p c found) (start_offer-lessens base job from p event c found left)
 start_offer-lowers base job jobs from event c None none left =
@@ -155,7 +159,8 @@ start_offer-lowers base job jobs from event c None none left =
     later q h = omega arith
 
 -- so the first offer does
-offer_from-lowers : (base : List (List ℕ × List ℕ)) (jobs : List JobDef) (from event : ℕ) (c : List Entry) → (offer_from base jobs from event c ≡ []) ⊎ Lowers true jobs from c (offer_from base jobs from event c)
+offer_from-lowers : (base : List (List ℕ × List ℕ)) (jobs : List JobDef) (from event : ℕ) (c : List Entry)
+    → (offer_from base jobs from event c ≡ []) ⊎ Lowers true jobs from c (offer_from base jobs from event c)
 offer_from-lowers base [] from event c = inl refl
 offer_from-lowers base (job ∷ jobs) from event c =
     or_else-either (Lowers true (job ∷ jobs) from c) (stop_offer_in job (instances_of from c) event c) _
@@ -171,7 +176,8 @@ offer_from-lowers base (job ∷ jobs) from event c =
     later (inr lowers) = inr (lowers-later true job jobs from c _ lowers)
 
 -- where an event is offered
-offer_next-lowers : (base : List (List ℕ × List ℕ)) (jobs : List JobDef) (event : Option ℕ) (c : List Entry) → (offer_next base jobs event c ≡ []) ⊎ Lowers (is_some event) jobs 0 c (offer_next base jobs event c)
+offer_next-lowers : (base : List (List ℕ × List ℕ)) (jobs : List JobDef) (event : Option ℕ) (c : List Entry)
+    → (offer_next base jobs event c ≡ []) ⊎ Lowers (is_some event) jobs 0 c (offer_next base jobs event c)
 offer_next-lowers base jobs None c = inl refl
 offer_next-lowers base jobs (Some event) c = offer_from-lowers base jobs 0 event c
 
@@ -188,6 +194,7 @@ pub falls : (base : List (List ℕ × List ℕ)) (jobs : List JobDef) (c : List 
 unfolding work
 falls base jobs c = less (due base jobs c) (due-lowers base jobs c)
   where
-    less : (es : List Entry) → (es ≡ []) ⊎ Lowers (is_some (offering c)) jobs 0 c es → (es ≡ []) ⊎ (work_from (is_some (offering (es ++ c))) jobs 0 (es ++ c) < work_from (is_some (offering c)) jobs 0 c)
+    less : (es : List Entry) → (es ≡ []) ⊎ Lowers (is_some (offering c)) jobs 0 c es
+        → (es ≡ []) ⊎ (work_from (is_some (offering (es ++ c))) jobs 0 (es ++ c) < work_from (is_some (offering c)) jobs 0 c)
     less es (inl none) = inl none
     less es (inr lowers) = inr (subst (λ event. work_from (is_some event) jobs 0 (es ++ c) < work_from (is_some (offering c)) jobs 0 c) (sym lowers.same) lowers.less)
