@@ -220,10 +220,14 @@ orderly_once c event keeps = by_case (status event (queue c)) (keeps.standing ev
 pub handled_once : (base : List (List ℕ × List ℕ)) (jobs : List JobDef) (inputs : List Input) (event : ℕ) → handled_times event (after_all base jobs [] inputs) ≤ 1
 handled_once base jobs inputs event = (orderly_once (after_all base jobs [] inputs) event (reached-keeps base jobs inputs)).1
 
--- it finishes no more often
-pub finished_once : (base : List (List ℕ × List ℕ)) (jobs : List JobDef) (inputs : List Input) (event : ℕ)
+-- it finishes no more often than it was handled
+pub finished_handled : (base : List (List ℕ × List ℕ)) (jobs : List JobDef) (inputs : List Input) (event : ℕ)
     → finished_times event (after_all base jobs [] inputs) ≤ handled_times event (after_all base jobs [] inputs)
-finished_once base jobs inputs event = (orderly_once (after_all base jobs [] inputs) event (reached-keeps base jobs inputs)).0
+finished_handled base jobs inputs event = (orderly_once (after_all base jobs [] inputs) event (reached-keeps base jobs inputs)).0
+
+-- so it finishes once at most
+pub finished_once : (base : List (List ℕ × List ℕ)) (jobs : List JobDef) (inputs : List Input) (event : ℕ) → finished_times event (after_all base jobs [] inputs) ≤ 1
+finished_once base jobs inputs event = omega (arith, finished_handled base jobs inputs event, handled_once base jobs inputs event)
 
 -- and in that order
 pub orderly : (base : List (List ℕ × List ℕ)) (jobs : List JobDef) (inputs : List Input) → IsOrderly (after_all base jobs [] inputs)

@@ -28,9 +28,10 @@ pub fn handled_once()
 {}
 
 /// Each event finishes once at most, and only where a turn had taken it up.
-#[tactic(auto, using(crate::proofs::TurnLaws::finished_once))]
+#[tactic(auto, using(crate::proofs::TurnLaws::finished_once, crate::proofs::TurnLaws::finished_handled))]
 pub fn finished_once()
-    ensures { (base : List (List ℕ × List ℕ)) (jobs : List JobDef) (inputs : List Input) (event : ℕ) → finished_times event (after_all base jobs [] inputs) ≤ handled_times event (after_all base jobs [] inputs) }
+    ensures once { (base : List (List ℕ × List ℕ)) (jobs : List JobDef) (inputs : List Input) (event : ℕ) → finished_times event (after_all base jobs [] inputs) ≤ 1 }
+    ensures taken_up { (base : List (List ℕ × List ℕ)) (jobs : List JobDef) (inputs : List Input) (event : ℕ) → finished_times event (after_all base jobs [] inputs) ≤ handled_times event (after_all base jobs [] inputs) }
 {}
 
 /// At each moment of a run an event that is taken up was neither taken up nor finished, and one that finishes had been taken up once.
