@@ -3,6 +3,7 @@ pub mod Chronicle
 pub mod Due
 pub mod Events
 pub mod Held
+pub mod Laws
 pub mod Life
 pub mod Moves
 pub mod Offers

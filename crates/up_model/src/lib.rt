@@ -6,6 +6,7 @@
 pub mod event;
 pub mod files;
 pub mod input;
+pub mod laws;
 pub mod output;
 pub mod process;
 pub mod request;
