@@ -134,7 +134,12 @@ fn give_up(alloc: Global, book: &Book, instance: usize) -> Result<Option<Record>
 }
 
 // What a refused process does to its instance.
-fn refused(alloc: Global, book: &Book, found: Option<usize>, process: Process) -> Result<Option<Record>, AllocError>
+fn refused(
+    alloc: Global,
+    book: &Book,
+    found: Option<usize>,
+    process: Process,
+) -> Result<Option<Record>, AllocError>
     ensures { IfOk result (λ next. entries_of next ≡ model.refused found process book.now) }
 {
     match found {
@@ -144,11 +149,18 @@ fn refused(alloc: Global, book: &Book, found: Option<usize>, process: Process) -
 }
 
 // What a process that ended does to its instance.
-fn ended(alloc: Global, book: &Book, found: Option<usize>, process: Process) -> Result<Option<Record>, AllocError>
+fn ended(
+    alloc: Global,
+    book: &Book,
+    found: Option<usize>,
+    process: Process,
+) -> Result<Option<Record>, AllocError>
     ensures { IfOk result (λ next. entries_of next ≡ model.ended found process book.now) }
 {
     match found {
-        Some(instance) if is_main(process) && is_running(book.state_of(instance)) => give_up(alloc, book, instance),
+        Some(instance) if is_main(process) && is_running(book.state_of(instance)) => give_up(
+            alloc, book, instance,
+        ),
         _ => Ok(None),
     }
 }
@@ -166,7 +178,12 @@ fn turned(found: Option<Live>) -> Option<Record>
 
 // What an input does beside being given, where that is one entry at most.
 #[tactic(auto, unfolding(up_model::specs::Due::effect))]
-fn effect(alloc: Global, jobs: &[JobDef], book: &Book, given: &Input) -> Result<Option<Record>, AllocError>
+fn effect(
+    alloc: Global,
+    jobs: &[JobDef],
+    book: &Book,
+    given: &Input,
+) -> Result<Option<Record>, AllocError>
     ensures { IfOk result (λ next. model.effect jobs.now given.now book.now ≡ entries_of next ++ entry.Given given.now ∷ []) }
 {
     match given {
@@ -182,8 +199,18 @@ fn effect(alloc: Global, jobs: &[JobDef], book: &Book, given: &Input) -> Result<
                 answer,
             }))
         }
-        Input::Refused { who, process } => refused(alloc, book, instance_named(book, jobs, who), *process),
-        Input::Ended { who, process, .. } => ended(alloc, book, instance_named(book, jobs, who), *process),
+        Input::Refused { who, process } => refused(
+            alloc,
+            book,
+            instance_named(book, jobs, who),
+            *process,
+        ),
+        Input::Ended { who, process, .. } => ended(
+            alloc,
+            book,
+            instance_named(book, jobs, who),
+            *process,
+        ),
         Input::Turn => Ok(turned(turn_event(book, jobs))),
         Input::Spawned { .. } | Input::Clock(_) => Ok(None),
     }
