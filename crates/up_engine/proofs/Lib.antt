@@ -6,3 +6,4 @@ pub mod MoveLemmas
 pub mod OfferLemmas
 pub mod QueueLemmas
 pub mod SeenLemmas
+pub mod SettleLemmas

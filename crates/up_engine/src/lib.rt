@@ -6,9 +6,11 @@ mod due;
 mod events;
 mod moves;
 mod offers;
+mod outputs;
 mod queue;
 mod reading;
 mod record;
+mod settle;
 mod turn;
 
 pub use record::{Expression, Origin, Record};
