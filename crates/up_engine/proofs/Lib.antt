@@ -4,6 +4,7 @@ pub mod EventLemmas
 pub mod HeldLemmas
 pub mod MoveLemmas
 pub mod OfferLemmas
+pub mod OutputLemmas
 pub mod QueueLemmas
 pub mod SeenLemmas
 pub mod SettleLemmas

@@ -1,5 +1,5 @@
 -- The records as entries of the chronicle.
-use Rattle.std.specs.Prelude.{ℕ, false, List, [], ◌∷◌, ◌++◌, Option, None, Some}
+use Rattle.std.specs.Prelude.{ℕ, Bool, true, false, List, [], ◌∷◌, ◌++◌, Option, None, Some}
 use Rattle.up_engine.specs.declared.record.Expression.{Expression}
 use Rattle.up_engine.specs.declared.record.Expression.TheVariants as expression
 use Rattle.up_engine.specs.declared.record.Origin.{Origin}
@@ -51,3 +51,8 @@ outputs_of (Some output) = output ∷ []
 abbrev pub gave_more : model.Entry → List Output → List Output → List Output
 gave_more (model.Given given) earlier more = []
 gave_more entry earlier more = earlier ++ more
+
+-- whether a record begins a step
+abbrev pub is_given : Record → Bool
+is_given (record_of.Given given) = true
+is_given other = false

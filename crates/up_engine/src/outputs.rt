@@ -1,9 +1,10 @@
 //! What the entries of a step ask for.
-ghost use Rattle.std.specs.Prelude.{◌≡◌, ◌∷◌, [], IfOk, option_map};
+ghost use Rattle.std.specs.Prelude.{◌≡◌, ◌≤◌, ◌<◌, ◌+◌, ◌-◌, ◌^◌, if◌then◌else◌, List, ◌∷◌, [], length, take, IfOk, OnOk, option_map};
 ghost use Rattle.std.specs.Option.{option_map_or};
+ghost use Rattle.up_model.specs.declared.files.job.JobDef.{JobDef as JobValue};
 ghost use Rattle.up_model.specs.Outputs as model;
 ghost use Rattle.up_model.specs.Readings as read;
-ghost use Rattle.up_engine.specs.Records.{entry_of, chronicle, outputs_of, gave_more};
+ghost use Rattle.up_engine.specs.Records.{entry_of, chronicle, outputs_of, gave_more, is_given};
 
 use crate::reading::environment::env;
 use crate::reading::place::{id_at, made_at};
@@ -165,4 +166,67 @@ fn output_of(
         Record::Replied { request, answer } => replied(earlier, *request, answer),
         _ => Ok(None),
     }
+}
+
+fn is_given(next: &Record) -> bool
+    ensures { result ≡ is_given next.now }
+{
+    matches!(next, Record::Given(_))
+}
+
+// What a step asks for, with what one record more does.
+#[tactic(auto, unfolding(up_model::specs::Outputs::gave))]
+fn add_output(
+    alloc: Global,
+    jobs: &[JobDef],
+    earlier: &[Record],
+    next: &Record,
+    outputs: &mut Vec<Output>,
+) -> Result<(), AllocError>
+    ensures { OnOk result (outputs.old.items ≡ model.gave jobs.now (chronicle earlier.now) → outputs.new.items ≡ model.gave jobs.now (entry_of next.now ∷ chronicle earlier.now)) }
+{
+    if is_given(next) {
+        outputs.clear();
+        return Ok(());
+    }
+    if let Some(output) = output_of(alloc, jobs, earlier, next)? {
+        outputs.push(output)?;
+    }
+    Ok(())
+}
+
+fn start_after(next: &Record, place: usize, before: usize) -> usize
+    requires { place < 2 ^ 64 - 1 }
+    ensures { result ≡ (if is_given next.now then place + 1 else before) }
+{
+    if is_given(next) { place + 1 } else { before }
+}
+
+// The place behind the last input.
+#[tactic(auto, using(crate::proofs::Chronicles::chronicle_more), unfolding(up_model::specs::Outputs::gave))]
+fn step_start(records: &[Record]) -> usize
+    ensures within { result ≤ length records.now }
+    ensures start { (jobs : List JobValue) → model.gave jobs (chronicle (take result records.now)) ≡ [] }
+{
+    let mut start = 0;
+    for (place, next) in records.iter().enumerate() {
+        start = start_after(next, place, start);
+    }
+    start
+}
+
+/// The starts, signals, events and replies of the last step, in order.
+#[tactic(auto, using(crate::proofs::Chronicles::chronicle_more))]
+pub fn outputs(
+    alloc: Global,
+    jobs: &[JobDef],
+    records: &[Record],
+) -> Result<Items<Output>, AllocError>
+    ensures { IfOk result (λ outputs. outputs ≡ model.gave jobs.now (chronicle records.now)) }
+{
+    let mut found = Vec::new(alloc);
+    for place in step_start(records)..records.len() {
+        add_output(alloc, jobs, &records[..place], &records[place], &mut found)?;
+    }
+    Ok(Items::new(found))
 }
