@@ -221,12 +221,12 @@ pub fn outputs(
     alloc: Global,
     jobs: &[JobDef],
     records: &[Record],
-) -> Result<Items<Output>, AllocError>
-    ensures { IfOk result (λ outputs. outputs ≡ model.gave jobs.now (chronicle records.now)) }
+) -> Result<Vec<Output>, AllocError>
+    ensures { IfOk result (λ outputs. outputs.items ≡ model.gave jobs.now (chronicle records.now)) }
 {
     let mut found = Vec::new(alloc);
     for place in step_start(records)..records.len() {
         add_output(alloc, jobs, &records[..place], &records[place], &mut found)?;
     }
-    Ok(Items::new(found))
+    Ok(found)
 }
