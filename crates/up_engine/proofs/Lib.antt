@@ -6,5 +6,6 @@ pub mod MoveLemmas
 pub mod OfferLemmas
 pub mod OutputLemmas
 pub mod QueueLemmas
+pub mod RunLemmas
 pub mod SeenLemmas
 pub mod SettleLemmas

@@ -97,4 +97,42 @@ impl Engine {
         self.down = false;
         Ok(found)
     }
+
+    // The answer to one input of a run, or none where memory was refused.
+    fn answer(&mut self, given: Input) -> Option<Step>
+        ensures { (base : List (List ℕ × List ℕ)) (jobs : List JobValue) (c : List Entry) → Stands self.old base jobs c → AnswerMeans result self.new base jobs c given }
+    {
+        match self.step(given) {
+            Ok(outputs) => Some(Step::Gave(Items::new(outputs))),
+            Err(StepError::NotExpected) => Some(Step::NotExpected),
+            Err(StepError::Memory) => None,
+            Err(StepError::Down) => None,
+        }
+    }
+
+    /// Takes inputs one after another, and answers each. The room for all answers is taken first: refused there with `Memory`, the
+    /// engine has taken none of them. It stops at the first input for which memory is refused. Refused with `Down` where it is.
+    pub fn run(&mut self, inputs: Vec<Input>) -> Result<Run, StepError>
+        ensures meaning { (base : List (List ℕ × List ℕ)) (jobs : List JobValue) (c : List Entry) → Stands self.old base jobs c → RunMeans result self.new base jobs c inputs.items }
+        ensures down { IsDown self.old → (result ≡ Err StepError.Down) × (self.new ≡ self.old) }
+    {
+        if self.down {
+            return Err(StepError::Down);
+        }
+        let mut steps = Vec::with_capacity(self.alloc, inputs.len())?;
+        for input in inputs {
+            match self.answer(input) {
+                Some(step) => match steps.push(step) {
+                    Ok(()) => {}
+                    Err(_) => unreachable!(),
+                },
+                None => {
+                    let steps = Items::new(steps);
+                    return Ok(Run { steps, down: true });
+                }
+            }
+        }
+        let steps = Items::new(steps);
+        Ok(Run { steps, down: false })
+    }
 }
