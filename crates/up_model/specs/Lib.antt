@@ -1,1 +1,6 @@
 pub mod Requests
+pub mod Stanzas
+pub mod Files
+pub mod Reading
+pub mod FaultCodes
+pub mod Refusals

@@ -4,6 +4,7 @@
 #![tactic(auto)]
 
 pub mod event;
+pub mod files;
 pub mod input;
 pub mod output;
 pub mod process;
@@ -12,6 +13,7 @@ pub mod state;
 pub mod who;
 
 pub use event::Event;
+pub use files::{CompileError, Fault, FaultCode, File, Folder, JobDef, Report, Stanza, Table};
 pub use input::Input;
 pub use output::{Order, Output};
 pub use process::{How, Process};
