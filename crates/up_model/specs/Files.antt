@@ -3,8 +3,6 @@ use Rattle.std.specs.Prelude.{◌≡◌, ℕ, ◌-◌, ◌<◌, Bool, true, fals
 use Rattle.std.specs.List.{list_any, find, filter_map, ends_with}
 use Rattle.std.specs.Result.{result_ok, result_err, result_map_both}
 use Rattle.std.specs.Str.{bytes_eq, is_utf8}
-use Rattle.std.specs.Ordering.{is_lt, nat_cmp}
-use Rattle.std.specs.Cmp.Lexicographic.{slice_cmp}
 use Rattle.up_text.specs.Names.{is_name}
 use Rattle.up_text.specs.Tokens.{Lexeme, stanzas}
 use Rattle.up_model.specs.declared.files.file.File.{File}
@@ -13,6 +11,7 @@ use Rattle.up_model.specs.declared.files.fault.Fault.{Fault}
 use Rattle.up_model.specs.declared.files.fault.FaultCode.TheVariants.{UnknownStanza}
 use Rattle.up_model.specs.declared.files.refusal.CompileError.{CompileError}
 use Rattle.up_model.specs.declared.files.refusal.CompileError.TheVariants.{TooManyJobs, SameName, Memory}
+use Rattle.up_model.specs.Order.{in_order}
 use Rattle.up_model.specs.Stanzas.{stanza_of, stanza_line, job_of}
 
 -- the name of the job that a path stands for: the path without `.conf`
@@ -55,20 +54,6 @@ job_of_file file = option_and_then result_ok (outcome_of file)
 -- the fault of an unreadable file
 abbrev pub fault_of_file : File → Option Fault
 fault_of_file file = option_and_then result_err (outcome_of file)
-
--- byte order: by the first byte that differs, and a text before those that it begins
-abbrev pub is_below : List ℕ → List ℕ → Bool
-is_below bytes others = is_lt (slice_cmp nat_cmp bytes others)
-
--- an item goes before the first one whose key isn't below its own
-abbrev pub put_by : {X : Type 0} → (X → List ℕ) → X → List X → List X
-put_by key x [] = x ∷ []
-put_by key x (y ∷ ys) = if is_below (key y) (key x) then y ∷ put_by key x ys else x ∷ y ∷ ys
-
--- the items in byte order of their keys; those with one key stay in order
-abbrev pub in_order : {X : Type 0} → (X → List ℕ) → List X → List X
-in_order key [] = []
-in_order key (x ∷ xs) = put_by key x (in_order key xs)
 
 -- the jobs of the readable files, in byte order of names
 unfoldable pub jobs_of : List File → List JobDef

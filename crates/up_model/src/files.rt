@@ -9,6 +9,8 @@ pub mod report;
 pub mod stanza;
 pub mod table;
 
+mod kinds;
+mod order;
 mod words;
 
 
