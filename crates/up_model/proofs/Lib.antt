@@ -1,1 +1,4 @@
 pub mod Ascending
+pub mod Paths
+pub mod Reading
+pub mod Texts

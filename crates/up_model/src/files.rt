@@ -11,6 +11,7 @@ pub mod table;
 
 mod kinds;
 mod order;
+mod reader;
 mod words;
 
 
