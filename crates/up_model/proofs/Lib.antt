@@ -1,4 +1,7 @@
 pub mod Ascending
+pub mod Folders
 pub mod Paths
 pub mod Reading
+pub mod Stanzas
 pub mod Texts
+pub mod Twice
