@@ -1,3 +1,5 @@
 pub mod Fault
 pub mod Names
 pub mod Bindings
+pub mod Lexer
+pub mod Tokens

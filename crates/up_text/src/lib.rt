@@ -7,11 +7,15 @@
 pub mod env;
 pub mod fault;
 pub mod items;
+pub mod lexer;
 pub mod name;
 pub mod text;
+pub mod token;
 
 pub use env::Env;
 pub use fault::TextFault;
 pub use items::Items;
+pub use lexer::Lexer;
 pub use name::Name;
 pub use text::Text;
+pub use token::Token;

@@ -1,0 +1,14 @@
+//! A token of a job file or a script.
+
+use crate::text::Text;
+
+/// A token of init(5), as it is meant.
+#[derive(Debug, Drop)]
+pub struct Token {
+    /// The line of its first byte; lines count from 1.
+    pub line: u32,
+    /// The text without quoting.
+    pub text: Text,
+    /// Whether it is spelled without quotes and backslashes.
+    pub plain: bool,
+}
