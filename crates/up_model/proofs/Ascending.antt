@@ -30,9 +30,10 @@ none_less-from_places less x (y ∷ ys) h = (h 0 y (omega arith), none_less-from
 
 ascending-from_far : {X : Type 0} (less : X → X → Bool) (xs : List X) → ((i j : ℕ) (d : X) → i ≤ j → j < length xs → less (get_or xs j d) (get_or xs i d) ≡ false) → Ascending less xs
 ascending-from_far less [] h = tt
-ascending-from_far less (x ∷ xs) h =
-    (none_less-from_places less x xs (λ j d lt. h 0 (suc j) d (omega arith) (omega arith)),
-     ascending-from_far less xs (λ i j d le lt. h (suc i) (suc j) d (omega arith) (omega arith)))
+ascending-from_far less (x ∷ xs) h = (
+  none_less-from_places less x xs (λ j d lt. h 0 (suc j) d (omega arith) (omega arith)),
+  ascending-from_far less xs (λ i j d le lt. h (suc i) (suc j) d (omega arith) (omega arith)),
+)
 
 -- an item ties itself
 self_ties : {X : Type 0} (less : X → X → Bool) → IsStrictWeakOrder less → (x : X) → less x x ≡ false
@@ -141,6 +142,7 @@ ties-put_by less o w x (y ∷ ys) = by_case (less y x) refl (ties-put_by less o 
     both true false e f below rest = ap (λ others. y ∷ others) rest
     both false true e f below rest = rest
     both false false e f below rest = rest
+
     by_case : (b : Bool) → less y x ≡ b → filter (ties less w) (put_by less x ys) ≡ filter (ties less w) (x ∷ ys)
         → filter (ties less w) (cond b (y ∷ put_by less x ys) (x ∷ y ∷ ys)) ≡ filter (ties less w) (x ∷ y ∷ ys)
     by_case true e rest = both (ties less w y) (ties less w x) refl refl e rest
@@ -155,7 +157,7 @@ ties-sorted_by less o w (x ∷ xs) =
 pub sorted_by-from_sort : {X : Type 0} (less : X → X → Bool) → IsStrictWeakOrder less → (xs ys : List X) → IsSortedBy less ys → IsStableBy less xs ys → ys ≡ sorted_by less xs
 sorted_by-from_sort less o xs ys up stable =
     same_from_ties less o ys (sorted_by less xs) (ascending-from_far less ys (sorted_far less o ys up)) (ascending-sorted_by less o xs)
-        (λ x. stable x ∙ sym (ties-sorted_by less o x xs))
+    (λ x. stable x ∙ sym (ties-sorted_by less o x xs))
 
 -- what `sort_by` leaves, where its closure compares the keys
 pub in_order-from_sort_by : {X : Type 0} (key : X → List ℕ) {F : Type 0} (g : Mut F (Bor X × (Bor X × Unit {0})) Ordering) (f : F) (xs ys : List X)

@@ -8,14 +8,15 @@ pub mod fault;
 pub mod file;
 pub mod folder;
 pub mod job;
+mod kinds;
+mod order;
+mod reader;
 pub mod refusal;
 pub mod report;
 pub mod stanza;
 pub mod table;
-
-mod kinds;
-mod order;
-mod reader;
+#[cfg(test)]
+mod tests;
 mod twice;
 mod words;
 
@@ -23,14 +24,13 @@ pub use fault::{Fault, FaultCode};
 pub use file::File;
 pub use folder::Folder;
 pub use job::JobDef;
+use order::{sort_faults, sort_jobs};
+use reader::read_file;
 pub use refusal::CompileError;
 pub use report::Report;
 pub use stanza::Stanza;
-pub use table::Table;
-
-use order::{sort_faults, sort_jobs};
-use reader::read_file;
 use std::alloc::{AllocError, Global};
+pub use table::Table;
 use twice::has_same_path;
 use up_text::Items;
 

@@ -121,7 +121,10 @@ fn name_in(path: &str) -> Option<&str>
 
 /// What a file says, where its path stands for a job.
 #[tactic(auto, unfolding(crate::specs::Files::outcome_of))]
-pub(crate) fn read_file(alloc: Global, file: &File) -> Result<Option<Result<JobDef, Fault>>, AllocError>
+pub(crate) fn read_file(
+    alloc: Global,
+    file: &File,
+) -> Result<Option<Result<JobDef, Fault>>, AllocError>
     ensures { IfOk result (λ outcome. outcome ≡ outcome_of file.now) }
 {
     let Some(name) = name_in(file.path.as_str()) else {

@@ -35,7 +35,10 @@ fn next_word(alloc: Global, lexer: &mut Lexer) -> Result<Next, AllocError>
 }
 
 /// The words of the stanza in front, where all its tokens are plain. The lexer then stands behind its end.
-pub(crate) fn read_words(alloc: Global, lexer: &mut Lexer) -> Result<Option<Items<Text>>, AllocError>
+pub(crate) fn read_words(
+    alloc: Global,
+    lexer: &mut Lexer,
+) -> Result<Option<Items<Text>>, AllocError>
     ensures words { IfOk result (λ words. words ≡ front_texts lexer.old) }
     ensures passed { IfOk result (λ words. OnSome words (lexer.new ≡ after_end lexer.old)) }
 {

@@ -7,5 +7,5 @@ use Rattle.up_model.proofs.files.order.sort_jobs.Goals as goal
 pub returns : goal.returns
 returns c =
     on_ok_weaker c.sort_by.result
-        (in_order-from_sort_by (λ (item : JobDef). item.name) _ _ _ _ (λ h a r h' called. search rules) c.sort_by.ensures.stable)
-        c.sort_by.ensures.sorted
+    (in_order-from_sort_by (λ (item : JobDef). item.name) _ _ _ _ (λ h a r h' called. search rules) c.sort_by.ensures.stable)
+    c.sort_by.ensures.sorted

@@ -12,5 +12,5 @@ read_stanzas-requires c = rw c.new.ensures (filled-lexemes c.args.text.now)
 pub returns : goal.returns
 returns c =
     IfOk-weaker c.read_stanzas.result _ _
-        (λ read is. is ∙ ap (job_with _) (ap split_ends c.new.ensures ∙ split_ends-lexemes c.args.text.now) ∙ job_with-empty c.args.name _)
-        c.read_stanzas.ensures
+    (λ read is. is ∙ ap (job_with _) (ap split_ends c.new.ensures ∙ split_ends-lexemes c.args.text.now) ∙ job_with-empty c.args.name _)
+    c.read_stanzas.ensures
