@@ -1,5 +1,7 @@
 pub mod Ascending
 pub mod Folders
+pub mod Grammar
+pub mod Members
 pub mod Paths
 pub mod Reading
 pub mod Stanzas

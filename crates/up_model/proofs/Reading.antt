@@ -2,7 +2,7 @@
 use Rattle.std.proofs.Common.{◌≡◌, ℕ, ◌+◌, ◌<◌, Bool, true, false, ◌&&◌, List, [], ◌∷◌, ◌++◌, length, Option, Some, None, Result, Ok, Err, cond, refl, sym, ◌∙◌, ap, arith, option_map, option_and_then}
 use Rattle.std.specs.List.{list_all, filter_map, find}
 use Rattle.std.proofs.lemmas.Bool.{and_parts}
-use Rattle.up_text.specs.Tokens.{Lexeme, Word, Bad, End, is_filled, BeginsAt}
+use Rattle.up_text.specs.Tokens.{Lexeme, Word, Bad, End, is_filled, IsLineOf}
 use Rattle.up_model.specs.declared.files.job.JobDef.{JobDef}
 use Rattle.up_model.specs.declared.files.stanza.Stanza.{Stanza}
 use Rattle.up_model.specs.declared.files.stanza.Stanza.TheVariants.{StartOn, StopOn, Exec}
@@ -27,7 +27,7 @@ plain_texts-front (Word token ∷ later) = ap (λ texts. cond token.plain (optio
 stanza_of-front : (lexemes : List Lexeme) → stanza_of (front lexemes) ≡ option_and_then stanza_in (front_texts lexemes)
 stanza_of-front lexemes = ap (option_and_then stanza_in) (plain_texts-front lexemes)
 
-stanza_line-front : (lexemes : List Lexeme) (line : ℕ) → is_filled (front lexemes) ≡ true → BeginsAt lexemes line → stanza_line (front lexemes) ≡ line
+stanza_line-front : (lexemes : List Lexeme) (line : ℕ) → is_filled (front lexemes) ≡ true → IsLineOf lexemes line → stanza_line (front lexemes) ≡ line
 stanza_line-front [] line filled at = absurd (cc)
 stanza_line-front (End ∷ later) line filled at = absurd (cc)
 stanza_line-front (Bad line' fault ∷ later) line filled at = sym at
@@ -58,7 +58,7 @@ job_with-after job old new stanza some e says =
     rw (split_ends-front old some, e) (sym (job_with-said job (front old) (split_ends (after_end old)) stanza said))
 
 -- the line of a stanza that says nothing
-pub job_with-at_unreadable : (job : JobDef) (old : List Lexeme) (line : ℕ) → (old ≡ [] → ⊥) → BeginsAt old line → list_all is_filled (split_ends old) ≡ true → None ≡ option_and_then stanza_in (front_texts old) → Err line ≡ job_with job (split_ends old)
+pub job_with-at_unreadable : (job : JobDef) (old : List Lexeme) (line : ℕ) → (old ≡ [] → ⊥) → IsLineOf old line → list_all is_filled (split_ends old) ≡ true → None ≡ option_and_then stanza_in (front_texts old) → Err line ≡ job_with job (split_ends old)
 job_with-at_unreadable job old line some at filled says =
     let nothing : stanza_of (front old) ≡ None = stanza_of-front old ∙ sym says in
     let first : is_filled (front old) ≡ true = (and_parts _ _ (rw (split_ends-front old some) at filled)).0 in

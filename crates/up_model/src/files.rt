@@ -1,7 +1,9 @@
 //! The files of a folder of jobs, and what they say (init(5)).
-ghost use Rattle.std.specs.Prelude.{◌≡◌, ◌++◌, IfOk, IfErr, OnOk, option_to_list, option_and_then};
+ghost use Rattle.std.specs.Prelude.{◌≡◌, ◌↔◌, ◌++◌, Contains, Any, IfOk, IfErr, OnOk, option_to_list, option_and_then};
 ghost use Rattle.std.specs.List.{filter_map};
 ghost use Rattle.std.specs.Result.{result_ok, result_err};
+ghost use Rattle.up_model.specs.declared.files.job.JobDef.{JobDef};
+ghost use Rattle.up_model.specs.Grammar.{Defines};
 ghost use Rattle.up_model.specs.Files.{job_of_file, fault_of_file, jobs_of, report_of, Compiles, MayRefuse};
 
 pub mod fault;
@@ -73,6 +75,9 @@ fn read_files(alloc: Global, files: &[File]) -> Result<(Vec<JobDef>, Vec<Fault>)
 pub fn read_folder(alloc: Global, folder: &Folder) -> Result<(Items<JobDef>, Report), AllocError>
     ensures jobs { IfOk result (λ read. read.0 ≡ jobs_of folder.now) }
     ensures faults { IfOk result (λ read. read.1 ≡ report_of folder.now) }
+
+    // The jobs are those that a file defines by the grammar.
+    ensures grammar { IfOk result (λ read. (job : JobDef) → Contains read.0 job ↔ Any (λ file. Defines file job) folder.now) }
 {
     let (mut jobs, mut faults) = read_files(alloc, folder.as_slice())?;
     sort_jobs(&mut jobs)?;

@@ -10,6 +10,7 @@ pub mod output;
 pub mod process;
 pub mod request;
 pub mod state;
+pub mod step;
 pub mod who;
 
 pub use event::Event;
@@ -19,4 +20,5 @@ pub use output::{Order, Output};
 pub use process::{How, Process};
 pub use request::{Answer, Command, Request};
 pub use state::{Goal, State};
+pub use step::Step;
 pub use who::Who;

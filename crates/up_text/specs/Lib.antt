@@ -1,5 +1,5 @@
-pub mod Fault
-pub mod Names
 pub mod Bindings
+pub mod Fault
 pub mod Lexer
+pub mod Names
 pub mod Tokens

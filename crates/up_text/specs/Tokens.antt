@@ -17,10 +17,10 @@ pub data Mode : Type 0 where
   Outside : Mode
   Comment : Mode
 
--- what is read: a token; a spelling that is refused, its line and why; the end of a stanza
+-- what is read: a token; a spelling that is refused, with the line of its first byte, and why; the end of a stanza
 pub data Lexeme : Type 0 where
   Word : (token : Token) → Lexeme
-  Bad : (line : ℕ) (fault : TextFault) → Lexeme
+  Bad : (line : ℕ) → (fault : TextFault) → Lexeme
   End : Lexeme
 
 -- a line feed
@@ -144,9 +144,9 @@ Reads (Bad line fault ∷ later) result new = (result ≡ Err fault) × (new ≡
 Reads (Word token ∷ later) result new =
     ((result ≡ Ok (Some token)) × (new ≡ later)) ⊎ ((result ≡ Err Memory) × (new ≡ Word token ∷ later))
 
--- the line of what is read next, where that is a token or a refused spelling
-abbrev pub BeginsAt : List Lexeme → ℕ → Type 0
-BeginsAt [] line = Unit {0}
-BeginsAt (End ∷ later) line = Unit {0}
-BeginsAt (Bad bad_line fault ∷ later) line = line ≡ bad_line
-BeginsAt (Word token ∷ later) line = line ≡ token.line
+-- the line of the token or of the refused spelling that is read next; elsewhere any line
+abbrev pub IsLineOf : List Lexeme → ℕ → Type 0
+IsLineOf [] line = Unit {0}
+IsLineOf (End ∷ later) line = Unit {0}
+IsLineOf (Bad first fault ∷ later) line = line ≡ first
+IsLineOf (Word token ∷ later) line = line ≡ token.line

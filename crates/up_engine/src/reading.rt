@@ -1,0 +1,7 @@
+//! Readings of the stored chronicle: one pass over the records for each, without memory.
+
+pub mod environment;
+pub mod life;
+pub mod place;
+pub mod process;
+pub mod seen;

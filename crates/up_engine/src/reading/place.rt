@@ -1,0 +1,74 @@
+//! What stands at a place of the chronicle.
+ghost use Rattle.std.specs.Prelude.{◌≡◌, Some, option_map};
+ghost use Rattle.std.specs.Option.{option_copied};
+ghost use Rattle.up_model.specs.Readings as reading;
+ghost use Rattle.up_engine.specs.Records.{entry_of, chronicle};
+
+use crate::record::Record;
+use up_model::{Event, Input};
+
+fn record_at(records: &[Record], place: usize) -> Option<&Record>
+    ensures { option_map entry_of (option_copied result) ≡ reading.entry_at place (chronicle records.now) }
+{
+    match records.get(place) {
+        Some(found) => Some(found),
+        None => None,
+    }
+}
+
+fn event_of(found: &Record) -> Option<&Event>
+    ensures { option_copied result ≡ reading.event_of (Some (entry_of found.now)) }
+{
+    match found {
+        Record::Queued { event, .. } => Some(event),
+        _ => None,
+    }
+}
+
+/// The event that was queued at a place.
+pub fn event_at(records: &[Record], place: usize) -> Option<&Event>
+    ensures { option_copied result ≡ reading.event_at place (chronicle records.now) }
+{
+    match record_at(records, place) {
+        Some(found) => event_of(found),
+        None => None,
+    }
+}
+
+fn made_of(found: &Record) -> Option<(usize, &str)>
+    ensures { option_map (λ made. (made.0, made.1.now)) result ≡ reading.made_of (Some (entry_of found.now)) }
+{
+    match found {
+        Record::Made { job, name } => Some((*job, name.as_str())),
+        _ => None,
+    }
+}
+
+/// The job and the name of the instance that was made at a place.
+pub fn made_at(records: &[Record], place: usize) -> Option<(usize, &str)>
+    ensures { option_map (λ made. (made.0, made.1.now)) result ≡ reading.made_at place (chronicle records.now) }
+{
+    match record_at(records, place) {
+        Some(found) => made_of(found),
+        None => None,
+    }
+}
+
+fn id_of(found: &Record) -> Option<u64>
+    ensures { result ≡ reading.id_of (Some (entry_of found.now)) }
+{
+    match found {
+        Record::Given(Input::Request { id, .. }) => Some(*id),
+        _ => None,
+    }
+}
+
+/// The number under which the request at a place is answered.
+pub fn id_at(records: &[Record], place: usize) -> Option<u64>
+    ensures { result ≡ reading.id_at place (chronicle records.now) }
+{
+    match record_at(records, place) {
+        Some(found) => id_of(found),
+        None => None,
+    }
+}
