@@ -181,7 +181,7 @@ outcome_of-job file name job path read = rw (path, read) refl
 pub job_of_file-Defines : (file : File) (job : JobDef) → Defines file job → job_of_file file ≡ Some job
 job_of_file-Defines file job defines =
     let read : job_in job.name file.bytes ≡ Ok job =
-      job_in-readable job.name file.bytes defines.name defines.text ∙ job_from-written job.name (stanzas file.bytes) defines.said defines.written ∙ ap Ok (sym defines.meaning) in
+    job_in-readable job.name file.bytes defines.name defines.text ∙ job_from-written job.name (stanzas file.bytes) defines.said defines.written ∙ ap Ok (sym defines.meaning) in
     ap (option_and_then result_ok) (outcome_of-job file job.name job (name_in-path file.path job.name defines.path) read)
 
 defines_from : (file : File) (name : List ℕ) (job : JobDef) → name_in file.path ≡ Some name → job_in name file.bytes ≡ Ok job → Defines file job
@@ -217,6 +217,7 @@ Defines-job_of_file file job given = by_name (name_in file.path) refl given
     by_read name (Ok found) p q e =
         let same : found ≡ job = cc in
         defines_from file name job p (q ∙ ap Ok same)
+
     by_name : (o : Option (List ℕ)) → name_in file.path ≡ o → option_and_then result_ok (option_map (λ name. result_map_both (λ j. j) (fault_at file.path) (job_in name file.bytes)) o) ≡ Some job → Defines file job
     by_name None p e = absurd (cc)
     by_name (Some name) p e = by_read name (job_in name file.bytes) p refl e
@@ -224,6 +225,7 @@ Defines-job_of_file file job given = by_name (name_in file.path) refl given
 -- the jobs of files are those that one of them defines
 pub jobs_of-Defines : (files : List File) (job : JobDef) → Contains (jobs_of files) job ↔ Any (λ file. Defines file job) files
 unfolding jobs_of
-jobs_of-Defines files job =
-    (any_from_ordered (λ x y. is_below x.name y.name) job_of_file (λ file. Defines file job) job (λ file given. Defines-job_of_file file job given) files,
-     ordered_from_any (λ x y. is_below x.name y.name) job_of_file (λ file. Defines file job) job (λ file defines. job_of_file-Defines file job defines) files)
+jobs_of-Defines files job = (
+  any_from_ordered (λ x y. is_below x.name y.name) job_of_file (λ file. Defines file job) job (λ file given. Defines-job_of_file file job given) files,
+  ordered_from_any (λ x y. is_below x.name y.name) job_of_file (λ file. Defines file job) job (λ file defines. job_of_file-Defines file job defines) files,
+)
