@@ -1,5 +1,5 @@
 -- A sorted list in which those that tie keep their order is the only one.
-use Rattle.std.proofs.Common.{◌≡◌, ℕ, ◌+◌, ◌<◌, ◌≤◌, Bool, true, false, ◌&&◌, not, List, [], ◌∷◌, length, get_or, cond, refl, sym, ◌∙◌, ap, arith, rules, zero, suc, filter}
+use Rattle.std.proofs.Common.{◌≡◌, ℕ, ◌<◌, ◌≤◌, Bool, true, false, not, List, [], ◌∷◌, length, get_or, cond, refl, sym, ◌∙◌, ap, arith, suc, filter}
 use Rattle.std.specs.Cmp.{IsStrictWeakOrder}
 use Rattle.std.specs.List.Sorted.{IsSortedBy, IsStableBy, ties}
 use Rattle.std.proofs.lemmas.Bool.{both_ways, and_parts, not-true}

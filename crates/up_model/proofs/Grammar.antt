@@ -1,9 +1,8 @@
 -- A file gives a job where it defines it by the grammar.
-use Rattle.std.proofs.Common.{◌≡◌, ℕ, ◌-◌, Bool, true, false, ◌&&◌, List, [], ◌∷◌, ◌++◌, length, take, drop, Option, Some, None, Result, Ok, Err, cond, refl, sym, ◌∙◌, ap, subst, map, find, is_none, option_map, option_and_then, codes, nat_eq, arith, length-append, ◌↔◌}
+use Rattle.std.proofs.Common.{◌≡◌, ℕ, ◌-◌, Bool, true, false, ◌&&◌, List, [], ◌∷◌, ◌++◌, length, take, Option, Some, None, Result, Ok, Err, cond, refl, sym, ◌∙◌, ap, subst, find, option_map, option_and_then, codes, nat_eq, arith, length-append, ◌↔◌}
 use Rattle.std.specs.List.{list_all, AllZip, filter_map, ends_with, Contains, Any}
-use Rattle.std.specs.Result.{result_ok, result_err, result_map_both}
+use Rattle.std.specs.Result.{result_ok, result_map_both}
 use Rattle.std.specs.Str.{bytes_eq}
-use Rattle.std.proofs.lemmas.Bool.{and_parts}
 use Rattle.std.proofs.lemmas.Bool.Decides.{Decides-eqb}
 use Rattle.std.proofs.lemmas.Slice.Eq.{bytes_eq-Decides, ends_is}
 use Rattle.std.proofs.Math.Seq.{take-append_seam}
@@ -13,7 +12,7 @@ use Rattle.up_model.specs.declared.files.file.File.{File}
 use Rattle.up_model.specs.declared.files.job.JobDef.{JobDef}
 use Rattle.up_model.specs.declared.files.stanza.Stanza.{Stanza}
 use Rattle.up_model.specs.declared.files.stanza.Stanza.TheVariants.{StartOn, StopOn, Exec}
-use Rattle.up_model.specs.Stanzas.{is_event, is_command_word, plain_texts, event_of, command_of, said_by, stanza_in, stanza_of, stanza_line, job_of}
+use Rattle.up_model.specs.Stanzas.{is_event, is_command_word, plain_texts, event_of, command_of, said_by, stanza_in, stanza_of, job_of}
 use Rattle.up_model.specs.Files.{is_text, is_unreadable, job_unless, job_from, job_in, fault_at, name_in, outcome_of, job_of_file, jobs_of}
 use Rattle.up_model.specs.Order.{is_below}
 use Rattle.up_model.proofs.Members.{any_from_ordered, ordered_from_any}

@@ -1,5 +1,5 @@
 -- The items of lists in order, and of those that a function gives.
-use Rattle.std.proofs.Common.{◌≡◌, ℕ, ◌+◌, ◌<◌, Bool, true, false, List, [], ◌∷◌, length, get_or, Option, Some, None, ◌⊎◌, inl, inr, ⊎_elim, cond, refl, sym, ◌∙◌, ap, subst, arith, zero, suc}
+use Rattle.std.proofs.Common.{◌≡◌, Bool, true, false, List, [], ◌∷◌, Option, Some, None, ◌⊎◌, inl, inr, ⊎_elim, cond, refl, sym, ◌∙◌, ap, subst, arith, zero, suc}
 use Rattle.std.specs.List.{Contains, Any, filter_map, cons_option}
 use Rattle.up_model.specs.Order.{put_by, sorted_by}
 

@@ -1,5 +1,5 @@
 -- What cutting `.conf` off a path says.
-use Rattle.std.proofs.Common.{◌≡◌, ℕ, ◌-◌, Bool, true, false, List, ◌++◌, Option, Some, None, length, take, drop, cond, refl, sym, ap, codes, nat_eq}
+use Rattle.std.proofs.Common.{◌≡◌, ℕ, true, false, List, Option, Some, None, refl, codes, nat_eq}
 use Rattle.std.specs.List.{ends_with}
 use Rattle.std.specs.Option.{option_copied, MatchOption}
 use Rattle.std.specs.Str.Pattern.{FindsTextSuffix, StripsSuffix}

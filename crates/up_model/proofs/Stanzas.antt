@@ -1,11 +1,9 @@
 -- The lexemes of a text are its stanzas, each with its end.
-use Rattle.std.proofs.Common.{◌≡◌, ℕ, ◌+◌, Bool, true, false, ◌&&◌, List, [], ◌∷◌, ◌++◌, Option, Some, None, Result, cond, refl, sym, ◌∙◌, ap, map, filter, find, unwrap_or, append_assoc}
-use Rattle.std.specs.List.{list_all, filter_map, flat_map}
+use Rattle.std.proofs.Common.{◌≡◌, ℕ, Bool, true, false, List, [], ◌∷◌, ◌++◌, Option, Some, None, cond, refl, ◌∙◌, ap, map, filter, find, unwrap_or, append_assoc}
+use Rattle.std.specs.List.{list_all, flat_map}
 use Rattle.std.specs.Str.{bytes_eq}
-use Rattle.up_text.specs.Tokens.{Lexeme, Word, Bad, End, Mark, Mode, is_filled, meaning, unless_quoting, fault_of, is_quoting, token_of, lexeme, words, rows, stanzas, lexemes, ended, Outside}
-use Rattle.up_model.specs.declared.files.job.JobDef.{JobDef}
-use Rattle.up_model.specs.declared.files.stanza.Stanza.{Stanza}
-use Rattle.up_model.specs.Stanzas.{last, job_of, stanza_of}
+use Rattle.up_text.specs.Tokens.{Lexeme, Word, Bad, End, Mark, Mode, is_filled, meaning, unless_quoting, is_quoting, token_of, lexeme, words, rows, stanzas, lexemes, ended, Outside}
+use Rattle.up_model.specs.Stanzas.{last}
 use Rattle.up_model.specs.Files.{job_from}
 use Rattle.up_model.specs.Reading.{split_ends, put_front, last_or, job_with}
 

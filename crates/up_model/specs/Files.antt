@@ -1,5 +1,5 @@
 -- What the files of a folder say (init(5)).
-use Rattle.std.specs.Prelude.{◌≡◌, ℕ, ◌-◌, ◌<◌, Bool, true, false, ◌==◌, nat_eq, nat_le, nat_lt, ◌&&◌, ◌||◌, not, IsTrue, if◌then◌else◌, List, [], ◌∷◌, length, take, map, filter, Option, None, Some, option_map, option_and_then, is_none, Result, Ok, Err, codes}
+use Rattle.std.specs.Prelude.{◌≡◌, ℕ, ◌-◌, Bool, true, false, ◌==◌, nat_eq, nat_le, ◌&&◌, ◌||◌, not, if◌then◌else◌, List, [], ◌∷◌, length, take, map, filter, Option, None, Some, option_map, option_and_then, is_none, Result, Ok, Err, codes}
 use Rattle.std.specs.List.{list_any, find, filter_map, ends_with}
 use Rattle.std.specs.Result.{result_ok, result_err, result_map_both}
 use Rattle.std.specs.Str.{bytes_eq, is_utf8}

@@ -1,5 +1,5 @@
 -- How a reader goes on in the lexemes of a text.
-use Rattle.std.specs.Prelude.{◌≡◌, ℕ, Bool, true, false, if◌then◌else◌, MatchBool, List, [], ◌∷◌, Option, None, Some, option_map, Result}
+use Rattle.std.specs.Prelude.{◌≡◌, ℕ, if◌then◌else◌, MatchBool, List, [], ◌∷◌, Option, None, Some, option_map, Result}
 use Rattle.std.specs.List.{filter_map, find}
 use Rattle.up_text.specs.Tokens.{Lexeme, Word, Bad, End}
 use Rattle.up_model.specs.declared.files.job.JobDef.{JobDef}

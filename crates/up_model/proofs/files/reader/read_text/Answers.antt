@@ -1,7 +1,5 @@
-use Rattle.std.proofs.Common.{◌≡◌, ◌∙◌, ap, true, rules}
-use Rattle.std.specs.List.{list_all}
+use Rattle.std.proofs.Common.{◌∙◌, ap}
 use Rattle.std.proofs.lemmas.Result.{IfOk-weaker}
-use Rattle.up_text.specs.Tokens.{is_filled}
 use Rattle.up_model.specs.Reading.{split_ends, job_with}
 use Rattle.up_model.proofs.Stanzas.{split_ends-lexemes, filled-lexemes, job_with-empty}
 use Rattle.up_model.proofs.files.reader.read_text.Goals as goal

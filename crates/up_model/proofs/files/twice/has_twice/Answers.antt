@@ -1,4 +1,4 @@
-use Rattle.std.proofs.Common.{◌≡◌, ◌∙◌, sym, ap, false, true, List, [], get_or, Bor, cond, ℕ, Bool}
+use Rattle.std.proofs.Common.{◌∙◌, sym, ap, true, List, [], get_or, Bor, cond, ℕ, Bool}
 use Rattle.std.specs.BTreeSet.{contains_by}
 use Rattle.std.specs.Ordering.{nat_cmp}
 use Rattle.std.specs.Cmp.Lexicographic.{slice_cmp}
