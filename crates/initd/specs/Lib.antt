@@ -1,2 +1,6 @@
 pub mod Lines
+pub mod Numbers
+pub mod Requests
+pub mod Script
 pub mod Signals
+pub mod Variables

@@ -2,6 +2,7 @@
 #![tactic(auto)]
 
 mod lines;
+mod numbers;
 mod signals;
 
 fn main() {}
