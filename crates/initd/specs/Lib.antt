@@ -1,6 +1,7 @@
 pub mod Lines
 pub mod Numbers
 pub mod Requests
+pub mod Rows
 pub mod Script
 pub mod Signals
 pub mod Variables

@@ -1,4 +1,4 @@
-use Rattle.std.specs.Prelude.{ℕ, Bool, ◌==◌, ◌&&◌, nat_lt, List, [], ◌∷◌, length, Option, None, Some, option_and_then, if◌then◌else◌}
+use Rattle.std.specs.Prelude.{◌≡◌, ℕ, Bool, true, false, ◌==◌, ◌&&◌, nat_lt, List, [], ◌∷◌, length, Option, None, Some, option_and_then, if◌then◌else◌}
 use Rattle.std.specs.List.{position_or_len, before_first, after_first}
 use Rattle.up_text.specs.Names.{is_name, is_key, is_value}
 use Rattle.up_text.specs.Bindings.{set_in}
@@ -24,3 +24,8 @@ with_word word vars =
 abbrev pub vars_of : List (List ℕ × List ℕ) → List (List ℕ) → Option (List (List ℕ × List ℕ))
 vars_of vars [] = Some vars
 vars_of vars (word ∷ words) = option_and_then (λ more. vars_of more words) (with_word word vars)
+
+-- what taking a variable answers and leaves
+abbrev pub Takes : Option (List (List ℕ × List ℕ)) → Bool → List (List ℕ × List ℕ) → Type 0
+Takes None taken vars = taken ≡ false
+Takes (Some more) taken vars = (taken ≡ true) × (vars ≡ more)

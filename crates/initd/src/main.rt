@@ -3,6 +3,10 @@
 
 mod lines;
 mod numbers;
+mod requests;
+mod script;
 mod signals;
+mod variables;
+mod words;
 
 fn main() {}
