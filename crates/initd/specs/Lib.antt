@@ -1,3 +1,4 @@
+pub mod Bundle
 pub mod Lines
 pub mod Numbers
 pub mod Requests

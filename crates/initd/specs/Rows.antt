@@ -1,26 +1,13 @@
--- The lines of a bundle and of its script.
+-- The lines of a script.
 use Rattle.std.specs.Prelude.{◌≡◌, ℕ, ◌+◌, Bool, true, false, ◌==◌, ◌&&◌, ◌||◌, not, List, [], ◌∷◌, ◌++◌, Option, None, Some, option_map, option_and_then, Result, Ok, Err, if◌then◌else◌}
-use Rattle.std.specs.List.{before_first, list_any, onto_first}
+use Rattle.std.specs.List.{before_first, list_any}
 use Rattle.std.specs.Str.{is_utf8}
 use Rattle.up_text.specs.Tokens.{Lexeme, Word, End, lexemes}
 use Rattle.up_model.specs.declared.input.Input.{Input}
 use Rattle.initd.specs.declared.script.Next.{Next}
 use Rattle.initd.specs.declared.script.Next.TheVariants as next
+use Rattle.initd.specs.Bundle.{lines_of}
 use Rattle.initd.specs.Script.{inputs_of}
-
--- a line feed
-unfoldable pub is_feed : ℕ → Bool
-is_feed byte = byte == 10
-
--- the lines of a text, each with its line feed; the last may have none
-abbrev pub lines : List ℕ → List (List ℕ)
-lines [] = []
-lines (byte ∷ text) = if is_feed byte then (byte ∷ []) ∷ lines text else onto_first byte (lines text)
-
--- the length of the first line, with its line feed
-abbrev pub line_size : List ℕ → ℕ
-line_size [] = 0
-line_size (byte ∷ text) = if is_feed byte then 1 else 1 + line_size text
 
 -- the # before a comment, or a line feed
 unfoldable pub is_end : ℕ → Bool
@@ -66,7 +53,7 @@ inputs_from line (text ∷ texts) = joined line (line_inputs text) (inputs_from 
 
 -- the inputs of a script, or the number of the line of its first bad step
 unfoldable pub script_inputs : ℕ → List ℕ → Result (List Input) ℕ
-script_inputs line script = inputs_from line (lines script)
+script_inputs line script = inputs_from line (lines_of script)
 
 -- what a lexer that has these lexemes left gives next, and what it has left then
 abbrev pub Continues : List Lexeme → List Lexeme → Next → Type 0

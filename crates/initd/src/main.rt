@@ -1,6 +1,7 @@
 //! The program `initd`: reads a bundle of job files and a script, and prints what a run over them gives.
 #![tactic(auto)]
 
+mod bundle;
 mod lines;
 mod numbers;
 mod requests;

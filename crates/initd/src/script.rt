@@ -1,23 +1,16 @@
 //! Reads a script.
 ghost use Rattle.std.specs.Prelude.{◌≡◌, ◌≤◌, ◌<◌, ◌+◌, ◌∷◌, IfOk, IfSome, MatchOption, true, false, length};
 ghost use Rattle.std.specs.List.{position_or_len};
-ghost use Rattle.std.specs.Str.{is_utf8};
 ghost use Rattle.up_text.specs.Tokens.{lexemes};
-ghost use Rattle.initd.specs.Rows.{is_feed, is_end, lines, line_size, is_text, code_of, Continues, words_in, line_inputs, script_inputs};
+ghost use Rattle.initd.specs.Bundle.{lines_of};
+ghost use Rattle.initd.specs.Rows.{is_end, is_text, code_of, Continues, words_in, line_inputs, script_inputs};
 
+use crate::bundle::{as_text, split_line};
 use crate::words::inputs_of;
-use memchr::{memchr, memchr2};
+use memchr::memchr2;
 use std::alloc::{AllocError, Global};
-use std::str;
 use up_model::Input;
 use up_text::{Items, Lexer, Text, TextFault};
-
-// The place of the first line feed, or the length where there is none.
-fn feed_place(bytes: &[u8]) -> usize
-    ensures { result ≡ position_or_len is_feed bytes.now }
-{
-    memchr(b'\n', bytes).unwrap_or(bytes.len())
-}
 
 // The place of the first # or line feed, or the length where there is none.
 fn end_place(bytes: &[u8]) -> usize
@@ -26,27 +19,15 @@ fn end_place(bytes: &[u8]) -> usize
     memchr2(b'#', b'\n', bytes).unwrap_or(bytes.len())
 }
 
-// How many bytes the first line has, with its line feed.
-#[tactic(auto, using(crate::proofs::Splitting::size_is))]
-fn line_size(bytes: &[u8]) -> usize
-    ensures { result ≡ line_size bytes.now }
+// The first line, with its line feed, and the lines behind it.
+#[tactic(auto, using(crate::proofs::Splitting::front, crate::proofs::Splitting::length_first))]
+fn next_line(text: &[u8]) -> (&[u8], &[u8])
+    requires { 0 < length text.now }
+    ensures front { lines_of text.now ≡ result.0.now ∷ lines_of result.1.now }
+    ensures shorter { length result.1.now < length text.now }
+    ensures within { length result.0.now ≤ length text.now }
 {
-    let place = feed_place(bytes);
-    if place < bytes.len() {
-        place + 1
-    } else {
-        place
-    }
-}
-
-/// The first line, with its line feed, and the lines behind it.
-pub fn split_line(bytes: &[u8]) -> (&[u8], &[u8])
-    requires { 0 < length bytes.now }
-    ensures front { lines bytes.now ≡ result.0.now ∷ lines result.1.now }
-    ensures shorter { length result.0.now + length result.1.now ≡ length bytes.now }
-    ensures some { 0 < length result.0.now }
-{
-    bytes.split_at(line_size(bytes))
+    split_line(text)
 }
 
 // What stands in a line before its comment and its line feed.
@@ -55,17 +36,6 @@ fn code_of(line: &[u8]) -> &[u8]
     ensures shorter { length result.now ≤ length line.now }
 {
     &line[..end_place(line)]
-}
-
-/// The bytes as a text, where they are UTF-8.
-pub fn as_text(bytes: &[u8]) -> Option<&str>
-    ensures test { MatchOption result (is_utf8 bytes.now ≡ false) (λ text. is_utf8 bytes.now ≡ true) }
-    ensures same { IfSome result (λ text. text.now ≡ bytes.now) }
-{
-    match str::from_utf8(bytes) {
-        Ok(text) => Some(text),
-        Err(_) => None,
-    }
 }
 
 // The bytes as a text, where they may stand in a script.
@@ -145,7 +115,7 @@ pub fn script_inputs(
     let mut rest = script;
     let mut line = line;
     'lines: while !rest.is_empty() {
-        let (first, others) = split_line(rest);
+        let (first, others) = next_line(rest);
         let Some(more) = line_inputs(alloc, first)? else {
             return Ok(Err(line));
         };

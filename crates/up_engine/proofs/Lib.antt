@@ -4,5 +4,8 @@ pub mod EventLemmas
 pub mod HeldLemmas
 pub mod MoveLemmas
 pub mod OfferLemmas
+pub mod OutputLemmas
 pub mod QueueLemmas
+pub mod RunLemmas
 pub mod SeenLemmas
+pub mod SettleLemmas

@@ -1,3 +1,5 @@
+pub mod Faults
 pub mod Moved
 pub mod Queues
 pub mod Records
+pub mod Stands

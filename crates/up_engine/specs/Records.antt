@@ -1,11 +1,12 @@
 -- The records as entries of the chronicle.
-use Rattle.std.specs.Prelude.{ℕ, false, List, [], ◌∷◌, ◌++◌, Option, None, Some}
+use Rattle.std.specs.Prelude.{ℕ, Bool, true, false, List, [], ◌∷◌, ◌++◌, Option, None, Some}
 use Rattle.up_engine.specs.declared.record.Expression.{Expression}
 use Rattle.up_engine.specs.declared.record.Expression.TheVariants as expression
 use Rattle.up_engine.specs.declared.record.Origin.{Origin}
 use Rattle.up_engine.specs.declared.record.Origin.TheVariants as origin
 use Rattle.up_engine.specs.declared.record.Record.{Record}
 use Rattle.up_engine.specs.declared.record.Record.TheVariants as record_of
+use Rattle.up_model.specs.declared.output.Output.{Output}
 use Rattle.up_model.specs.Chronicle as model
 
 abbrev pub expression_of : Expression → model.Expression
@@ -40,3 +41,18 @@ chronicle (first ∷ records) = chronicle records ++ entry_of first ∷ []
 abbrev pub entries_of : Option Record → List model.Entry
 entries_of None = []
 entries_of (Some found) = entry_of found ∷ []
+
+-- the output of a record, where there is one
+abbrev pub outputs_of : Option Output → List Output
+outputs_of None = []
+outputs_of (Some output) = output ∷ []
+
+-- the outputs of a step with those of one entry more; a step begins with what is given
+abbrev pub gave_more : model.Entry → List Output → List Output → List Output
+gave_more (model.Given given) earlier more = []
+gave_more entry earlier more = earlier ++ more
+
+-- whether a record begins a step
+abbrev pub is_given : Record → Bool
+is_given (record_of.Given given) = true
+is_given other = false

@@ -67,6 +67,12 @@ fn append(records: &mut Vec<Record>, queue: &mut Vec<Live>, next: Record) -> Res
     Ok(())
 }
 
+fn count_live(queue: &Vec<Live>) -> usize
+    ensures { result ≡ length (map live_of queue.now.items) }
+{
+    queue.len()
+}
+
 fn count(records: &Vec<Record>) -> usize
     ensures { result ≡ length (chronicle records.now.items) }
 {
@@ -103,6 +109,13 @@ impl Book {
         ensures { map live_of result.now ≡ model.queue self.now }
     {
         self.queue.as_slice()
+    }
+
+    /// How many events haven't finished.
+    pub fn live_events(&self) -> usize
+        ensures { result ≡ length (model.queue self.now) }
+    {
+        count_live(&self.queue)
     }
 
     /// How many entries there are: the place of the next one.

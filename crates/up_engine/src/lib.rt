@@ -3,12 +3,19 @@
 
 mod book;
 mod due;
+mod engine;
 mod events;
+mod fault;
 mod moves;
 mod offers;
+mod outputs;
 mod queue;
 mod reading;
 mod record;
+mod run;
+mod settle;
 mod turn;
 
-pub use record::{Expression, Origin, Record};
+pub use engine::Engine;
+pub use fault::StepError;
+pub use run::Run;

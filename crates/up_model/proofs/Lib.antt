@@ -1,8 +1,17 @@
+pub mod Ascending
+pub mod Folders
+pub mod Grammar
+pub mod Members
 pub mod MoveLaws
 pub mod OfferLaws
+pub mod Paths
 pub mod Places
 pub mod QueueLaws
+pub mod Reading
 pub mod Settling
 pub mod Sparing
+pub mod Stanzas
+pub mod Texts
 pub mod TurnLaws
+pub mod Twice
 pub mod WorkLaws

@@ -16,27 +16,32 @@ order_of_main who None environment = []
 order_of_main who (Some words) environment =
     output.Spawn (record { who = who; process = process.Main; argv = words; dir = codes "/"; silent = false; env = environment }) ∷ []
 
--- an instance as it is known outside, by where it was made
+-- a job, and an instance of it as it is known outside
+abbrev pub named : List ℕ → Option JobDef → Option (JobDef × Who)
+named name None = None
+named name (Some job) = Some (job, record { job = job.name; instance = name })
+
+-- the job and the name of an instance, by where it was made
 abbrev pub who_made : List JobDef → Option (ℕ × List ℕ) → Option (JobDef × Who)
 who_made jobs None = None
-who_made jobs (Some made) = named (slice_get jobs made.0)
-  where
-    named : Option JobDef → Option (JobDef × Who)
-    named None = None
-    named (Some job) = Some (job, record { job = job.name; instance = made.1 })
+who_made jobs (Some made) = named made.1 (slice_get jobs made.0)
 
+-- the order that an instance gives
 abbrev pub order_of : Option (JobDef × Who) → List (List ℕ × List ℕ) → List Output
 order_of None environment = []
 order_of (Some known) environment = order_of_main known.1 known.0.main environment
 
+-- a signal to a process, where it lives
 abbrev pub signal_to : Who → ℕ → Option ℕ → List Output
 signal_to who signal None = []
 signal_to who signal (Some pid) = output.Signal who pid signal ∷ []
 
+-- the signal that an instance's main process gets
 abbrev pub signal_of : Option (JobDef × Who) → ℕ → List Entry → List Output
 signal_of None signal c = []
 signal_of (Some known) signal c = signal_to known.1 signal (pid_of known.1 process.Main c)
 
+-- the answer to a request, under its number
 abbrev pub reply_of : Option ℕ → Answer → List Output
 reply_of None answer = []
 reply_of (Some id) answer = output.Reply id answer ∷ []

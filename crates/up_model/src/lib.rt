@@ -15,7 +15,7 @@ pub mod step;
 pub mod who;
 
 pub use event::Event;
-pub use files::JobDef;
+pub use files::{CompileError, Fault, FaultCode, File, Folder, JobDef, Report, Stanza, Table};
 pub use input::Input;
 pub use output::{Order, Output};
 pub use process::{How, Process};

@@ -1,11 +1,12 @@
 -- How what is left to read goes on from one byte or one token to the next.
-use Rattle.std.proofs.Common.{◌≡◌, ℕ, ◌+◌, ◌<◌, Bool, true, false, cond, not, ◌||◌, List, [], ◌∷◌, ◌++◌, None, Ok, length, take, drop, refl, sym, ap, ◌∙◌, subst, one-add, arith}
+use Rattle.std.proofs.Common.{◌≡◌, ℕ, ◌+◌, ◌<◌, Bool, true, false, cond, not, ◌||◌, List, [], ◌∷◌, ◌++◌, None, Some, Ok, length, take, drop, refl, sym, ap, ◌∙◌, subst, one-add, arith}
 use Rattle.std.proofs.lemmas.Bool.{and_from, true≢false}
 use Rattle.std.proofs.lemmas.List.{take-append-drop}
-use Rattle.std.specs.List.{list_all, position_or_len, prefix_len}
+use Rattle.std.specs.List.{find, list_all, position_or_len, prefix_len}
+use Rattle.std.specs.Str.{bytes_eq}
 use Rattle.up_text.proofs.Rows.{rows-nil, rows-feed, rows-blanks, rows-hash, rows-parts, rows-filled}
 use Rattle.up_text.specs.Lexer.{left, finished, unfinished, is_part, begins, is_line_end}
-use Rattle.up_text.specs.Tokens.{Lexeme, End, Outside, Reads, rows, ended, lexemes, meaning, is_line_feed, is_blank, is_hash}
+use Rattle.up_text.specs.Tokens.{Lexeme, Word, End, Outside, IsLineOf, Reads, rows, ended, lexemes, meaning, token_of, unless_quoting, is_quoting, is_line_feed, is_blank, is_hash}
 
 or-false : (b : Bool) → (b || false) ≡ b
 or-false true = refl
@@ -155,6 +156,27 @@ end-from_left false line text passed no_feed none = (refl, left-outside line tex
 -- and there nothing is left
 pub left-at_end : (inside : Bool) (line : ℕ) (text : List ℕ) → inside ≡ false → text ≡ [] → left inside line text ≡ []
 left-at_end inside line text outside empty = rw (outside, empty) (left-nil line)
+
+-- a spelling's meaning has its line
+IsLineOf-meaning : (line : ℕ) (bytes : List ℕ) (later : List Lexeme) → IsLineOf (meaning line bytes ∷ later) line
+unfolding meaning
+IsLineOf-meaning line bytes later =
+    elim (bytes_eq bytes (34 ∷ 34 ∷ [])) as (λ empty. IsLineOf (cond empty (Word (token_of line [] false)) (unless_quoting line bytes (find is_quoting bytes)) ∷ later) line) [
+      | true ↦ refl
+      | false ↦ elim (find is_quoting bytes) as (λ found. IsLineOf (unless_quoting line bytes found ∷ later) line) [ None ↦ refl | Some byte ↦ refl ]
+    ]
+
+-- what is read next stands on the line that was reached
+pub IsLineOf-left : (inside : Bool) (line : ℕ) (text : List ℕ) → begins is_part text ≡ not (is_line_end text) → (inside ≡ false → begins is_line_feed text ≡ false) → IsLineOf (left inside line text) line
+IsLineOf-left inside line text passed no_feed =
+    elim (is_line_end text) as (λ ends. is_line_end text ≡ ends → begins is_part text ≡ not ends → IsLineOf (left inside line text) line) [
+      | true ↦ λ ends _. at_end inside ends no_feed
+      | false ↦ λ _ part. rw (left-spelling inside line text part) (IsLineOf-meaning line _ _)
+    ] refl passed
+  where
+    at_end : (inside : Bool) → is_line_end text ≡ true → (inside ≡ false → begins is_line_feed text ≡ false) → IsLineOf (left inside line text) line
+    at_end true ends no_feed = rw (left-line_end line text ends) tt
+    at_end false ends no_feed = rw (left-end line text ends (no_feed refl)) tt
 
 -- what is left of a whole text
 pub left-start : (text : List ℕ) → left false 1 text ≡ lexemes text

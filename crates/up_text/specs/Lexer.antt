@@ -48,5 +48,5 @@ pub record IsAtRest (lexer : Inside) : Type 0 where
 -- what one spelling gives: its token, or the fault of memory; or why it is refused
 abbrev pub Gives : Lexeme → Result Token TextFault → Type 0
 Gives (Word token) result = (result ≡ Ok token) ⊎ (result ≡ Err Memory)
-Gives (Bad fault) result = result ≡ Err fault
+Gives (Bad line fault) result = result ≡ Err fault
 Gives End result = ⊥

@@ -17,10 +17,10 @@ pub data Mode : Type 0 where
   Outside : Mode
   Comment : Mode
 
--- what is read: a token; a spelling that is refused, and why; the end of a stanza
+-- what is read: a token; a spelling that is refused, with the line of its first byte, and why; the end of a stanza
 pub data Lexeme : Type 0 where
   Word : (token : Token) → Lexeme
-  Bad : (fault : TextFault) → Lexeme
+  Bad : (line : ℕ) → (fault : TextFault) → Lexeme
   End : Lexeme
 
 -- a line feed
@@ -103,7 +103,7 @@ fault_of byte = if byte == 92 then TrailingBackslash else UnterminatedQuote
 -- what bytes without quotes and backslashes mean, and bytes with a first one of these
 abbrev pub unless_quoting : ℕ → List ℕ → Option ℕ → Lexeme
 unless_quoting line bytes None = Word (token_of line bytes true)
-unless_quoting line bytes (Some byte) = Bad (fault_of byte)
+unless_quoting line bytes (Some byte) = Bad line (fault_of byte)
 
 -- what a spelling's bytes mean: two double quotes alone are the empty token; else quotes and backslashes are refused
 unfoldable pub meaning : ℕ → List ℕ → Lexeme
@@ -140,6 +140,13 @@ lexemes text = flat_map ended (stanzas text)
 abbrev pub Reads : List Lexeme → Result (Option Token) TextFault → List Lexeme → Type 0
 Reads [] result new = (result ≡ Ok None) × (new ≡ [])
 Reads (End ∷ later) result new = (result ≡ Ok None) × (new ≡ later)
-Reads (Bad fault ∷ later) result new = (result ≡ Err fault) × (new ≡ Bad fault ∷ later)
+Reads (Bad line fault ∷ later) result new = (result ≡ Err fault) × (new ≡ Bad line fault ∷ later)
 Reads (Word token ∷ later) result new =
     ((result ≡ Ok (Some token)) × (new ≡ later)) ⊎ ((result ≡ Err Memory) × (new ≡ Word token ∷ later))
+
+-- the line of the token or of the refused spelling that is read next; elsewhere any line
+abbrev pub IsLineOf : List Lexeme → ℕ → Type 0
+IsLineOf [] line = Unit {0}
+IsLineOf (End ∷ later) line = Unit {0}
+IsLineOf (Bad first fault ∷ later) line = line ≡ first
+IsLineOf (Word token ∷ later) line = line ≡ token.line

@@ -11,7 +11,7 @@ use std::alloc::{AllocError, Global};
 use std::marker::Model;
 
 /// Distinct keys with values, seen by contracts as the list of their pairs in order.
-#[derive(Drop)]
+#[derive(Debug, Drop)]
 pub struct Env {
     map: IndexMap<String, Text>,
 }

@@ -2,7 +2,7 @@
 ghost use Rattle.std.specs.Prelude.{◌≡◌, ◌⊎◌, ◌↔◌, ◌+◌, ◌<◌, ◌≤◌, ◌^◌, ℕ, Bool, true, false, List, [], ◌∷◌, Some, None, IsTrue, length, drop, find, not};
 ghost use Rattle.std.specs.List.{prefix_len, position_or_len};
 ghost use Rattle.up_text.specs.Lexer.{left, is_part, begins, is_line_end, Gives};
-ghost use Rattle.up_text.specs.Tokens.{Word, is_line_feed, is_blank, is_hash, is_quoting, meaning, token_of, lexemes, Reads};
+ghost use Rattle.up_text.specs.Tokens.{Word, is_line_feed, is_blank, is_hash, is_quoting, meaning, token_of, lexemes, Reads, IsLineOf};
 
 use crate::fault::TextFault;
 use crate::text::Text;
@@ -209,6 +209,14 @@ impl<'a> Lexer<'a> {
         ensures { IsTrue result ↔ (self.now ≡ []) }
     {
         !self.inside && self.rest.is_empty()
+    }
+
+    /// The line on which the next token or refused spelling stands; at the end of a stanza or of the text, the line that was
+    /// reached.
+    pub fn line(&self) -> u32
+        ensures { IsLineOf self.now result }
+    {
+        self.line
     }
 
     /// The next token, or `None` at the end of a stanza and at the end of the text. A refused spelling is refused again at

@@ -19,3 +19,6 @@ pub use lexer::Lexer;
 pub use name::Name;
 pub use text::Text;
 pub use token::Token;
+
+#[cfg(test)]
+mod tests;

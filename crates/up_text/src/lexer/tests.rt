@@ -11,8 +11,8 @@ enum Step {
     Empty(u32),
     // The end of a stanza.
     End,
-    // A spelling that is refused.
-    Refused(TextFault),
+    // A spelling that is refused, and its line.
+    Refused(u32, TextFault),
 }
 
 struct Case {
@@ -62,25 +62,34 @@ const CASES: [Case; 9] = [
         steps: &[
             Step::Plain(1, "x"),
             Step::End,
-            Step::Refused(TextFault::UnterminatedQuote),
-            Step::Refused(TextFault::UnterminatedQuote),
+            Step::Refused(2, TextFault::UnterminatedQuote),
+            Step::Refused(2, TextFault::UnterminatedQuote),
         ],
     },
     Case {
         text: "'\\",
         steps: &[
-            Step::Refused(TextFault::UnterminatedQuote),
-            Step::Refused(TextFault::UnterminatedQuote),
+            Step::Refused(1, TextFault::UnterminatedQuote),
+            Step::Refused(1, TextFault::UnterminatedQuote),
         ],
     },
     Case {
         text: "b\\\"\n",
         steps: &[
-            Step::Refused(TextFault::TrailingBackslash),
-            Step::Refused(TextFault::TrailingBackslash),
+            Step::Refused(1, TextFault::TrailingBackslash),
+            Step::Refused(1, TextFault::TrailingBackslash),
         ],
     },
 ];
+
+fn check_line(rt: &impl Abort, reached: u32, step: Step) {
+    match step {
+        Step::Plain(line, _) | Step::Empty(line) | Step::Refused(line, _) => {
+            assert_eq!(rt; reached, line);
+        }
+        Step::End => {}
+    }
+}
 
 fn check_step(rt: &impl Abort, read: Result<Option<Token>, TextFault>, step: Step) {
     match (step, read) {
@@ -95,7 +104,7 @@ fn check_step(rt: &impl Abort, read: Result<Option<Token>, TextFault>, step: Ste
             assert!(rt; !token.plain);
         }
         (Step::End, Ok(None)) => {}
-        (Step::Refused(fault), Err(refused)) => assert_eq!(rt; refused, fault),
+        (Step::Refused(_, fault), Err(refused)) => assert_eq!(rt; refused, fault),
         (step, read) => panic!(rt; "{read:?} for {step:?}"),
     }
 }
@@ -109,7 +118,8 @@ fn reads_stanzas(rt: HostRuntime) {
         let mut refused = false;
         for step in case.steps {
             assert!(rt; !lexer.at_end(), "before {step:?} of {text:?}");
-            refused = matches!(step, Step::Refused(_));
+            refused = matches!(step, Step::Refused(..));
+            check_line(&rt, lexer.line(), *step);
             let mut read = lexer.next(rt.alloc());
             // Where one allocation is made to fail, the next call reads the same.
             if matches!(read, Err(TextFault::Memory)) {

@@ -1,6 +1,6 @@
 use Rattle.std.proofs.lemmas.Str.{is_utf8-from_IsUtf8}
-use Rattle.initd.proofs.Splitting.{is_utf8-false}
-use Rattle.initd.proofs.script.as_text.Goals as goal
+use Rattle.up_model.proofs.Texts.{is_utf8-false}
+use Rattle.up_model.proofs.files.reader.as_text.Goals as goal
 
 pub returns-in-Ok-clause-test : goal.returns-in-Ok-clause-test
 returns-in-Ok-clause-test c = is_utf8-from_IsUtf8 _ c.in-Ok.ensures.cases.1

@@ -1,0 +1,36 @@
+//! What is due is done until nothing is.
+ghost use Rattle.std.specs.Prelude.{◌≡◌, OnOk};
+ghost use Rattle.up_model.specs.Answers as answer;
+ghost use Rattle.up_model.specs.Work as model;
+
+use crate::book::Book;
+use crate::due::{act, do_next};
+use std::alloc::{AllocError, Global};
+use up_model::{Input, JobDef};
+use up_text::Env;
+
+fn settle(alloc: Global, base: &Env, jobs: &[JobDef], book: &mut Book) -> Result<(), AllocError>
+    ensures { OnOk result (book.new ≡ model.settle (model.work jobs.now book.old) base.now jobs.now book.old) }
+{
+    let mut more = true;
+    while more {
+        more = do_next(alloc, base, jobs, book)?;
+    }
+    Ok(())
+}
+
+/// Takes an input in, and then does what is due until nothing is.
+#[tactic(auto, unfolding(up_model::specs::Answers::after))]
+pub fn run_step(
+    alloc: Global,
+    base: &Env,
+    jobs: &[JobDef],
+    book: &mut Book,
+    given: Input,
+) -> Result<(), AllocError>
+    ensures { OnOk result (book.new ≡ answer.after base.now jobs.now book.old given) }
+{
+    act(alloc, jobs, book, given)?;
+    settle(alloc, base, jobs, book)?;
+    Ok(())
+}

@@ -1,0 +1,48 @@
+//! A folder of files.
+ghost use Rattle.std.specs.Prelude.{◌≡◌, [], ◌∷◌, ◌++◌, OnOk, OnErr};
+
+use crate::files::file::File;
+use std::alloc::{AllocError, Global};
+use std::marker::Model;
+use up_text::{Items, Text};
+
+/// A folder, seen by contracts as the list of its files in order.
+#[derive(Debug, Drop)]
+pub struct Folder {
+    files: Vec<File>,
+}
+
+impl Model for Folder {
+    ghost use Rattle.std.specs.Prelude.{List};
+    ghost use Rattle.up_model.specs.declared.files.file.File.{File};
+
+    ghost Value = { List File };
+
+    ghost view = { λ f. f.files.items };
+}
+
+impl Folder {
+    /// An empty folder.
+    pub fn new(alloc: Global) -> Self
+        ensures { result ≡ [] }
+    {
+        Folder {
+            files: Vec::new(alloc),
+        }
+    }
+
+    /// Adds a file at the end.
+    pub fn add(&mut self, path: Text, bytes: Items<u8>) -> Result<(), AllocError>
+        ensures added { OnOk result (self.new ≡ self.old ++ record { path = path; bytes = bytes } ∷ []) }
+        ensures unchanged { OnErr result (self.new ≡ self.old) }
+    {
+        self.files.push(File { path, bytes })?;
+        Ok(())
+    }
+
+    pub(crate) fn as_slice(&self) -> &[File]
+        ensures { result.now ≡ self.now }
+    {
+        self.files.as_slice()
+    }
+}
