@@ -46,8 +46,8 @@ fn line_len(text: &[u8]) -> usize
     }
 }
 
-// The first line, and what stands behind it.
-fn split_line(text: &[u8]) -> (&[u8], &[u8])
+/// The first line, and what stands behind it.
+pub fn split_line(text: &[u8]) -> (&[u8], &[u8])
     ensures line { result.0.now ≡ bundle.first_line text.now }
     ensures after { result.1.now ≡ bundle.after_line text.now }
     ensures shorter { 0 < length text.now → length result.1.now < length text.now }
@@ -112,8 +112,8 @@ fn to_header(text: &[u8]) -> (&[u8], &[u8], u32)
     (content, rest, lines)
 }
 
-// The bytes as a text, where they are UTF-8.
-fn as_text(bytes: &[u8]) -> Option<&str>
+/// The bytes as a text, where they are UTF-8.
+pub fn as_text(bytes: &[u8]) -> Option<&str>
     ensures test { MatchOption result (is_utf8 bytes.now ≡ false) (λ text. is_utf8 bytes.now ≡ true) }
     ensures same { IfSome result (λ text. text.now ≡ bytes.now) }
 {

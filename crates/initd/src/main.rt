@@ -3,6 +3,11 @@
 
 mod bundle;
 mod lines;
+mod numbers;
+mod requests;
+mod script;
 mod signals;
+mod variables;
+mod words;
 
 fn main() {}

@@ -2,7 +2,9 @@
 ghost use Rattle.std.specs.Prelude.{◌≡◌, slice_get, map, position};
 ghost use Rattle.std.specs.Option.{option_copied};
 ghost use Rattle.std.specs.Str.{bytes_eq};
-ghost use Rattle.initd.specs.Signals.{name_of, number_of};
+ghost use Rattle.initd.specs.Signals.{name_of, number_of, without_sig, signal_of};
+
+use crate::numbers::number_in;
 
 // The names of the signals from 1 on.
 const NAMES: [&str; 31] = [
@@ -47,5 +49,29 @@ pub fn number_of(name: &str) -> Option<u8>
     match place_of(&NAMES, name) {
         Some(place) => Some(place as u8 + 1),
         None => None,
+    }
+}
+
+// The name without the `SIG` that it may begin with.
+#[tactic(auto, unfolding(crate::specs::Signals::without_sig))]
+fn without_sig(name: &str) -> &str
+    ensures { result.now ≡ without_sig name.now }
+{
+    match name.strip_prefix("SIG") {
+        Some(name) => name,
+        None => name,
+    }
+}
+
+/// A signal by its name, with or without `SIG`, or by its number.
+pub fn signal_of(text: &str) -> Option<u8>
+    ensures { result ≡ signal_of text.now }
+{
+    match number_of(without_sig(text)) {
+        Some(number) => Some(number),
+        None => match number_in(1, 31, text) {
+            Some(number) => Some(number as u8),
+            None => None,
+        },
     }
 }
