@@ -13,16 +13,9 @@ unfolding gave
 given_begins jobs (record_of.Given given) c is = refl
 given_begins jobs found c is = cc
 
-pub start_next : (records : List Record) (i start : ℕ) (found : Record) → i < length records → found ≡ get_or records i found → ((jobs : List JobDef) → gave jobs (chronicle (take start records)) ≡ [])
-    → (jobs : List JobDef) → gave jobs (chronicle (take (if is_given found then i + 1 else start) records)) ≡ []
-start_next records i start found within here before jobs = by_case (is_given found) refl
-  where
-    by_case : (b : Bool) → is_given found ≡ b → gave jobs (chronicle (take (cond b (i + 1) start) records)) ≡ []
-    by_case true is =
-        let next : chronicle (take (i + 1) records) ≡ entry_of found ∷ chronicle (take i records) = chronicle_more records i found within ∙ ap (λ x. entry_of x ∷ chronicle (take i records)) (sym here) in
-        rw next (given_begins jobs found (take i records) is)
-    by_case false is = before jobs
-
-pub start_within : (b : Bool) (i start : ℕ) → start ≤ i → cond b (i + 1) start ≤ i + 1
-start_within true i start before = omega arith
-start_within false i start before = omega arith
+-- a step begins behind its input
+pub given_more : (records : List Record) (i : ℕ) (found : Record) → i < length records → found ≡ get_or records i found → is_given found ≡ true
+    → (jobs : List JobDef) → gave jobs (chronicle (take (i + 1) records)) ≡ []
+given_more records i found within here is jobs =
+    let next : chronicle (take (i + 1) records) ≡ entry_of found ∷ chronicle (take i records) = chronicle_more records i found within ∙ ap (λ x. entry_of x ∷ chronicle (take i records)) (sym here) in
+    rw next (given_begins jobs found (take i records) is)

@@ -195,24 +195,20 @@ fn add_output(
     Ok(())
 }
 
-fn start_after(next: &Record, place: usize, before: usize) -> usize
-    requires { place < 2 ^ 64 - 1 }
-    ensures { result ≡ (if is_given next.now then place + 1 else before) }
-{
-    if is_given(next) { place + 1 } else { before }
-}
-
-// The place behind the last input.
-#[tactic(auto, using(crate::proofs::Chronicles::chronicle_more), unfolding(up_model::specs::Outputs::gave))]
+// The place behind the last input, sought from the newest record back.
+#[tactic(auto, using(crate::proofs::OutputLemmas::given_more), unfolding(up_model::specs::Outputs::gave))]
 fn step_start(records: &[Record]) -> usize
     ensures within { result ≤ length records.now }
     ensures start { (jobs : List JobValue) → model.gave jobs (chronicle (take result records.now)) ≡ [] }
 {
-    let mut start = 0;
-    for (place, next) in records.iter().enumerate() {
-        start = start_after(next, place, start);
+    let mut left = records.len();
+    'back: while left > 0 {
+        if is_given(&records[left - 1]) {
+            return left;
+        }
+        left -= 1;
     }
-    start
+    0
 }
 
 /// The starts, signals, events and replies of the last step, in order.

@@ -1,5 +1,5 @@
 //! What an expression has seen, and what is still to be offered.
-ghost use Rattle.std.specs.Prelude.{◌≡◌, ◌<◌, List, ◌∷◌, length};
+ghost use Rattle.std.specs.Prelude.{◌≡◌, List, ◌∷◌, length, unwrap_or};
 ghost use Rattle.up_model.specs.Chronicle.{Entry};
 ghost use Rattle.up_model.specs.Readings as reading;
 ghost use Rattle.up_model.specs.Seen as seen;
@@ -73,16 +73,18 @@ pub fn kept(records: &[Record], expression: Expression, leaf: &Option<Name>) -> 
     }
 }
 
-fn offered_after(next: &Record, expression: Expression, before: bool) -> bool
-    ensures { (c : List Entry) → seen.was_offered (expression_of expression) c ≡ before → result ≡ seen.was_offered (expression_of expression) (entry_of next.now ∷ c) }
+// The readings below ask of the current step alone, so they look back from the newest record, and stop where the step began.
+
+fn offered_by(next: &Record, expression: Expression) -> Option<bool>
+    ensures { (c : List Entry) → seen.was_offered (expression_of expression) (entry_of next.now ∷ c) ≡ unwrap_or result (seen.was_offered (expression_of expression) c) }
 {
     match next {
-        Record::Given(_) => false,
+        Record::Given(_) => Some(false),
         Record::Offered {
             expression: other,
             ..
-        } if same_expression(*other, expression) => true,
-        _ => before,
+        } if same_expression(*other, expression) => Some(true),
+        _ => None,
     }
 }
 
@@ -91,20 +93,23 @@ fn offered_after(next: &Record, expression: Expression, before: bool) -> bool
 pub fn was_offered(records: &[Record], expression: Expression) -> bool
     ensures { result ≡ seen.was_offered (expression_of expression) (chronicle records.now) }
 {
-    let mut found = false;
-    for next in records {
-        found = offered_after(next, expression, found);
+    let mut left = records.len();
+    'back: while left > 0 {
+        left -= 1;
+        if let Some(found) = offered_by(&records[left], expression) {
+            return found;
+        }
     }
-    found
+    false
 }
 
-fn newborn_after(next: &Record, place: usize, instance: usize, before: bool) -> bool
-    ensures { (c : List Entry) → length c ≡ place → offer.is_newborn instance c ≡ before → result ≡ offer.is_newborn instance (entry_of next.now ∷ c) }
+fn newborn_by(next: &Record, place: usize, instance: usize) -> Option<bool>
+    ensures { (c : List Entry) → length c ≡ place → offer.is_newborn instance (entry_of next.now ∷ c) ≡ unwrap_or result (offer.is_newborn instance c) }
 {
     match next {
-        Record::Given(_) => false,
-        Record::Made { .. } if place == instance => true,
-        _ => before,
+        Record::Given(_) => Some(false),
+        Record::Made { .. } if place == instance => Some(true),
+        _ => None,
     }
 }
 
@@ -113,20 +118,23 @@ fn newborn_after(next: &Record, place: usize, instance: usize, before: bool) -> 
 pub fn is_newborn(records: &[Record], instance: usize) -> bool
     ensures { result ≡ offer.is_newborn instance (chronicle records.now) }
 {
-    let mut found = false;
-    for (place, next) in records.iter().enumerate() {
-        found = newborn_after(next, place, instance, found);
+    let mut left = records.len();
+    'back: while left > 0 {
+        left -= 1;
+        if let Some(found) = newborn_by(&records[left], left, instance) {
+            return found;
+        }
     }
-    found
+    false
 }
 
-fn offering_after(next: &Record, before: Option<usize>) -> Option<usize>
-    ensures { (c : List Entry) → offer.offering c ≡ before → result ≡ offer.offering (entry_of next.now ∷ c) }
+fn offering_by(next: &Record) -> Option<Option<usize>>
+    ensures { (c : List Entry) → offer.offering (entry_of next.now ∷ c) ≡ unwrap_or result (offer.offering c) }
 {
     match next {
-        Record::Given(_) => None,
-        Record::Handled(event) => Some(*event),
-        _ => before,
+        Record::Given(_) => Some(None),
+        Record::Handled(event) => Some(Some(*event)),
+        _ => None,
     }
 }
 
@@ -135,9 +143,12 @@ fn offering_after(next: &Record, before: Option<usize>) -> Option<usize>
 pub fn offering(records: &[Record]) -> Option<usize>
     ensures { result ≡ offer.offering (chronicle records.now) }
 {
-    let mut found = None;
-    for next in records {
-        found = offering_after(next, found);
+    let mut left = records.len();
+    'back: while left > 0 {
+        left -= 1;
+        if let Some(found) = offering_by(&records[left]) {
+            return found;
+        }
     }
-    found
+    None
 }

@@ -1,10 +1,15 @@
-use Rattle.std.proofs.Common.{◌≡◌, List, [], take}
-use Rattle.std.specs.Option.{option_map_or}
-use Rattle.up_model.specs.Readings as reading
+use Rattle.std.proofs.Common.{◌≡◌, ◌≤◌, length, take}
 use Rattle.up_model.specs.Seen as seen
 use Rattle.up_model.specs.Offers as offer
 use Rattle.up_engine.specs.Records.{chronicle, expression_of}
 use Rattle.up_engine.proofs.reading.seen.offering.Given as goal
 
-abbrev pub invariant-loop-next : goal.invariant-loop-next
-invariant-loop-next l = l.found ≡ offer.offering (chronicle (take l.next-index l.records))
+-- the records that were passed don't decide
+abbrev pub invariant-back : goal.invariant-back
+invariant-back l = record {
+  within : l.left ≤ length l.records;
+  same : offer.offering (chronicle (take l.left l.records)) ≡ offer.offering (chronicle l.records);
+}
+
+abbrev pub decreases-back : goal.decreases-back
+decreases-back l = l.left
