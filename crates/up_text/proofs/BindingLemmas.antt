@@ -1,5 +1,5 @@
 -- What a map's entries say of the bindings that contracts see.
-use Rattle.std.proofs.Common.{◌≡◌, ℕ, ◌+◌, Bool, true, false, ◌&&◌, not, List, [], ◌∷◌, ◌++◌, length, Option, Some, cond, refl, sym, ◌∙◌, ap, arith, rules, slice_get, zero, suc}
+use Rattle.std.proofs.Common.{◌≡◌, ℕ, Bool, true, false, List, [], ◌∷◌, length, Some, cond, refl, sym, ◌∙◌, ap, slice_get, zero, suc}
 use Rattle.std.specs.Prelude.{String, string_bytes}
 use Rattle.std.specs.String.{string_eq}
 use Rattle.std.specs.List.{AllZip}

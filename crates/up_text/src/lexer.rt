@@ -11,7 +11,8 @@ use memchr::memchr;
 use std::alloc::Global;
 use std::marker::Model;
 
-/// Reads the tokens of a text, as init(5) says.
+/// Reads the tokens of a text, as init(5) says. Of its quoting only `""`, the empty token, is read: any other quote or
+/// backslash is refused.
 #[derive(Debug, Drop)]
 pub struct Lexer<'a> {
     // What is left of the text. It begins with a token or is at a line end, and outside a stanza no empty line is left before

@@ -1,4 +1,3 @@
-use Rattle.std.proofs.Common.{◌≡◌, ◌∙◌, sym, ap, Some, length}
 use Rattle.up_text.proofs.BindingLemmas.{pairs_of-clone}
 use Rattle.up_text.proofs.env.copy_of.Goals as goal
 

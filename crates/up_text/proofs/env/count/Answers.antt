@@ -1,4 +1,4 @@
-use Rattle.std.proofs.Common.{◌≡◌, ◌∙◌, sym, ap, Some, length}
+use Rattle.std.proofs.Common.{◌∙◌, sym}
 use Rattle.up_text.proofs.BindingLemmas.{length-pairs_of}
 use Rattle.up_text.proofs.env.count.Goals as goal
 

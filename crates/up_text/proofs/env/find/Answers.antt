@@ -1,4 +1,4 @@
-use Rattle.std.proofs.Common.{◌≡◌, ◌∙◌, sym, ap, Some, length}
+use Rattle.std.proofs.Common.{◌∙◌, sym, ap, Some}
 use Rattle.up_text.proofs.BindingLemmas.{value_of-pairs_of}
 use Rattle.up_text.proofs.env.find.Goals as goal
 

@@ -1,4 +1,4 @@
-use Rattle.std.proofs.Common.{◌≡◌, ◌∙◌, sym, ap, Some, option_map, string_bytes, refl}
+use Rattle.std.proofs.Common.{◌∙◌, sym, ap, option_map, string_bytes, refl}
 use Rattle.up_text.proofs.BindingLemmas.{length-pairs_of, slice_get-pairs_of}
 use Rattle.up_text.proofs.env.pair_at.Goals as goal
 

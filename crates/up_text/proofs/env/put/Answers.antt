@@ -1,4 +1,3 @@
-use Rattle.std.proofs.Common.{◌≡◌, ◌∙◌, sym, ap, Some, length}
 use Rattle.up_text.proofs.BindingLemmas.{pairs_of-insert_entry}
 use Rattle.up_text.proofs.env.put.Goals as goal
 

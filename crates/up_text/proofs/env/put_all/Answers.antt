@@ -1,4 +1,4 @@
-use Rattle.std.proofs.Common.{◌≡◌, ◌∙◌, sym, ap, Some, length}
+use Rattle.std.proofs.Common.{◌∙◌, ap}
 use Rattle.up_text.specs.Bindings.{pairs_of}
 use Rattle.up_text.proofs.BindingLemmas.{pairs_of-insert_all}
 use Rattle.up_text.proofs.env.put_all.Goals as goal

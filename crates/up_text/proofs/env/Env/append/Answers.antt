@@ -1,4 +1,4 @@
-use Rattle.std.proofs.Common.{◌≡◌, ◌∙◌, sym, ap, true}
+use Rattle.std.proofs.Common.{◌≡◌, true}
 use Rattle.up_text.specs.Bindings.{are_bindings, pairs_of}
 use Rattle.up_text.proofs.BindingLemmas.{are_bindings-set_all}
 use Rattle.up_text.proofs.env.Env.append.Goals as goal

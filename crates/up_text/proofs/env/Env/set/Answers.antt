@@ -1,4 +1,4 @@
-use Rattle.std.proofs.Common.{◌≡◌, ◌∙◌, sym, ap, true}
+use Rattle.std.proofs.Common.{◌≡◌, ◌∙◌, sym, true}
 use Rattle.up_text.specs.Names.{is_key, is_value}
 use Rattle.std.specs.Prelude.{string_bytes}
 use Rattle.up_text.specs.Bindings.{are_bindings, pairs_of}
