@@ -1,5 +1,5 @@
 //! Bundles: files of jobs, and a script, in one stream of bytes.
-ghost use Rattle.std.specs.Prelude.{◌≡◌, ◌+◌, ◌<◌, ◌≤◌, ◌^◌, ℕ, Bool, true, false, ◌==◌, ◌∷◌, [], ◌++◌, IfOk, OnOk, IfSome, MatchOption, length, take, drop, option_map};
+ghost use Rattle.std.specs.Prelude.{◌≡◌, ◌+◌, ◌-◌, ◌<◌, ◌≤◌, ◌^◌, ℕ, true, false, ◌++◌, None, Some, if◌then◌else◌, IfOk, OnOk, IfSome, MatchOption, length, take, drop};
 ghost use Rattle.std.specs.List.{position_or_len};
 ghost use Rattle.std.specs.Option.{option_or};
 ghost use Rattle.std.specs.Str.{is_utf8};
@@ -149,4 +149,59 @@ fn add_file(
     let bytes = Items::new(Vec::from_slice(alloc, bytes)?);
     folder.add(path, bytes)?;
     Ok(true)
+}
+
+// The first line that is bad, with one file more.
+fn first_bad(bad: Option<u32>, good: bool, line: u32) -> Option<u32>
+    ensures { result ≡ option_or bad (if good then None else Some line) }
+{
+    match bad {
+        Some(earlier) => Some(earlier),
+        None => { if good { None } else { Some(line) } }
+    }
+}
+
+// The first line, where it is neither a header nor the end.
+fn stray(text: &[u8]) -> Option<u32>
+    ensures { result ≡ (if bundle.begins_header (bundle.lines_of text.now) then None else Some 1) }
+{
+    if begins_header(text) { None } else { Some(1) }
+}
+
+/// Reads a bundle: a line `%file PATH` begins a file, whose bytes are the lines up to the next such line or to `%script`; all behind
+/// that is the script.
+pub fn read_bundle(alloc: Global, text: &[u8]) -> Result<Bundle<'_>, AllocError>
+    requires { length text.now < 2 ^ 32 - 1 }
+    ensures folder { IfOk result (λ read. read.folder ≡ bundle.files_of (bundle.lines_of text.now)) }
+    ensures bad { IfOk result (λ read. read.bad ≡ bundle.bad_line (bundle.lines_of text.now)) }
+    ensures script { IfOk result (λ read. read.script.now ≡ bundle.script_text (bundle.lines_of text.now)) }
+    ensures line { IfOk result (λ read. read.line ≡ bundle.script_line 1 (bundle.lines_of text.now)) }
+{
+    let mut folder = Folder::new(alloc);
+    let mut bad = stray(text);
+    let (_, mut rest, passed) = to_header(text);
+    let mut line = passed + 1;
+    'files: while !rest.is_empty() {
+        let (header, after) = split_line(rest);
+        if is_script(header) {
+            let script = after;
+            return Ok(Bundle {
+                folder,
+                bad,
+                script,
+                line: line + 1,
+            });
+        }
+        let (content, next, count) = to_header(after);
+        let good = add_file(alloc, &mut folder, path_of(header), content)?;
+        bad = first_bad(bad, good, line);
+        rest = next;
+        line += count + 1;
+    }
+    Ok(Bundle {
+        folder,
+        bad,
+        script: rest,
+        line,
+    })
 }
