@@ -15,7 +15,8 @@ use std::alloc::{AllocError, Global};
 use std::io;
 use std::io::{Read, Write};
 use up_engine::Engine;
-use up_model::{CompileError, Fault, Folder, Input, Report, Step, Table, compile};
+use up_model::files::compile;
+use up_model::{CompileError, Fault, Folder, Input, Report, Step, Table};
 use up_text::{Env, Items};
 
 /// The most bytes that a bundle has: 64 MiB.
