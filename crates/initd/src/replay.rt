@@ -67,7 +67,8 @@ fn push_bad_step(text: &mut Vec<u8>, line: u32) -> Result<(), AllocError>
 {
     push(text, "-:")?;
     push_decimal(text, u64::from(line))?;
-    push(text, ": bad step\n")
+    push(text, ": bad step\n")?;
+    Ok(())
 }
 
 // The line of a refused folder.
@@ -105,7 +106,8 @@ fn compiled(
 fn run(alloc: Global, table: Table, inputs: Vec<Input>) -> Result<Items<Step>, AllocError>
     ensures { IfOk result (λ steps. steps ≡ answers [] table [] inputs.items) }
 {
-    let mut engine = Engine::new(alloc, table, Env::new(alloc));
+    let base = Env::new(alloc);
+    let mut engine = Engine::new(alloc, table, base);
     match engine.run(inputs) {
         Ok(run) => {
             if run.down {
@@ -219,17 +221,25 @@ fn write_printed<W: Write>(writer: &mut W, made: &Printed) -> u8
     }
 }
 
+// Says that the bundle can't be read, and gives the status.
+fn write_unreadable<W: Write>(writer: &mut W) -> u8
+    ensures { result ≡ 3 }
+{
+    let _ = writer.write_all(b"initd: cannot use -\n");
+    3
+}
+
 /// Reads a bundle, writes what is printed for it and gives the status: 0; 1 with faulty files; 2 at a bad step; 3 where the folder is
 /// refused or the bundle can't be read or written; 4 for want of memory.
+#[tactic(auto, using(crate::proofs::Limits::printed_take))]
 pub fn replay<R: Read, W: Write>(alloc: Global, reader: &mut R, writer: &mut W) -> u8
     ensures { IfSome (R.remaining reader.old) (λ bytes. Replays bytes result (W.contents writer.old) (W.contents writer.new)) }
 {
-    let made = match read_all(alloc, reader) {
-        Ok(bytes) => print(alloc, bytes.as_slice()),
-        Err(_) => unreadable(alloc),
-    };
-    match made {
-        Ok(made) => write_printed(writer, &made),
-        Err(_) => 4,
+    match read_all(alloc, reader) {
+        Ok(bytes) => match print(alloc, bytes.as_slice()) {
+            Ok(made) => write_printed(writer, &made),
+            Err(_) => 4,
+        },
+        Err(_) => write_unreadable(writer),
     }
 }
