@@ -1,6 +1,6 @@
 -- The lines of a script, taken from its front.
-use Rattle.std.proofs.Common.{◌≡◌, ℕ, ◌+◌, ◌<◌, ◌≤◌, Bool, true, false, ◌&&◌, ◌||◌, not, cond, List, [], ◌∷◌, Option, None, Some, length, take, drop, nat_lt, nat_eq, refl, ap, sym, arith, rules, add-one, one-add, IsUtf8, ◌++◌, Result, Ok, Err, append-nil, length-append, append_assoc}
-use Rattle.std.proofs.lemmas.Bool.{false_from_ne_true}
+use Rattle.std.proofs.Common.{◌≡◌, ℕ, suc, ◌==◌, ◌+◌, ◌<◌, ◌≤◌, Bool, true, false, ◌&&◌, ◌||◌, not, cond, List, [], ◌∷◌, Option, None, Some, length, take, drop, nat_lt, nat_eq, refl, ap, sym, arith, rules, add-one, one-add, IsUtf8, ◌++◌, Result, Ok, Err, append-nil, length-append, append_assoc}
+use Rattle.std.proofs.lemmas.Bool.{false_from_ne_true, ne_eqb}
 use Rattle.std.proofs.lemmas.Bool.Decides.{nat_tests}
 use Rattle.std.proofs.lemmas.List.Sums.{position_or_len_is}
 use Rattle.std.specs.List.{position_or_len, onto_first}
@@ -29,6 +29,7 @@ pub with_more : (inputs more : List Input) (others : Result (List Input) ℕ) �
 with_more inputs more (Ok others) = ap Ok (sym (append_assoc inputs more others))
 with_more inputs more (Err line) = refl
 
-pub with_none : (inputs : List Input) (line : ℕ) (rest : List ℕ) → rest ≡ [] → with_inputs inputs (inputs_from line (lines_of rest)) ≡ Ok inputs
+pub with_none : (inputs : List Input) (line : ℕ) (rest : List ℕ) → (length rest == 0) ≡ true → with_inputs inputs (inputs_from line (lines_of rest)) ≡ Ok inputs
 unfolding lines_of
-with_none inputs line rest none = rw none (ap Ok (append-nil inputs))
+with_none inputs line [] none = ap Ok (append-nil inputs)
+with_none inputs line (byte ∷ rest) none = let some : (suc (length rest) == 0) ≡ false = ne_eqb (suc (length rest)) 0 (λ e. omega arith) in cc

@@ -1,6 +1,7 @@
 pub mod Bundle
 pub mod Lines
 pub mod Numbers
+pub mod Replay
 pub mod Requests
 pub mod Rows
 pub mod Script

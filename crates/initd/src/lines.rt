@@ -10,8 +10,8 @@ use std::alloc::AllocError;
 use up_model::{Answer, Event, Order, Output, Process, Step, Who};
 use up_text::{Env, Text};
 
-// Appends a text.
-fn push(text: &mut Vec<u8>, more: &str) -> Result<(), AllocError>
+/// Appends a text.
+pub fn push(text: &mut Vec<u8>, more: &str) -> Result<(), AllocError>
     ensures { OnOk result (text.new.items ≡ text.old.items ++ more.now) }
 {
     text.extend_from_slice(more.as_bytes())
@@ -51,7 +51,7 @@ fn push_quoted(text: &mut Vec<u8>, more: &str) -> Result<(), AllocError>
     push(text, "\"")
 }
 
-fn push_decimal(text: &mut Vec<u8>, number: u64) -> Result<(), AllocError>
+pub fn push_decimal(text: &mut Vec<u8>, number: u64) -> Result<(), AllocError>
     ensures { OnOk result (text.new.items ≡ text.old.items ++ decimal number) }
 {
     let digits = number.to_string(*text.allocator())?;

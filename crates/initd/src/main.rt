@@ -4,6 +4,7 @@
 mod bundle;
 mod lines;
 mod numbers;
+mod replay;
 mod requests;
 mod script;
 mod signals;

@@ -102,7 +102,7 @@ fn line_inputs(alloc: Global, line: &[u8]) -> Result<Option<Items<Input>>, Alloc
 }
 
 /// The inputs of a script that begins on this line, or the line of its first bad step.
-#[tactic(auto, unfolding(crate::specs::Rows::script_inputs), using(crate::proofs::Splitting::with_more, crate::proofs::Splitting::with_none))]
+#[tactic(auto, unfolding(crate::specs::Rows::script_inputs), using(crate::proofs::Splitting::with_more))]
 pub fn script_inputs(
     alloc: Global,
     script: &[u8],
