@@ -14,6 +14,8 @@ mod reading;
 mod record;
 mod run;
 mod settle;
+#[cfg(test)]
+mod tests;
 mod turn;
 
 pub use engine::Engine;

@@ -1,0 +1,345 @@
+use crate::{Engine, StepError};
+use std::alloc::{AllocError, Global};
+use std::process::Abort;
+use std::test::Fail;
+use up_model::files::compile;
+use up_model::{
+    Command, CompileError, Event, Folder, How, Input, Output, Process, Request, Step, Table, Who,
+};
+use up_text::{Env, Items, Name, Text, TextFault};
+
+/// Why a row couldn't be tried: memory was refused, or its file or a name isn't readable.
+#[derive(Debug, Drop)]
+struct Untried;
+
+impl From<AllocError> for Untried {
+    fn from(_: AllocError) -> Untried {
+        Untried
+    }
+}
+
+impl From<TextFault> for Untried {
+    fn from(_: TextFault) -> Untried {
+        Untried
+    }
+}
+
+impl From<CompileError> for Untried {
+    fn from(_: CompileError) -> Untried {
+        Untried
+    }
+}
+
+/// An input, as a row writes it. The processes are main of the job `a`.
+#[derive(Clone, Copy)]
+enum Given {
+    Emit(&'static str),
+    Turn,
+    Spawned(u32),
+    Refused,
+    Ended(How),
+    Start(u64),
+    Clock(u64),
+}
+
+/// An input, the outputs that it gives, the live events then, and whether a turn would do something.
+type Row = (Given, &'static str, usize, bool);
+
+const STARTING: &'static str = "starting JOB=a INSTANCE=; ";
+
+const STARTED: &'static str = "started JOB=a INSTANCE=; ";
+
+const STOPPING: &'static str = "stopping JOB=a INSTANCE= RESULT=ok; ";
+
+const SPAWN_TRUE: &'static str =
+    "spawn a() Main [/bin/true x ] in / silent=false UPSTART_EVENTS=startup UPSTART_JOB=a UPSTART_INSTANCE=; ";
+
+const SPAWN_D: &'static str =
+    "spawn a() Main [/bin/d ] in / silent=false UPSTART_EVENTS=go UPSTART_JOB=a UPSTART_INSTANCE=; ";
+
+const STARTUP: [Row; 8] = [
+    (Given::Emit("startup"), "", 1, true),
+    (Given::Turn, STARTING, 2, true),
+    (Given::Turn, "", 2, true),
+    (Given::Turn, SPAWN_TRUE, 1, false),
+    (Given::Spawned(100), STARTED, 2, true),
+    (Given::Turn, "", 1, true),
+    (Given::Turn, "", 1, true),
+    (Given::Turn, "", 0, false),
+];
+
+fn who(alloc: Global) -> Result<Who, Untried> {
+    let job = Name::new(alloc, "a")?;
+    let instance = Text::from_str(alloc, "")?;
+    Ok(Who { job, instance })
+}
+
+fn input(alloc: Global, given: Given) -> Result<Input, Untried> {
+    match given {
+        Given::Emit(name) => {
+            let name = Name::new(alloc, name)?;
+            let vars = Env::new(alloc);
+            Ok(Input::Emit(Event { name, vars }))
+        }
+        Given::Turn => Ok(Input::Turn),
+        Given::Spawned(pid) => Ok(Input::Spawned {
+            who: who(alloc)?,
+            process: Process::Main,
+            pid,
+        }),
+        Given::Refused => Ok(Input::Refused {
+            who: who(alloc)?,
+            process: Process::Main,
+        }),
+        Given::Ended(how) => Ok(Input::Ended {
+            who: who(alloc)?,
+            process: Process::Main,
+            how,
+        }),
+        Given::Start(id) => Ok(Input::Request {
+            id,
+            request: Request {
+                command: Command::Start,
+                wait: true,
+                name: Text::from_str(alloc, "a")?,
+                vars: Env::new(alloc),
+            },
+        }),
+        Given::Clock(reading) => Ok(Input::Clock(reading)),
+    }
+}
+
+fn push(inputs: &mut Vec<Input>, input: Input) -> Result<(), AllocError> {
+    inputs.push(input)?;
+    Ok(())
+}
+
+fn inputs(alloc: Global, rows: &[Row]) -> Result<Vec<Input>, Untried> {
+    let mut inputs = Vec::with_capacity(alloc, rows.len())?;
+    for (given, _, _, _) in rows {
+        let input = input(alloc, *given)?;
+        push(&mut inputs, input)?;
+    }
+    Ok(inputs)
+}
+
+fn show_env(text: &mut String, env: &Env) -> Result<(), Untried> {
+    for i in 0..env.len() {
+        let (key, value) = env.at(i);
+        write!(text, " {key}={value}")?;
+    }
+    Ok(())
+}
+
+fn show_who(text: &mut String, who: &Who) -> Result<(), Untried> {
+    let job = who.job.as_str();
+    let instance = who.instance.as_str();
+    write!(text, " {job}({instance})")?;
+    Ok(())
+}
+
+fn show(text: &mut String, output: &Output) -> Result<(), Untried> {
+    match output {
+        Output::Spawn(order) => {
+            text.push_str("spawn")?;
+            show_who(text, &order.who)?;
+            write!(text, " {:?} [", order.process)?;
+            for word in order.argv.as_slice() {
+                write!(text, "{} ", word.as_str())?;
+            }
+            write!(text, "] in {} silent={}", order.dir.as_str(), order.silent)?;
+            show_env(text, &order.env)?;
+        }
+        Output::Signal { who, pid, signal } => {
+            text.push_str("signal")?;
+            show_who(text, who)?;
+            write!(text, " {pid} {signal}")?;
+        }
+        Output::Emitted(event) => {
+            text.push_str(event.name.as_str())?;
+            show_env(text, &event.vars)?;
+        }
+        Output::Reply { id, answer } => {
+            let reply = answer.text.as_str();
+            write!(text, "reply {id} ok={} {reply}", answer.ok)?;
+        }
+    }
+    text.push_str("; ")?;
+    Ok(())
+}
+
+fn shown(alloc: Global, outputs: &[Output]) -> Result<String, Untried> {
+    let mut text = String::new(alloc);
+    for output in outputs {
+        show(&mut text, output)?;
+    }
+    Ok(text)
+}
+
+// What a step answers, as a row writes it.
+fn answer_shown(alloc: Global, answer: Result<Vec<Output>, StepError>) -> Result<String, Untried> {
+    match answer {
+        Ok(outputs) => shown(alloc, outputs.as_slice()),
+        Err(fault) => {
+            let printed = format!(in alloc; "{} {}", fault.number(), fault.name())?;
+            Ok(printed)
+        }
+    }
+}
+
+fn table(alloc: Global, file: &str) -> Result<Table, Untried> {
+    let mut folder = Folder::new(alloc);
+    if !file.is_empty() {
+        let path = Text::from_str(alloc, "a.conf")?;
+        let bytes = Vec::from_slice(alloc, file.as_bytes())?;
+        folder.add(path, Items::new(bytes))?;
+    }
+    let (table, _) = compile(alloc, &folder)?;
+    Ok(table)
+}
+
+fn check_rows(rt: &impl Abort, alloc: Global, file: &str, rows: &[Row]) -> Result<(), Untried> {
+    let table = table(alloc, file)?;
+    let mut engine = Engine::new(alloc, table, Env::new(alloc));
+    for (i, (given, outputs, live, turn)) in rows.iter().enumerate() {
+        let answer = engine.step(input(alloc, *given)?);
+        let text = answer_shown(alloc, answer)?;
+        assert_eq!(rt; text.as_str(), *outputs, "at row {i}");
+        assert_eq!(rt; engine.live_events(), *live, "at row {i}");
+        assert_eq!(rt; engine.has_turn(), *turn, "at row {i}");
+    }
+    Ok(())
+}
+
+const START_FILE: &'static str = "start on startup\nexec /bin/true x\n";
+
+#[test]
+fn empty_folder(rt: HostRuntime) -> Result<(), Fail> {
+    let rows = [
+        (Given::Emit("startup"), "", 1, true),
+        (Given::Turn, "", 1, true),
+        (Given::Turn, "", 0, false),
+    ];
+    check_rows(&rt, rt.alloc(), "", &rows)?;
+    Ok(())
+}
+
+#[test]
+fn startup(rt: HostRuntime) -> Result<(), Fail> {
+    check_rows(&rt, rt.alloc(), START_FILE, &STARTUP)?;
+    Ok(())
+}
+
+#[test]
+fn stop_and_start_on_same_event(rt: HostRuntime) -> Result<(), Fail> {
+    let rows = [
+        (Given::Emit("go"), "", 1, true),
+        (Given::Turn, STARTING, 2, true),
+        (Given::Turn, "", 2, true),
+        (Given::Turn, SPAWN_D, 1, false),
+        (Given::Spawned(100), STARTED, 2, true),
+        (Given::Turn, "", 1, true),
+        (Given::Turn, "", 1, true),
+        (Given::Turn, "", 0, false),
+        (Given::Emit("go"), "", 1, true),
+        (Given::Turn, STOPPING, 2, true),
+        (Given::Turn, "", 2, true),
+        (Given::Turn, "signal a() 100 15; ", 1, false),
+        (Given::Ended(How::Signal(15)), STARTING, 2, true),
+        (Given::Turn, "", 2, true),
+        (Given::Turn, SPAWN_D, 1, false),
+    ];
+    check_rows(
+        &rt,
+        rt.alloc(),
+        "start on go\nstop on go\nexec /bin/d\n",
+        &rows,
+    )?;
+    Ok(())
+}
+
+#[test]
+fn end_of_a_stranger(rt: HostRuntime) -> Result<(), Fail> {
+    let mut rows = vec![in rt.alloc(); (Given::Ended(How::Exit(0)), "40 NotExpected", 0, false)]?;
+    for row in &STARTUP {
+        rows.push(*row)?;
+    }
+    check_rows(&rt, rt.alloc(), START_FILE, rows.as_slice())?;
+    Ok(())
+}
+
+#[test]
+fn requests_clocks_and_refusals(rt: HostRuntime) -> Result<(), Fail> {
+    let rows = [
+        (
+            Given::Start(7),
+            "reply 7 ok=false Not supported: start; ",
+            0,
+            false,
+        ),
+        (Given::Clock(5), "", 0, false),
+        (Given::Emit("startup"), "", 1, true),
+        (Given::Turn, STARTING, 2, true),
+        (Given::Turn, "", 2, true),
+        (Given::Turn, SPAWN_TRUE, 1, false),
+        (Given::Refused, STOPPING, 2, true),
+    ];
+    check_rows(&rt, rt.alloc(), START_FILE, &rows)?;
+    Ok(())
+}
+
+fn is_row(alloc: Global, step: &Step, row: &Row) -> Result<bool, Untried> {
+    match step {
+        Step::Gave(outputs) => Ok(shown(alloc, outputs.as_slice())?.as_str() == row.1),
+        Step::NotExpected => Ok(false),
+    }
+}
+
+// A run of the row `startup`. Where memory is refused in its midst, its steps are the first of the row's, and the engine is down;
+// where it is refused before, nothing has happened. Answers whether memory sufficed.
+fn check_run(rt: &impl Abort, alloc: Global) -> Result<bool, Untried> {
+    let inputs = inputs(alloc, &STARTUP)?;
+    let table = table(alloc, START_FILE)?;
+    let mut engine = Engine::new(alloc, table, Env::new(alloc));
+    let mut seen = (0, false);
+    let mut down = false;
+    let mut whole = false;
+    match engine.run(inputs) {
+        Ok(run) => {
+            let steps = run.steps.as_slice();
+            assert!(rt; steps.len() <= STARTUP.len());
+            assert_eq!(rt; run.down, steps.len() < STARTUP.len());
+            for (step, row) in steps.iter().zip(&STARTUP) {
+                assert!(rt; is_row(alloc, step, row)?);
+                seen = (row.2, row.3);
+            }
+            down = run.down;
+            whole = !down;
+        }
+        Err(fault) => assert_eq!(rt; fault, StepError::Memory),
+    }
+    assert_eq!(rt; engine.live_events(), seen.0);
+    assert_eq!(rt; engine.has_turn(), seen.1);
+    if down {
+        assert!(rt; matches!(engine.step(Input::Turn), Err(StepError::Down)));
+    }
+    Ok(whole)
+}
+
+#[test]
+fn always_memory(rt: HostRuntime) -> Result<(), Fail> {
+    assert!(rt; check_run(&rt, rt.alloc())?);
+    Ok(())
+}
+
+// The same where an allocation fails: `rt try --test --fail-alloc N`. It passes also where the row's inputs, its table or the
+// texts to compare were refused memory.
+#[test]
+fn memory_refused(rt: HostRuntime) -> Result<(), Fail> {
+    match check_run(&rt, rt.alloc()) {
+        Ok(true) => println!(rt; "memory sufficed")?,
+        Ok(false) => println!(rt; "the run was refused memory")?,
+        Err(_) => println!(rt; "the test was refused memory")?,
+    }
+    Ok(())
+}
