@@ -121,10 +121,7 @@ fn run(alloc: Global, table: Table, inputs: Vec<Input>) -> Result<Items<Step>, A
 }
 
 // The inputs of a bundle, or its first bad line.
-fn inputs_in(
-    alloc: Global,
-    bundle: &Bundle<'_>,
-) -> Result<Result<Items<Input>, u32>, AllocError>
+fn inputs_in(alloc: Global, bundle: &Bundle<'_>) -> Result<Result<Items<Input>, u32>, AllocError>
     requires { bundle.now.line + length bundle.now.script.now < 4294967295 }
     ensures { IfOk result (λ read. read ≡ unless_bad bundle.now.bad (script_inputs bundle.now.line bundle.now.script.now)) }
 {

@@ -134,11 +134,7 @@ fn with_words(
     }
 }
 
-fn asked_by(
-    alloc: Global,
-    words: &[Text],
-    command: Command,
-) -> Result<Option<Request>, AllocError>
+fn asked_by(alloc: Global, words: &[Text], command: Command) -> Result<Option<Request>, AllocError>
     ensures { IfOk result (λ request. request ≡ asked_by words.now command) }
 {
     if may_wait(command) && begins_no_wait(words) {
