@@ -1,6 +1,5 @@
 -- What the entries of a step ask for.
 use Rattle.std.specs.Prelude.{ℕ, false, List, [], ◌∷◌, ◌++◌, Option, None, Some, slice_get, codes}
-use Rattle.up_model.specs.declared.process.Process.{Process}
 use Rattle.up_model.specs.declared.process.Process.TheVariants as process
 use Rattle.up_model.specs.declared.who.Who.{Who}
 use Rattle.up_model.specs.declared.request.Answer.{Answer}

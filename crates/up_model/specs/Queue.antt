@@ -1,5 +1,5 @@
 -- The queue of events, oldest first (starting(7), stopping(7)).
-use Rattle.std.specs.Prelude.{ℕ, Bool, true, false, not, ◌==◌, List, [], ◌∷◌, ◌++◌, if◌then◌else◌, length}
+use Rattle.std.specs.Prelude.{ℕ, Bool, true, false, ◌==◌, List, [], ◌∷◌, ◌++◌, if◌then◌else◌, length}
 use Rattle.up_model.specs.Chronicle.{Entry, Queued, Handled, Finished}
 
 -- an event in the queue, and whether a turn took it up

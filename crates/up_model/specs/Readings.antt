@@ -9,7 +9,7 @@ use Rattle.up_model.specs.declared.process.Process.{Process}
 use Rattle.up_model.specs.declared.event.Event.{Event}
 use Rattle.up_model.specs.declared.who.Who.{Who}
 use Rattle.up_model.specs.declared.input.Input.TheVariants as input
-use Rattle.up_model.specs.Chronicle.{Entry, Origin, Given, Queued, Finished, Made, Aimed, Restarted, Released, Entered, Ordered, Outside, Entering, Spoilt}
+use Rattle.up_model.specs.Chronicle.{Entry, Given, Queued, Finished, Made, Aimed, Restarted, Released, Entered, Ordered, Entering}
 use Rattle.up_model.specs.Tests.{same_process, same_who}
 
 -- the entry at a place

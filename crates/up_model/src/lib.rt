@@ -12,6 +12,8 @@ pub mod process;
 pub mod request;
 pub mod state;
 pub mod step;
+#[cfg(test)]
+mod tests;
 pub mod who;
 
 pub use event::Event;
