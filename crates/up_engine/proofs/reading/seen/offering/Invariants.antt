@@ -1,7 +1,6 @@
 use Rattle.std.proofs.Common.{◌≡◌, ◌≤◌, length, take}
-use Rattle.up_model.specs.Seen as seen
 use Rattle.up_model.specs.Offers as offer
-use Rattle.up_engine.specs.Records.{chronicle, expression_of}
+use Rattle.up_engine.specs.Records.{chronicle}
 use Rattle.up_engine.proofs.reading.seen.offering.Given as goal
 
 -- the records that were passed don't decide
