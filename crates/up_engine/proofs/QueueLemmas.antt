@@ -1,5 +1,5 @@
 -- What a change of the queue beside the records is to the model's.
-use Rattle.std.proofs.Common.{◌≡◌, ℕ, Bool, true, false, not, cond, ◌==◌, List, [], ◌∷◌, ◌++◌, map, filter, refl, ap}
+use Rattle.std.proofs.Common.{◌≡◌, ℕ, Bool, true, false, not, cond, ◌==◌, List, [], ◌∷◌, map, filter, refl, ap}
 use Rattle.up_engine.specs.declared.queue.Live.{Live}
 use Rattle.up_engine.specs.Queues.{live_of, marked_of}
 use Rattle.up_model.specs.Queue as model

@@ -4,7 +4,7 @@ use Rattle.up_model.specs.declared.files.job.JobDef.{JobDef}
 use Rattle.up_model.specs.Chronicle.{Entry}
 use Rattle.up_model.specs.Due.{due}
 use Rattle.up_model.specs.Work.{work, settle}
-use Rattle.up_model.proofs.Settling.{settle_still, settle_next, due_falls}
+use Rattle.up_model.proofs.Settling.{settle_next, due_falls}
 use Rattle.up_engine.specs.Moved.{is_any}
 use Rattle.up_engine.proofs.MoveLemmas.{none_nil}
 

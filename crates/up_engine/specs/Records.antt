@@ -1,5 +1,5 @@
 -- The records as entries of the chronicle.
-use Rattle.std.specs.Prelude.{ℕ, Bool, true, false, List, [], ◌∷◌, ◌++◌, Option, None, Some}
+use Rattle.std.specs.Prelude.{Bool, true, false, List, [], ◌∷◌, ◌++◌, Option, None, Some}
 use Rattle.up_engine.specs.declared.record.Expression.{Expression}
 use Rattle.up_engine.specs.declared.record.Expression.TheVariants as expression
 use Rattle.up_engine.specs.declared.record.Origin.{Origin}

@@ -4,7 +4,6 @@ use Rattle.up_model.specs.declared.files.job.JobDef.{JobDef}
 use Rattle.up_model.specs.declared.input.Input.{Input}
 use Rattle.up_model.specs.declared.output.Output.{Output}
 use Rattle.up_model.specs.declared.step.Step.{Step}
-use Rattle.up_model.specs.declared.step.Step.TheVariants as step
 use Rattle.up_model.specs.Answers.{after, is_expected, answer, next, answers, after_all}
 use Rattle.up_model.specs.Chronicle.{Entry}
 use Rattle.up_model.specs.Due.{turn_event}

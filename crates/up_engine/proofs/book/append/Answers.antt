@@ -1,4 +1,4 @@
-use Rattle.std.proofs.Common.{◌≡◌, ◌∙◌, ◌∷◌, [], ◌++◌, ap, sym, length, arith}
+use Rattle.std.proofs.Common.{◌∙◌, ap, sym, length}
 use Rattle.up_engine.specs.Records.{chronicle}
 use Rattle.up_engine.proofs.Chronicles.{chronicle_push, length-chronicle}
 use Rattle.up_engine.proofs.book.append.Goals as goal

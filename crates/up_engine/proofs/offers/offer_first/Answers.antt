@@ -1,5 +1,4 @@
 use Rattle.std.proofs.Common.{◌≡◌, ◌∙◌, ◌++◌, sym, ap, false}
-use Rattle.up_model.specs.Offers.{offer_from}
 use Rattle.up_engine.specs.Moved.{is_any, offer_of_job}
 use Rattle.up_engine.proofs.MoveLemmas.{none_nil}
 use Rattle.up_engine.proofs.OfferLemmas.{offer_step}

@@ -1,4 +1,4 @@
-use Rattle.std.proofs.Common.{◌≡◌, ◌∙◌, ◌<◌, ◌++◌, [], map, ap, refl, length, append-nil, arith}
+use Rattle.std.proofs.Common.{◌∙◌, ◌<◌, map, ap, length, append-nil, arith}
 use Rattle.std.proofs.lemmas.List.Edits.{map_over_more}
 use Rattle.std.proofs.lemmas.List.{take_all, drop_all, get_or_default}
 use Rattle.up_engine.specs.Queues.{live_of, marked_of}

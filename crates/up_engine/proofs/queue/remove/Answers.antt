@@ -1,4 +1,4 @@
-use Rattle.std.proofs.Common.{◌≡◌, ◌∙◌, ap, map}
+use Rattle.std.proofs.Common.{◌∙◌, ap, map}
 use Rattle.up_engine.specs.Queues.{live_of}
 use Rattle.up_engine.proofs.QueueLemmas.{map-filter}
 use Rattle.up_engine.proofs.queue.remove.Goals as goal

@@ -1,4 +1,4 @@
-use Rattle.std.proofs.Common.{◌≡◌, ◌∙◌, sym}
+use Rattle.std.proofs.Common.{◌∙◌, sym}
 use Rattle.up_model.proofs.Settling.{settle_still}
 use Rattle.up_model.specs.Work.{work}
 use Rattle.up_engine.proofs.SettleLemmas.{settle_smaller, settle_over, settle_same}

@@ -1,4 +1,4 @@
-use Rattle.std.proofs.Common.{◌≡◌, ◌∙◌}
+use Rattle.std.proofs.Common.{◌∙◌}
 use Rattle.up_engine.proofs.RunLemmas.{answered_expected, answered_unexpected}
 use Rattle.up_engine.proofs.engine.Engine.answer.Goals as goal
 

@@ -1,5 +1,5 @@
-use Rattle.std.proofs.Common.{◌≡◌, ◌+◌, ◌≤◌, ◌∙◌, ◌++◌, ◌∷◌, [], sym, ap, refl, length, arith, append_assoc, append-nil, length-append}
-use Rattle.std.specs.Vec.Iter.{into_iter_items, into_iter_len}
+use Rattle.std.proofs.Common.{◌∙◌, ◌++◌, ◌∷◌, [], sym, ap, length, arith, append_assoc, append-nil, length-append}
+use Rattle.std.specs.Vec.Iter.{into_iter_items}
 use Rattle.up_model.specs.Answers.{answers, after_all}
 use Rattle.up_engine.proofs.RunLemmas.{answered_more, refused_run, no_items}
 use Rattle.up_engine.proofs.engine.Engine.run.Goals as goal

@@ -1,9 +1,6 @@
-use Rattle.std.proofs.Common.{◌≡◌, List, [], take}
-use Rattle.std.specs.Option.{option_map_or}
+use Rattle.std.proofs.Common.{◌≡◌, take}
 use Rattle.up_model.specs.Readings as reading
-use Rattle.up_model.specs.Seen as seen
-use Rattle.up_model.specs.Offers as offer
-use Rattle.up_engine.specs.Records.{chronicle, expression_of}
+use Rattle.up_engine.specs.Records.{chronicle}
 use Rattle.up_engine.proofs.reading.life.holders.Given as goal
 
 abbrev pub invariant-loop-next : goal.invariant-loop-next
