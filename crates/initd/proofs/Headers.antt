@@ -1,12 +1,10 @@
 -- A line that begins a file, and what stands behind it.
-use Rattle.std.proofs.Common.{◌≡◌, ℕ, zero, suc, ◌+◌, ◌<◌, ◌==◌, Bool, true, false, cond, not, ◌&&◌, ◌||◌, if◌then◌else◌, List, [], ◌∷◌, ◌++◌, Option, None, Some, length, refl, sym, ◌∙◌, ap, arith}
+use Rattle.std.proofs.Common.{◌≡◌, ℕ, ◌+◌, ◌<◌, Bool, true, false, cond, not, ◌||◌, if◌then◌else◌, List, [], ◌∷◌, ◌++◌, Option, None, Some, length, refl, ◌∙◌, ap, arith}
 use Rattle.std.specs.List.{flat_map}
 use Rattle.std.specs.Option.{option_or}
 use Rattle.std.specs.Str.{is_utf8}
-use Rattle.up_model.specs.declared.files.file.File.{File}
 use Rattle.initd.specs.Bundle.{is_feed, onto, lines_of, first_line, after_line, is_script, is_file, is_header, path_of, file_of, lead, files_of, script_text, script_line, bad_path, bad_line, begins_header}
 use Rattle.initd.proofs.BundleLemmas.{lines_of-first}
-use Rattle.initd.proofs.Passing.{begins_first}
 
 -- what the rest of a bundle says that begins with a file
 pub record Begins (rest : List ℕ) : Type 0 where

@@ -1,7 +1,8 @@
 -- Lines that begin neither a file nor the script are passed.
-use Rattle.std.proofs.Common.{◌≡◌, ℕ, suc, ◌==◌, ◌+◌, ◌-◌, ◌<◌, ◌≤◌, Bool, true, false, cond, not, ◌&&◌, ◌||◌, List, [], ◌∷◌, ◌++◌, length, take, refl, sym, ◌∙◌, ap, arith, append_assoc, length-append}
+use Rattle.std.proofs.Common.{◌≡◌, ℕ, suc, Option, Some, None, slice_get, ◌==◌, ◌+◌, ◌-◌, ◌<◌, ◌≤◌, Bool, true, false, cond, ◌&&◌, ◌||◌, List, [], ◌∷◌, ◌++◌, length, take, refl, sym, ◌∙◌, ap, arith, append_assoc, length-append}
 use Rattle.std.proofs.Math.Seq.{take-append_seam}
 use Rattle.std.proofs.lemmas.Bool.{or_parts, ne_eqb}
+use Rattle.std.proofs.lemmas.Bool.Decides.{nat_tests}
 use Rattle.initd.specs.Bundle.{lines_of, first_line, after_line, is_script, is_file, is_header, lead, files_of, script_text, script_line, bad_path, begins_header, is_feed}
 use Rattle.initd.proofs.BundleLemmas.{lines_of-first}
 
@@ -92,3 +93,37 @@ passed_first text front (byte ∷ rest) lines none before =
 pub not_empty : (text : List ℕ) → begins_header (lines_of text) ≡ false → 0 < length text
 not_empty [] none = cc (sym (begins_first []) ∙ none)
 not_empty (byte ∷ text) none = omega arith
+
+-- a line that doesn't begin with % is no header
+plain_script : (byte : ℕ) (line : List ℕ) → (byte == 37) ≡ false → (b : Bool) → is_feed byte ≡ b → is_script (byte ∷ line) ≡ false
+unfolding is_script
+plain_script byte line plain true feed = rw feed refl
+plain_script byte line plain false other = rw (other, plain) refl
+
+other_byte : (byte : ℕ) → (byte == 37) ≡ false → byte ≡ 37 → ⊥
+other_byte byte plain same = grind (arith, nat_tests)
+
+plain_file : (byte : ℕ) (line : List ℕ) → (byte == 37) ≡ false → is_file (byte ∷ line) ≡ false
+unfolding is_file
+plain_file byte line plain = let other : (37 == byte) ≡ false = ne_eqb 37 byte (λ same. other_byte byte plain (sym same)) in rw other refl
+
+plain_line : (byte : ℕ) (line : List ℕ) → (byte == 37) ≡ false → is_header (byte ∷ line) ≡ false
+plain_line byte line plain = rw (plain_script byte line plain (is_feed byte) refl, plain_file byte line plain) refl
+
+plain_cases : (byte : ℕ) (text : List ℕ) → (byte == 37) ≡ false → (b : Bool) → is_feed byte ≡ b → is_header (first_line (byte ∷ text)) ≡ false
+plain_cases byte text plain true feed = rw feed (plain_line byte [] plain)
+plain_cases byte text plain false other = rw other (plain_line byte (first_line text) plain)
+
+-- whether a text begins with a header, by its first byte
+abbrev pub by_first : Option ℕ → List ℕ → Bool
+by_first None text = true
+by_first (Some byte) text = (byte == 37) && is_header (first_line text)
+
+by_percent : (byte : ℕ) (text : List ℕ) (b : Bool) → (byte == 37) ≡ b → is_header (first_line (byte ∷ text)) ≡ ((byte == 37) && is_header (first_line (byte ∷ text)))
+by_percent byte text true percent = rw percent refl
+by_percent byte text false plain = rw plain (plain_cases byte text plain (is_feed byte) refl)
+
+pub begins_by_first : (text : List ℕ) → begins_header (lines_of text) ≡ by_first (slice_get text 0) text
+unfolding lines_of
+begins_by_first [] = refl
+begins_by_first (byte ∷ text) = rw (lines_of-first byte text) (by_percent byte text (byte == 37) refl)

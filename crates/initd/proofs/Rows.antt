@@ -1,5 +1,5 @@
 -- The bindings of an environment, one after another.
-use Rattle.std.proofs.Common.{◌≡◌, ◌⊎◌, ℕ, ◌+◌, zero, suc, List, [], ◌∷◌, ◌++◌, Option, None, Some, take, slice_get, refl, ap, add-one, append_assoc, append-nil, arith, rules}
+use Rattle.std.proofs.Common.{◌≡◌, ℕ, ◌+◌, zero, suc, List, [], ◌∷◌, ◌++◌, Option, None, Some, take, slice_get, refl, add-one, append_assoc, append-nil, arith, rules}
 use Rattle.std.specs.List.{flat_map}
 
 -- what a binding is printed as, where there is one

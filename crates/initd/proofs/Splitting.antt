@@ -1,10 +1,9 @@
 -- The lines of a script, taken from its front.
-use Rattle.std.proofs.Common.{◌≡◌, ℕ, suc, ◌==◌, ◌+◌, ◌<◌, ◌≤◌, Bool, true, false, ◌&&◌, ◌||◌, not, cond, List, [], ◌∷◌, Option, None, Some, length, take, drop, nat_lt, nat_eq, refl, ap, sym, arith, rules, add-one, one-add, IsUtf8, ◌++◌, Result, Ok, Err, append-nil, length-append, append_assoc}
+use Rattle.std.proofs.Common.{◌≡◌, ℕ, suc, ◌==◌, ◌<◌, ◌≤◌, Bool, true, false, List, [], ◌∷◌, Option, None, Some, length, refl, ap, sym, arith, ◌++◌, Result, Ok, Err, append-nil, length-append, append_assoc}
 use Rattle.std.proofs.lemmas.Bool.{false_from_ne_true, ne_eqb}
-use Rattle.std.proofs.lemmas.Bool.Decides.{nat_tests}
 use Rattle.std.proofs.lemmas.List.Sums.{position_or_len_is}
-use Rattle.std.specs.List.{position_or_len, onto_first}
-use Rattle.std.specs.Prelude.{unwrap_or, if◌then◌else◌}
+use Rattle.std.specs.List.{position_or_len}
+use Rattle.std.specs.Prelude.{unwrap_or}
 use Rattle.memchr.specs.Find.{IsFirstByte}
 use Rattle.initd.specs.Bundle.{lines_of, first_line, after_line}
 use Rattle.initd.specs.Rows.{inputs_from, with_inputs}

@@ -1,10 +1,7 @@
 -- What the lines of a script say.
-use Rattle.std.specs.Prelude.{ℕ, Bool, true, false, ◌==◌, ◌&&◌, nat_lt, List, [], ◌∷◌, length, replicate, Option, None, Some, option_map, option_and_then, if◌then◌else◌, codes}
-use Rattle.std.specs.List.{position_or_len, before_first, after_first, starts_with}
+use Rattle.std.specs.Prelude.{ℕ, List, [], ◌∷◌, replicate, Option, None, Some, option_map, option_and_then, if◌then◌else◌, codes}
 use Rattle.std.specs.Str.{bytes_eq}
-use Rattle.up_text.specs.Names.{is_name, is_key, is_value}
-use Rattle.up_text.specs.Bindings.{set_in}
-use Rattle.up_model.specs.declared.event.Event.{Event}
+use Rattle.up_text.specs.Names.{is_name}
 use Rattle.up_model.specs.declared.input.Input.{Input}
 use Rattle.up_model.specs.declared.input.Input.TheVariants as input
 use Rattle.up_model.specs.declared.process.Process.{Process}

@@ -84,11 +84,15 @@ fn is_header(line: &[u8]) -> bool
 }
 
 // Whether the text has no line, or begins with a header.
-#[tactic(auto, using(crate::proofs::Passing::begins_first))]
+#[tactic(auto, using(crate::proofs::Passing::begins_by_first))]
 fn begins_header(text: &[u8]) -> bool
     ensures { result ≡ bundle.begins_header (bundle.lines_of text.now) }
 {
-    text.is_empty() || is_header(split_line(text).0)
+    match text.first() {
+        Some(b'%') => is_header(split_line(text).0),
+        Some(_) => false,
+        None => true,
+    }
 }
 
 // The text up to the next header, the text from it on, and how many lines stand before it.

@@ -1,4 +1,4 @@
-use Rattle.std.proofs.Common.{◌≡◌, ◌∙◌, ◌+◌, sym, ap, drop, length, arith, ◌≤◌}
+use Rattle.std.proofs.Common.{sym, length, arith, ◌≤◌}
 use Rattle.std.specs.List.{position_or_len}
 use Rattle.initd.specs.Bundle.{is_feed}
 use Rattle.initd.proofs.BundleLemmas.{line_take, line_all}

@@ -1,9 +1,9 @@
-use Rattle.std.proofs.Common.{◌≡◌, ◌∙◌, ◌<◌, ◌≤◌, sym, ap, length, true, false, arith}
+use Rattle.std.proofs.Common.{◌≡◌, ◌∙◌, ◌<◌, sym, ap, length, true, false, arith}
 use Rattle.std.proofs.Common.{refl}
 use Rattle.std.proofs.lemmas.Bool.{eqb-true, eqb-false}
 use Rattle.std.specs.Str.{is_utf8}
 use Rattle.initd.specs.Bundle.{is_script, first_line, after_line, path_of}
-use Rattle.initd.proofs.Bundles.{Skips, Left, Read, left_first, left_next, left_script, left_end}
+use Rattle.initd.proofs.Bundles.{Skips, left_first, left_next, left_script, left_end}
 use Rattle.initd.proofs.bundle.read_bundle.Goals as goal
 
 pub files-init : goal.files-init

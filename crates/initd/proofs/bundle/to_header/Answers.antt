@@ -1,4 +1,4 @@
-use Rattle.std.proofs.Common.{◌≡◌, ◌∙◌, ◌++◌, ◌<◌, sym, length, false, arith}
+use Rattle.std.proofs.Common.{◌≡◌, ◌∙◌, ◌++◌, sym, false, arith}
 use Rattle.initd.specs.Bundle.{begins_header, lines_of, first_line}
 use Rattle.initd.proofs.Passing.{passed_first, not_empty}
 use Rattle.initd.proofs.bundle.to_header.Goals as goal

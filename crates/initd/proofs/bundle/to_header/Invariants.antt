@@ -1,4 +1,4 @@
-use Rattle.std.proofs.Common.{◌≡◌, List, ℕ, length}
+use Rattle.std.proofs.Common.{List, ℕ, length}
 use Rattle.initd.proofs.Passing.{Passed}
 use Rattle.initd.proofs.bundle.to_header.Given as goal
 
