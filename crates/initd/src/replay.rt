@@ -13,7 +13,7 @@ use crate::lines::{push, push_decimal, push_step};
 use crate::script::script_inputs;
 use std::alloc::{AllocError, Global};
 use std::io;
-use std::io::{Read, Write};
+use std::io::{ErrorKind, Read, Write};
 use up_engine::Engine;
 use up_model::files::compile;
 use up_model::{CompileError, Fault, Folder, Input, Report, Step, Table};
@@ -237,6 +237,12 @@ pub fn replay<R: Read, W: Write>(alloc: Global, reader: &mut R, writer: &mut W) 
             Ok(made) => write_printed(writer, &made),
             Err(_) => 4,
         },
-        Err(_) => write_unreadable(writer),
+        Err(error) => {
+            if error.kind() == ErrorKind::OutOfMemory {
+                4
+            } else {
+                write_unreadable(writer)
+            }
+        }
     }
 }

@@ -1,12 +1,15 @@
 //! What is printed for bundles.
+mod rows;
+mod streams;
+
 use crate::replay::replay;
 use std::process::Abort;
 use std::test::Fail;
 
-struct Case {
-    bundle: &'static [u8],
-    printed: &'static str,
-    status: u8,
+pub struct Case {
+    pub bundle: &'static [u8],
+    pub printed: &'static str,
+    pub status: u8,
 }
 
 const BUNDLES: [Case; 19] = [
@@ -107,7 +110,7 @@ const BUNDLES: [Case; 19] = [
     },
 ];
 
-fn check(rt: &(impl Abort + AllocGlobal), case: &Case) -> Result<(), Fail> {
+pub fn check(rt: &(impl Abort + AllocGlobal), case: &Case) -> Result<(), Fail> {
     let mut reader: &[u8] = case.bundle;
     let mut written: Vec<u8> = Vec::new(rt.alloc());
     let status = replay(rt.alloc(), &mut reader, &mut written);
