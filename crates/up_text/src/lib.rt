@@ -9,6 +9,7 @@ pub mod fault;
 pub mod items;
 pub mod lexer;
 pub mod name;
+pub mod pattern;
 pub mod text;
 pub mod token;
 
@@ -17,6 +18,7 @@ pub use fault::TextFault;
 pub use items::Items;
 pub use lexer::Lexer;
 pub use name::Name;
+pub use pattern::{glob, supported};
 pub use text::Text;
 pub use token::Token;
 

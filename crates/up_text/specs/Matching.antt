@@ -1,0 +1,94 @@
+-- What the parts of the matching give.
+use Rattle.std.specs.Prelude.{◌≡◌, ℕ, ◌+◌, ◌-◌, ◌<◌, ◌≤◌, Bool, true, false, ◌&&◌, ◌||◌, not, if◌then◌else◌, List, [], ◌∷◌, length, drop}
+use Rattle.std.specs.List.{list_any}
+use Rattle.up_text.specs.declared.pattern.Symbol.{Symbol}
+use Rattle.up_text.specs.declared.pattern.Part.{Part}
+use Rattle.up_text.specs.declared.pattern.Part.TheVariants as part
+use Rattle.up_text.specs.declared.pattern.SetEnd.{SetEnd}
+use Rattle.up_text.specs.declared.pattern.SetEnd.TheVariants as ending
+use Rattle.up_text.specs.declared.pattern.Reading.{Reading}
+use Rattle.up_text.specs.declared.pattern.Outcome.{Outcome}
+use Rattle.up_text.specs.declared.pattern.Outcome.TheVariants as outcome
+use Rattle.up_text.specs.Pattern.{symbols, begins, is_close, is_dash, byte_of, body, is_closed, has_class, ranges, Item, Run, Any, Only, Among, Never, Class, more, all_items, admits_byte}
+
+-- the first symbol of a text, and what it leaves
+abbrev pub First : List ℕ → Symbol → List ℕ → Type 0
+First text symbol rest = (symbols text ≡ symbol ∷ symbols rest) × (length rest < length text)
+
+-- whether a test passes at the bytes or at one of their ends
+abbrev pub star_from : (List ℕ → Bool) → List ℕ → Bool
+star_from test [] = test []
+star_from test (byte ∷ bytes) = test (byte ∷ bytes) || star_from test bytes
+
+-- whether the bytes begin with one that the item admits, and the test passes behind it
+abbrev pub one_from : Item → (List ℕ → Bool) → List ℕ → Bool
+one_from item test [] = false
+one_from item test (byte ∷ bytes) = admits_byte item byte && test bytes
+
+-- whether an item admits the front of the bytes, and the test passes behind it
+abbrev pub item_from : Item → (List ℕ → Bool) → List ℕ → Bool
+item_from Run test bytes = star_from test bytes
+item_from Any test bytes = one_from Any test bytes
+item_from (Only byte) test bytes = one_from (Only byte) test bytes
+item_from (Among inverted ranges) test bytes = one_from (Among inverted ranges) test bytes
+item_from Never test bytes = one_from Never test bytes
+item_from Class test bytes = one_from Class test bytes
+
+-- whether there are no bytes
+abbrev pub is_nil : List ℕ → Bool
+is_nil [] = true
+is_nil (byte ∷ bytes) = false
+
+-- whether items match the bytes, one item at a time
+abbrev pub matches : List Item → List ℕ → Bool
+matches [] bytes = is_nil bytes
+matches (item ∷ items) bytes = item_from item (matches items) bytes
+
+-- symbols in which no set is closed and none has a class
+pub record IsFlat (symbols : List Symbol) : Type 0 where
+  pub unclosed : list_any is_close (drop 2 symbols) ≡ false
+  pub classless : has_class symbols ≡ false
+
+-- the last byte of the range that begins with this item, and what stands behind it
+abbrev pub range_end : ℕ → List Symbol → ℕ × List Symbol
+range_end low [] = (low, [])
+range_end low (dash ∷ []) = (low, dash ∷ [])
+range_end low (dash ∷ high ∷ symbols) = if is_dash dash && not (is_close high) then (byte_of high, symbols) else (low, dash ∷ high ∷ symbols)
+
+-- how a set ends
+abbrev pub EndsSo : SetEnd → List ℕ → Type 0
+EndsSo ending.Class set = has_class (body (symbols set)) ≡ true
+EndsSo ending.Open set = (has_class (body (symbols set)) ≡ false) × (is_closed (symbols set) ≡ false)
+EndsSo (ending.Closed rest) set =
+    (has_class (body (symbols set)) ≡ false) × (is_closed (symbols set) ≡ true)
+    × (symbols rest.now ≡ drop (length (body (symbols set)) + 1) (symbols set)) × (length rest.now ≤ length set)
+
+-- the item of a part
+abbrev pub item_of_part : Part → Item
+item_of_part part.Run = Run
+item_of_part part.Any = Any
+item_of_part (part.Only byte) = Only byte
+item_of_part (part.Among inverted set) = Among inverted (ranges (body (symbols set.now)))
+item_of_part part.Never = Never
+item_of_part part.Class = Class
+
+-- an item of which this text may be a part was read
+pub record MeansItem (item : Item) (text : List ℕ) (reading : Reading) : Type 0 where
+  pub part : item_of_part reading.part ≡ item
+  pub rest : symbols reading.rest.now ≡ drop (more item (symbols text)) (symbols text)
+  pub flat : reading.sets ≡ false → IsFlat (symbols reading.rest.now)
+  pub shorter : length reading.rest.now ≤ length text
+
+-- items take one byte each, up to a run of any bytes: behind it these items and these bytes are left
+pub record Leads (items : List Item) (bytes : List ℕ) (later : List Item) (left : List ℕ) : Type 0 where
+  pub same : matches items bytes ≡ star_from (matches later) left
+  pub behind : left ≡ drop (length bytes - length left) bytes
+  pub needs : (others : List ℕ) → matches items others ≡ true → star_from (matches later) (drop (length bytes - length left) others) ≡ true
+
+-- what the items up to a run of any bytes come to
+abbrev pub RunGives : Outcome → List ℕ → List ℕ → Type 0
+RunGives outcome.Matches text bytes = matches (all_items text) bytes ≡ true
+RunGives outcome.Fails text bytes = matches (all_items text) bytes ≡ false
+RunGives (outcome.Run rest sets left) text bytes =
+    Leads (all_items text) bytes (all_items rest.now) left.now × (sets ≡ false → IsFlat (symbols rest.now))
+    × (length rest.now < length text) × (length left.now ≤ length bytes)
