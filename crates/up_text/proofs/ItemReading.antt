@@ -7,7 +7,8 @@ use Rattle.std.proofs.lemmas.Bool.{or_parts, eqb-true, false≢true}
 use Rattle.std.proofs.lemmas.Bool.Decides.{nat_tests}
 use Rattle.up_text.specs.declared.pattern.Symbol.{Symbol}
 use Rattle.up_text.specs.declared.pattern.Symbol.TheVariants.{Bare, Escaped, Trailing}
-use Rattle.up_text.specs.Matching.{IsFlat}
+use Rattle.up_text.specs.declared.pattern.Reading.{Reading}
+use Rattle.up_text.specs.Matching.{IsFlat, MeansItem, item_of_part}
 use Rattle.up_text.specs.Pattern.{symbols, is_open, is_close, is_not, is_class_mark, begins, before_close, body, inner, is_closed, has_class, Item, Run, Any, Only, Class, Among, ranges, lone_item, set_item, item_of, more, items_from, all_items}
 
 -- symbols that belong to an item before are passed
@@ -49,7 +50,8 @@ before-all : (after : List Symbol) → list_any is_close after ≡ false → bef
 before-all [] none = refl
 before-all (symbol ∷ after) none =
     let parts = or_parts _ _ none in
-    rw parts.0 (ap (λ rest. symbol ∷ rest) (before-all after parts.1))
+    let other : is_close symbol ≡ false = parts.0 in
+    rw other (ap (λ rest. symbol ∷ rest) (before-all after parts.1))
 
 body-all : (after : List Symbol) → list_any is_close (drop 1 after) ≡ false → body after ≡ after
 body-all [] none = refl
@@ -137,3 +139,64 @@ inner-drop false count after = let same : 0 + count ≡ count = omega arith in a
 
 pub set-behind : (inverted : Bool) (found : List (ℕ × ℕ)) (after : List Symbol) → drop (more (Among inverted found) after) after ≡ drop (length (body (inner after)) + 1) (inner after)
 set-behind inverted found after = inner-drop (begins is_not after) (length (body (inner after)) + 1) after
+
+-- what read_inner gives, by how the set ends
+pub means-class : (text : List ℕ) (reading : Reading) → has_class (body (inner (symbols text))) ≡ true → item_of_part reading.part ≡ Class → reading.rest.now ≡ text → reading.ahead ≡ true → MeansItem (set_item (symbols text)) text reading
+means-class text reading class part rest sets =
+    let item = set-class (symbols text) class in
+    record {
+      part = part ∙ sym item;
+      rest = rw (item, rest) refl;
+      flat = λ none. absurd (false≢true (sym none ∙ sets));
+      shorter = rw rest (omega arith);
+    }
+
+pub means-open : (text : List ℕ) (reading : Reading) → has_class (body (inner (symbols text))) ≡ false → is_closed (inner (symbols text)) ≡ false → item_of_part reading.part ≡ Only 91 → reading.rest.now ≡ text → MeansItem (set_item (symbols text)) text reading
+means-open text reading classless unclosed part rest =
+    let item = set-open (symbols text) classless unclosed in
+    record {
+      part = part ∙ sym item;
+      rest = rw (item, rest) refl;
+      flat = λ none. rw rest (flat-open (symbols text) classless unclosed);
+      shorter = rw rest (omega arith);
+    }
+
+pub means-closed : (text set rest : List ℕ) (reading : Reading) → symbols set ≡ inner (symbols text) → length set ≤ length text
+    → (has_class (body (symbols set)) ≡ false) × (is_closed (symbols set) ≡ true) × (symbols rest ≡ drop (length (body (symbols set)) + 1) (symbols set)) × (length rest ≤ length set)
+    → item_of_part reading.part ≡ Among (begins is_not (symbols text)) (ranges (body (symbols set))) → reading.rest.now ≡ rest → reading.ahead ≡ true → MeansItem (set_item (symbols text)) text reading
+means-closed text set rest reading is shorter ends part rest_is sets =
+    let item = set-among (symbols text) (rw is at ends.0) (rw is at ends.1) in
+    record {
+      part = part ∙ rw is (sym item);
+      rest = rw (item, rest_is) (rw is at ends.2 ∙ sym (set-behind (begins is_not (symbols text)) (ranges (body (inner (symbols text)))) (symbols text)));
+      flat = λ none. absurd (false≢true (sym none ∙ sets));
+      shorter = let no_longer = ends.3 in rw rest_is (omega arith);
+    }
+
+-- behind a ! a set is what follows it, and without one what is there
+pub inner-behind : (symbols after : List Symbol) → symbols ≡ Bare 33 ∷ after → (true ≡ begins is_not symbols) × (after ≡ inner symbols)
+inner-behind symbols after is = rw is (refl, refl)
+
+pub inner-same : (symbols : List Symbol) → begins is_not symbols ≡ false → (false ≡ begins is_not symbols) × (symbols ≡ inner symbols)
+inner-same symbols none = rw none (refl, refl)
+
+pub ruleset inners = (inner-behind, inner-same)
+
+-- what read gives: a set's item, or an item of one symbol
+pub reading-set : (text rest : List ℕ) (symbol : Symbol) (reading : Reading) → symbols text ≡ symbol ∷ symbols rest → is_open symbol ≡ true → MeansItem (set_item (symbols rest)) rest reading
+    → all_items text ≡ item_of_part reading.part ∷ all_items reading.rest.now
+reading-set text rest symbol reading is set means =
+    let item = item-set symbol (symbols rest) set in
+    all_items-first text reading.rest.now symbol (symbols rest) is (means.rest ∙ ap (λ item. drop (more item (symbols rest)) (symbols rest)) (sym item))
+    ∙ ap (λ item. item ∷ all_items reading.rest.now) (item ∙ sym means.part)
+
+pub reading-lone : (text rest : List ℕ) (symbol : Symbol) (part : Item) → symbols text ≡ symbol ∷ symbols rest → part ≡ lone_item symbol → item_of symbol (symbols rest) ≡ lone_item symbol
+    → all_items text ≡ part ∷ all_items rest
+reading-lone text rest symbol part is part_is lone =
+    all_items-first text rest symbol (symbols rest) is (ap (λ n. drop n (symbols rest)) (sym (ap (λ item. more item (symbols rest)) lone ∙ more-lone symbol (symbols rest))))
+    ∙ ap (λ item. item ∷ all_items rest) (lone ∙ sym part_is)
+
+pub flat-behind : (text rest : List ℕ) (symbol : Symbol) → symbols text ≡ symbol ∷ symbols rest → IsFlat (symbols text) → IsFlat (symbols rest)
+flat-behind text rest symbol is flat = flat-rest symbol (symbols rest) (subst IsFlat is flat)
+
+pub ruleset readings = (all_items-none, reading-set)

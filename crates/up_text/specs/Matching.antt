@@ -34,6 +34,25 @@ item_from (Among inverted ranges) test bytes = one_from (Among inverted ranges) 
 item_from Never test bytes = one_from Never test bytes
 item_from Class test bytes = one_from Class test bytes
 
+-- an item of any run of bytes
+abbrev pub is_run : Item → Bool
+is_run Run = true
+is_run Any = false
+is_run (Only byte) = false
+is_run (Among inverted ranges) = false
+is_run Never = false
+is_run Class = false
+
+-- the item doesn't admit the first of the bytes
+abbrev pub TakesNone : Item → List ℕ → Type 0
+TakesNone item [] = Unit {0}
+TakesNone item (byte ∷ bytes) = admits_byte item byte ≡ false
+
+-- it does, and these stand behind it
+abbrev pub TakesOne : Item → List ℕ → List ℕ → Type 0
+TakesOne item [] behind = ⊥
+TakesOne item (byte ∷ bytes) behind = (admits_byte item byte ≡ true) × (behind ≡ bytes)
+
 -- whether there are no bytes
 abbrev pub is_nil : List ℕ → Bool
 is_nil [] = true
@@ -76,8 +95,15 @@ item_of_part part.Class = Class
 pub record MeansItem (item : Item) (text : List ℕ) (reading : Reading) : Type 0 where
   pub part : item_of_part reading.part ≡ item
   pub rest : symbols reading.rest.now ≡ drop (more item (symbols text)) (symbols text)
-  pub flat : reading.sets ≡ false → IsFlat (symbols reading.rest.now)
+  pub flat : reading.ahead ≡ false → IsFlat (symbols reading.rest.now)
   pub shorter : length reading.rest.now ≤ length text
+
+-- items take one byte each: these items and these bytes are left
+pub record Takes (items : List Item) (bytes : List ℕ) (later : List Item) (left : List ℕ) : Type 0 where
+  pub same : matches items bytes ≡ matches later left
+  pub behind : left ≡ drop (length bytes - length left) bytes
+  pub shorter : length left ≤ length bytes
+  pub needs : (others : List ℕ) → matches items others ≡ true → matches later (drop (length bytes - length left) others) ≡ true
 
 -- items take one byte each, up to a run of any bytes: behind it these items and these bytes are left
 pub record Leads (items : List Item) (bytes : List ℕ) (later : List Item) (left : List ℕ) : Type 0 where
@@ -89,6 +115,6 @@ pub record Leads (items : List Item) (bytes : List ℕ) (later : List Item) (lef
 abbrev pub RunGives : Outcome → List ℕ → List ℕ → Type 0
 RunGives outcome.Matches text bytes = matches (all_items text) bytes ≡ true
 RunGives outcome.Fails text bytes = matches (all_items text) bytes ≡ false
-RunGives (outcome.Run rest sets left) text bytes =
-    Leads (all_items text) bytes (all_items rest.now) left.now × (sets ≡ false → IsFlat (symbols rest.now))
+RunGives (outcome.Run rest ahead left) text bytes =
+    Leads (all_items text) bytes (all_items rest.now) left.now × (ahead ≡ false → IsFlat (symbols rest.now))
     × (length rest.now < length text) × (length left.now ≤ length bytes)

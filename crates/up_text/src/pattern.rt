@@ -1,8 +1,8 @@
 //! Patterns over bytes, by fnmatch(3).
 ghost use Rattle.std.specs.Prelude.{◌≡◌, ◌<◌, ◌≤◌, ◌≢◌, ◌&&◌, nat_le, [], ◌∷◌, length, false, MatchOption, IfSome};
 ghost use Rattle.up_text.specs.declared.pattern.Symbol.TheVariants.{Bare};
-ghost use Rattle.up_text.specs.Pattern.{symbols, is_bare, is_class_mark, is_not, is_open, begins, byte_of, body, inner, ranges, is_among, lone_item, set_item, more, all_items, admits_byte, supported, glob};
-ghost use Rattle.up_text.specs.Matching.{First, matches, EndsSo, IsFlat, MeansItem, RunGives, range_end, item_of_part, star_from};
+ghost use Rattle.up_text.specs.Pattern.{symbols, is_bare, is_class_mark, is_not, is_open, begins, byte_of, body, inner, ranges, is_among, lone_item, set_item, more, all_items, admits_byte, is_class, supported, glob};
+ghost use Rattle.up_text.specs.Matching.{First, matches, EndsSo, IsFlat, MeansItem, RunGives, TakesNone, TakesOne, range_end, item_of_part, is_run, star_from};
 
 /// A byte of a pattern that stands bare or behind a backslash, or the backslash at the pattern's end.
 #[derive(Clone, Copy)]
@@ -31,12 +31,12 @@ enum SetEnd<'a> {
     Closed(&'a [u8]),
 }
 
-/// An item, and what stands behind it. Once one set wasn't closed none behind it is, so that none is looked for.
+/// An item, what stands behind it, and whether a set may be ahead: behind one that isn't closed, none is.
 #[derive(Clone, Copy)]
 struct Reading<'a> {
     part: Part<'a>,
     rest: &'a [u8],
-    sets: bool,
+    ahead: bool,
 }
 
 /// What the items up to the next run of any bytes come to: they are the last and match, they fail, or this is left behind the run.
@@ -46,8 +46,8 @@ enum Outcome<'a, 'b> {
     Fails,
     Run {
         rest: &'a [u8],
-        sets: bool,
-        bytes: &'b [u8],
+        ahead: bool,
+        left: &'b [u8],
     },
 }
 
@@ -214,22 +214,23 @@ fn read_inner<'a>(text: &'a [u8], inverted: bool, set: &'a [u8]) -> Reading<'a>
         SetEnd::Class => Reading {
             part: Part::Class,
             rest: text,
-            sets: true,
+            ahead: true,
         },
         SetEnd::Open => Reading {
             part: Part::Only(b'['),
             rest: text,
-            sets: false,
+            ahead: false,
         },
         SetEnd::Closed(rest) => Reading {
             part: Part::Among { inverted, set },
             rest,
-            sets: true,
+            ahead: true,
         },
     }
 }
 
 // The item that a `[` before this text begins.
+#[tactic(auto, using(crate::proofs::ItemReading::inners))]
 fn read_set(text: &[u8]) -> Reading<'_>
     ensures { MeansItem (set_item (symbols text.now)) text.now result }
 {
@@ -239,21 +240,22 @@ fn read_set(text: &[u8]) -> Reading<'_>
     }
 }
 
-// The first item of a text. Where `sets` is false, no set in it is closed.
-fn read(text: &[u8], sets: bool) -> Option<Reading<'_>>
-    requires { sets ≡ false → IsFlat (symbols text.now) }
+// The first item of a text. Where no sets are ahead, each `[` stands for itself.
+#[tactic(auto, using(crate::proofs::ItemReading::readings))]
+fn read(text: &[u8], ahead: bool) -> Option<Reading<'_>>
+    requires { ahead ≡ false → IsFlat (symbols text.now) }
     ensures none { MatchOption result (all_items text.now ≡ []) (λ reading. all_items text.now ≡ item_of_part reading.part ∷ all_items reading.rest.now) }
-    ensures flat { IfSome result (λ reading. reading.sets ≡ false → IsFlat (symbols reading.rest.now)) }
+    ensures flat { IfSome result (λ reading. reading.ahead ≡ false → IsFlat (symbols reading.rest.now)) }
     ensures shorter { IfSome result (λ reading. length reading.rest.now < length text.now) }
 {
     let (symbol, rest) = next_symbol(text)?;
-    if sets && is_open(symbol) {
+    if ahead && is_open(symbol) {
         return Some(read_set(rest));
     }
     Some(Reading {
         part: lone_part(symbol),
         rest,
-        sets,
+        ahead,
     })
 }
 
@@ -270,27 +272,66 @@ fn admits(part: &Part, byte: u8) -> bool
     }
 }
 
+fn is_run(part: &Part) -> bool
+    ensures { result ≡ is_run (item_of_part part.now) }
+{
+    match part {
+        Part::Run => true,
+        Part::Any => false,
+        Part::Only(_) => false,
+        Part::Among { .. } => false,
+        Part::Never => false,
+        Part::Class => false,
+    }
+}
+
+fn is_class(part: &Part) -> bool
+    ensures { result ≡ is_class (item_of_part part.now) }
+{
+    match part {
+        Part::Run => false,
+        Part::Any => false,
+        Part::Only(_) => false,
+        Part::Among { .. } => false,
+        Part::Never => false,
+        Part::Class => true,
+    }
+}
+
+// What stands behind the first byte, where the item admits it.
+fn take_byte<'b>(part: &Part, bytes: &'b [u8]) -> Option<&'b [u8]>
+    ensures { MatchOption result (TakesNone (item_of_part part.now) bytes.now) (λ behind. TakesOne (item_of_part part.now) bytes.now behind.now) }
+{
+    match bytes.split_first() {
+        Some((byte, behind)) => {
+            if admits(part, *byte) {
+                Some(behind)
+            } else {
+                None
+            }
+        }
+        None => None,
+    }
+}
+
 // Takes one byte for each item up to a run of any bytes.
+#[tactic(auto, using(crate::proofs::Matches::takings))]
 fn take_items<'a, 'b>(text: &'a [u8], sets: bool, bytes: &'b [u8]) -> Outcome<'a, 'b>
     requires { sets ≡ false → IsFlat (symbols text.now) }
     ensures { RunGives result text.now bytes.now }
 {
-    let mut sets = sets;
-    let mut text = text;
+    let mut ahead = sets;
+    let mut rest = text;
     let mut left = bytes;
-    'items: while let Some(reading) = read(text, sets) {
-        text = reading.rest;
-        sets = reading.sets;
-        if matches!(reading.part, Part::Run) {
-            return Outcome::Run {
-                rest: text,
-                sets,
-                bytes: left,
-            };
+    'items: while let Some(reading) = read(rest, ahead) {
+        rest = reading.rest;
+        ahead = reading.ahead;
+        if is_run(&reading.part) {
+            return Outcome::Run { rest, ahead, left };
         }
-        match left.split_first() {
-            Some((byte, behind)) if admits(&reading.part, *byte) => left = behind,
-            _ => return Outcome::Fails,
+        match take_byte(&reading.part, left) {
+            Some(behind) => left = behind,
+            None => return Outcome::Fails,
         }
     }
     if left.is_empty() {
@@ -306,23 +347,23 @@ fn matches_end(text: &[u8], sets: bool, bytes: &[u8]) -> bool
     requires { sets ≡ false → IsFlat (symbols text.now) }
     ensures { result ≡ star_from (matches (all_items text.now)) bytes.now }
 {
-    let mut sets = sets;
-    let mut text = text;
+    let mut ahead = sets;
+    let mut rest = text;
     let mut left = bytes;
     'places: loop {
-        match take_items(text, sets, left) {
+        match take_items(rest, ahead, left) {
             Outcome::Matches => return true,
             Outcome::Fails => match left.split_first() {
                 Some((_, behind)) => left = behind,
                 None => return false,
             },
             Outcome::Run {
-                rest,
-                sets: further,
-                bytes: behind,
+                rest: later,
+                ahead: further,
+                left: behind,
             } => {
-                text = rest;
-                sets = further;
+                rest = later;
+                ahead = further;
                 left = behind;
             }
         }
@@ -333,14 +374,14 @@ fn matches_end(text: &[u8], sets: bool, bytes: &[u8]) -> bool
 pub fn supported(pattern: &[u8]) -> bool
     ensures { result ≡ supported pattern.now }
 {
-    let mut sets = true;
+    let mut ahead = true;
     let mut rest = pattern;
-    'items: while let Some(reading) = read(rest, sets) {
-        if matches!(reading.part, Part::Class) {
+    'items: while let Some(reading) = read(rest, ahead) {
+        if is_class(&reading.part) {
             return false;
         }
         rest = reading.rest;
-        sets = reading.sets;
+        ahead = reading.ahead;
     }
     true
 }
@@ -356,7 +397,7 @@ pub fn glob(pattern: &[u8], bytes: &[u8]) -> bool
     match take_items(pattern, true, bytes) {
         Outcome::Matches => true,
         Outcome::Fails => false,
-        Outcome::Run { rest, sets, bytes } => matches_end(rest, sets, bytes),
+        Outcome::Run { rest, ahead, left } => matches_end(rest, ahead, left),
     }
 }
 
