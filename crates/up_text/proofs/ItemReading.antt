@@ -1,5 +1,5 @@
 -- How the items of a pattern follow from one another.
-use Rattle.std.proofs.Common.{◌≡◌, ℕ, ◌+◌, ◌≤◌, ◌<◌, Bool, true, false, cond, not, ◌&&◌, ◌||◌, List, [], ◌∷◌, length, drop, zero, suc, refl, sym, ap, subst, ◌∙◌, arith}
+use Rattle.std.proofs.Common.{◌≡◌, ℕ, ◌+◌, ◌≤◌, Bool, true, false, cond, List, [], ◌∷◌, length, drop, zero, suc, refl, sym, ap, subst, ◌∙◌, arith}
 use Rattle.std.specs.List.{list_any}
 use Rattle.std.proofs.lemmas.List.{drop-drop}
 use Rattle.std.specs.Prelude.{◌==◌}
@@ -9,7 +9,7 @@ use Rattle.up_text.specs.declared.pattern.Symbol.{Symbol}
 use Rattle.up_text.specs.declared.pattern.Symbol.TheVariants.{Bare, Escaped, Trailing}
 use Rattle.up_text.specs.declared.pattern.Reading.{Reading}
 use Rattle.up_text.specs.Matching.{IsFlat, MeansItem, item_of_part}
-use Rattle.up_text.specs.Pattern.{symbols, is_open, is_close, is_not, is_class_mark, begins, before_close, body, inner, is_closed, has_class, Item, Run, Any, Only, Class, Among, ranges, lone_item, set_item, item_of, more, items_from, all_items}
+use Rattle.up_text.specs.Pattern.{symbols, is_open, is_close, is_not, begins, before_close, body, inner, is_closed, has_class, Item, Run, Any, Only, Class, Among, ranges, lone_item, set_item, item_of, more, items_from, all_items}
 
 -- symbols that belong to an item before are passed
 items_from-drop : (taken : ℕ) (symbols : List Symbol) → items_from taken symbols ≡ items_from 0 (drop taken symbols)

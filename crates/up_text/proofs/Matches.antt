@@ -1,5 +1,5 @@
 -- Matching one item at a time: that it is what the ways to cut the bytes say, and why only the last run is made longer.
-use Rattle.std.proofs.Common.{◌≡◌, ℕ, ◌+◌, ◌-◌, ◌≤◌, ◌<◌, Bool, true, false, cond, not, ◌&&◌, ◌||◌, List, [], ◌∷◌, ◌++◌, map, length, drop, zero, suc, refl, sym, ap, subst, inl, inr, ◌∙◌, arith}
+use Rattle.std.proofs.Common.{◌≡◌, ℕ, ◌+◌, ◌-◌, Bool, true, false, cond, not, ◌&&◌, ◌||◌, List, [], ◌∷◌, map, length, drop, zero, suc, refl, sym, ap, subst, inl, inr, ◌∙◌, arith}
 use Rattle.std.specs.Prelude.{◌==◌, Option, None, Some, is_some}
 use Rattle.std.specs.List.{list_any, flat_map}
 use Rattle.std.proofs.lemmas.List.{drop-drop}
@@ -84,7 +84,8 @@ fits-matches (item ∷ items) bytes =
     (splits bytes)
     ∙ splits-item item (matches items) bytes
 
--- runs
+pub ruleset one_at_a_time = (fits-matches)
+
 -- a run that succeeds at an end of the bytes succeeds at them
 star-drop : (test : List ℕ → Bool) (count : ℕ) (bytes : List ℕ) → star_from test (drop count bytes) ≡ true → star_from test bytes ≡ true
 star-drop test zero bytes passes = passes
@@ -183,9 +184,9 @@ takes-more items bytes now left item later behind takes is other one =
       behind = takes-drop item left behind one ∙ ap (drop 1) takes.behind ∙ drop-drop 1 n bytes ∙ ap (λ k. drop k bytes) (sym next);
       shorter = omega arith;
       needs = λ others passes.
-        let before : matches (item ∷ later) (drop n others) ≡ true = subst (λ read. matches read (drop n others) ≡ true) is (takes.needs others passes) in
-        let one_before = sym (no_run item (matches later) (drop n others) other) ∙ before in
-        subst (λ bs. matches later bs ≡ true) (drop-drop 1 n others ∙ ap (λ k. drop k others) (sym next)) (one-needs item (matches later) (drop n others) one_before);
+          let before : matches (item ∷ later) (drop n others) ≡ true = subst (λ read. matches read (drop n others) ≡ true) is (takes.needs others passes) in
+          let one_before = sym (no_run item (matches later) (drop n others) other) ∙ before in
+          subst (λ bs. matches later bs ≡ true) (drop-drop 1 n others ∙ ap (λ k. drop k others) (sym next)) (one-needs item (matches later) (drop n others) one_before);
     }
 
 -- up to a run
@@ -196,9 +197,9 @@ takes-run items bytes now left item later takes is run =
       same = takes.same ∙ ap (λ read. matches read left) is ∙ a_run item (matches later) left run;
       behind = takes.behind;
       needs = λ others passes.
-        let n = length bytes - length left in
-        let before : matches (item ∷ later) (drop n others) ≡ true = subst (λ read. matches read (drop n others) ≡ true) is (takes.needs others passes) in
-        sym (a_run item (matches later) (drop n others) run) ∙ before;
+          let n = length bytes - length left in
+          let before : matches (item ∷ later) (drop n others) ≡ true = subst (λ read. matches read (drop n others) ≡ true) is (takes.needs others passes) in
+          sym (a_run item (matches later) (drop n others) run) ∙ before;
     }
 
 -- or up to one that fails

@@ -1,5 +1,5 @@
 -- How the symbols of a pattern and the items of a set go on from one byte to the next.
-use Rattle.std.proofs.Common.{◌≡◌, ◌≢◌, ℕ, ◌+◌, ◌<◌, Bool, true, false, cond, not, ◌&&◌, ◌||◌, List, [], ◌∷◌, length, drop, refl, sym, ap, subst, ◌∙◌, arith}
+use Rattle.std.proofs.Common.{◌≡◌, ◌≢◌, ℕ, ◌+◌, Bool, true, false, cond, ◌&&◌, ◌||◌, List, [], ◌∷◌, length, drop, refl, sym, ap, subst, ◌∙◌, arith}
 use Rattle.std.specs.Prelude.{nat_le, ◌==◌}
 use Rattle.std.specs.List.{list_any}
 use Rattle.std.proofs.lemmas.Bool.{eq-eqb, ne_eqb, false≢true, and_right, or_left, and_parts, and_from}
@@ -43,9 +43,9 @@ begins-none byte text none = rw (first-none text none) refl
 pub begins-other : (byte : ℕ) (whole : List ℕ) (first : ℕ) (text : List ℕ) → whole ≡ first ∷ text → first ≢ byte → begins (is_bare byte) (symbols whole) ≡ false
 unfolding symbols
 begins-other byte whole first text is other = rw is (elim (first == 92) as (λ b. begins (is_bare byte) (cond b (symbols_from true text) (Bare first ∷ symbols_from false text)) ≡ false) [
-      | true ↦ begins-behind byte text
-      | false ↦ ne_eqb first byte other
-    ])
+  | true ↦ begins-behind byte text
+  | false ↦ ne_eqb first byte other
+])
 
 pub begins-this : (byte : ℕ) (whole : List ℕ) (first : ℕ) (text : List ℕ) → whole ≡ first ∷ text → first ≡ byte → byte ≢ 92 → First whole (Bare byte) text
 begins-this byte whole first text is same other = rw same at (first-bare whole first text is (rw same other))
@@ -177,10 +177,12 @@ pub set-closed : (symbols later : List Symbol) (symbol : Symbol) (after rest : L
 set-closed symbols later symbol after rest on is then_is =
     let here = ends_here symbol rest in
     let whole : later ≡ symbol ∷ Bare 93 ∷ rest = is ∙ ap (λ us. symbol ∷ us) then_is in
-    let on_here = subst (Onward symbols) whole on in
-    (sym on_here.classes ∙ here.classes,
-     sym on_here.closed ∙ here.closed,
-     sym (sym (drop-drop 1 (length (body symbols)) symbols) ∙ ap (drop 1) (sym on_here.behind)))
+    let on_here = subst (Onward symbols) whole on in (
+      sym on_here.classes ∙ here.classes,
+      sym on_here.closed ∙ here.closed,
+      sym (sym (drop-drop 1 (length (body symbols)) symbols) ∙ ap (drop 1) (sym on_here.behind)),
+    )
 
 pub ruleset set_ends = (onward, class-here, ends_here)
+
 pub ruleset amongs = (among-step, before-body)

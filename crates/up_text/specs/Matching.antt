@@ -1,5 +1,5 @@
 -- What the parts of the matching give.
-use Rattle.std.specs.Prelude.{◌≡◌, ℕ, ◌+◌, ◌-◌, ◌<◌, ◌≤◌, Bool, true, false, ◌&&◌, ◌||◌, not, if◌then◌else◌, List, [], ◌∷◌, length, drop}
+use Rattle.std.specs.Prelude.{◌≡◌, ℕ, ◌+◌, ◌-◌, ◌<◌, ◌≤◌, ◌==◌, Bool, true, false, ◌&&◌, ◌||◌, not, if◌then◌else◌, List, [], ◌∷◌, length, drop}
 use Rattle.std.specs.List.{list_any}
 use Rattle.up_text.specs.declared.pattern.Symbol.{Symbol}
 use Rattle.up_text.specs.declared.pattern.Part.{Part}
@@ -9,7 +9,7 @@ use Rattle.up_text.specs.declared.pattern.SetEnd.TheVariants as ending
 use Rattle.up_text.specs.declared.pattern.Reading.{Reading}
 use Rattle.up_text.specs.declared.pattern.Outcome.{Outcome}
 use Rattle.up_text.specs.declared.pattern.Outcome.TheVariants as outcome
-use Rattle.up_text.specs.Pattern.{symbols, begins, is_close, is_dash, byte_of, body, is_closed, has_class, ranges, Item, Run, Any, Only, Among, Never, Class, more, all_items, admits_byte}
+use Rattle.up_text.specs.Pattern.{symbols, is_close, is_dash, byte_of, body, is_closed, has_class, ranges, Item, Run, Any, Only, Among, Never, Class, more, all_items, admits_byte}
 
 -- the first symbol of a text, and what it leaves
 abbrev pub First : List ℕ → Symbol → List ℕ → Type 0
@@ -62,6 +62,10 @@ is_nil (byte ∷ bytes) = false
 abbrev pub matches : List Item → List ℕ → Bool
 matches [] bytes = is_nil bytes
 matches (item ∷ items) bytes = item_from item (matches items) bytes
+
+-- a byte that means something else in a pattern: * ? [ and the backslash
+abbrev pub is_special : ℕ → Bool
+is_special byte = byte == 42 || (byte == 63 || (byte == 91 || byte == 92))
 
 -- symbols in which no set is closed and none has a class
 pub record IsFlat (symbols : List Symbol) : Type 0 where

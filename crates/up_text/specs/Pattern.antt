@@ -151,7 +151,7 @@ is_among byte ranges = list_any (λ range. nat_le range.0 byte && nat_le byte ra
 abbrev pub admits_byte : Item → ℕ → Bool
 admits_byte Run byte = false
 admits_byte Any byte = true
-admits_byte (Only other) byte = byte == other
+admits_byte (Only other) byte = other == byte
 admits_byte (Among inverted ranges) byte = if inverted then not (is_among byte ranges) else is_among byte ranges
 admits_byte Never byte = false
 admits_byte Class byte = false

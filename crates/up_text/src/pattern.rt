@@ -74,13 +74,7 @@ fn strip(text: &[u8], byte: u8) -> Option<&[u8]>
     ensures { MatchOption result (begins (is_bare byte) (symbols text.now) ≡ false) (λ rest. First text.now (Bare byte) rest.now) }
 {
     match text.split_first() {
-        Some((first, rest)) => {
-            if *first == byte {
-                Some(rest)
-            } else {
-                None
-            }
-        }
+        Some((first, rest)) => { if *first == byte { Some(rest) } else { None } }
         None => None,
     }
 }
@@ -265,7 +259,7 @@ fn admits(part: &Part, byte: u8) -> bool
     match part {
         Part::Run => false,
         Part::Any => true,
-        Part::Only(other) => byte == *other,
+        Part::Only(other) => *other == byte,
         Part::Among { inverted, set } => is_among(set, byte) != *inverted,
         Part::Never => false,
         Part::Class => false,
@@ -401,5 +395,8 @@ pub fn glob(pattern: &[u8], bytes: &[u8]) -> bool
     }
 }
 
+#[cfg(test)]
+mod fnmatch_table;
+pub mod laws;
 #[cfg(test)]
 mod tests;

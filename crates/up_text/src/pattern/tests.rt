@@ -1,12 +1,437 @@
+use super::fnmatch_table::ROWS;
 use super::*;
+use std::test::Fail;
+
+// A pattern, texts that it matches, and texts that it doesn't.
+struct Case {
+    pattern: &'static [u8],
+    matched: &'static [&'static [u8]],
+    other: &'static [&'static [u8]],
+}
+
+const CASES: [Case; 70] = [
+    // The worked rows of the format.
+    Case {
+        pattern: b"tty[!0-9]*",
+        matched: &[b"ttyS0", b"tty/", b"tty-1"],
+        other: &[b"tty1", b"tty", b"TTYS0"],
+    },
+    Case {
+        pattern: b"[ab",
+        matched: &[b"[ab"],
+        other: &[b"a", b"b", b"[a"],
+    },
+    Case {
+        pattern: b"a\\*",
+        matched: &[b"a*"],
+        other: &[b"ab", b"a\\*", b"a\\b", b"a"],
+    },
+    Case {
+        pattern: b"[:a]",
+        matched: &[b":", b"a"],
+        other: &[b"[", b"[:a]", b""],
+    },
+    // Bytes that mean themselves, `/`, a leading dot and `^` among them.
+    Case {
+        pattern: b"",
+        matched: &[b""],
+        other: &[b"a"],
+    },
+    Case {
+        pattern: b"abc",
+        matched: &[b"abc"],
+        other: &[b"ab", b"abcd", b"abd", b"", b"ABC"],
+    },
+    Case {
+        pattern: b"]-!^",
+        matched: &[b"]-!^"],
+        other: &[b"]", b""],
+    },
+    Case {
+        pattern: b"\xff\x00",
+        matched: &[b"\xff\x00"],
+        other: &[b"\xff", b"\xff0"],
+    },
+    // Runs.
+    Case {
+        pattern: b"*",
+        matched: &[b"", b"a", b"/a/.b", b".a"],
+        other: &[],
+    },
+    Case {
+        pattern: b"a*",
+        matched: &[b"a", b"ab", b"a/b"],
+        other: &[b"", b"ba"],
+    },
+    Case {
+        pattern: b"*b",
+        matched: &[b"b", b".b", b"bb", b"abab"],
+        other: &[b"", b"ba"],
+    },
+    Case {
+        pattern: b"*ab*ba*",
+        matched: &[b"abba", b"ababba", b"xabxbax"],
+        other: &[b"aba", b"baab"],
+    },
+    Case {
+        pattern: b"a*b*c",
+        matched: &[b"abc", b"abbcbc", b"aXbYc"],
+        other: &[b"acb", b"abcb", b"ac"],
+    },
+    Case {
+        pattern: b"**",
+        matched: &[b"", b"ab"],
+        other: &[],
+    },
+    Case {
+        pattern: b"*a?",
+        matched: &[b"ab", b"aaa", b"xaa", b"aab"],
+        other: &[b"a", b"abb", b""],
+    },
+    // One byte.
+    Case {
+        pattern: b"?",
+        matched: &[b"a", b"/", b".", b"\x80"],
+        other: &[b"", b"ab", b"\xc3\xa9"],
+    },
+    Case {
+        pattern: b"a?c",
+        matched: &[b"abc", b"a?c"],
+        other: &[b"ac", b"abbc"],
+    },
+    // A backslash.
+    Case {
+        pattern: b"\\a\\?",
+        matched: &[b"a?"],
+        other: &[b"ab", b"\\a\\?"],
+    },
+    Case {
+        pattern: b"\\\\",
+        matched: &[b"\\"],
+        other: &[b"\\\\", b""],
+    },
+    Case {
+        pattern: b"\\[a]",
+        matched: &[b"[a]"],
+        other: &[b"a", b"\\a"],
+    },
+    Case {
+        pattern: b"a\\",
+        matched: &[],
+        other: &[b"a", b"a\\", b"a\\\\", b""],
+    },
+    Case {
+        pattern: b"*\\",
+        matched: &[],
+        other: &[b"", b"\\", b"a"],
+    },
+    // Sets.
+    Case {
+        pattern: b"[ab]",
+        matched: &[b"a", b"b"],
+        other: &[b"", b"c", b"ab", b"[ab]"],
+    },
+    Case {
+        pattern: b"[a-c]x",
+        matched: &[b"ax", b"bx", b"cx"],
+        other: &[b"dx", b"-x", b"x", b"Ax"],
+    },
+    Case {
+        pattern: b"[!a-c]",
+        matched: &[b"d", b"!", b"-", b"/"],
+        other: &[b"a", b"b", b"c", b"", b"dd"],
+    },
+    Case {
+        pattern: b"[c-a]",
+        matched: &[],
+        other: &[b"a", b"b", b"c", b"-"],
+    },
+    Case {
+        pattern: b"[!c-a]",
+        matched: &[b"a", b"b", b"-"],
+        other: &[b"", b"bb"],
+    },
+    Case {
+        pattern: b"[]]",
+        matched: &[b"]"],
+        other: &[b"", b"[]]", b"["],
+    },
+    Case {
+        pattern: b"[]a]",
+        matched: &[b"]", b"a"],
+        other: &[b"[", b"a]", b"]a]"],
+    },
+    Case {
+        pattern: b"[!]a]",
+        matched: &[b"b", b"!"],
+        other: &[b"]", b"a", b"!a]"],
+    },
+    Case {
+        pattern: b"[]-a]",
+        matched: &[b"]", b"^", b"_", b"a"],
+        other: &[b"-", b"\\", b"b"],
+    },
+    Case {
+        pattern: b"[a-]",
+        matched: &[b"a", b"-"],
+        other: &[b"b", b","],
+    },
+    Case {
+        pattern: b"[--0]",
+        matched: &[b"-", b".", b"/", b"0"],
+        other: &[b",", b"1"],
+    },
+    Case {
+        pattern: b"[a-c-e]",
+        matched: &[b"a", b"b", b"c", b"-", b"e"],
+        other: &[b"d"],
+    },
+    Case {
+        pattern: b"[^a]",
+        matched: &[b"^", b"a"],
+        other: &[b"b", b"^a"],
+    },
+    Case {
+        pattern: b"[a!]",
+        matched: &[b"a", b"!"],
+        other: &[b"b"],
+    },
+    Case {
+        pattern: b"[*?[]",
+        matched: &[b"*", b"?", b"["],
+        other: &[b"a", b"", b"]"],
+    },
+    Case {
+        pattern: b"[\\]a\\-c\\\\]",
+        matched: &[b"]", b"a", b"-", b"c", b"\\"],
+        other: &[b"b", b"["],
+    },
+    Case {
+        pattern: b"[\\a-\\c]",
+        matched: &[b"a", b"b", b"c"],
+        other: &[b"\\", b"-", b"d"],
+    },
+    Case {
+        pattern: b"[\\!a]",
+        matched: &[b"!", b"a"],
+        other: &[b"b", b"\\"],
+    },
+    Case {
+        pattern: b"[-a]",
+        matched: &[b"-", b"a"],
+        other: &[b"b", b"."],
+    },
+    Case {
+        pattern: b"[!-a]",
+        matched: &[b"b", b"."],
+        other: &[b"-", b"a"],
+    },
+    Case {
+        pattern: b"[!!]",
+        matched: &[b"a", b"-"],
+        other: &[b"!", b""],
+    },
+    Case {
+        pattern: b"[a-\\]]",
+        matched: &[],
+        other: &[b"a", b"]", b"-", b"\\", b"a]"],
+    },
+    Case {
+        pattern: b"[Z-\\]]",
+        matched: &[b"Z", b"[", b"\\", b"]"],
+        other: &[b"Y", b"^", b"-"],
+    },
+    Case {
+        pattern: b"[\\--0]",
+        matched: &[b"-", b"/", b"0"],
+        other: &[b",", b"\\", b"1"],
+    },
+    Case {
+        pattern: b"[[]",
+        matched: &[b"["],
+        other: &[b"]", b"[]"],
+    },
+    Case {
+        pattern: b"[[-]]",
+        matched: &[b"[]", b"-]"],
+        other: &[b"[", b"]]", b"\\]"],
+    },
+    Case {
+        pattern: b"[a]]",
+        matched: &[b"a]"],
+        other: &[b"a", b"]]"],
+    },
+    Case {
+        pattern: b"[a[b]c",
+        matched: &[b"ac", b"[c", b"bc"],
+        other: &[b"[a[b]c", b"]c"],
+    },
+    Case {
+        pattern: b"[a]-[b]",
+        matched: &[b"a-b"],
+        other: &[b"ab", b"a"],
+    },
+    Case {
+        pattern: b"*[0-9]",
+        matched: &[b"0", b"a9", b"9a9"],
+        other: &[b"", b"9a"],
+    },
+    // Sets that aren't closed.
+    Case {
+        pattern: b"[",
+        matched: &[b"["],
+        other: &[b"", b"[["],
+    },
+    Case {
+        pattern: b"[]",
+        matched: &[b"[]"],
+        other: &[b"]", b"["],
+    },
+    Case {
+        pattern: b"[!]",
+        matched: &[b"[!]"],
+        other: &[b"a", b"!", b"[]"],
+    },
+    Case {
+        pattern: b"[a-",
+        matched: &[b"[a-"],
+        other: &[b"a", b"-", b"[a"],
+    },
+    Case {
+        pattern: b"[a*",
+        matched: &[b"[a", b"[abc"],
+        other: &[b"a", b"[b", b"*"],
+    },
+    Case {
+        pattern: b"[?b",
+        matched: &[b"[xb", b"[?b"],
+        other: &[b"?", b"b", b"[b"],
+    },
+    Case {
+        pattern: b"[a\\]",
+        matched: &[b"[a]"],
+        other: &[b"a", b"]", b"\\"],
+    },
+    Case {
+        pattern: b"[\\",
+        matched: &[],
+        other: &[b"[", b"[\\", b"\\"],
+    },
+    Case {
+        pattern: b"[[a",
+        matched: &[b"[[a"],
+        other: &[b"[a", b"a"],
+    },
+    Case {
+        pattern: b"[[!]",
+        matched: &[b"[", b"!"],
+        other: &[b"a", b"[[!]"],
+    },
+    Case {
+        pattern: b"*[!]",
+        matched: &[b"[!]", b"a[!]"],
+        other: &[b"a", b""],
+    },
+    // Each `[` before `:` here stands behind a backslash, or before one, or begins the set, or is outside of one.
+    Case {
+        pattern: b"[a\\[:x]",
+        matched: &[b"a", b"[", b":", b"x"],
+        other: &[b"\\", b"b"],
+    },
+    Case {
+        pattern: b"[[\\:x]",
+        matched: &[b"[", b":", b"x"],
+        other: &[b"\\"],
+    },
+    Case {
+        pattern: b"[a-\\[:x]",
+        matched: &[b":", b"x"],
+        other: &[b"a", b"[", b"-"],
+    },
+    Case {
+        pattern: b"\\[[:x]",
+        matched: &[b"[:", b"[x"],
+        other: &[b":", b"[[:x]"],
+    },
+    Case {
+        pattern: b"[[x]:]",
+        matched: &[b"[:]", b"x:]"],
+        other: &[b":", b"["],
+    },
+    Case {
+        pattern: b"[:",
+        matched: &[b"[:"],
+        other: &[b":", b"["],
+    },
+    Case {
+        pattern: b"[.-=]",
+        matched: &[b".", b"/", b"9", b"="],
+        other: &[b"-", b">"],
+    },
+];
+
+const UNSUPPORTED: [&[u8]; 14] = [
+    b"[[:x]",
+    b"[[:]",
+    b"[[:alpha:]]",
+    b"[a[.x]",
+    b"[a[=x",
+    b"[[:",
+    b"[![:x]",
+    b"[][:a]",
+    b"[a-[:b]",
+    b"[a-[=b",
+    b"[a[:-z]",
+    b"x*[ab][[.a]",
+    b"[a]b[[=",
+    b"[a[b[:",
+];
 
 #[test]
-fn worked(rt: HostRuntime) {
-    assert!(rt; glob(b"tty[!0-9]*", b"ttyS0"));
-    assert!(rt; !glob(b"tty[!0-9]*", b"tty1"));
-    assert!(rt; glob(b"[ab", b"[ab"));
-    assert!(rt; glob(b"a\\*", b"a*"));
-    assert!(rt; !glob(b"a\\*", b"ab"));
-    assert!(rt; !supported(b"[[:x]"));
-    assert!(rt; !glob(b"[[:x]", b"[[:x]"));
+fn cases(rt: HostRuntime) {
+    for case in &CASES {
+        let pattern = case.pattern;
+        assert!(rt; supported(pattern), "{pattern:?}");
+        for bytes in case.matched {
+            assert!(rt; glob(pattern, bytes), "{pattern:?} and {bytes:?}");
+        }
+        for bytes in case.other {
+            assert!(rt; !glob(pattern, bytes), "{pattern:?} and {bytes:?}");
+        }
+    }
+}
+
+#[test]
+fn classes(rt: HostRuntime) {
+    for pattern in &UNSUPPORTED {
+        assert!(rt; !supported(pattern), "{pattern:?}");
+        for bytes in [*pattern, b"", b"[", b":", b"a", b"x", b"b", b"xa."] {
+            assert!(rt; !glob(pattern, bytes), "{pattern:?} and {bytes:?}");
+        }
+    }
+}
+
+#[test]
+fn as_fnmatch_says(rt: HostRuntime) {
+    for (pattern, text, matched) in &ROWS {
+        assert!(rt; supported(pattern.as_bytes()), "{pattern:?}");
+        assert_eq!(rt;
+            glob(pattern.as_bytes(), text.as_bytes()),
+            *matched,
+            "{pattern:?} and {text:?}"
+        );
+    }
+}
+
+// Looked for behind each `[`, an end of its set would take hours to be missed.
+#[test]
+fn unclosed_sets_are_passed_once(rt: HostRuntime) -> Result<(), Fail> {
+    let mut text = Vec::new(rt.alloc());
+    for _ in 0..20_000 {
+        text.push(b'[')?;
+    }
+    assert!(rt; supported(text.as_slice()));
+    assert!(rt; glob(text.as_slice(), text.as_slice()));
+    assert!(rt; !glob(text.as_slice(), b"["));
+    Ok(())
 }

@@ -1,4 +1,4 @@
-use Rattle.std.proofs.Common.{◌≡◌, ◌≤◌, length}
+use Rattle.std.proofs.Common.{◌≤◌, length}
 use Rattle.up_text.specs.Pattern.{symbols}
 use Rattle.up_text.proofs.SetReading.{Onward}
 use Rattle.up_text.proofs.pattern.set_end.Given as goal
