@@ -5,12 +5,12 @@ Run in the crate's folder:
 
     python3 oracle/fnmatch.py > src/pattern/fnmatch_table.rt
 
-Patterns and texts are drawn with a fixed seed from the bytes below, some of a pattern's between `[` and `]`. For a pattern that matches a text there is a row with it
-and one with a text that doesn't match and differs in one byte, where there is such a text. Left out are the patterns that
-fnmatch(3) reads by other rules than this crate:
+Patterns and texts are drawn with a fixed seed from the bytes below, some of a pattern's between `[` and `]`. For a pattern
+that matches a text there is a row with it and one with a text that doesn't match and differs in one byte, where there is such
+a text. Left out are the patterns that glibc 2.36 reads by other rules than this crate:
 
-- with `[^`, which the C library reads as `[!`;
-- with a `[` and a `-` at the end: a `[` that isn't closed matches nothing there.
+- with `[^`, which it reads as `[!`;
+- with a `[` and a `-` at the end: there it lets a `[` whose set isn't closed match nothing.
 
 None of the bytes is `:`, `.` or `=`, so that there are no classes.
 """

@@ -40,9 +40,6 @@ splits-star test (byte ∷ bytes) =
     ap (λ b. test (byte ∷ bytes) || b) (any-map (λ split. test split.1) (λ split. (byte ∷ split.0, split.1)) (splits bytes) ∙ splits-star test bytes)
 
 -- one byte over every way to cut in two
-one-longer : (item : Item) (byte next : ℕ) (bytes : List ℕ) → is_byte_of item (byte ∷ next ∷ bytes) ≡ false
-one-longer item byte next bytes = refl
-
 splits-behind : (item : Item) (test : List ℕ → Bool) (byte : ℕ) (bytes : List ℕ) → list_any (λ split. is_byte_of item (byte ∷ split.0) && test split.1) (splits bytes) ≡ (admits_byte item byte && test bytes)
 splits-behind item test byte [] = by_case (admits_byte item byte && test [])
   where
@@ -217,18 +214,6 @@ pub takes-end : (items : List Item) (bytes : List ℕ) (now : List Item) (left :
 takes-end items bytes now left takes is = takes.same ∙ ap (λ read. matches read left) is ∙ nil-length left
 
 pub ruleset takings = (takes-start, takes-more, takes-run, takes-fails, takes-end)
-
--- a run that fails here is tried one byte further on
-pub star-further : (test : List ℕ → Bool) (bytes : List ℕ) (byte : ℕ) (behind : List ℕ) → bytes ≡ byte ∷ behind → test bytes ≡ false → star_from test bytes ≡ star_from test behind
-star-further test bytes byte behind is fails =
-    let here : test (byte ∷ behind) ≡ false = rw is at fails in
-    ap (star_from test) is ∙ ap (λ b. b || star_from test behind) here
-
-pub star-end : (test : List ℕ → Bool) (bytes : List ℕ) → length bytes ≡ 0 → test bytes ≡ false → star_from test bytes ≡ false
-star-end test [] none fails = fails
-star-end test (byte ∷ bytes) none fails = absurd (omega arith)
-
-pub ruleset stars = (star-further, star-end, star-here, absorbs)
 
 -- whole patterns
 pub supported-is : (pattern : List ℕ) → supported pattern ≡ not (list_any is_class (all_items pattern))

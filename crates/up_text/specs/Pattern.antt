@@ -46,7 +46,7 @@ abbrev pub begins : (Symbol → Bool) → List Symbol → Bool
 begins passes [] = false
 begins passes (symbol ∷ symbols) = passes symbol
 
--- the byte that a symbol of a set means
+-- the byte that a symbol of a set means; a trailing backslash stands in no closed set
 abbrev pub byte_of : Symbol → ℕ
 byte_of (Bare byte) = byte
 byte_of (Escaped byte) = byte

@@ -4,6 +4,8 @@ ghost use Rattle.up_text.specs.declared.pattern.Symbol.TheVariants.{Bare};
 ghost use Rattle.up_text.specs.Pattern.{symbols, is_bare, is_class_mark, is_not, is_open, begins, byte_of, body, inner, ranges, is_among, lone_item, set_item, more, all_items, admits_byte, is_class, supported, glob};
 ghost use Rattle.up_text.specs.Matching.{First, matches, EndsSo, IsFlat, MeansItem, RunGives, TakesNone, TakesOne, range_end, item_of_part, is_run, star_from};
 
+pub mod laws;
+
 /// A byte of a pattern that stands bare or behind a backslash, or the backslash at the pattern's end.
 #[derive(Clone, Copy)]
 enum Symbol {
@@ -364,7 +366,7 @@ fn matches_end(text: &[u8], sets: bool, bytes: &[u8]) -> bool
     }
 }
 
-/// Whether no set of the pattern has a `[` before `:`, `.` or `=`.
+/// Whether no set of the pattern, closed or not, has a class: a `[` before `:`, `.` or `=`.
 pub fn supported(pattern: &[u8]) -> bool
     ensures { result ≡ supported pattern.now }
 {
@@ -397,6 +399,5 @@ pub fn glob(pattern: &[u8], bytes: &[u8]) -> bool
 
 #[cfg(test)]
 mod fnmatch_table;
-pub mod laws;
 #[cfg(test)]
 mod tests;

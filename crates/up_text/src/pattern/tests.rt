@@ -423,11 +423,11 @@ fn as_fnmatch_says(rt: HostRuntime) {
     }
 }
 
-// Looked for behind each `[`, an end of its set would take hours to be missed.
+// To look for the end of each of these sets would be quadratic, and run out of time under `rt try`.
 #[test]
 fn unclosed_sets_are_passed_once(rt: HostRuntime) -> Result<(), Fail> {
     let mut text = Vec::new(rt.alloc());
-    for _ in 0..20_000 {
+    for _ in 0..5_000 {
         text.push(b'[')?;
     }
     assert!(rt; supported(text.as_slice()));
