@@ -75,10 +75,13 @@ fn strip(text: &[u8], byte: u8) -> Option<&[u8]>
     requires { byte ≢ 92 }
     ensures { MatchOption result (begins (is_bare byte) (symbols text.now) ≡ false) (λ rest. First text.now (Bare byte) rest.now) }
 {
-    match text.split_first() {
-        Some((first, rest)) => { if *first == byte { Some(rest) } else { None } }
-        None => None,
+    let Some((first, rest)) = text.split_first() else {
+        return None;
+    };
+    if *first == byte {
+        return Some(rest);
     }
+    None
 }
 
 fn begins(text: &[u8], byte: u8) -> bool

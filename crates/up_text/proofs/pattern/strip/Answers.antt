@@ -1,5 +1,5 @@
 use Rattle.up_text.proofs.SetReading.{begins-other}
 use Rattle.up_text.proofs.pattern.strip.Goals as goal
 
-pub returns-else-first-byte : goal.returns-else-first-byte
-returns-else-first-byte c = begins-other c.args.byte c.args.text.now _ _ c.in-Some.ensures.cases.0 c.if-first-byte.false
+pub returns : goal.returns
+returns c = begins-other c.args.byte c.args.text.now _ _ c.in-Some.ensures.cases.0 c.if-first-byte.false
