@@ -10,6 +10,7 @@ ghost use Rattle.up_engine.specs.Records.{entries_of};
 ghost use Rattle.up_engine.specs.Queues.{live_of};
 
 use crate::book::Book;
+use crate::goal::is_start;
 use crate::moves::move_first;
 use crate::offers::offer_next;
 use crate::queue::Live;
@@ -47,15 +48,6 @@ fn instance_named(book: &Book, jobs: &[JobDef], who: &Who) -> Option<usize>
         }
     }
     None
-}
-
-fn is_start(goal: Goal) -> bool
-    ensures { result ≡ test.is_start goal }
-{
-    match goal {
-        Goal::Start => true,
-        Goal::Stop => false,
-    }
 }
 
 fn is_main(process: Process) -> bool

@@ -6,6 +6,7 @@ mod due;
 mod engine;
 mod events;
 mod fault;
+mod goal;
 mod moves;
 mod offers;
 mod outputs;

@@ -4,7 +4,6 @@ ghost use Rattle.up_model.specs.declared.state.State.TheVariants as state;
 ghost use Rattle.up_model.specs.Chronicle as entry;
 ghost use Rattle.up_model.specs.declared.process.Process.TheVariants as process;
 ghost use Rattle.up_model.specs.Events as event;
-ghost use Rattle.up_model.specs.Tests as test;
 ghost use Rattle.up_model.specs.Life as life;
 ghost use Rattle.up_model.specs.Moves as model;
 ghost use Rattle.up_model.specs.Readings as read;
@@ -12,6 +11,7 @@ ghost use Rattle.up_engine.specs.Moved.{is_any};
 
 use crate::book::Book;
 use crate::events::{started, starting, stopped, stopping};
+use crate::goal::is_start;
 use crate::record::{Origin, Record};
 use std::alloc::{AllocError, Global};
 use up_model::{Event, Goal, JobDef, Process, State};
@@ -60,15 +60,6 @@ fn next_state(goal: Goal, from: State, has_main: bool, lives: bool) -> State
         (Goal::Stop, State::Stopping) => State::Killed,
         (Goal::Stop, State::Killed) => State::PostStop,
         (Goal::Stop, State::PostStop) => State::Waiting,
-    }
-}
-
-fn is_start(goal: Goal) -> bool
-    ensures { result ≡ test.is_start goal }
-{
-    match goal {
-        Goal::Start => true,
-        Goal::Stop => false,
     }
 }
 

@@ -14,6 +14,7 @@ ghost use Rattle.up_engine.specs.Records.{expression_of};
 
 use crate::book::Book;
 use crate::events::start_env;
+use crate::goal::is_start;
 use crate::record::{Expression, Record};
 use std::alloc::{AllocError, Global};
 use up_model::{Goal, JobDef};
@@ -26,15 +27,6 @@ fn one(alloc: Global, place: usize) -> Result<Items<usize>, AllocError>
     let mut items = Vec::with_capacity(alloc, 1)?;
     items.push(place)?;
     Ok(Items::new(items))
-}
-
-fn is_start(goal: Goal) -> bool
-    ensures { result ≡ test.is_start goal }
-{
-    match goal {
-        Goal::Start => true,
-        Goal::Stop => false,
-    }
 }
 
 // The goal becomes stop by the event at a place, where it is start.
