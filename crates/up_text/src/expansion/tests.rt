@@ -2,113 +2,19 @@ use super::*;
 use std::process::Abort;
 use std::test::Fail;
 
-// What a text expands to.
+// What a well formed text gives.
 #[derive(Clone, Copy, Debug)]
 enum Outcome {
     // A text.
     Gives(&'static str),
     // The key that is lacking.
     Lacks(&'static str),
-    // Nothing, whatever is set.
-    Malformed,
 }
 
-// With `K` empty, `J` = `y`, `KEY` = `v` and `_9` = `u`, and no other key set.
-const CASES: [(&str, Outcome); 66] = [
-    ("", Outcome::Gives("")),
-    ("plain } {text}", Outcome::Gives("plain } {text}")),
-    ("${K:-x}$J", Outcome::Gives("xy")),
-    ("${K-x}$J", Outcome::Gives("y")),
-    ("$Z", Outcome::Lacks("Z")),
-    ("${Z", Outcome::Malformed),
-    ("5$", Outcome::Gives("5$")),
-    ("$", Outcome::Gives("$")),
-    ("$5", Outcome::Gives("$5")),
-    ("$$J", Outcome::Gives("$y")),
-    ("$ J", Outcome::Gives("$ J")),
-    ("$J$J", Outcome::Gives("yy")),
-    ("$_9${_9}", Outcome::Gives("uu")),
-    ("${Z}", Outcome::Lacks("Z")),
-    ("$Z$Y", Outcome::Lacks("Z")),
-    ("${J-}$Z${Y}", Outcome::Lacks("Z")),
-    ("${Z-a$Y}", Outcome::Lacks("Y")),
-    ("${}", Outcome::Malformed),
-    ("${", Outcome::Malformed),
-    ("${J", Outcome::Malformed),
-    ("${J-", Outcome::Malformed),
-    ("${J-x", Outcome::Malformed),
-    ("${J+x}", Outcome::Malformed),
-    ("${J:x}", Outcome::Malformed),
-    ("${J:", Outcome::Malformed),
-    ("${J:-", Outcome::Malformed),
-    ("${J:+x}", Outcome::Malformed),
-    ("${5}", Outcome::Malformed),
-    ("${ J}", Outcome::Malformed),
-    ("${J }", Outcome::Malformed),
-    ("${J=x}", Outcome::Malformed),
-    ("${K:-}", Outcome::Gives("")),
-    ("${Z-}", Outcome::Gives("")),
-    ("${Z:-x}", Outcome::Gives("x")),
-    ("${J:-x}", Outcome::Gives("y")),
-    ("${J-$Z}", Outcome::Gives("y")),
-    ("${J:-${Z}}$J", Outcome::Gives("yy")),
-    ("${J-${Z:-${Y}}}-", Outcome::Gives("y-")),
-    ("${Z-${Y-${J}}}", Outcome::Gives("y")),
-    ("${Z-${J-${Y}}w}", Outcome::Gives("yw")),
-    ("${K:-$J${K-n}}", Outcome::Gives("y")),
-    ("${Z-a}b}", Outcome::Gives("ab}")),
-    ("${Z-{a}b}", Outcome::Gives("{ab}")),
-    ("${Z-$}", Outcome::Gives("$")),
-    ("${Z-a-b:-c}", Outcome::Gives("a-b:-c")),
-    ("${J-${}}", Outcome::Malformed),
-    ("${J-${Z}", Outcome::Malformed),
-    ("${J-${Z+x}}", Outcome::Malformed),
-    ("$Z${", Outcome::Malformed),
-    ("${Z-${5}}", Outcome::Malformed),
-    (
-        "\u{e9}$J\u{20ac}${Z-\u{fc}}\u{1f600}",
-        Outcome::Gives("\u{e9}y\u{20ac}\u{fc}\u{1f600}"),
-    ),
-    ("$J\u{e9}", Outcome::Gives("y\u{e9}")),
-    ("${J\u{e9}}", Outcome::Malformed),
-    ("$\u{e9}", Outcome::Gives("$\u{e9}")),
-    ("$KEYx", Outcome::Lacks("KEYx")),
-    ("${KEY}x", Outcome::Gives("vx")),
-    ("$KEY.x", Outcome::Gives("v.x")),
-    ("$K-x", Outcome::Gives("-x")),
-    ("$J0", Outcome::Lacks("J0")),
-    (
-        "${A-${A-${A-${A-${A-${A-${A-${A-${A-${A-${A-${A-${A-${A-${A-${A-z}}}}}}}}}}}}}}}}",
-        Outcome::Gives("z"),
-    ),
-    (
-        "${A-${A-${A-${A-${A-${A-${A-${A-${A-${A-${A-${A-${A-${A-${A-${A-${A-z}}}}}}}}}}}}}}}}}",
-        Outcome::Malformed,
-    ),
-    (
-        "${A-${A-${A-${A-${A-${A-${A-${A-${A-${A-${A-${A-${A-${A-${A-${A-${J}}}}}}}}}}}}}}}}}",
-        Outcome::Malformed,
-    ),
-    (
-        "${A-${A-${A-${A-${A-${A-${A-${A-${A-${A-${A-${A-${A-${A-${A-${A-$J}}}}}}}}}}}}}}}}",
-        Outcome::Gives("y"),
-    ),
-    (
-        "${A-${A-${A-${A-${A-${A-${A-${A-${A-${A-${A-${A-${A-${A-${A-${J}}}}}}}}}}}}}}}}",
-        Outcome::Gives("y"),
-    ),
-    (
-        "${J-${A-${A-${A-${A-${A-${A-${A-${A-${A-${A-${A-${A-${A-${A-${A-z}}}}}}}}}}}}}}}}",
-        Outcome::Gives("y"),
-    ),
-    (
-        "${J-${A-${A-${A-${A-${A-${A-${A-${A-${A-${A-${A-${A-${A-${A-${A-${A-z}}}}}}}}}}}}}}}}}",
-        Outcome::Malformed,
-    ),
-];
+use Outcome::{Gives, Lacks};
 
-fn environment(rt: &HostRuntime) -> Result<Env, TextFault> {
-    let mut env = Env::new(rt.alloc());
+fn environment(alloc: Global) -> Result<Env, TextFault> {
+    let mut env = Env::new(alloc);
     env.set("K", "")?;
     env.set("J", "y")?;
     env.set("KEY", "v")?;
@@ -116,39 +22,176 @@ fn environment(rt: &HostRuntime) -> Result<Env, TextFault> {
     Ok(env)
 }
 
-#[test]
-fn texts_expand(rt: HostRuntime) -> Result<(), Fail> {
-    let env = environment(&rt)?;
-    for (text, outcome) in CASES {
-        match (expand(rt.alloc(), text, &env), outcome) {
-            (Ok(Expanded::Text(given)), Outcome::Gives(wanted)) => {
-                assert_eq!(rt; given.as_str(), wanted);
-            }
-            (Ok(Expanded::Unset(given)), Outcome::Lacks(wanted)) => {
-                assert_eq!(rt; given.as_str(), wanted);
-            }
-            (Err(TextFault::BadExpansion), Outcome::Malformed) => {}
-            _ => assert!(rt; false, "{text:?} isn't {outcome:?}"),
-        }
+fn is_outcome(expanded: &Result<Expanded, TextFault>, outcome: Outcome) -> bool {
+    match expanded {
+        Ok(Expanded::Text(text)) => matches!(outcome, Gives(wanted) if text.is(wanted)),
+        Ok(Expanded::Unset(key)) => matches!(outcome, Lacks(wanted) if key.is(wanted)),
+        Err(_) => false,
+    }
+}
+
+// With `K` empty, `J` = `y`, `KEY` = `v` and `_9` = `u`, and no other key set.
+fn check(rt: &impl Abort, alloc: Global, cases: &[(&str, Outcome)]) -> Result<(), TextFault> {
+    let env = environment(alloc)?;
+    for (text, outcome) in cases {
+        assert!(rt; is_expandable(text), "{text:?}");
+        let expanded = expand(alloc, text, &env);
+        assert!(rt; is_outcome(&expanded, *outcome), "{text:?}: {expanded:?}");
+    }
+    Ok(())
+}
+
+fn is_refused(alloc: Global, text: &str, env: &Env) -> bool {
+    matches!(expand(alloc, text, env), Err(TextFault::BadExpansion))
+}
+
+// A malformed text is refused whatever is set.
+fn check_malformed(rt: &impl Abort, alloc: Global, texts: &[&str]) -> Result<(), TextFault> {
+    let none = Env::new(alloc);
+    let some = environment(alloc)?;
+    for text in texts {
+        assert!(rt; !is_expandable(text), "{text:?}");
+        assert!(rt; is_refused(alloc, text, &none), "{text:?}");
+        assert!(rt; is_refused(alloc, text, &some), "{text:?}");
     }
     Ok(())
 }
 
 #[test]
-fn malformed_texts_are_told(rt: HostRuntime) {
-    for (text, outcome) in CASES {
-        let malformed = matches!(outcome, Outcome::Malformed);
-        assert_eq!(rt; is_expandable(text), !malformed, "{text:?}");
-    }
+fn plain_text(rt: HostRuntime) -> Result<(), Fail> {
+    let cases = [
+        ("", Gives("")),
+        ("plain } {text}", Gives("plain } {text}")),
+        ("5$", Gives("5$")),
+        ("$", Gives("$")),
+        ("$5", Gives("$5")),
+        ("$ J", Gives("$ J")),
+        ("$$J", Gives("$y")),
+        ("$\u{e9}", Gives("$\u{e9}")),
+    ];
+    check(&rt, rt.alloc(), &cases)?;
+    Ok(())
 }
 
-// Whatever is set: the same texts are malformed where no key is set.
 #[test]
-fn malformed_texts_are_refused_without_keys(rt: HostRuntime) {
-    let env = Env::new(rt.alloc());
-    for (text, outcome) in CASES {
-        let malformed = matches!(outcome, Outcome::Malformed);
-        let refused = matches!(expand(rt.alloc(), text, &env), Err(TextFault::BadExpansion));
-        assert_eq!(rt; refused, malformed, "{text:?}");
-    }
+fn keys(rt: HostRuntime) -> Result<(), Fail> {
+    let cases = [
+        ("$Z", Lacks("Z")),
+        ("${Z}", Lacks("Z")),
+        ("$J$J", Gives("yy")),
+        ("$_9${_9}", Gives("uu")),
+        ("$Z$Y", Lacks("Z")),
+        ("$KEYx", Lacks("KEYx")),
+        ("${KEY}x", Gives("vx")),
+        ("$KEY.x", Gives("v.x")),
+        ("$K-x", Gives("-x")),
+        ("$J0", Lacks("J0")),
+        ("$J\u{e9}", Gives("y\u{e9}")),
+    ];
+    check(&rt, rt.alloc(), &cases)?;
+    Ok(())
+}
+
+#[test]
+fn texts_that_stand_in(rt: HostRuntime) -> Result<(), Fail> {
+    let cases = [
+        ("${K:-x}$J", Gives("xy")),
+        ("${K-x}$J", Gives("y")),
+        ("${K:-}", Gives("")),
+        ("${Z-}", Gives("")),
+        ("${Z:-x}", Gives("x")),
+        ("${J:-x}", Gives("y")),
+        ("${Z-a}b}", Gives("ab}")),
+        ("${Z-{a}b}", Gives("{ab}")),
+        ("${Z-$}", Gives("$")),
+        ("${Z-a-b:-c}", Gives("a-b:-c")),
+        (
+            "\u{e9}$J\u{20ac}${Z-\u{fc}}\u{1f600}",
+            Gives("\u{e9}y\u{20ac}\u{fc}\u{1f600}"),
+        ),
+    ];
+    check(&rt, rt.alloc(), &cases)?;
+    Ok(())
+}
+
+#[test]
+fn texts_in_texts(rt: HostRuntime) -> Result<(), Fail> {
+    let cases = [
+        ("${J-$Z}", Gives("y")),
+        ("${J:-${Z}}$J", Gives("yy")),
+        ("${J-${Z:-${Y}}}-", Gives("y-")),
+        ("${Z-${Y-${J}}}", Gives("y")),
+        ("${Z-${J-${Y}}w}", Gives("yw")),
+        ("${K:-$J${K-n}}", Gives("y")),
+        ("${J-}$Z${Y}", Lacks("Z")),
+        ("${Z-a$Y}", Lacks("Y")),
+    ];
+    check(&rt, rt.alloc(), &cases)?;
+    Ok(())
+}
+
+#[test]
+fn sixteen_deep(rt: HostRuntime) -> Result<(), Fail> {
+    let cases = [
+        (
+            "${A-${A-${A-${A-${A-${A-${A-${A-${A-${A-${A-${A-${A-${A-${A-${A-z}}}}}}}}}}}}}}}}",
+            Gives("z"),
+        ),
+        (
+            "${A-${A-${A-${A-${A-${A-${A-${A-${A-${A-${A-${A-${A-${A-${A-${A-$J}}}}}}}}}}}}}}}}",
+            Gives("y"),
+        ),
+        (
+            "${A-${A-${A-${A-${A-${A-${A-${A-${A-${A-${A-${A-${A-${A-${A-${J}}}}}}}}}}}}}}}}",
+            Gives("y"),
+        ),
+        (
+            "${J-${A-${A-${A-${A-${A-${A-${A-${A-${A-${A-${A-${A-${A-${A-${A-z}}}}}}}}}}}}}}}}",
+            Gives("y"),
+        ),
+    ];
+    check(&rt, rt.alloc(), &cases)?;
+    Ok(())
+}
+
+#[test]
+fn seventeen_deep(rt: HostRuntime) -> Result<(), Fail> {
+    let texts = [
+        "${A-${A-${A-${A-${A-${A-${A-${A-${A-${A-${A-${A-${A-${A-${A-${A-${A-z}}}}}}}}}}}}}}}}}",
+        "${A-${A-${A-${A-${A-${A-${A-${A-${A-${A-${A-${A-${A-${A-${A-${A-${J}}}}}}}}}}}}}}}}}",
+        "${J-${A-${A-${A-${A-${A-${A-${A-${A-${A-${A-${A-${A-${A-${A-${A-${A-z}}}}}}}}}}}}}}}}}",
+    ];
+    check_malformed(&rt, rt.alloc(), &texts)?;
+    Ok(())
+}
+
+#[test]
+fn malformed(rt: HostRuntime) -> Result<(), Fail> {
+    let texts = [
+        "${Z",
+        "${}",
+        "${",
+        "${J",
+        "${J-",
+        "${J-x",
+        "${J+x}",
+        "${J:x}",
+        "${J:",
+        "${J:-",
+        "${J:+x}",
+        "${5}",
+        "${ J}",
+        "${J }",
+        "${J=x}",
+        "${J\u{e9}}",
+    ];
+    check_malformed(&rt, rt.alloc(), &texts)?;
+    Ok(())
+}
+
+#[test]
+fn malformed_where_not_needed(rt: HostRuntime) -> Result<(), Fail> {
+    let texts = ["${J-${}}", "${J-${Z}", "${J-${Z+x}}", "$Z${", "${Z-${5}}"];
+    check_malformed(&rt, rt.alloc(), &texts)?;
+    Ok(())
 }
