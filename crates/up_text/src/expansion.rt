@@ -1,9 +1,9 @@
 //! Expands `$KEY` by an environment.
-ghost use Rattle.std.specs.Prelude.{◌≡◌, ◌≤◌, ◌<◌, ◌-◌, ℕ, Bool, List, ◌∷◌, ◌++◌, None, Some, MatchOption, OnOk, IsTrue, length, take, drop, true, false, not, ◌||◌, ◌==◌, if◌then◌else◌, option_map};
+ghost use Rattle.std.specs.Prelude.{◌≡◌, ◌≤◌, ◌<◌, ◌||◌, ◌==◌, true, false, not, List, ◌∷◌, ◌++◌, length, drop, MatchOption, option_map};
 ghost use Rattle.std.specs.List.{prefix_len};
 ghost use Rattle.up_text.specs.Bindings.{value_of};
 ghost use Rattle.up_text.specs.Expanding.{Gives, IsGiven, depth_behind, said, signs_of};
-ghost use Rattle.up_text.specs.Expansion.{Sign, Lacks, counted, dollar, braced, expand, is_expandable, key_of, signs, texts_of};
+ghost use Rattle.up_text.specs.Expansion.{Sign, Lacks, counted, expand, is_expandable, key_of, signs, texts_of};
 ghost use Rattle.up_text.specs.Lexer.{begins};
 ghost use Rattle.up_text.specs.Names.{is_key_byte, is_key_start};
 

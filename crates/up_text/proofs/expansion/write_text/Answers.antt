@@ -25,7 +25,6 @@ pieces-preserved-in_ok-push_str-in-Text c =
 
 pub pieces-preserved : goal.pieces-preserved
 pieces-preserved c =
-    let t = c.read_piece.type_inv in
     let same = ap (texts_of c.pieces.depth) c.read_piece.ensures.same ∙ c.in-Some.ensures.said (signs 0 c.read_piece.result.1.now) in
     record {
       is_text = search rules;
