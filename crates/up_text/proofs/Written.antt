@@ -113,39 +113,6 @@ remains-given env whole out bytes depth kept deeper p left after h is needed goe
           ∙ ap (λ n. followed (Expands (out ++ bytes)) (meanings env (drop n later.0))) opens;
     }
 
--- a needed piece gives the text that it opens
-pub remains-default : (env : List (List ℕ × List ℕ)) (whole : Expansion) (out : List ℕ) (depth kept deeper : ℕ) (p : Piece) (left after : Option (List Parts))
-    → Remains env whole out (depth - kept) left → left ≡ option_map (piece_before depth p) after → depth ≤ kept → deeper ≤ 16
-    → ((texts : List Parts) → meanings env (piece_before depth p texts) ≡ meanings env texts)
-    → Remains env whole out (deeper - 16) after
-remains-default env whole out depth kept deeper p left after h is needed shallow gives =
-    let later = behind (piece_before depth p) after h.texts (sym is ∙ h.are) in
-    let all : depth - kept ≡ 0 = omega arith in
-    let none : 0 ≡ deeper - 16 = omega arith in
-    record {
-      texts = later.0;
-      are = later.1;
-      means =
-          h.means
-          ∙ ap (λ n. followed (Expands out) (meanings env (drop n h.texts))) all
-          ∙ ap (λ texts. followed (Expands out) (meanings env texts)) (sym later.2)
-          ∙ ap (followed (Expands out)) (gives later.0)
-          ∙ ap (λ n. followed (Expands out) (meanings env (drop n later.0))) none;
-    }
-
--- a needed piece lacks its key
-pub remains-lacks : (env : List (List ℕ × List ℕ)) (whole : Expansion) (out key : List ℕ) (depth kept deeper : ℕ) (p : Piece) (left after : Option (List Parts))
-    → Remains env whole out (depth - kept) left → left ≡ option_map (piece_before depth p) after → depth ≤ kept
-    → ((texts : List Parts) → meanings env (piece_before depth p texts) ≡ Lacks key)
-    → whole ≡ Lacks key
-remains-lacks env whole out key depth kept deeper p left after h is needed gives =
-    let later = behind (piece_before depth p) after h.texts (sym is ∙ h.are) in
-    let all : depth - kept ≡ 0 = omega arith in
-    h.means
-    ∙ ap (λ n. followed (Expands out) (meanings env (drop n h.texts))) all
-    ∙ ap (λ texts. followed (Expands out) (meanings env texts)) (sym later.2)
-    ∙ ap (followed (Expands out)) (gives later.0)
-
 drop-run : (n : ℕ) (run : List ℕ) (texts : List Parts) → drop (suc n) (run_before run texts) ≡ drop (suc n) texts
 drop-run n [] texts = refl
 drop-run n (byte ∷ run) texts = drop-outside n (run_before run texts) ∙ drop-run n run texts
@@ -183,20 +150,6 @@ remains-unneeded env whole out depth kept deeper p left after h is unneeded goes
           ∙ ap (λ texts. followed (Expands out) (meanings env texts)) (drop-piece depth kept n p later.0 at)
           ∙ ap (λ k. followed (Expands out) (meanings env (drop (k - kept) later.0))) (sym goes);
     }
-
--- at the end all is written
-pub remains-end : (env : List (List ℕ × List ℕ)) (whole : Expansion) (out : List ℕ) (depth kept : ℕ) → Remains env whole out (depth - kept) (texts_of depth []) → whole ≡ Expands out
-remains-end env whole out depth kept h = by_case (depth == 0) refl h.are
-  where
-    by_case : (b : Bool) → (depth == 0) ≡ b → cond b (Some (Done ∷ [])) None ≡ Some h.texts → whole ≡ Expands out
-    by_case true is at =
-        let zero : depth - kept ≡ 0 = let e : depth ≡ 0 = eqb-true depth 0 is in omega arith in
-        let one : h.texts ≡ Done ∷ [] = sym (same_Some (Done ∷ []) h.texts at) in
-        h.means
-        ∙ ap (λ n. followed (Expands out) (meanings env (drop n h.texts))) zero
-        ∙ ap (λ texts. followed (Expands out) (meanings env texts)) one
-        ∙ followed-nothing (Expands out)
-    by_case false is at = absurd (cc)
 
 followed-memory : (a b : Expansion) → Gives a (Err Memory) → Gives b (Err Memory) → Gives (followed a b) (Err Memory)
 followed-memory (Expands a) (Expands b) x y = inr refl
