@@ -1,4 +1,6 @@
 pub mod Bindings
+pub mod Expanding
+pub mod Expansion
 pub mod Fault
 pub mod Lexer
 pub mod Matching

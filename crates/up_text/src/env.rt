@@ -28,14 +28,14 @@ impl Model for Env {
 }
 
 #[tactic(auto, unfolding(crate::specs::Names::is_key_start))]
-fn is_key_start(byte: u8) -> bool
+pub(crate) fn is_key_start(byte: u8) -> bool
     ensures { result ≡ is_key_start byte }
 {
     matches!(byte, b'A'..=b'Z' | b'a'..=b'z' | b'_')
 }
 
 #[tactic(auto, unfolding(crate::specs::Names::is_key_byte))]
-fn is_key_byte(byte: u8) -> bool
+pub(crate) fn is_key_byte(byte: u8) -> bool
     ensures { result ≡ is_key_byte byte }
 {
     is_key_start(byte) || matches!(byte, b'0'..=b'9')

@@ -5,6 +5,7 @@
 #![tactic(auto)]
 
 pub mod env;
+pub mod expansion;
 pub mod fault;
 pub mod items;
 pub mod lexer;
@@ -14,6 +15,7 @@ pub mod text;
 pub mod token;
 
 pub use env::Env;
+pub use expansion::{Expanded, expand, is_expandable};
 pub use fault::TextFault;
 pub use items::Items;
 pub use lexer::Lexer;

@@ -1,0 +1,92 @@
+-- What the texts that stand in each other say and mean, from one piece to the next.
+use Rattle.std.proofs.Common.{◌≡◌, ℕ, zero, suc, Bool, true, false, cond, ◌==◌, List, [], ◌∷◌, ◌++◌, map, drop, Option, None, Some, option_map, is_some, refl, sym, ap, ◌∙◌}
+use Rattle.std.proofs.lemmas.List.{append_assoc, append-nil}
+use Rattle.up_text.specs.Bindings.{value_of}
+use Rattle.up_text.specs.Expanding.{run_before, piece_before, said, meanings}
+use Rattle.up_text.specs.Expansion.{Sign, Plain, Parts, Done, Byte, Key, innermost, outside, before, nested, signs, texts_of, is_expandable, Expansion, Expands, Lacks, Malformed, followed, counted, meaning}
+use Rattle.up_text.specs.declared.expansion.Piece.{Piece}
+
+-- one function behind another
+option_map-option_map : {A B C : Type 0} (f : B → C) (g : A → B) (o : Option A) → option_map f (option_map g o) ≡ option_map (λ x. f (g x)) o
+option_map-option_map f g None = refl
+option_map-option_map f g (Some x) = refl
+
+option_map-same : {A : Type 0} (o : Option A) → option_map (λ x. x) o ≡ o
+option_map-same None = refl
+option_map-same (Some x) = refl
+
+-- the bytes of a run stand before the innermost text
+pub said_run : (depth : ℕ) (run : List ℕ) (later : List Sign) → texts_of depth (map (λ byte. Plain byte) run ++ later) ≡ option_map (run_before run) (texts_of depth later)
+said_run depth [] later = sym (option_map-same (texts_of depth later))
+said_run depth (byte ∷ run) later = ap (option_map (before (Byte byte))) (said_run depth run later) ∙ option_map-option_map (before (Byte byte)) (run_before run) (texts_of depth later)
+
+pub followed-assoc : (a b c : Expansion) → followed (followed a b) c ≡ followed a (followed b c)
+followed-assoc (Expands a) (Expands b) (Expands c) = ap Expands (append_assoc a b c)
+followed-assoc (Expands a) (Expands b) (Lacks key) = refl
+followed-assoc (Expands a) (Expands b) Malformed = refl
+followed-assoc (Expands a) (Lacks key) c = refl
+followed-assoc (Expands a) Malformed c = refl
+followed-assoc (Lacks key) b c = refl
+followed-assoc Malformed b c = refl
+
+pub followed-nothing : (a : Expansion) → followed a (Expands []) ≡ a
+followed-nothing (Expands a) = ap Expands (append-nil a)
+followed-nothing (Lacks key) = refl
+followed-nothing Malformed = refl
+
+pub nothing-followed : (a : Expansion) → a ≡ followed (Expands []) a
+nothing-followed (Expands a) = refl
+nothing-followed (Lacks key) = refl
+nothing-followed Malformed = refl
+
+-- the innermost text and those round it
+meanings-split : (env : List (List ℕ × List ℕ)) (texts : List Parts) → followed (meaning env (innermost texts)) (meanings env (outside texts)) ≡ meanings env texts
+meanings-split env [] = refl
+meanings-split env (text ∷ outer) = refl
+
+pub drop-outside : (n : ℕ) (texts : List Parts) → drop n (outside texts) ≡ drop (suc n) texts
+drop-outside zero [] = refl
+drop-outside (suc n) [] = refl
+drop-outside n (text ∷ outer) = refl
+
+-- what a part before the innermost text means
+meanings-before : (env : List (List ℕ × List ℕ)) (front : Expansion) (texts : List Parts) → followed (followed front (meaning env (innermost texts))) (meanings env (outside texts)) ≡ followed front (meanings env texts)
+meanings-before env front texts = followed-assoc front (meaning env (innermost texts)) (meanings env (outside texts)) ∙ ap (followed front) (meanings-split env texts)
+
+pub meanings_run : (env : List (List ℕ × List ℕ)) (run : List ℕ) (texts : List Parts) → meanings env (run_before run texts) ≡ followed (Expands run) (meanings env texts)
+meanings_run env [] texts = nothing-followed (meanings env texts)
+meanings_run env (byte ∷ run) texts =
+    meanings-before env (Expands (byte ∷ [])) (run_before run texts)
+    ∙ ap (followed (Expands (byte ∷ []))) (meanings_run env run texts)
+    ∙ sym (followed-assoc (Expands (byte ∷ [])) (Expands run) (meanings env texts))
+
+-- a key that is set
+pub meanings_key : (env : List (List ℕ × List ℕ)) (key value : List ℕ) (texts : List Parts) → Some value ≡ value_of key env → meanings env (before (Key key) texts) ≡ followed (Expands value) (meanings env texts)
+meanings_key env key value texts is = rw (← is) (meanings-before env (Expands value) texts)
+
+-- a key whose text isn't needed
+pub meanings_default : (env : List (List ℕ × List ℕ)) (key : List ℕ) (emptied : Bool) (value : List ℕ) (texts : List Parts) → Some value ≡ counted emptied (value_of key env) → meanings env (nested key emptied texts) ≡ followed (Expands value) (meanings env (drop 1 texts))
+meanings_default env key emptied value texts is =
+    rw (← is) (meanings-before env (Expands value) (outside texts) ∙ ap (λ ts. followed (Expands value) (meanings env ts)) (drop-outside 0 texts))
+
+-- a key whose text is needed
+pub meanings_needed : (env : List (List ℕ × List ℕ)) (key : List ℕ) (emptied : Bool) (texts : List Parts) → None ≡ counted emptied (value_of key env) → meanings env (nested key emptied texts) ≡ meanings env texts
+meanings_needed env key emptied texts is =
+    rw (← is) (meanings-before env (meaning env (innermost texts)) (outside texts) ∙ meanings-split env texts)
+
+is_some-option_map : {A B : Type 0} (f : A → B) (o : Option A) → is_some (option_map f o) ≡ is_some o
+is_some-option_map f None = refl
+is_some-option_map f (Some x) = refl
+
+-- whether a text is well formed, by its signs
+pub expandable-signs : (text : List ℕ) → is_expandable text ≡ is_some (texts_of 0 (signs 0 text))
+unfolding is_expandable
+expandable-signs text = is_some-option_map innermost (texts_of 0 (signs 0 text))
+
+-- a piece doesn't change whether the text is well formed
+pub is_some-said : (depth deeper : ℕ) (piece : Piece) (later : List Sign) → is_some (said depth piece later (Some deeper)) ≡ is_some (texts_of deeper later)
+is_some-said depth deeper piece later = is_some-option_map (piece_before depth piece) (texts_of deeper later)
+
+-- at the end no text may be open
+pub ended : (depth : ℕ) → is_some (texts_of depth []) ≡ (depth == 0)
+ended depth = elim (depth == 0) as (λ b. is_some (cond b (Some (Done ∷ [])) None) ≡ b) [ true ↦ refl | false ↦ refl ]

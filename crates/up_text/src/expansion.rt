@@ -1,0 +1,290 @@
+//! Expands `$KEY` by an environment.
+ghost use Rattle.std.specs.Prelude.{◌≡◌, ◌≤◌, ◌<◌, ◌||◌, ◌==◌, true, false, not, List, ◌∷◌, ◌++◌, length, drop, MatchOption, option_map};
+ghost use Rattle.std.specs.List.{prefix_len};
+ghost use Rattle.up_text.specs.Bindings.{value_of};
+ghost use Rattle.up_text.specs.Expanding.{Gives, IsGiven, depth_behind, said, signs_of};
+ghost use Rattle.up_text.specs.Expansion.{Sign, Lacks, counted, expand, is_expandable, key_of, signs, texts_of};
+ghost use Rattle.up_text.specs.Lexer.{begins};
+ghost use Rattle.up_text.specs.Names.{is_key_byte, is_key_start};
+
+pub mod laws;
+
+use crate::env::{Env, is_key_byte, is_key_start};
+use crate::fault::TextFault;
+use crate::text::Text;
+use memchr::memchr2;
+use std::alloc::Global;
+
+/// What a text expands to.
+#[derive(Debug, Drop)]
+pub enum Expanded {
+    /// The text with each expansion replaced.
+    Text(Text),
+    /// The first key that was needed, isn't set and has no text that stands in for it.
+    Unset(Text),
+}
+
+// How many `${` may stand in each other.
+const MAX_DEPTH: usize = 16;
+
+// What a text begins with.
+#[derive(Clone, Copy, Drop)]
+enum Piece<'a> {
+    // Bytes that stand for themselves.
+    Run(&'a str),
+    // `$KEY`.
+    Named(&'a str),
+    // `${KEY}`.
+    Braced(&'a str),
+    // `${KEY-` or `${KEY:-`, and whether it is the second.
+    Opened(&'a str, bool),
+    // `}`.
+    Closing,
+    // Any other `${`.
+    Wrong,
+}
+
+// What a piece gives to the text that is written.
+#[derive(Clone, Copy, Drop)]
+enum Given<'a> {
+    // These bytes, and the text that it opens isn't needed.
+    Text(&'a str),
+    // Nothing but the text that it opens.
+    Default,
+    // Nothing, since this key is needed and unset.
+    Lacks(&'a str),
+}
+
+fn begins_with(text: &str, byte: u8) -> bool
+    ensures { result ≡ begins (λ first. first == byte) text.now }
+{
+    text.as_bytes().first() == Some(&byte)
+}
+
+// The text behind its first byte, if that is this one.
+fn behind(text: &str, byte: u8) -> Option<&str>
+    requires { byte < 128 }
+    ensures { MatchOption result (begins (λ first. first == byte) text.now ≡ false) (λ rest. text.now ≡ byte ∷ rest.now) }
+{
+    if begins_with(text, byte) {
+        Some(&text[1..])
+    } else {
+        None
+    }
+}
+
+fn begins_key(text: &str) -> bool
+    ensures { result ≡ begins is_key_start text.now }
+{
+    match text.as_bytes().first() {
+        Some(first) => is_key_start(*first),
+        None => false,
+    }
+}
+
+fn key_bytes_len(bytes: &[u8]) -> usize
+    ensures { result ≡ prefix_len is_key_byte bytes.now }
+{
+    bytes.iter().take_while(|byte| is_key_byte(**byte)).count()
+}
+
+// The longest key that the text begins with, which may be empty, and what stands behind it.
+fn split_key(text: &str) -> (&str, &str)
+    ensures key { result.0.now ≡ key_of text.now }
+    ensures rest { result.1.now ≡ drop (length (key_of text.now)) text.now }
+{
+    if begins_key(text) {
+        text.split_at(key_bytes_len(text.as_bytes()))
+    } else {
+        ("", text)
+    }
+}
+
+// How many bytes stand before the first `$` or `}`.
+fn run_len(bytes: &[u8]) -> usize
+    ensures { result ≡ prefix_len (λ byte. not (byte == 36 || byte == 125)) bytes.now }
+{
+    memchr2(b'$', b'}', bytes).unwrap_or(bytes.len())
+}
+
+// What a `${` begins, by the text behind it.
+fn read_braced(text: &str) -> (Piece, &str)
+    ensures same { signs 0 (36 ∷ 123 ∷ text.now) ≡ signs_of result.0 ++ signs 0 result.1.now }
+    ensures shorter { length result.1.now ≤ length text.now }
+{
+    let (key, rest) = split_key(text);
+    if key.is_empty() {
+        return (Piece::Wrong, text);
+    }
+    if let Some(rest) = behind(rest, b'}') {
+        return (Piece::Braced(key), rest);
+    }
+    if let Some(rest) = behind(rest, b'-') {
+        return (Piece::Opened(key, false), rest);
+    }
+    if let Some(rest) = behind(rest, b':') {
+        if let Some(rest) = behind(rest, b'-') {
+            return (Piece::Opened(key, true), rest);
+        }
+    }
+    (Piece::Wrong, text)
+}
+
+// What a `$` begins, by the text behind it.
+fn read_dollar(text: &str) -> (Piece, &str)
+    ensures same { signs 0 (36 ∷ text.now) ≡ signs_of result.0 ++ signs 0 result.1.now }
+    ensures shorter { length result.1.now ≤ length text.now }
+{
+    if let Some(rest) = behind(text, b'{') {
+        return read_braced(rest);
+    }
+    let (key, rest) = split_key(text);
+    if key.is_empty() {
+        return (Piece::Run("$"), text);
+    }
+    (Piece::Named(key), rest)
+}
+
+// What the text begins with, and what stands behind it.
+fn read_piece(text: &str) -> (Piece, &str)
+    requires { 0 < length text.now }
+    ensures same { signs 0 text.now ≡ signs_of result.0 ++ signs 0 result.1.now }
+    ensures shorter { length result.1.now < length text.now }
+{
+    if let Some(rest) = behind(text, b'$') {
+        return read_dollar(rest);
+    }
+    if let Some(rest) = behind(text, b'}') {
+        return (Piece::Closing, rest);
+    }
+    let (run, rest) = text.split_at(run_len(text.as_bytes()));
+    (Piece::Run(run), rest)
+}
+
+// How many texts are open behind a piece, by how many were; none where the piece makes the text malformed.
+#[tactic(auto, using(crate::proofs::Nesting::said_run))]
+fn depth_behind(depth: usize, piece: Piece) -> Option<usize>
+    requires { depth ≤ 16 }
+    ensures said { (later : List Sign) → texts_of depth (signs_of piece.entry ++ later) ≡ said depth piece.entry later result }
+    ensures shallow { MatchOption result Unit (λ deeper. deeper ≤ 16) }
+    ensures depth { MatchOption result Unit (λ deeper. deeper ≡ depth_behind depth piece.entry) }
+{
+    match piece {
+        Piece::Run(_) => Some(depth),
+        Piece::Named(_) => Some(depth),
+        Piece::Braced(_) => if depth < MAX_DEPTH { Some(depth) } else { None },
+        Piece::Opened(_, _) => if depth < MAX_DEPTH {
+            Some(depth + 1)
+        } else {
+            None
+        },
+        Piece::Closing => Some(depth.saturating_sub(1)),
+        Piece::Wrong => None,
+    }
+}
+
+// The value of a key; where emptied, an empty one doesn't count.
+fn counted<'a>(env: &'a Env, key: &str, emptied: bool) -> Option<&'a str>
+    ensures { option_map (λ value. value.now) result ≡ counted emptied (value_of key.now env.now) }
+{
+    match env.get(key) {
+        Some(value) => {
+            if emptied && value.is_empty() {
+                None
+            } else {
+                Some(value)
+            }
+        }
+        None => None,
+    }
+}
+
+// What a piece gives that is needed.
+#[tactic(auto, using(crate::proofs::Nesting::meanings_run, crate::proofs::Nesting::meanings_key, crate::proofs::Nesting::meanings_default))]
+fn given_by<'a>(env: &'a Env, piece: Piece<'a>, depth: usize) -> Given<'a>
+    ensures { IsGiven env.now depth piece.entry result }
+{
+    match piece {
+        Piece::Run(run) => Given::Text(run),
+        Piece::Named(key) | Piece::Braced(key) => match env.get(key) {
+            Some(value) => Given::Text(value),
+            None => Given::Lacks(key),
+        },
+        Piece::Opened(key, emptied) => match counted(env, key, emptied) {
+            Some(value) => Given::Text(value),
+            None => Given::Default,
+        },
+        Piece::Closing => Given::Text(if depth == 0 { "}" } else { "" }),
+        Piece::Wrong => Given::Text(""),
+    }
+}
+
+fn unset(alloc: Global, key: &str) -> Result<Expanded, TextFault>
+    ensures { Gives (Lacks key.now) result }
+{
+    let key = Text::from_str(alloc, key)?;
+    Ok(Expanded::Unset(key))
+}
+
+// What a well formed text expands to. Texts deeper than `kept` aren't needed.
+fn write_text(alloc: Global, text: &str, env: &Env) -> Result<Expanded, TextFault>
+    requires { is_expandable text.now ≡ true }
+    ensures { Gives (expand text.now env.now) result }
+{
+    let mut out = String::new(alloc);
+    let mut rest = text;
+    let mut depth = 0usize;
+    let mut kept = MAX_DEPTH;
+    'pieces: while !rest.is_empty() {
+        let (piece, later) = read_piece(rest);
+        let Some(deeper) = depth_behind(depth, piece) else {
+            return Err(TextFault::BadExpansion);
+        };
+        if depth <= kept {
+            match given_by(env, piece, depth) {
+                Given::Text(bytes) => {
+                    out.push_str(bytes)?;
+                    kept = depth;
+                }
+                Given::Default => kept = MAX_DEPTH,
+                Given::Lacks(key) => return unset(alloc, key),
+            }
+        }
+        depth = deeper;
+        rest = later;
+    }
+    Ok(Expanded::Text(Text::new(out)))
+}
+
+/// Whether a text is well formed. Takes no memory.
+pub fn is_expandable(text: &str) -> bool
+    ensures { result ≡ is_expandable text.now }
+{
+    let mut rest = text;
+    let mut depth = 0usize;
+    'pieces: while !rest.is_empty() {
+        let (piece, later) = read_piece(rest);
+        let Some(deeper) = depth_behind(depth, piece) else {
+            return false;
+        };
+        depth = deeper;
+        rest = later;
+    }
+    depth == 0
+}
+
+/// Replaces each expansion in a text by the value of its key, or by the text that stands in for it. `$KEY` takes the longest key;
+/// `${KEY}` is the same, `${KEY-text}` takes the text where the key is unset, and `${KEY:-text}` also where it is empty. Such a
+/// text may have expansions of its own, with at most 16 `${` in each other. Refused with `BadExpansion` where any other `${`
+/// stands in the text, whatever is set, and with `Memory`. Keys that aren't needed aren't looked up.
+pub fn expand(alloc: Global, text: &str, env: &Env) -> Result<Expanded, TextFault>
+    ensures { Gives (expand text.now env.now) result }
+{
+    if !is_expandable(text) {
+        return Err(TextFault::BadExpansion);
+    }
+    write_text(alloc, text, env)
+}
+
+#[cfg(test)]
+mod tests;
