@@ -14,11 +14,11 @@ pub record Place : Type 0 where
   pub line : ℕ
   pub inside : Bool
   pub parens : Bool
-  pub open : ℕ
+  pub depth : ℕ
 
 -- the beginning of a text
 abbrev pub start : List ℕ → Place
-start text = record { rest = text; line = 1; inside = false; parens = false; open = 0 }
+start text = record { rest = text; line = 1; inside = false; parens = false; depth = 0 }
 
 -- what a reading gives and the place behind it: a token; a stanza's end or the text's; or why a token is refused
 pub data Reading : Type 0 where
@@ -37,11 +37,11 @@ passing n place = record place { rest = drop n place.rest; line = place.line + f
 
 -- the place behind a token
 abbrev pub within : ℕ → Place → Place
-within open place = record place { inside = true; open = open }
+within depth place = record place { inside = true; depth = depth }
 
 -- the place behind a stanza
 abbrev pub behind_stanza : Place → Place
-behind_stanza place = record place { inside = false; open = 0 }
+behind_stanza place = record place { inside = false; depth = 0 }
 
 -- a mark between two tokens
 abbrev pub is_space : Mark → Bool
@@ -127,7 +127,7 @@ fault_in (Stop ∷ ms) = fault_in ms
 
 -- the marks of what is left
 unfoldable pub marks_at : Place → List Mark
-marks_at place = marks place.parens place.open (Outside false) place.rest
+marks_at place = marks place.parens place.depth (Outside false) place.rest
 
 -- how many bytes stand before the next token or the stanza's end
 unfoldable pub gap_at : Place → ℕ
@@ -141,14 +141,14 @@ token_of line text plain = record { line = line; text = text; plain = plain }
 abbrev pub spelled : Place → List Mark → Option TextFault → Reading
 spelled place spelling (Some fault) = Fails fault
 spelled place spelling None =
-    Got (token_of place.line (flat_map given spelling) (list_all is_plain spelling)) (within place.open (passing (length spelling) place))
+    Got (token_of place.line (flat_map given spelling) (list_all is_plain spelling)) (within place.depth (passing (length spelling) place))
 
 -- what is read at a place whose marks begin with no gap
 abbrev pub read_at : Place → List Mark → Reading
 read_at place [] = Ended (behind_stanza place)
 read_at place (Stop ∷ ms) = Ended (behind_stanza (passing 1 place))
 read_at place (Alone byte ∷ ms) =
-    Got (token_of place.line (byte ∷ []) true) (within (open_after place.open (Alone byte)) (passing 1 place))
+    Got (token_of place.line (byte ∷ []) true) (within (open_after place.depth (Alone byte)) (passing 1 place))
 read_at place (Part byte ∷ ms) = let spelling = take_while is_spelled (Part byte ∷ ms) in spelled place spelling (fault_in spelling)
 read_at place (Quoting byte ∷ ms) = let spelling = take_while is_spelled (Quoting byte ∷ ms) in spelled place spelling (fault_in spelling)
 read_at place (Folded ∷ ms) = let spelling = take_while is_spelled (Folded ∷ ms) in spelled place spelling (fault_in spelling)
@@ -177,4 +177,4 @@ is_finished place = not place.inside && list_all (is_gap false) (marks_at place)
 
 -- the switch for parentheses as tokens; none is open then
 abbrev pub switched : Bool → Place → Place
-switched on place = record place { parens = on; open = 0 }
+switched on place = record place { parens = on; depth = 0 }

@@ -62,12 +62,12 @@ reaches_feed (byte ∷ text) = is_line_feed byte || (is_blank byte && reaches_fe
 
 -- a line end ends the stanza where no parenthesis is open
 abbrev pub feed_mark : ℕ → Mark
-feed_mark open = if open == 0 then Stop else Passed
+feed_mark depth = if depth == 0 then Stop else Passed
 
 -- what a byte is outside quotes and comments, by what stands behind it
 abbrev pub mark_outside : Bool → ℕ → Bool → ℕ → List ℕ → Mark
-mark_outside parens open joined byte text =
-    if is_line_feed byte then feed_mark open
+mark_outside parens depth joined byte text =
+    if is_line_feed byte then feed_mark depth
     else (if is_blank byte then (if joined || reaches_feed text then Passed else Blank byte)
     else (if is_hash byte then Passed
     else (if is_backslash byte then (if begins is_line_feed text then Passed else Quoting byte)
@@ -86,12 +86,12 @@ mark_quoted quote joined byte text =
 
 -- what a byte is
 abbrev pub mark_of : Bool → ℕ → Mode → ℕ → List ℕ → Mark
-mark_of parens open (Outside joined) byte text = mark_outside parens open joined byte text
-mark_of parens open Comment byte text = if is_line_feed byte then feed_mark open else Passed
-mark_of parens open Escaped byte text = Part byte
-mark_of parens open (Continued joined) byte text = if joined then Passed else Blank 32
-mark_of parens open (Quoted quote joined) byte text = mark_quoted quote joined byte text
-mark_of parens open (QuotedEscape quote) byte text = Part byte
+mark_of parens depth (Outside joined) byte text = mark_outside parens depth joined byte text
+mark_of parens depth Comment byte text = if is_line_feed byte then feed_mark depth else Passed
+mark_of parens depth Escaped byte text = Part byte
+mark_of parens depth (Continued joined) byte text = if joined then Passed else Blank 32
+mark_of parens depth (Quoted quote joined) byte text = mark_quoted quote joined byte text
+mark_of parens depth (QuotedEscape quote) byte text = Part byte
 
 -- where the byte behind one outside quotes and comments stands
 abbrev pub mode_outside : Bool → ℕ → List ℕ → Mode
@@ -122,14 +122,14 @@ mode_after (QuotedEscape quote) byte text = Quoted quote false
 
 -- how many parentheses are open behind a mark
 abbrev pub open_after : ℕ → Mark → ℕ
-open_after open (Alone byte) = if byte == 40 then open + 1 else open - 1
-open_after open (Part byte) = open
-open_after open (Quoting byte) = open
-open_after open Folded = open
-open_after open (Blank byte) = open
-open_after open Passed = open
-open_after open Stop = open
-open_after open (Fail fault) = open
+open_after depth (Alone byte) = if byte == 40 then depth + 1 else depth - 1
+open_after depth (Part byte) = depth
+open_after depth (Quoting byte) = depth
+open_after depth Folded = depth
+open_after depth (Blank byte) = depth
+open_after depth Passed = depth
+open_after depth Stop = depth
+open_after depth (Fail fault) = depth
 
 -- what stands behind the last byte: nothing, or the fault of a token that isn't whole
 abbrev pub end_marks : Mode → List Mark
@@ -142,7 +142,7 @@ end_marks (QuotedEscape quote) = Fail UnterminatedQuote ∷ []
 
 -- the marks of a text, one for each byte; whether parentheses are tokens, and how many are open
 abbrev pub marks : Bool → ℕ → Mode → List ℕ → List Mark
-marks parens open mode [] = end_marks mode
-marks parens open mode (byte ∷ text) =
-    let mark = mark_of parens open mode byte text in
-    mark ∷ marks parens (open_after open mark) (mode_after mode byte text) text
+marks parens depth mode [] = end_marks mode
+marks parens depth mode (byte ∷ text) =
+    let mark = mark_of parens depth mode byte text in
+    mark ∷ marks parens (open_after depth mark) (mode_after mode byte text) text

@@ -1,0 +1,79 @@
+//! The lines of a script.
+ghost use Rattle.std.specs.Prelude.{◌≡◌, ◌+◌, ◌<◌, ◌≤◌, ◌^◌, ◌&&◌, length, MatchOption, None};
+ghost use Rattle.std.specs.List.{prefix_len, before_first};
+ghost use Rattle.up_text.specs.Tokens.{is_blank};
+ghost use Rattle.up_text.specs.Scripts.{lines_of, is_end_line, script_in, ends_code, words_in};
+ghost use Rattle.up_text.specs.Lexer.{is_in_word, is_in_code, BeginsWord, BeginsLine, EndsScript};
+
+use crate::lexer::bytes::{blanks_len, line_len};
+
+// How many bytes of a word the bytes begin with.
+fn word_len(bytes: &[u8]) -> usize
+    ensures { result ≡ prefix_len is_in_word bytes.now }
+{
+    bytes
+        .iter()
+        .take_while(|byte| !matches!(**byte, b' ' | b'\t'))
+        .count()
+}
+
+// How many bytes stand before the comment and the line feed.
+fn code_len(bytes: &[u8]) -> usize
+    ensures { result ≡ prefix_len is_in_code bytes.now }
+{
+    bytes
+        .iter()
+        .take_while(|byte| !matches!(**byte, b'#' | b'\n'))
+        .count()
+}
+
+// The first word, or nothing where there is none, and what stands behind it.
+fn next_word(bytes: &[u8]) -> (&[u8], &[u8])
+    ensures { BeginsWord bytes.now result.0.now result.1.now }
+{
+    let words = &bytes[blanks_len(bytes)..];
+    words.split_at(word_len(words))
+}
+
+// Whether the line ends a script.
+fn is_end_line(line: &[u8]) -> bool
+    ensures { result ≡ is_end_line line.now }
+{
+    let (first, rest) = next_word(&line[..code_len(line)]);
+    let (second, rest) = next_word(rest);
+    let (third, _) = next_word(rest);
+    first == b"end".as_slice() && second == b"script".as_slice() && third.is_empty()
+}
+
+// The first line with its line feed, what stands behind it, and how many line feeds it has.
+fn split_line(text: &str) -> (&str, &str, u32)
+    requires { 0 < length text.now }
+    ensures { BeginsLine text.now result.0.now result.1.now result.2 }
+{
+    let bytes = text.as_bytes();
+    let end = line_len(bytes);
+    if end < bytes.len() {
+        let (line, rest) = text.split_at(end + 1);
+        (line, rest, 1)
+    } else {
+        (text, "", 0)
+    }
+}
+
+/// How long the script's lines are, the text behind its end line and the line there, where there is an end line.
+pub fn find_end(text: &str, line: u32) -> Option<(usize, &str, u32)>
+    requires { line + length text.now < 2 ^ 32 }
+    ensures { MatchOption result (script_in (lines_of text.now) ≡ None) (λ end. EndsScript text.now line end.0 end.1.now end.2) }
+{
+    let mut rest = text;
+    let mut line = line;
+    'lines: while !rest.is_empty() {
+        let (first, behind, feeds) = split_line(rest);
+        if is_end_line(first.as_bytes()) {
+            return Some((text.len() - rest.len(), behind, line + feeds));
+        }
+        rest = behind;
+        line += feeds;
+    }
+    None
+}
