@@ -8,7 +8,7 @@ use Rattle.std.proofs.lemmas.List.Folds.{list_all-append}
 use Rattle.std.specs.List.{list_all, flat_map}
 use Rattle.up_text.specs.declared.fault.TextFault.{TextFault}
 use Rattle.up_text.specs.declared.fault.TextFault.TheVariants.{UnterminatedQuote, TrailingBackslash}
-use Rattle.up_text.specs.Lexer.{is_ordinary, is_literal, is_high, is_low, is_byte, begins_joint, begins_fold, Splits, SplitsChar, Holds, shown, is_spelling, Run, Broken, Escape}
+use Rattle.up_text.specs.Lexer.{is_ordinary, is_literal, is_high, is_low, is_byte, begins_joint, begins_fold, ends_token, Splits, SplitsChar, Holds, shown, is_spelling, Run, Broken, Escape}
 use Rattle.up_text.specs.Places.{feeds}
 use Rattle.up_text.specs.Tokens.{Mark, Part, Quoting, Folded, Alone, Blank, Passed, Stop, Fail, Mode, Outside, Escaped, Quoted, QuotedEscape, marks, mark_of, mode_after, open_after, is_line_feed, is_blank, is_hash, is_quote, is_backslash, is_paren, begins, reaches_feed}
 
@@ -139,7 +139,7 @@ pub Holds-same : (held : Option (List ℕ)) (xs ys : List ℕ) → xs ≡ ys →
 Holds-same held xs ys same holds = subst (Holds held) same holds
 
 -- one part behind another
-pub Run-then : {parens keep : Bool} {mode between behind : Mode} {text middle rest : List ℕ} {line crossed reached : ℕ} {old half new : Option (List ℕ)}
+unfoldable pub Run-then : {parens keep : Bool} {mode between behind : Mode} {text middle rest : List ℕ} {line crossed reached : ℕ} {old half new : Option (List ℕ)}
     → Run parens keep mode text line between middle crossed old half → Run parens keep between middle crossed behind rest reached half new → Run parens keep mode text line behind rest reached old new
 Run-then {parens} {keep} {mode} {between} {behind} {text} {middle} {rest} {line} {crossed} {reached} {old} {half} {new} a b = record {
     bytes = a.bytes ++ b.bytes;
@@ -190,7 +190,7 @@ pub Run-fits : {parens keep : Bool} {mode behind : Mode} {text rest : List ℕ} 
 Run-fits {rest} a = omega (arith, feeds-length a.bytes, a.counted, ap length a.joined, length-append a.bytes rest)
 
 -- bytes that stand for themselves
-pub Run-ordinary : (parens keep : Bool) (text front rest : List ℕ) (line : ℕ) (old new : Option (List ℕ)) → Splits (is_ordinary parens) text front rest → ((held : List ℕ) → Holds old held → Holds new (held ++ front))
+unfoldable pub Run-ordinary : (parens keep : Bool) (text front rest : List ℕ) (line : ℕ) (old new : Option (List ℕ)) → Splits (is_ordinary parens) text front rest → ((held : List ℕ) → Holds old held → Holds new (held ++ front))
     → Run parens keep (Outside false) text line (Outside false) rest line old new
 Run-ordinary parens keep text front rest line old new splits pushed = record {
     bytes = front;
@@ -549,3 +549,28 @@ drop-shorter (byte ∷ text) filled = omega arith
 pub begins-filled : (p : ℕ → Bool) (text : List ℕ) → begins p text ≡ true → 0 < length text
 begins-filled p [] first = absurd (cc)
 begins-filled p (byte ∷ text) first = omega arith
+
+pub Run-shrinks : {parens keep : Bool} {mode behind : Mode} {text rest : List ℕ} {line reached : ℕ} {old new : Option (List ℕ)}
+    → Run parens keep mode text line behind rest reached old new → length rest ≤ length text
+Run-shrinks {rest} a = omega (arith, ap length a.joined, length-append a.bytes rest)
+
+pub not-joint : (parens : Bool) (text : List ℕ) → ends_token parens text ≡ false → begins_joint text ≡ false
+not-joint parens text before = (or_parts _ _ (or_parts _ _ before).0).1
+
+-- where a spelling goes on without a quote or a backslash, a byte stands for itself
+pub ordinary-first : (parens : Bool) (text : List ℕ) → ends_token parens text ≡ false → begins is_backslash text ≡ false → begins is_quote text ≡ false → begins (is_ordinary parens) text ≡ true
+unfolding is_ordinary
+ordinary-first parens [] before backslash quote = absurd (true≢false before)
+ordinary-first parens (byte ∷ text) before backslash quote =
+    let a : ((is_line_feed byte || is_blank byte || is_hash byte || (is_backslash byte && begins is_line_feed text)) ≡ false) × ((parens && is_paren byte) ≡ false) = or_parts _ _ before in
+    let b : ((is_line_feed byte || is_blank byte || is_hash byte) ≡ false) × ((is_backslash byte && begins is_line_feed text) ≡ false) = or_parts _ _ a.0 in
+    let d : ((is_line_feed byte || is_blank byte) ≡ false) × (is_hash byte ≡ false) = or_parts _ _ b.0 in
+    let e : (is_line_feed byte ≡ false) × (is_blank byte ≡ false) = or_parts _ _ d.0 in
+    rw (e.0, e.1, d.1, backslash, quote, a.1) refl
+
+-- in front of such bytes too
+pub ends-front : (parens : Bool) (front text : List ℕ) → list_all (is_ordinary parens) front ≡ true → ends_token parens text ≡ false → ends_token parens (front ++ text) ≡ false
+ends-front parens [] text all before = before
+ends-front parens (byte ∷ front) text all before =
+    let is = ordinary-is parens byte (and_parts (is_ordinary parens byte) (list_all (is_ordinary parens) front) all).0 in
+    simp (is.0, is.1, is.2, is.3, is.5)

@@ -52,14 +52,18 @@ fn push_piece<'a>(
             None => Err(TextFault::TrailingBackslash),
         };
     }
-    if let Some(quote) = first_quote(text) {
-        let (opening, rest) = split_first(text);
-        push_quoting(out, opening, keep);
-        return push_quoted(out, rest, line, quote, keep);
+    match first_quote(text) {
+        Some(quote) => {
+            let (opening, rest) = split_first(text);
+            push_quoting(out, opening, keep);
+            push_quoted(out, rest, line, quote, keep)
+        }
+        None => {
+            let (ordinary, rest) = split_ordinary(text, parens);
+            out.push(ordinary);
+            Ok((line, rest))
+        }
     }
-    let (ordinary, rest) = split_ordinary(text, parens);
-    out.push(ordinary);
-    Ok((line, rest))
 }
 
 /// Appends the rest of a spelling, and gives the line and the text behind it. With `keep` its quotes and backslashes stay.

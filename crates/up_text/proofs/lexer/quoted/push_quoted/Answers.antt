@@ -1,5 +1,6 @@
 use Rattle.std.proofs.Common.{◌≡◌, ◌+◌, ◌≤◌, true, ◌∙◌, sym, arith, rules}
 use Rattle.std.proofs.lemmas.Bool.{eqb-true}
+use Rattle.std.proofs.lemmas.Result.{err_from_is_err_and}
 use Rattle.std.proofs.lemmas.List.{nil_from_length}
 use Rattle.up_text.proofs.Runs.{Run-then, Run-fits, Run-closing, Broken-then, Broken-quote, begins-low, quote-low}
 use Rattle.up_text.specs.Lexer.{is_byte}
@@ -13,7 +14,9 @@ pub push_part-requires-clause-in_range : goal.push_part-requires-clause-in_range
 push_part-requires-clause-in_range c = omega (arith, Run-fits (c.parts.invariant.run true), c.requires.in_range)
 
 pub returns-in_err-reached : goal.returns-in_err-reached
-returns-in_err-reached c = λ parens. Broken-then (c.parts.invariant.run parens) (c.in_err-reached.ensures.means parens)
+returns-in_err-reached c = λ parens.
+    let p = err_from_is_err_and c.from_residual.result c.from_residual.ensures.1 in
+    rw (p.1, p.2) (Broken-then (c.parts.invariant.run parens) (c.in_err-reached.ensures.means parens))
 
 pub parts-preserved : goal.parts-preserved
 parts-preserved c = record {
