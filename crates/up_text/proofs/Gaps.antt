@@ -266,3 +266,6 @@ comment-shorter text [] rest splits hash = absurd (none rest (sym (ap (begins is
     none [] first ends = false≢true first
     none (byte ∷ rest) first ends = true≢false (sym (Rattle.std.proofs.lemmas.Bool.not-false _ ends) ∙ (hash-is byte first).0)
 comment-shorter text (byte ∷ front) rest splits hash = omega (arith, ap length splits.joined, length-append (byte ∷ front) rest)
+
+pub GapRun-shrinks : {inside parens : Bool} {depth : ℕ} {joined : Bool} {text rest : List ℕ} {line reached : ℕ} → GapRun inside parens depth joined text line rest reached → length rest ≤ length text
+GapRun-shrinks {inside} {parens} {depth} {joined} {text} {rest} {line} {reached} a = omega (arith, ap length a.is_text, length-append a.bytes rest)

@@ -1,5 +1,5 @@
 -- What is read where a spelling begins.
-use Rattle.std.proofs.Common.{◌≡◌, ℕ, ◌+◌, ◌<◌, Bool, true, false, cond, not, ◌&&◌, ◌||◌, List, [], ◌∷◌, ◌++◌, Option, None, Some, map, length, take, drop, refl, sym, ap, ◌∙◌, subst, suc, one-add, add-zero, arith, append-nil}
+use Rattle.std.proofs.Common.{◌≡◌, ℕ, ◌+◌, ◌<◌, Bool, true, false, cond, not, ◌&&◌, ◌||◌, eqb, List, [], ◌∷◌, ◌++◌, Option, None, Some, Ok, Err, inl, inr, map, length, take, drop, refl, sym, ap, ◌∙◌, subst, suc, one-add, add-zero, arith, append-nil}
 use Rattle.std.proofs.lemmas.Bool.{and_parts, and_from, or_parts, not-true, true≢false, false≢true, or_left, or_right}
 use Rattle.std.proofs.lemmas.List.{take_at, drop_at, nil_from_length}
 use Rattle.std.proofs.lemmas.Grind.{flat_map-append}
@@ -8,10 +8,10 @@ use Rattle.std.specs.List.{list_all, flat_map, prefix_len, take_while}
 use Rattle.up_text.specs.declared.fault.TextFault.{TextFault}
 use Rattle.up_text.specs.declared.fault.TextFault.TheVariants.{Memory}
 use Rattle.up_text.specs.declared.token.Token.{Token}
-use Rattle.up_text.specs.Lexer.{place, is_ordinary, is_spelling, begins_joint, ends_token, is_line_end, Splits, Run, Broken, GivesToken, GivesFault}
-use Rattle.up_text.specs.Places.{Place, Reading, Got, Fails, feeds, given, is_spelled, is_plain, fault_in, spelled, read_at, marks_at, passing, within, token_of}
+use Rattle.up_text.specs.Lexer.{place, is_ordinary, is_spelling, begins_joint, ends_token, is_line_end, Splits, Run, Broken, GivesToken, GivesFault, IsFaultOf, IsBehindGap, begins_gap, passes_feeds, open_at}
+use Rattle.up_text.specs.Places.{Place, Reading, Got, Ended, Fails, reading, Answers, feeds, given, is_spelled, is_plain, fault_in, spelled, read_at, marks_at, passing, within, token_of}
 use Rattle.up_text.specs.Tokens.{Mark, Part, Quoting, Folded, Alone, Blank, Passed, Stop, Fail, Mode, Outside, marks, mark_outside, feed_mark, is_line_feed, is_blank, is_hash, is_quote, is_backslash, is_paren, begins, reaches_feed}
-use Rattle.up_text.proofs.Runs.{backslash-is, quote-is, ordinary-is, ends-front, Broken-then, Run-then, Run-ordinary}
+use Rattle.up_text.proofs.Runs.{backslash-is, quote-is, ordinary-is, paren-is, ends-front, Broken-then, Run-then, Run-ordinary}
 
 -- a longest front of marks that pass
 
@@ -225,3 +225,55 @@ ordinary-broken parens front text line fault inside depth all other broken =
     let first : Run parens false (Outside false) (front ++ text) line (Outside false) text line None None =
       Run-ordinary parens false (front ++ text) front text line None None (record { joined = refl; all = all; ends = other }) (λ held holds. tt) in
     token-broken parens (front ++ text) line fault inside depth (Broken-then first broken)
+
+-- a parenthesis that is a token
+pub paren-read : (text : List ℕ) (line : ℕ) (inside : Bool) (depth : ℕ) → begins is_paren text ≡ true → GivesToken (place text line inside true depth) (token_of line (take 1 text) true) (place (drop 1 text) line true true (open_at text depth))
+unfolding marks_at
+paren-read [] line inside depth paren = absurd (cc)
+paren-read (byte ∷ text) line inside depth paren =
+    let is = paren-is byte paren in
+    rw (is.0, is.1, is.2, is.3, is.4, paren) (rw (is.0, add-zero) refl)
+
+-- what the parts of a lexer call read, where the text is behind a gap
+pub reading-behind : (before after : Place) → IsBehindGap before after → reading before ≡ read_at after (marks_at after)
+unfolding reading
+reading-behind before after behind = rw (← behind.at, ← behind.marked) refl
+
+pub end-read : (rest : List ℕ) (line : ℕ) (inside parens : Bool) (depth : ℕ) → is_line_end rest ≡ true → begins_gap (passes_feeds inside depth) rest ≡ false
+    → read_at (place rest line inside parens depth) (marks_at (place rest line inside parens depth)) ≡ Ended (place (drop 1 rest) (line + feeds (take 1 rest)) false parens 0)
+unfolding marks_at
+end-read [] line inside parens depth ends behind = rw add-zero refl
+end-read (byte ∷ rest) line inside parens depth feed behind =
+    let none : eqb depth 0 ≡ true = no_depth inside (eqb depth 0) (or_parts _ _ (rw feed at behind)).1 in
+    rw (feed, none) (ap (λ n. Ended (place rest (line + n) false parens 0)) (one feed))
+  where
+    one : is_line_feed byte ≡ true → cond (is_line_feed byte) 1 0 ≡ 1
+    one feed = rw feed refl
+    no_depth : (inside none : Bool) → ((not inside || not none) && true) ≡ false → none ≡ true
+    no_depth true true is = refl
+    no_depth true false is = absurd (true≢false is)
+    no_depth false true is = absurd (true≢false is)
+    no_depth false false is = absurd (true≢false is)
+
+-- what a call answers
+
+pub Answers-end : (old behind new : Place) → reading old ≡ Ended behind → new ≡ behind → Answers old (reading old) (Ok None) new
+Answers-end old behind new read same = rw read (refl, same)
+
+pub Answers-token : (old behind new : Place) (token : Token) → reading old ≡ Got token behind → new ≡ behind → Answers old (reading old) (Ok (Some token)) new
+Answers-token old behind new token read same = rw read (inl (refl, same))
+
+pub Answers-fault : (old : Place) (read : Reading) (fault : TextFault) → IsFaultOf read fault → Answers old read (Err fault) old
+Answers-fault old (Got token behind) fault is = inr (ap Err is, refl)
+Answers-fault old (Ended behind) fault is = absurd is
+Answers-fault old (Fails refused) fault is = (ap Err is, refl)
+
+-- a finished text
+
+list_all-rest : (p : Mark → Bool) (ms : List Mark) → list_all p ms ≡ list_all p (drop (prefix_len p ms) ms)
+list_all-rest p [] = refl
+list_all-rest p (m ∷ ms) = by_case (p m) refl (list_all-rest p ms)
+  where
+    by_case : (b : Bool) → p m ≡ b → list_all p ms ≡ list_all p (drop (prefix_len p ms) ms) → list_all p (m ∷ ms) ≡ list_all p (drop (prefix_len p (m ∷ ms)) (m ∷ ms))
+    by_case true e ih = rw (e, one-add) ih
+    by_case false e ih = rw e (rw e refl)

@@ -574,3 +574,7 @@ ends-front parens [] text all before = before
 ends-front parens (byte ∷ front) text all before =
     let is = ordinary-is parens byte (and_parts (is_ordinary parens byte) (list_all (is_ordinary parens) front) all).0 in
     simp (is.0, is.1, is.2, is.3, is.5)
+
+pub paren-is : (byte : ℕ) → is_paren byte ≡ true → (is_line_feed byte ≡ false) × (is_blank byte ≡ false) × (is_hash byte ≡ false) × (is_backslash byte ≡ false) × (is_quote byte ≡ false)
+unfolding is_line_feed is_blank is_hash is_backslash is_quote is_paren
+paren-is byte paren = (grind (arith, nat_tests), grind (arith, nat_tests), grind (arith, nat_tests), grind (arith, nat_tests), grind (arith, nat_tests))

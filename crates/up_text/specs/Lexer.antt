@@ -1,5 +1,5 @@
 -- What the parts of the lexer read.
-use Rattle.std.specs.Prelude.{◌≡◌, ◌⊎◌, ℕ, ◌+◌, ◌<◌, ◌^◌, Bool, true, false, not, ◌||◌, ◌&&◌, ◌==◌, nat_le, nat_lt, if◌then◌else◌, List, [], ◌∷◌, ◌++◌, length, drop, Option, Some, None, Result, Ok, Err, string_bytes}
+use Rattle.std.specs.Prelude.{◌≡◌, ◌⊎◌, ℕ, ◌+◌, ◌-◌, ◌<◌, ◌^◌, Bool, true, false, not, ◌||◌, ◌&&◌, ◌==◌, nat_le, nat_lt, if◌then◌else◌, List, [], ◌∷◌, ◌++◌, length, drop, Option, Some, None, Result, Ok, Err, string_bytes}
 use Rattle.std.specs.Borrow.{Bor}
 use Rattle.std.specs.List.{flat_map, list_all, concat}
 use Rattle.up_text.specs.declared.fault.TextFault.{TextFault}
@@ -205,3 +205,7 @@ pub record EndsScript (text : List ℕ) (line size : ℕ) (rest : List ℕ) (rea
   pub joined : text ≡ (concat before ++ last) ++ rest
   pub long : size ≡ length (concat before)
   pub counted : reached ≡ line + feeds (concat before ++ last)
+
+-- how many parentheses are open behind the one that begins a text
+abbrev pub open_at : List ℕ → ℕ → ℕ
+open_at text depth = if begins (is_byte 40) text then depth + 1 else depth - 1

@@ -1,6 +1,7 @@
 //! Reads the tokens of a job file or a script.
-ghost use Rattle.std.specs.Prelude.{◌≡◌, ◌+◌, ◌<◌, ◌^◌, length};
-ghost use Rattle.up_text.specs.Places.{start, reading, Answers, line_at, is_finished, switched};
+ghost use Rattle.std.specs.Prelude.{◌≡◌, ◌+◌, ◌<◌, ◌≤◌, ◌^◌, true, length, take, drop};
+ghost use Rattle.up_text.specs.Lexer.{is_line_end};
+ghost use Rattle.up_text.specs.Places.{feeds, start, reading, Answers, line_at, is_finished, switched};
 ghost use Rattle.up_text.specs.Commands.{ReadsCommand};
 ghost use Rattle.up_text.specs.Scripts.{ReadsScript};
 
@@ -51,7 +52,11 @@ impl<'a> Model for Lexer<'a> {
 
 // The line and the text behind a line end.
 fn after_line_end(text: &str, line: u32) -> (u32, &str)
-    requires { line + length text.now < 2 ^ 32 }
+    requires at_end { is_line_end text.now ≡ true }
+    requires in_range { line + length text.now < 2 ^ 32 }
+    ensures line { result.0 ≡ line + feeds (take 1 text.now) }
+    ensures rest { result.1.now ≡ drop 1 text.now }
+    ensures in_range { result.0 + length result.1.now ≤ line + length text.now }
 {
     if begins_feed(text) {
         (line + 1, split_first(text).1)

@@ -33,6 +33,7 @@ pub fn after_gap(text: &str, line: u32, inside: bool, depth: u32) -> (u32, &str)
     ensures passed { (parens : Bool) → IsBehindGap (place text.now line inside parens depth) (place result.1.now result.0 inside parens depth) }
     ensures ends { begins_gap (passes_feeds inside depth) result.1.now ≡ false }
     ensures in_range { result.0 + length result.1.now ≤ line + length text.now }
+    ensures shorter { length result.1.now ≤ length text.now }
 {
     let passes = !inside || depth != 0;
     let mut line = line;

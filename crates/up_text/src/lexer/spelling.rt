@@ -1,10 +1,10 @@
 //! The spelling of a token, and of what is written between the blanks of a command.
-ghost use Rattle.std.specs.Prelude.{◌≡◌, ◌+◌, ◌-◌, ◌<◌, ◌^◌, ◌++◌, ℕ, Bool, true, false, if◌then◌else◌, length, IfOk, MatchOption, MatchResult};
+ghost use Rattle.std.specs.Prelude.{◌≡◌, ◌+◌, ◌<◌, ◌≤◌, ◌^◌, ◌++◌, ℕ, Bool, true, false, length, IfOk, MatchOption, MatchResult};
 ghost use Rattle.std.specs.List.{list_all};
 ghost use Rattle.up_text.specs.declared.fault.TextFault.TheVariants.{Memory};
 ghost use Rattle.up_text.specs.Tokens.{Outside, is_quote, begins};
 ghost use Rattle.up_text.specs.Places.{token_of};
-ghost use Rattle.up_text.specs.Lexer.{is_byte, is_ordinary, is_line_end, ends_token, begins_gap, place, Run, Broken, GivesToken, GivesFault};
+ghost use Rattle.up_text.specs.Lexer.{is_byte, is_ordinary, is_line_end, ends_token, begins_gap, place, Run, Broken, GivesToken, GivesFault, open_at};
 
 use crate::fault::TextFault;
 use crate::lexer::bytes::{
@@ -113,8 +113,9 @@ fn spell<'a>(
     requires begins { ends_token parens text.now ≡ false }
     requires quotes { begins (is_ordinary parens) text.now ≡ false }
     requires in_range { line + length text.now < 2 ^ 32 }
-    ensures { (inside : Bool) (depth : ℕ) → let at = place (ordinary.now ++ text.now) line inside parens depth in
+    ensures gives { (inside : Bool) (depth : ℕ) → let at = place (ordinary.now ++ text.now) line inside parens depth in
         MatchResult result (λ read. GivesToken at read.0 (place read.2.now read.1 true parens depth)) (GivesFault at) }
+    ensures in_range { IfOk result (λ read. (read.1 + length read.2.now ≤ line + length text.now) × (length read.2.now ≤ length text.now)) }
 {
     let mut out = Draft::new(alloc);
     out.push(ordinary);
@@ -137,8 +138,9 @@ fn read_word<'a>(
 ) -> Result<(Token, u32, &'a str), TextFault>
     requires begins { ends_token parens text.now ≡ false }
     requires in_range { line + length text.now < 2 ^ 32 }
-    ensures { (inside : Bool) (depth : ℕ) → let at = place text.now line inside parens depth in
+    ensures gives { (inside : Bool) (depth : ℕ) → let at = place text.now line inside parens depth in
         MatchResult result (λ read. GivesToken at read.0 (place read.2.now read.1 true parens depth)) (GivesFault at) }
+    ensures in_range { IfOk result (λ read. (read.1 + length read.2.now ≤ line + length text.now) × (length read.2.now ≤ length text.now)) }
 {
     let (ordinary, rest) = split_ordinary(text, parens);
     if !ends_token(rest, parens) {
@@ -149,10 +151,9 @@ fn read_word<'a>(
 }
 
 // How many parentheses are open behind this one.
-#[tactic(auto, unfolding(crate::specs::Lexer::is_byte))]
 fn open_behind(text: &str, depth: u32) -> u32
     requires { depth + length text.now < 2 ^ 32 }
-    ensures { result ≡ (if begins (is_byte 40) text.now then depth + 1 else depth - 1) }
+    ensures { result ≡ open_at text.now depth }
 {
     if text.as_bytes().first() == Some(&b'(') {
         depth + 1
@@ -173,13 +174,16 @@ pub fn read_token<'a>(
     requires behind_gap { (passes : Bool) × (begins_gap passes text.now ≡ false) }
     requires lines { line + length text.now < 2 ^ 32 }
     requires parens { depth + length text.now < 2 ^ 32 }
-    ensures { (inside : Bool) → let at = place text.now line inside parens depth in
+    ensures gives { (inside : Bool) → let at = place text.now line inside parens depth in
         MatchResult result (λ read. GivesToken at read.0 (place read.2.now read.1 true parens read.3)) (GivesFault at) }
+    ensures lines { IfOk result (λ read. read.1 + length read.2.now ≤ line + length text.now) }
+    ensures depths { IfOk result (λ read. read.3 + length read.2.now ≤ depth + length text.now) }
 {
     if parens && begins_paren(text) {
         let (paren, rest) = split_first(text);
         let token = make_token(alloc, line, paren)?;
-        return Ok((token, line, rest, open_behind(text, depth)));
+        let behind = open_behind(text, depth);
+        return Ok((token, line, rest, behind));
     }
     let (token, reached, rest) = read_word(alloc, text, line, parens)?;
     Ok((token, reached, rest, depth))
