@@ -80,7 +80,7 @@ IsCharBoundary-after_char text filled =
     IsCharBoundary-from_rest text 1 (prefix_len is_high (drop 1 text)) (omega arith) (IsCharBoundary-before is_high (drop 1 text) high-ascii)
 
 -- what passes ends where it ends
-begins-drop : (p : ℕ → Bool) (text : List ℕ) → begins p (drop (prefix_len p text) text) ≡ false
+pub begins-drop : (p : ℕ → Bool) (text : List ℕ) → begins p (drop (prefix_len p text) text) ≡ false
 begins-drop p [] = refl
 begins-drop p (byte ∷ text) =
     let Goal : ℕ → Type 0 = λ n. begins p (drop n (byte ∷ text)) ≡ false in

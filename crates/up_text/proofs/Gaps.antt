@@ -1,13 +1,13 @@
 -- How the marks go over a gap.
 use Rattle.std.proofs.Common.{◌≡◌, ℕ, ◌+◌, ◌≤◌, ◌<◌, Bool, true, false, cond, not, ◌&&◌, ◌||◌, eqb, List, [], ◌∷◌, ◌++◌, length, take, drop, refl, sym, ap, ◌∙◌, subst, suc, add-zero, arith, append_assoc, length-append}
-use Rattle.std.proofs.lemmas.Bool.{and_parts, and_from, or_parts, or_cases, true≢false, false≢true}
+use Rattle.std.proofs.lemmas.Bool.{and_parts, and_from, or_parts, ne_eqb, or_cases, true≢false, false≢true}
 use Rattle.std.proofs.lemmas.List.{drop_at}
 use Rattle.std.proofs.lemmas.List.Folds.{list_all-append}
 use Rattle.std.specs.List.{list_all, prefix_len}
-use Rattle.up_text.proofs.Readings.{prefix_len-front, place-behind}
+use Rattle.up_text.proofs.Readings.{prefix_len-front, place-behind, list_all-rest}
 use Rattle.up_text.proofs.Runs.{blank-is, feed-is, hash-is, backslash-is, feeds-none, feeds-append, feeds-length}
 use Rattle.up_text.specs.Lexer.{place, is_in_line, begins_joint, begins_gap, passes_feeds, Splits, GapRun, IsBehindGap}
-use Rattle.up_text.specs.Places.{feeds, is_gap, is_space, gap_at, marks_at, passing}
+use Rattle.up_text.specs.Places.{feeds, is_gap, is_space, gap_at, marks_at, passing, is_finished}
 use Rattle.up_text.specs.Tokens.{Mark, Part, Quoting, Alone, Blank, Passed, Stop, Mode, Outside, Comment, Continued, marks, mark_outside, mode_outside, feed_mark, open_after, is_line_feed, is_blank, is_hash, is_quote, is_backslash, is_paren, begins, reaches_feed}
 
 or-true : (b : Bool) → (true || b) ≡ true
@@ -269,3 +269,23 @@ comment-shorter text (byte ∷ front) rest splits hash = omega (arith, ap length
 
 pub GapRun-shrinks : {inside parens : Bool} {depth : ℕ} {joined : Bool} {text rest : List ℕ} {line reached : ℕ} → GapRun inside parens depth joined text line rest reached → length rest ≤ length text
 GapRun-shrinks {inside} {parens} {depth} {joined} {text} {rest} {line} {reached} a = omega (arith, ap length a.is_text, length-append a.bytes rest)
+
+pub finished-read : (text rest : List ℕ) (line reached : ℕ) (parens : Bool) (depth : ℕ) → IsBehindGap (place text line false parens depth) (place rest reached false parens depth) → begins_gap (passes_feeds false depth) rest ≡ false
+    → eqb (length rest) 0 ≡ is_finished (place text line false parens depth)
+unfolding is_finished gap_at marks_at
+finished-read text rest line reached parens depth behind ends =
+    sym (list_all-rest (is_gap false) (marks_at (place text line false parens depth)) ∙ ap (list_all (is_gap false)) (sym behind.marked) ∙ at_rest rest ends)
+  where
+    at_rest : (rest : List ℕ) → begins_gap (passes_feeds false depth) rest ≡ false → list_all (is_gap false) (marks_at (place rest reached false parens depth)) ≡ eqb (length rest) 0
+    at_rest [] ends = refl
+    at_rest (byte ∷ rest) ends = rw (ends-gap_mark false parens depth false byte rest ends) (sym (ne_eqb (length (byte ∷ rest)) 0 (λ same. absurd (omega arith))))
+
+pub at_end-read : (inside : Bool) (text rest : List ℕ) (line reached : ℕ) (parens : Bool) (depth : ℕ) → inside ≡ false → IsBehindGap (place text line inside parens depth) (place rest reached inside parens depth) → begins_gap (passes_feeds inside depth) rest ≡ false
+    → eqb (length rest) 0 ≡ is_finished (place text line inside parens depth)
+at_end-read true text rest line reached parens depth outside behind ends = absurd (true≢false outside)
+at_end-read false text rest line reached parens depth outside behind ends = finished-read text rest line reached parens depth behind ends
+
+pub inside-unfinished : (inside : Bool) (text : List ℕ) (line : ℕ) (parens : Bool) (depth : ℕ) → inside ≡ true → false ≡ is_finished (place text line inside parens depth)
+unfolding is_finished
+inside-unfinished true text line parens depth is = refl
+inside-unfinished false text line parens depth is = absurd (false≢true is)

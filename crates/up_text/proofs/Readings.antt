@@ -9,7 +9,7 @@ use Rattle.up_text.specs.declared.fault.TextFault.{TextFault}
 use Rattle.up_text.specs.declared.fault.TextFault.TheVariants.{Memory}
 use Rattle.up_text.specs.declared.token.Token.{Token}
 use Rattle.up_text.specs.Lexer.{place, is_ordinary, is_spelling, begins_joint, ends_token, is_line_end, Splits, Run, Broken, GivesToken, GivesFault, IsFaultOf, IsBehindGap, begins_gap, passes_feeds, open_at}
-use Rattle.up_text.specs.Places.{Place, Reading, Got, Ended, Fails, reading, Answers, feeds, given, is_spelled, is_plain, fault_in, spelled, read_at, marks_at, passing, within, token_of}
+use Rattle.up_text.specs.Places.{Place, Reading, Got, Ended, Fails, reading, Answers, is_finished, line_at, is_gap, gap_at, feeds, given, is_spelled, is_plain, fault_in, spelled, read_at, marks_at, passing, within, token_of}
 use Rattle.up_text.specs.Tokens.{Mark, Part, Quoting, Folded, Alone, Blank, Passed, Stop, Fail, Mode, Outside, marks, mark_outside, feed_mark, is_line_feed, is_blank, is_hash, is_quote, is_backslash, is_paren, begins, reaches_feed}
 use Rattle.up_text.proofs.Runs.{backslash-is, quote-is, ordinary-is, paren-is, ends-front, Broken-then, Run-then, Run-ordinary}
 
@@ -247,7 +247,7 @@ end-read (byte ∷ rest) line inside parens depth feed behind =
     let none : eqb depth 0 ≡ true = no_depth inside (eqb depth 0) (or_parts _ _ (rw feed at behind)).1 in
     rw (feed, none) (ap (λ n. Ended (place rest (line + n) false parens 0)) (one feed))
   where
-    one : is_line_feed byte ≡ true → cond (is_line_feed byte) 1 0 ≡ 1
+    one : is_line_feed byte ≡ true → feeds (byte ∷ []) ≡ 1
     one feed = rw feed refl
     no_depth : (inside none : Bool) → ((not inside || not none) && true) ≡ false → none ≡ true
     no_depth true true is = refl
@@ -270,10 +270,17 @@ Answers-fault old (Fails refused) fault is = (ap Err is, refl)
 
 -- a finished text
 
-list_all-rest : (p : Mark → Bool) (ms : List Mark) → list_all p ms ≡ list_all p (drop (prefix_len p ms) ms)
+pub list_all-rest : (p : Mark → Bool) (ms : List Mark) → list_all p ms ≡ list_all p (drop (prefix_len p ms) ms)
 list_all-rest p [] = refl
 list_all-rest p (m ∷ ms) = by_case (p m) refl (list_all-rest p ms)
   where
     by_case : (b : Bool) → p m ≡ b → list_all p ms ≡ list_all p (drop (prefix_len p ms) ms) → list_all p (m ∷ ms) ≡ list_all p (drop (prefix_len p (m ∷ ms)) (m ∷ ms))
     by_case true e ih = rw (e, one-add) ih
     by_case false e ih = rw e (rw e refl)
+
+pub feeds-first : (text : List ℕ) → begins is_line_feed text ≡ true → feeds (take 1 text) ≡ 1
+feeds-first [] feed = absurd (false≢true feed)
+feeds-first (byte ∷ text) feed = rw feed refl
+
+pub line-read : (before after : Place) → IsBehindGap before after → after.line ≡ line_at before
+line-read before after behind = ap (λ p. p.line) behind.at

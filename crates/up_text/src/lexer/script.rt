@@ -5,7 +5,22 @@ ghost use Rattle.up_text.specs.Tokens.{is_blank};
 ghost use Rattle.up_text.specs.Scripts.{lines_of, is_end_line, script_in, ends_code, words_in};
 ghost use Rattle.up_text.specs.Lexer.{is_in_word, is_in_code, BeginsWord, BeginsLine, EndsScript};
 
-use crate::lexer::bytes::{blanks_len, line_len};
+use crate::lexer::bytes::{blanks_len, is_blank, line_len};
+
+#[tactic(auto, unfolding(crate::specs::Lexer::is_in_word))]
+fn is_in_word(byte: u8) -> bool
+    ensures { result ≡ is_in_word byte }
+{
+    !is_blank(byte)
+}
+
+// Whether the byte stands before a comment and a line feed.
+#[tactic(auto, unfolding(crate::specs::Lexer::is_in_code, crate::specs::Tokens::is_hash, crate::specs::Tokens::is_line_feed))]
+fn is_in_code(byte: u8) -> bool
+    ensures { result ≡ is_in_code byte }
+{
+    !(byte == b'#' || byte == b'\n')
+}
 
 // How many bytes of a word the bytes begin with.
 fn word_len(bytes: &[u8]) -> usize
@@ -13,7 +28,7 @@ fn word_len(bytes: &[u8]) -> usize
 {
     bytes
         .iter()
-        .take_while(|byte| !matches!(**byte, b' ' | b'\t'))
+        .take_while(|byte| is_in_word(**byte))
         .count()
 }
 
@@ -23,7 +38,7 @@ fn code_len(bytes: &[u8]) -> usize
 {
     bytes
         .iter()
-        .take_while(|byte| !matches!(**byte, b'#' | b'\n'))
+        .take_while(|byte| is_in_code(**byte))
         .count()
 }
 
@@ -31,7 +46,7 @@ fn code_len(bytes: &[u8]) -> usize
 fn next_word(bytes: &[u8]) -> (&[u8], &[u8])
     ensures { BeginsWord bytes.now result.0.now result.1.now }
 {
-    let words = &bytes[blanks_len(bytes)..];
+    let (_, words) = bytes.split_at(blanks_len(bytes));
     words.split_at(word_len(words))
 }
 
@@ -39,7 +54,8 @@ fn next_word(bytes: &[u8]) -> (&[u8], &[u8])
 fn is_end_line(line: &[u8]) -> bool
     ensures { result ≡ is_end_line line.now }
 {
-    let (first, rest) = next_word(&line[..code_len(line)]);
+    let (code, _) = line.split_at(code_len(line));
+    let (first, rest) = next_word(code);
     let (second, rest) = next_word(rest);
     let (third, _) = next_word(rest);
     first == b"end".as_slice() && second == b"script".as_slice() && third.is_empty()
@@ -50,9 +66,8 @@ fn split_line(text: &str) -> (&str, &str, u32)
     requires { 0 < length text.now }
     ensures { BeginsLine text.now result.0.now result.1.now result.2 }
 {
-    let bytes = text.as_bytes();
-    let end = line_len(bytes);
-    if end < bytes.len() {
+    let end = line_len(text.as_bytes());
+    if end < text.len() {
         let (line, rest) = text.split_at(end + 1);
         (line, rest, 1)
     } else {
