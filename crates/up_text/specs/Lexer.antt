@@ -198,12 +198,12 @@ pub record BeginsLine (text line rest : List ℕ) (count : ℕ) : Type 0 where
   pub filled : 0 < length line
 
 -- the lines of a script and its end line, which begin a text, and the place behind them
-pub record EndsScript (text : List ℕ) (line size : ℕ) (rest : List ℕ) (reached : ℕ) : Type 0 where
+pub record EndsScript (text : List ℕ) (line : ℕ) (script rest : List ℕ) (reached : ℕ) : Type 0 where
   pub before : List (List ℕ)
   pub last : List ℕ
-  pub script : script_in (lines_of text) ≡ Some (before, last)
+  pub found : script_in (lines_of text) ≡ Some (before, last)
   pub joined : text ≡ (concat before ++ last) ++ rest
-  pub long : size ≡ length (concat before)
+  pub lines : script ≡ concat before
   pub counted : reached ≡ line + feeds (concat before ++ last)
 
 -- how many parentheses are open behind the one that begins a text

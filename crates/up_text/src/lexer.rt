@@ -140,10 +140,10 @@ impl<'a> Lexer<'a> {
     pub fn script_lines(&mut self, alloc: Global) -> Result<Option<Text>, TextFault>
         ensures { ReadsScript self.old result self.new }
     {
-        let Some((len, rest, line)) = find_end(self.rest, self.line) else {
+        let Some((lines, rest, line)) = find_end(self.rest, self.line) else {
             return Ok(None);
         };
-        let script = Text::from_str(alloc, &self.rest[..len])?;
+        let script = Text::from_str(alloc, lines)?;
         self.rest = rest;
         self.line = line;
         self.inside = false;

@@ -1,8 +1,9 @@
 //! The lines of a script.
-ghost use Rattle.std.specs.Prelude.{◌≡◌, ◌+◌, ◌<◌, ◌≤◌, ◌^◌, ◌&&◌, length, MatchOption, None};
-ghost use Rattle.std.specs.List.{prefix_len, before_first};
+ghost use Rattle.std.specs.Prelude.{◌≡◌, ◌+◌, ◌<◌, ◌≤◌, ◌^◌, codes, length, MatchOption, None};
+ghost use Rattle.std.specs.List.{prefix_len};
+ghost use Rattle.std.specs.Str.{bytes_eq};
 ghost use Rattle.up_text.specs.Tokens.{is_blank};
-ghost use Rattle.up_text.specs.Scripts.{lines_of, is_end_line, script_in, ends_code, words_in};
+ghost use Rattle.up_text.specs.Scripts.{lines_of, is_end_line, script_in};
 ghost use Rattle.up_text.specs.Lexer.{is_in_word, is_in_code, BeginsWord, BeginsLine, EndsScript};
 
 use crate::lexer::bytes::{blanks_len, is_blank, line_len};
@@ -50,6 +51,18 @@ fn next_word(bytes: &[u8]) -> (&[u8], &[u8])
     words.split_at(word_len(words))
 }
 
+fn is_end(word: &[u8]) -> bool
+    ensures { result ≡ bytes_eq word.now (codes "end") }
+{
+    word == b"end".as_slice()
+}
+
+fn is_script(word: &[u8]) -> bool
+    ensures { result ≡ bytes_eq word.now (codes "script") }
+{
+    word == b"script".as_slice()
+}
+
 // Whether the line ends a script.
 fn is_end_line(line: &[u8]) -> bool
     ensures { result ≡ is_end_line line.now }
@@ -58,7 +71,13 @@ fn is_end_line(line: &[u8]) -> bool
     let (first, rest) = next_word(code);
     let (second, rest) = next_word(rest);
     let (third, _) = next_word(rest);
-    first == b"end".as_slice() && second == b"script".as_slice() && third.is_empty()
+    if !is_end(first) {
+        return false;
+    }
+    if !is_script(second) {
+        return false;
+    }
+    third.is_empty()
 }
 
 // The first line with its line feed, what stands behind it, and how many line feeds it has.
@@ -75,17 +94,18 @@ fn split_line(text: &str) -> (&str, &str, u32)
     }
 }
 
-/// How long the script's lines are, the text behind its end line and the line there, where there is an end line.
-pub fn find_end(text: &str, line: u32) -> Option<(usize, &str, u32)>
+/// The script's lines, the text behind its end line and the line there, where there is an end line.
+pub fn find_end(text: &str, line: u32) -> Option<(&str, &str, u32)>
     requires { line + length text.now < 2 ^ 32 }
-    ensures { MatchOption result (script_in (lines_of text.now) ≡ None) (λ end. EndsScript text.now line end.0 end.1.now end.2) }
+    ensures { MatchOption result (script_in (lines_of text.now) ≡ None) (λ end. EndsScript text.now line end.0.now end.1.now end.2) }
 {
     let mut rest = text;
     let mut line = line;
     'lines: while !rest.is_empty() {
         let (first, behind, feeds) = split_line(rest);
         if is_end_line(first.as_bytes()) {
-            return Some((text.len() - rest.len(), behind, line + feeds));
+            let (script, _) = text.split_at(text.len() - rest.len());
+            return Some((script, behind, line + feeds));
         }
         rest = behind;
         line += feeds;
