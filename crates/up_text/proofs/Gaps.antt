@@ -17,15 +17,15 @@ or-true b = refl
 pub GapRun-then : {inside parens : Bool} {depth : ℕ} {joined : Bool} {text middle rest : List ℕ} {line crossed reached : ℕ}
     → (a : GapRun inside parens depth joined text line middle crossed) → GapRun inside parens depth a.behind middle crossed rest reached → GapRun inside parens depth joined text line rest reached
 GapRun-then {inside} {parens} {depth} {joined} {text} {middle} {rest} {line} {crossed} {reached} a b = record {
-    bytes = a.bytes ++ b.bytes;
-    front = a.front ++ b.front;
-    behind = b.behind;
-    is_text = a.is_text ∙ ap (λ xs. a.bytes ++ xs) b.is_text ∙ sym (append_assoc a.bytes b.bytes rest);
-    same = a.same ∙ ap (λ ms. a.front ++ ms) b.same ∙ sym (append_assoc a.front b.front (marks parens depth (Outside b.behind) rest));
-    long = length-append a.front b.front ∙ (rw (a.long, b.long) (sym (length-append a.bytes b.bytes)));
-    gaps = list_all-append (is_gap inside) a.front b.front ∙ and_from _ _ a.gaps b.gaps;
-    counted = omega (arith, a.counted, b.counted, feeds-append a.bytes b.bytes);
-  }
+  bytes = a.bytes ++ b.bytes;
+  front = a.front ++ b.front;
+  behind = b.behind;
+  is_text = a.is_text ∙ ap (λ xs. a.bytes ++ xs) b.is_text ∙ sym (append_assoc a.bytes b.bytes rest);
+  same = a.same ∙ ap (λ ms. a.front ++ ms) b.same ∙ sym (append_assoc a.front b.front (marks parens depth (Outside b.behind) rest));
+  long = length-append a.front b.front ∙ (rw (a.long, b.long) (sym (length-append a.bytes b.bytes)));
+  gaps = list_all-append (is_gap inside) a.front b.front ∙ and_from _ _ a.gaps b.gaps;
+  counted = omega (arith, a.counted, b.counted, feeds-append a.bytes b.bytes);
+}
 
 pub GapRun-none : (inside parens : Bool) (depth : ℕ) (joined : Bool) (text : List ℕ) (line : ℕ) → GapRun inside parens depth joined text line text line
 GapRun-none inside parens depth joined text line = record { bytes = []; front = []; behind = joined; is_text = refl; same = refl; long = refl; gaps = refl; counted = sym (add-zero line) }
@@ -231,7 +231,7 @@ unfolding gap_at marks_at
 behind-gap inside parens depth text line rest reached run ends =
     let later = marks parens depth (Outside run.behind) rest in
     let gap : prefix_len (is_gap inside) (marks parens depth (Outside false) text) ≡ length run.front =
-      ap (prefix_len (is_gap inside)) run.same ∙ prefix_len-front (is_gap inside) run.front later run.gaps (ends-gap inside parens depth run.behind rest ends) in
+    ap (prefix_len (is_gap inside)) run.same ∙ prefix_len-front (is_gap inside) run.front later run.gaps (ends-gap inside parens depth run.behind rest ends) in
     let a : ((begins is_blank rest || begins is_hash rest || begins_joint rest) ≡ false) × ((passes_feeds inside depth && begins is_line_feed rest) ≡ false) = or_parts _ _ ends in
     let b : ((begins is_blank rest || begins is_hash rest) ≡ false) × (begins_joint rest ≡ false) = or_parts _ _ a.0 in
     let c : (begins is_blank rest ≡ false) × (begins is_hash rest ≡ false) = or_parts _ _ b.0 in

@@ -63,15 +63,18 @@ ends-mark parens depth byte text ends =
     stops : (stop : Bool) → is_spelled (cond stop Stop Passed) ≡ false
     stops true = refl
     stops false = refl
+
     blanks : (passed : Bool) → is_spelled (cond passed Passed (Blank byte)) ≡ false
     blanks true = refl
     blanks false = refl
+
     no_paren : is_paren byte ≡ false → (parens && is_paren byte) ≡ true → ⊥
     no_paren none some = false≢true (sym (by_parens parens none) ∙ some)
       where
         by_parens : (on : Bool) → is_paren byte ≡ false → (on && is_paren byte) ≡ false
         by_parens true none = none
         by_parens false none = refl
+
     by_case : (f b h k j q p : Bool) → is_line_feed byte ≡ f → is_blank byte ≡ b → is_hash byte ≡ h → is_backslash byte ≡ k → begins is_line_feed text ≡ j → is_quote byte ≡ q → (parens && is_paren byte) ≡ p → (f || b || h || (k && j) || p) ≡ true
         → is_spelled (cond f (feed_mark depth) (cond b (cond (false || reaches_feed text) Passed (Blank byte)) (cond h Passed (cond k (cond j Passed (Quoting byte)) (cond q (Quoting byte) (cond p (Alone byte) (Part byte))))))) ≡ false
     by_case true b h k j q p ef eb eh ek ej eq ep is = stops _
@@ -133,7 +136,7 @@ pub read-broken : (at : Place) (front : List Mark) (fault : TextFault) → list_
 read-broken at [] fault all = refl
 read-broken at (m ∷ front) fault all =
     let whole : take_while is_spelled ((m ∷ front) ++ Fail fault ∷ []) ≡ (m ∷ front) ++ Fail fault ∷ [] =
-      take_while-all is_spelled ((m ∷ front) ++ Fail fault ∷ []) (broken-spelled (m ∷ front) fault all) in
+    take_while-all is_spelled ((m ∷ front) ++ Fail fault ∷ []) (broken-spelled (m ∷ front) fault all) in
     read-front at (m ∷ front) (Fail fault ∷ []) (omega arith) all ((m ∷ front) ++ Fail fault ∷ []) whole
     ∙ ap (spelled at ((m ∷ front) ++ Fail fault ∷ [])) (fault-none (m ∷ front) (Fail fault ∷ []) all)
 
@@ -159,9 +162,11 @@ ordinary-read parens text front rest line inside depth splits before behind =
     plain-parts : (bytes : List ℕ) → list_all is_plain (map Part bytes) ≡ true
     plain-parts [] = refl
     plain-parts (byte ∷ bytes) = plain-parts bytes
+
     given-parts : (bytes : List ℕ) → flat_map given (map Part bytes) ≡ bytes
     given-parts [] = refl
     given-parts (byte ∷ bytes) = ap (λ bs. byte ∷ bs) (given-parts bytes)
+
     is_plain_token : (bytes : List ℕ) → token_of line (flat_map given (map Part bytes)) (list_all is_plain (map Part bytes)) ≡ token_of line bytes true
     is_plain_token bytes = rw (plain-parts bytes, given-parts bytes) refl
 
@@ -205,12 +210,12 @@ pub spelled-read : (parens : Bool) (front text rest : List ℕ) (line reached : 
 unfolding Run-then Run-ordinary
 spelled-read parens front text rest line reached old new run inside depth all before other behind =
     let first : Run parens false (Outside false) (front ++ text) line (Outside false) text line None None =
-      Run-ordinary parens false (front ++ text) front text line None None (record { joined = refl; all = all; ends = other }) (λ held holds. tt) in
+    Run-ordinary parens false (front ++ text) front text line None None (record { joined = refl; all = all; ends = other }) (λ held holds. tt) in
     let second : Run parens false (Outside false) text line (Outside false) rest reached None None =
-      record { bytes = run.bytes; front = run.front; joined = run.joined; same = run.same; long = run.long; spelled = run.spelled; counted = run.counted; pushed = λ held holds. tt } in
+    record { bytes = run.bytes; front = run.front; joined = run.joined; same = run.same; long = run.long; spelled = run.spelled; counted = run.counted; pushed = λ held holds. tt } in
     let read = token-read parens (front ++ text) rest line reached None None (Run-then first second) inside depth (ends-front parens front text all before) behind in
     let plain : list_all is_plain (map Part front ++ run.front) ≡ false =
-      list_all-append is_plain (map Part front) run.front ∙ ap (λ b. list_all is_plain (map Part front) && b) (plain-no parens false text rest line reached old new run before other behind) ∙ and-false (list_all is_plain (map Part front)) in
+    list_all-append is_plain (map Part front) run.front ∙ ap (λ b. list_all is_plain (map Part front) && b) (plain-no parens false text rest line reached old new run before other behind) ∙ and-false (list_all is_plain (map Part front)) in
     let text_is : flat_map given (map Part front ++ run.front) ≡ front ++ flat_map given run.front = flat_map-append given (map Part front) run.front ∙ ap (λ bs. bs ++ flat_map given run.front) (given-parts front) in
     rw (plain, text_is) at read
   where
@@ -223,7 +228,7 @@ pub ordinary-broken : (parens : Bool) (front text : List ℕ) (line : ℕ) (faul
     → GivesFault (place (front ++ text) line inside parens depth) fault
 ordinary-broken parens front text line fault inside depth all other broken =
     let first : Run parens false (Outside false) (front ++ text) line (Outside false) text line None None =
-      Run-ordinary parens false (front ++ text) front text line None None (record { joined = refl; all = all; ends = other }) (λ held holds. tt) in
+    Run-ordinary parens false (front ++ text) front text line None None (record { joined = refl; all = all; ends = other }) (λ held holds. tt) in
     token-broken parens (front ++ text) line fault inside depth (Broken-then first broken)
 
 -- a parenthesis that is a token
@@ -249,6 +254,7 @@ end-read (byte ∷ rest) line inside parens depth feed behind =
   where
     one : is_line_feed byte ≡ true → feeds (byte ∷ []) ≡ 1
     one feed = rw feed refl
+
     no_depth : (inside none : Bool) → ((not inside || not none) && true) ≡ false → none ≡ true
     no_depth true true is = refl
     no_depth true false is = absurd (true≢false is)

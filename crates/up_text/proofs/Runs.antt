@@ -142,39 +142,39 @@ Holds-same held xs ys same holds = subst (Holds held) same holds
 unfoldable pub Run-then : {parens keep : Bool} {mode between behind : Mode} {text middle rest : List ℕ} {line crossed reached : ℕ} {old half new : Option (List ℕ)}
     → Run parens keep mode text line between middle crossed old half → Run parens keep between middle crossed behind rest reached half new → Run parens keep mode text line behind rest reached old new
 Run-then {parens} {keep} {mode} {between} {behind} {text} {middle} {rest} {line} {crossed} {reached} {old} {half} {new} a b = record {
-    bytes = a.bytes ++ b.bytes;
-    front = a.front ++ b.front;
-    joined = a.joined ∙ ap (λ xs. a.bytes ++ xs) b.joined ∙ sym (append_assoc a.bytes b.bytes rest);
-    same = λ depth. a.same depth ∙ ap (λ ms. a.front ++ ms) (b.same depth) ∙ sym (append_assoc a.front b.front (marks parens depth behind rest));
-    long = length-append a.front b.front ∙ (rw (a.long, b.long) (sym (length-append a.bytes b.bytes)));
-    spelled = list_all-append is_spelling a.front b.front ∙ and_from _ _ a.spelled b.spelled;
-    counted = omega (arith, a.counted, b.counted, feeds-append a.bytes b.bytes);
-    pushed = λ held holds. Holds-same new ((held ++ flat_map (shown keep) a.front) ++ flat_map (shown keep) b.front) (held ++ flat_map (shown keep) (a.front ++ b.front))
-        (append_assoc held (flat_map (shown keep) a.front) (flat_map (shown keep) b.front) ∙ ap (λ xs. held ++ xs) (sym (flat_map-append (shown keep) a.front b.front)))
-        (b.pushed (held ++ flat_map (shown keep) a.front) (a.pushed held holds));
-  }
+  bytes = a.bytes ++ b.bytes;
+  front = a.front ++ b.front;
+  joined = a.joined ∙ ap (λ xs. a.bytes ++ xs) b.joined ∙ sym (append_assoc a.bytes b.bytes rest);
+  same = λ depth. a.same depth ∙ ap (λ ms. a.front ++ ms) (b.same depth) ∙ sym (append_assoc a.front b.front (marks parens depth behind rest));
+  long = length-append a.front b.front ∙ (rw (a.long, b.long) (sym (length-append a.bytes b.bytes)));
+  spelled = list_all-append is_spelling a.front b.front ∙ and_from _ _ a.spelled b.spelled;
+  counted = omega (arith, a.counted, b.counted, feeds-append a.bytes b.bytes);
+  pushed = λ held holds. Holds-same new ((held ++ flat_map (shown keep) a.front) ++ flat_map (shown keep) b.front) (held ++ flat_map (shown keep) (a.front ++ b.front))
+      (append_assoc held (flat_map (shown keep) a.front) (flat_map (shown keep) b.front) ∙ ap (λ xs. held ++ xs) (sym (flat_map-append (shown keep) a.front b.front)))
+      (b.pushed (held ++ flat_map (shown keep) a.front) (a.pushed held holds));
+}
 
 -- nothing at all
 pub Run-none : (parens keep : Bool) (mode : Mode) (text : List ℕ) (line : ℕ) (out : Option (List ℕ)) → Run parens keep mode text line mode text line out out
 Run-none parens keep mode text line out = record {
-    bytes = [];
-    front = [];
-    joined = refl;
-    same = λ depth. refl;
-    long = refl;
-    spelled = refl;
-    counted = sym (add-zero line);
-    pushed = λ held holds. Holds-same out held (held ++ []) (sym (append-nil held)) holds;
-  }
+  bytes = [];
+  front = [];
+  joined = refl;
+  same = λ depth. refl;
+  long = refl;
+  spelled = refl;
+  counted = sym (add-zero line);
+  pushed = λ held holds. Holds-same out held (held ++ []) (sym (append-nil held)) holds;
+}
 
 -- a fault behind a part
 pub Broken-then : {parens keep : Bool} {mode between : Mode} {text middle : List ℕ} {line crossed : ℕ} {old half : Option (List ℕ)} {fault : TextFault}
     → Run parens keep mode text line between middle crossed old half → Broken parens between middle fault → Broken parens mode text fault
 Broken-then {fault} a b = record {
-    front = a.front ++ b.front;
-    same = λ depth. a.same depth ∙ ap (λ ms. a.front ++ ms) (b.same depth) ∙ sym (append_assoc a.front b.front (Fail fault ∷ []));
-    spelled = list_all-append is_spelling a.front b.front ∙ and_from _ _ a.spelled b.spelled;
-  }
+  front = a.front ++ b.front;
+  same = λ depth. a.same depth ∙ ap (λ ms. a.front ++ ms) (b.same depth) ∙ sym (append_assoc a.front b.front (Fail fault ∷ []));
+  spelled = list_all-append is_spelling a.front b.front ∙ and_from _ _ a.spelled b.spelled;
+}
 
 -- the line numbers that are left fit where those before fit
 pub feeds-length : (bytes : List ℕ) → feeds bytes ≤ length bytes
@@ -193,30 +193,30 @@ Run-fits {rest} a = omega (arith, feeds-length a.bytes, a.counted, ap length a.j
 unfoldable pub Run-ordinary : (parens keep : Bool) (text front rest : List ℕ) (line : ℕ) (old new : Option (List ℕ)) → Splits (is_ordinary parens) text front rest → ((held : List ℕ) → Holds old held → Holds new (held ++ front))
     → Run parens keep (Outside false) text line (Outside false) rest line old new
 Run-ordinary parens keep text front rest line old new splits pushed = record {
-    bytes = front;
-    front = map Part front;
-    joined = splits.joined;
-    same = λ depth. rw splits.joined (marks-ordinary parens depth front rest splits.all);
-    long = length-map front Part;
-    spelled = spelled-parts front;
-    counted = rw (feeds-none (is_ordinary parens) front (λ byte is. (ordinary-is parens byte is).0) splits.all) (sym (add-zero line));
-    pushed = λ held holds. Holds-same new (held ++ front) _ (ap (λ xs. held ++ xs) (sym (shown-parts keep front))) (pushed held holds);
-  }
+  bytes = front;
+  front = map Part front;
+  joined = splits.joined;
+  same = λ depth. rw splits.joined (marks-ordinary parens depth front rest splits.all);
+  long = length-map front Part;
+  spelled = spelled-parts front;
+  counted = rw (feeds-none (is_ordinary parens) front (λ byte is. (ordinary-is parens byte is).0) splits.all) (sym (add-zero line));
+  pushed = λ held holds. Holds-same new (held ++ front) _ (ap (λ xs. held ++ xs) (sym (shown-parts keep front))) (pushed held holds);
+}
 
 -- the same in a quoted piece
 pub Run-literal : (parens keep : Bool) (quote : ℕ) (joined : Bool) (text front rest : List ℕ) (line : ℕ) (old new : Option (List ℕ)) → Splits (is_literal quote) text front rest → begins (is_literal quote) text ≡ true → ((held : List ℕ) → Holds old held → Holds new (held ++ front))
     → Run parens keep (Quoted quote joined) text line (Quoted quote false) rest line old new
 Run-literal parens keep quote joined text [] rest line old new splits first pushed = absurd (true≢false (sym first ∙ ap (begins (is_literal quote)) splits.joined ∙ splits.ends))
 Run-literal parens keep quote joined text (byte ∷ bytes) rest line old new splits first pushed = record {
-    bytes = byte ∷ bytes;
-    front = map Part (byte ∷ bytes);
-    joined = splits.joined;
-    same = λ depth. rw splits.joined (marks-literal parens depth quote joined byte bytes rest splits.all);
-    long = length-map (byte ∷ bytes) Part;
-    spelled = spelled-parts (byte ∷ bytes);
-    counted = rw (feeds-none (is_literal quote) (byte ∷ bytes) (λ byte is. (literal-is quote byte is).1) splits.all) (sym (add-zero line));
-    pushed = λ held holds. Holds-same new (held ++ byte ∷ bytes) _ (ap (λ xs. held ++ xs) (sym (shown-parts keep (byte ∷ bytes)))) (pushed held holds);
-  }
+  bytes = byte ∷ bytes;
+  front = map Part (byte ∷ bytes);
+  joined = splits.joined;
+  same = λ depth. rw splits.joined (marks-literal parens depth quote joined byte bytes rest splits.all);
+  long = length-map (byte ∷ bytes) Part;
+  spelled = spelled-parts (byte ∷ bytes);
+  counted = rw (feeds-none (is_literal quote) (byte ∷ bytes) (λ byte is. (literal-is quote byte is).1) splits.all) (sym (add-zero line));
+  pushed = λ held holds. Holds-same new (held ++ byte ∷ bytes) _ (ap (λ xs. held ++ xs) (sym (shown-parts keep (byte ∷ bytes)))) (pushed held holds);
+}
 
 -- blanks in a quoted piece: joined with a line end before or behind them, or not
 pub reaches-blanks : (blanks rest : List ℕ) → list_all is_blank blanks ≡ true → begins is_blank rest ≡ false → reaches_feed (blanks ++ rest) ≡ begins_fold rest
@@ -264,15 +264,15 @@ Run-blanks : (parens keep : Bool) (quote : ℕ) (joined folds : Bool) (text blan
     → ((held : List ℕ) → Holds old held → Holds new (held ++ flat_map (shown keep) (map (blank_mark folds) blanks)))
     → Run parens keep (Quoted quote joined) text line (Quoted quote joined) rest line old new
 Run-blanks parens keep quote joined folds text blanks rest line old new quoting splits is pushed = record {
-    bytes = blanks;
-    front = map (blank_mark folds) blanks;
-    joined = splits.joined;
-    same = λ depth. rw (splits.joined, ← is) (marks-blanks parens depth quote joined blanks rest quoting splits.all splits.ends);
-    long = length-map blanks (blank_mark folds);
-    spelled = spelled-blanks folds blanks;
-    counted = rw (feeds-none is_blank blanks (λ byte is. (blank-is byte is).0) splits.all) (sym (add-zero line));
-    pushed = pushed;
-  }
+  bytes = blanks;
+  front = map (blank_mark folds) blanks;
+  joined = splits.joined;
+  same = λ depth. rw (splits.joined, ← is) (marks-blanks parens depth quote joined blanks rest quoting splits.all splits.ends);
+  long = length-map blanks (blank_mark folds);
+  spelled = spelled-blanks folds blanks;
+  counted = rw (feeds-none is_blank blanks (λ byte is. (blank-is byte is).0) splits.all) (sym (add-zero line));
+  pushed = pushed;
+}
 
 pub Run-blanks_folded : (parens keep : Bool) (quote : ℕ) (joined : Bool) (text blanks rest : List ℕ) (line : ℕ) (out : Option (List ℕ)) → is_quote quote ≡ true → Splits is_blank text blanks rest → (joined || begins_fold rest) ≡ true
     → Run parens keep (Quoted quote joined) text line (Quoted quote joined) rest line out out
@@ -320,15 +320,15 @@ pub Run-feed : (parens keep : Bool) (quote : ℕ) (joined : Bool) (text : List �
     → Run parens keep (Quoted quote joined) text line (Quoted quote true) (drop 1 text) (line + 1) old new
 Run-feed parens keep quote joined [] line old new quoting feed pushed = absurd (cc)
 Run-feed parens keep quote joined (byte ∷ rest) line old new quoting feed pushed = record {
-    bytes = byte ∷ [];
-    front = fold_mark joined ∷ [];
-    joined = refl;
-    same = λ depth. marks-feed parens depth quote joined byte rest quoting feed;
-    long = refl;
-    spelled = spelled-fold joined;
-    counted = rw feed refl;
-    pushed = λ held holds. Holds-same new (held ++ fold_text joined) _ (ap (λ xs. held ++ xs) (sym (shown-fold keep joined))) (pushed held holds);
-  }
+  bytes = byte ∷ [];
+  front = fold_mark joined ∷ [];
+  joined = refl;
+  same = λ depth. marks-feed parens depth quote joined byte rest quoting feed;
+  long = refl;
+  spelled = spelled-fold joined;
+  counted = rw feed refl;
+  pushed = λ held holds. Holds-same new (held ++ fold_text joined) _ (ap (λ xs. held ++ xs) (sym (shown-fold keep joined))) (pushed held holds);
+}
 
 -- the backslash before it gives nothing
 pub Run-joint : (parens keep : Bool) (quote : ℕ) (joined : Bool) (text : List ℕ) (line : ℕ) (out : Option (List ℕ)) → is_quote quote ≡ true → begins_joint text ≡ true

@@ -94,6 +94,7 @@ BeginsWord-first text = by_words (drop (prefix_len is_blank text) text) (words-b
           | true ↦ λ _. rw one-add (no_blank text)
           | false ↦ λ fails. fails
         ] refl
+
     by_words : (words : List ℕ) → words_in text ≡ words_in words → begins is_blank words ≡ false → BeginsWord text (take (prefix_len is_in_word words) words) (drop (prefix_len is_in_word words) words)
     by_words [] same none = same
     by_words (byte ∷ words) same none = BeginsWord-filled text byte words same none
@@ -209,12 +210,12 @@ feeds-push before line = ap feeds (sym (append-nil _) ∙ sym (concat-push befor
 
 pub Passed-more : (text : List ℕ) (line : ℕ) (rest : List ℕ) (reached : ℕ) (first behind : List ℕ) (count : ℕ) → Passed text line rest reached → BeginsLine rest first behind count → is_end_line first ≡ false → Passed text line behind (reached + count)
 Passed-more text line rest reached first behind count passed begins other = record {
-    before = passed.before ++ first ∷ [];
-    joined = passed.joined ∙ ap (λ xs. concat passed.before ++ xs) begins.joined ∙ concat-push passed.before first behind;
-    found = λ after last is. passed.found (first ∷ after) last (ap script_in begins.lines ∙ script-more first (lines_of behind) after last other is) ∙ ap (λ b. Some (b, last)) (sym (append_assoc passed.before (first ∷ []) after));
-    none = λ is. passed.none (ap script_in begins.lines ∙ script-none first (lines_of behind) other is);
-    counted = omega (arith, passed.counted, begins.counted, feeds-push passed.before first);
-  }
+  before = passed.before ++ first ∷ [];
+  joined = passed.joined ∙ ap (λ xs. concat passed.before ++ xs) begins.joined ∙ concat-push passed.before first behind;
+  found = λ after last is. passed.found (first ∷ after) last (ap script_in begins.lines ∙ script-more first (lines_of behind) after last other is) ∙ ap (λ b. Some (b, last)) (sym (append_assoc passed.before (first ∷ []) after));
+  none = λ is. passed.none (ap script_in begins.lines ∙ script-none first (lines_of behind) other is);
+  counted = omega (arith, passed.counted, begins.counted, feeds-push passed.before first);
+}
 
 Passed-cut : (text : List ℕ) (line : ℕ) (rest : List ℕ) (reached : ℕ) → (passed : Passed text line rest reached) → length (concat passed.before) ≡ length text - length rest
 Passed-cut text line rest reached passed = omega (arith, ap length passed.joined, length-append (concat passed.before) rest)
@@ -226,13 +227,13 @@ Passed-boundary text line rest reached passed utf8 =
 
 pub Passed-end : (text : List ℕ) (line : ℕ) (rest : List ℕ) (reached : ℕ) (first behind : List ℕ) (count : ℕ) → Passed text line rest reached → BeginsLine rest first behind count → is_end_line first ≡ true → EndsScript text line (take (length text - length rest) text) behind (reached + count)
 Passed-end text line rest reached first behind count passed begins is = record {
-    before = passed.before;
-    last = first;
-    found = passed.found [] first (ap script_in begins.lines ∙ rw is refl) ∙ ap (λ b. Some (b, first)) (append-nil passed.before);
-    joined = passed.joined ∙ ap (λ xs. concat passed.before ++ xs) begins.joined ∙ sym (append_assoc (concat passed.before) first behind);
-    lines = ap (take (length text - length rest)) passed.joined ∙ take_at (concat passed.before) rest (length text - length rest) (Passed-cut text line rest reached passed);
-    counted = omega (arith, passed.counted, begins.counted, feeds-append (concat passed.before) first);
-  }
+  before = passed.before;
+  last = first;
+  found = passed.found [] first (ap script_in begins.lines ∙ rw is refl) ∙ ap (λ b. Some (b, first)) (append-nil passed.before);
+  joined = passed.joined ∙ ap (λ xs. concat passed.before ++ xs) begins.joined ∙ sym (append_assoc (concat passed.before) first behind);
+  lines = ap (take (length text - length rest)) passed.joined ∙ take_at (concat passed.before) rest (length text - length rest) (Passed-cut text line rest reached passed);
+  counted = omega (arith, passed.counted, begins.counted, feeds-append (concat passed.before) first);
+}
 
 pub Passed-none : (text : List ℕ) (line : ℕ) (rest : List ℕ) (reached : ℕ) → Passed text line rest reached → length rest ≡ 0 → script_in (lines_of text) ≡ None
 Passed-none text line rest reached passed empty = passed.none (rw (nil_from_length rest empty) refl)

@@ -2,11 +2,9 @@
 ghost use Rattle.std.specs.Prelude.{◌≡◌, ◌+◌, ◌<◌, ◌≤◌, ◌^◌, true, length, take, drop};
 ghost use Rattle.up_text.specs.Lexer.{is_line_end};
 ghost use Rattle.up_text.specs.Places.{feeds, start, reading, Answers, line_at, is_finished, switched};
-ghost use Rattle.up_text.specs.Commands.{ReadsCommand};
 ghost use Rattle.up_text.specs.Scripts.{ReadsScript};
 
 mod bytes;
-mod command;
 mod draft;
 mod gap;
 mod quoted;
@@ -15,7 +13,6 @@ mod spelling;
 
 use crate::fault::TextFault;
 use crate::lexer::bytes::{begins_feed, is_line_end, split_first};
-use crate::lexer::command::read_command;
 use crate::lexer::gap::after_gap;
 use crate::lexer::script::find_end;
 use crate::lexer::spelling::read_token;
@@ -84,7 +81,10 @@ impl<'a> Lexer<'a> {
     pub fn at_end(&self) -> bool
         ensures { result ≡ is_finished self.now }
     {
-        !self.inside && after_gap(self.rest, self.line, self.inside, self.depth).1.is_empty()
+        !self.inside
+            && after_gap(self.rest, self.line, self.inside, self.depth)
+                .1
+                .is_empty()
     }
 
     /// The line of the next token, or of the end of the stanza or of the text.
@@ -122,17 +122,6 @@ impl<'a> Lexer<'a> {
         self.inside = true;
         self.depth = depth;
         Ok(Some(token))
-    }
-
-    /// The text of a command, which is the rest of the stanza as it is written. Call it behind the token `exec`; `next` then
-    /// gives `None`.
-    pub fn command_text(&mut self, alloc: Global) -> Result<Text, TextFault>
-        ensures { ReadsCommand self.old result self.new }
-    {
-        let (text, line, rest) = read_command(alloc, self.rest, self.line)?;
-        self.rest = rest;
-        self.line = line;
-        Ok(text)
     }
 
     /// The lines of a script up to its end line, each with its line feed; the end line is passed too. `None` where there is no

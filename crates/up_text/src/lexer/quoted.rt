@@ -8,7 +8,7 @@ use crate::lexer::bytes::{
     begins_backslash, begins_blank, begins_feed, begins_joint, split_blanks, split_char,
     split_first, split_literal,
 };
-use crate::lexer::draft::{push_quoting, Draft};
+use crate::lexer::draft::{Draft, push_quoting};
 
 fn begins_byte(text: &str, byte: u8) -> bool
     ensures { result ≡ begins (is_byte byte) text.now }

@@ -27,20 +27,14 @@ fn is_in_code(byte: u8) -> bool
 fn word_len(bytes: &[u8]) -> usize
     ensures { result ≡ prefix_len is_in_word bytes.now }
 {
-    bytes
-        .iter()
-        .take_while(|byte| is_in_word(**byte))
-        .count()
+    bytes.iter().take_while(|byte| is_in_word(**byte)).count()
 }
 
 // How many bytes stand before the comment and the line feed.
 fn code_len(bytes: &[u8]) -> usize
     ensures { result ≡ prefix_len is_in_code bytes.now }
 {
-    bytes
-        .iter()
-        .take_while(|byte| is_in_code(**byte))
-        .count()
+    bytes.iter().take_while(|byte| is_in_code(**byte)).count()
 }
 
 // The first word, or nothing where there is none, and what stands behind it.

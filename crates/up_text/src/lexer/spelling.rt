@@ -10,7 +10,7 @@ use crate::fault::TextFault;
 use crate::lexer::bytes::{
     begins_backslash, begins_paren, begins_quote, ends_token, split_first, split_ordinary,
 };
-use crate::lexer::draft::{push_quoting, Draft};
+use crate::lexer::draft::{Draft, push_quoting};
 use crate::lexer::quoted::{push_escape, push_quoted};
 use crate::text::Text;
 use crate::token::Token;

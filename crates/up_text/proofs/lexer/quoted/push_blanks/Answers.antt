@@ -12,8 +12,8 @@ returns-then-not-begins_fold-clause-run c = λ parens keep quote line quoting.
 pub returns-else-not-joined-clause-run : goal.returns-else-not-joined-clause-run
 returns-else-not-joined-clause-run c = λ parens keep quote line quoting.
     let folds : (c.args.joined || begins_fold c.split_blanks.result.1.now) ≡ true =
-      elim c.else-not-joined.branch [
-        | else-not-joined-via-then-not-joined+else-not-begins_fold w ↦ or_right _ _ (sym w.begins_fold.ensures ∙ w.if-not-begins_fold.false)
-        | else-not-joined-via-else-not-joined w ↦ or_left _ _ w.if-not-joined.false
-      ] in
+    elim c.else-not-joined.branch [
+      | else-not-joined-via-then-not-joined+else-not-begins_fold w ↦ or_right _ _ (sym w.begins_fold.ensures ∙ w.if-not-begins_fold.false)
+      | else-not-joined-via-else-not-joined w ↦ or_left _ _ w.if-not-joined.false
+    ] in
     Run-blanks_folded parens keep quote c.args.joined _ _ _ line _ quoting c.split_blanks.ensures folds

@@ -20,9 +20,9 @@ returns-in_err-reached c = λ parens.
 
 pub parts-preserved : goal.parts-preserved
 parts-preserved c = record {
-    run = λ parens. Run-then (c.parts.invariant.run parens) (c.in_ok-reached.ensures.means parens);
-    is_text = let h = c.push_part in search rules;
-  }
+  run = λ parens. Run-then (c.parts.invariant.run parens) (c.in_ok-reached.ensures.means parens);
+  is_text = let h = c.push_part in search rules;
+}
 
 pub split_first-requires : goal.split_first-requires
 split_first-requires c = begins-low (is_byte c.args.quote) c.parts.rest.now (quote-low c.args.quote c.requires.quoting) (sym c.begins_byte.ensures ∙ c.parts-test.false)

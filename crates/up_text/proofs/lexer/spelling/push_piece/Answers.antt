@@ -21,7 +21,7 @@ returns-in-Some-first_quote c =
     let quote = c.in-Some-first_quote.quote in
     let at = c.in-Some-first_quote.ensures in
     let opening : Run c.args.parens c.args.keep (Outside false) c.args.text.now c.args.line (Quoted quote false) c.split_first.result.1.now c.args.line c.args.out.now c.push_quoting.new.out =
-      rw c.split_first.ensures.rest (Run-opening c.args.parens c.args.keep quote c.args.text.now c.args.line _ _ at.0 at.1 (rw (← c.split_first.ensures.front) c.push_quoting.ensures)) in
+    rw c.split_first.ensures.rest (Run-opening c.args.parens c.args.keep quote c.args.text.now c.args.line _ _ at.0 at.1 (rw (← c.split_first.ensures.front) c.push_quoting.ensures)) in
     let shorter : length c.split_first.result.1.now < length c.args.text.now = rw c.split_first.ensures.rest (drop-shorter c.args.text.now (begins-filled (is_byte quote) c.args.text.now at.1)) in
     MatchResult-weaker c.push_quoted.result (c.push_quoted.ensures c.args.parens)
     (λ read run. (Run-then opening run, omega (arith, Run-shrinks run, shorter)))

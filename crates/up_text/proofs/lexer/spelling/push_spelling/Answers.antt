@@ -13,6 +13,6 @@ returns-in_err-reached-clause-means c =
 
 pub pieces-preserved : goal.pieces-preserved
 pieces-preserved c = record {
-    run = Run-then c.pieces.invariant.run c.in_ok-reached.ensures.0;
-    is_text = search rules;
-  }
+  run = Run-then c.pieces.invariant.run c.in_ok-reached.ensures.0;
+  is_text = search rules;
+}
