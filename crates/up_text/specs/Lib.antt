@@ -1,9 +1,13 @@
 pub mod Bindings
+pub mod Commands
 pub mod Expanding
 pub mod Expansion
 pub mod Fault
+pub mod Lexemes
 pub mod Lexer
 pub mod Matching
 pub mod Names
 pub mod Pattern
+pub mod Places
+pub mod Scripts
 pub mod Tokens

@@ -1,27 +1,30 @@
 -- How the text of a job file or a script is read as tokens, by init(5).
-use Rattle.std.specs.Prelude.{◌≡◌, ◌⊎◌, ℕ, ◌+◌, Bool, true, false, ◌||◌, ◌==◌, if◌then◌else◌, List, [], ◌∷◌, ◌++◌, map, Option, None, Some, Result, Ok, Err, filter, find}
-use Rattle.std.specs.List.{flat_map, slice_split}
-use Rattle.std.specs.Str.{bytes_eq}
+use Rattle.std.specs.Prelude.{ℕ, ◌+◌, ◌-◌, Bool, true, false, ◌||◌, ◌&&◌, ◌==◌, not, if◌then◌else◌, List, [], ◌∷◌}
 use Rattle.up_text.specs.declared.fault.TextFault.{TextFault}
-use Rattle.up_text.specs.declared.fault.TextFault.TheVariants.{UnterminatedQuote, TrailingBackslash, Memory}
-use Rattle.up_text.specs.declared.token.Token.{Token}
+use Rattle.up_text.specs.declared.fault.TextFault.TheVariants.{UnterminatedQuote, TrailingBackslash}
 
--- what a byte is: one of a token, with its line; a blank or one of a comment; a line end that ends the stanza
+-- what a byte is: one that a token is given; a quote or a backslash, which belongs to a token and gives it nothing; one of a
+-- quoted piece that is joined with others to one space; a parenthesis that is a token of its own; a blank between tokens; one of a
+-- comment, or joined with other blanks; a line end that ends the stanza. Behind the last byte: why the token is refused
 pub data Mark : Type 0 where
-  Part : (line byte : ℕ) → Mark
-  Gap : Mark
+  Part : (byte : ℕ) → Mark
+  Quoting : (byte : ℕ) → Mark
+  Folded : Mark
+  Alone : (byte : ℕ) → Mark
+  Blank : (byte : ℕ) → Mark
+  Passed : Mark
   Stop : Mark
+  Fail : (fault : TextFault) → Mark
 
--- where a byte stands: outside comments, or in one
+-- where a byte stands: outside quotes and comments; in a comment; behind a backslash; between a backslash and a line end; in a
+-- piece quoted by this byte; behind a backslash there. A run of blanks is joined once it had a line end
 pub data Mode : Type 0 where
-  Outside : Mode
+  Outside : (joined : Bool) → Mode
   Comment : Mode
-
--- what is read: a token; a spelling that is refused, with the line of its first byte, and why; the end of a stanza
-pub data Lexeme : Type 0 where
-  Word : (token : Token) → Lexeme
-  Bad : (line : ℕ) → (fault : TextFault) → Lexeme
-  End : Lexeme
+  Escaped : Mode
+  Continued : (joined : Bool) → Mode
+  Quoted : (quote : ℕ) (joined : Bool) → Mode
+  QuotedEscape : (quote : ℕ) → Mode
 
 -- a line feed
 unfoldable pub is_line_feed : ℕ → Bool
@@ -35,118 +38,111 @@ is_blank byte = byte == 32 || byte == 9
 unfoldable pub is_hash : ℕ → Bool
 is_hash byte = byte == 35
 
--- a quote, " or ', or a backslash
-unfoldable pub is_quoting : ℕ → Bool
-is_quoting byte = byte == 34 || byte == 39 || byte == 92
+-- a quote, " or '
+unfoldable pub is_quote : ℕ → Bool
+is_quote byte = byte == 34 || byte == 39
 
--- what a byte on this line is
-abbrev pub mark_of : Mode → ℕ → ℕ → Mark
-mark_of Outside line byte =
-    if is_line_feed byte then Stop
-    else (if is_blank byte || is_hash byte then Gap
-    else Part line byte)
-mark_of Comment line byte = if is_line_feed byte then Stop else Gap
+-- a backslash
+unfoldable pub is_backslash : ℕ → Bool
+is_backslash byte = byte == 92
 
--- where the next byte stands: a comment goes from a # to the end of the line
-abbrev pub mode_after : Mode → ℕ → Mode
-mode_after Outside byte = if is_hash byte then Comment else Outside
-mode_after Comment byte = if is_line_feed byte then Outside else Comment
+-- a parenthesis, ( or )
+unfoldable pub is_paren : ℕ → Bool
+is_paren byte = byte == 40 || byte == 41
 
--- the line of the next byte
-abbrev pub line_after : ℕ → ℕ → ℕ
-line_after line byte = if is_line_feed byte then line + 1 else line
+-- a text whose first byte passes
+abbrev pub begins : (ℕ → Bool) → List ℕ → Bool
+begins passes [] = false
+begins passes (byte ∷ text) = passes byte
 
--- the marks of a text, one for each byte
-abbrev pub marks : Mode → ℕ → List ℕ → List Mark
-marks mode line [] = []
-marks mode line (byte ∷ text) = mark_of mode line byte ∷ marks (mode_after mode byte) (line_after line byte) text
+-- a text that goes on to a line end over nothing but blanks, perhaps by a backslash
+abbrev pub reaches_feed : List ℕ → Bool
+reaches_feed [] = false
+reaches_feed (byte ∷ text) = is_line_feed byte || (is_blank byte && reaches_feed text) || (is_backslash byte && begins is_line_feed text)
 
--- a mark that ends a stanza
-abbrev pub is_stop : Mark → Bool
-is_stop Stop = true
-is_stop (Part line byte) = false
-is_stop Gap = false
+-- a line end ends the stanza where no parenthesis is open
+abbrev pub feed_mark : ℕ → Mark
+feed_mark depth = if depth == 0 then Stop else Passed
 
--- a mark between two tokens
-abbrev pub is_gap : Mark → Bool
-is_gap Gap = true
-is_gap (Part line byte) = false
-is_gap Stop = false
+-- what a byte is outside quotes and comments, by what stands behind it
+abbrev pub mark_outside : Bool → ℕ → Bool → ℕ → List ℕ → Mark
+mark_outside parens depth joined byte text =
+    if is_line_feed byte then feed_mark depth
+    else (if is_blank byte then (if joined || reaches_feed text then Passed else Blank byte)
+    else (if is_hash byte then Passed
+    else (if is_backslash byte then (if begins is_line_feed text then Passed else Quoting byte)
+    else (if is_quote byte then Quoting byte
+    else (if parens && is_paren byte then Alone byte
+    else Part byte)))))
 
--- a list with an item in it
-abbrev pub is_filled : {X : Type 0} → List X → Bool
-is_filled [] = false
-is_filled (x ∷ xs) = true
+-- what it is inside quotes: a run of blanks with a line end in it is one space, which the first line end gives
+abbrev pub mark_quoted : ℕ → Bool → ℕ → List ℕ → Mark
+mark_quoted quote joined byte text =
+    if byte == quote then Quoting byte
+    else (if is_line_feed byte then (if joined then Folded else Part 32)
+    else (if is_blank byte then (if joined || reaches_feed text then Folded else Part byte)
+    else (if is_backslash byte then (if begins is_line_feed text then Folded else Quoting byte)
+    else Part byte)))
 
--- the bytes of a spelling
-abbrev pub spelled : List Mark → List ℕ
-spelled [] = []
-spelled (Part line byte ∷ spelling) = byte ∷ spelled spelling
-spelled (Gap ∷ spelling) = spelled spelling
-spelled (Stop ∷ spelling) = spelled spelling
+-- what a byte is
+abbrev pub mark_of : Bool → ℕ → Mode → ℕ → List ℕ → Mark
+mark_of parens depth (Outside joined) byte text = mark_outside parens depth joined byte text
+mark_of parens depth Comment byte text = if is_line_feed byte then feed_mark depth else Passed
+mark_of parens depth Escaped byte text = Part byte
+mark_of parens depth (Continued joined) byte text = if joined then Passed else Blank 32
+mark_of parens depth (Quoted quote joined) byte text = mark_quoted quote joined byte text
+mark_of parens depth (QuotedEscape quote) byte text = Part byte
 
--- the line of a spelling's first byte
-abbrev pub line_of : List Mark → ℕ
-line_of [] = 0
-line_of (Part line byte ∷ spelling) = line
-line_of (Gap ∷ spelling) = line_of spelling
-line_of (Stop ∷ spelling) = line_of spelling
+-- where the byte behind one outside quotes and comments stands
+abbrev pub mode_outside : Bool → ℕ → List ℕ → Mode
+mode_outside joined byte text =
+    if is_blank byte then Outside joined
+    else (if is_hash byte then Comment
+    else (if is_backslash byte then (if begins is_line_feed text then Continued joined else Escaped)
+    else (if is_quote byte then Quoted byte false
+    else Outside false)))
 
--- a token with this line and text, and whether it is spelled without quotes and backslashes
-abbrev pub token_of : ℕ → List ℕ → Bool → Token
-token_of line text plain = record { line = line; text = text; plain = plain }
+-- where the byte behind one inside quotes stands
+abbrev pub mode_quoted : ℕ → Bool → ℕ → List ℕ → Mode
+mode_quoted quote joined byte text =
+    if byte == quote then Outside false
+    else (if is_line_feed byte then Quoted quote true
+    else (if is_blank byte then Quoted quote joined
+    else (if is_backslash byte then (if begins is_line_feed text then Quoted quote joined else QuotedEscape quote)
+    else Quoted quote false)))
 
--- why a spelling is refused, by its first quote or backslash
-unfoldable pub fault_of : ℕ → TextFault
-fault_of byte = if byte == 92 then TrailingBackslash else UnterminatedQuote
+-- where the next byte stands
+abbrev pub mode_after : Mode → ℕ → List ℕ → Mode
+mode_after (Outside joined) byte text = mode_outside joined byte text
+mode_after Comment byte text = if is_line_feed byte then Outside false else Comment
+mode_after Escaped byte text = Outside false
+mode_after (Continued joined) byte text = Outside true
+mode_after (Quoted quote joined) byte text = mode_quoted quote joined byte text
+mode_after (QuotedEscape quote) byte text = Quoted quote false
 
--- what bytes without quotes and backslashes mean, and bytes with a first one of these
-abbrev pub unless_quoting : ℕ → List ℕ → Option ℕ → Lexeme
-unless_quoting line bytes None = Word (token_of line bytes true)
-unless_quoting line bytes (Some byte) = Bad line (fault_of byte)
+-- how many parentheses are open behind a mark
+abbrev pub open_after : ℕ → Mark → ℕ
+open_after depth (Alone byte) = if byte == 40 then depth + 1 else depth - 1
+open_after depth (Part byte) = depth
+open_after depth (Quoting byte) = depth
+open_after depth Folded = depth
+open_after depth (Blank byte) = depth
+open_after depth Passed = depth
+open_after depth Stop = depth
+open_after depth (Fail fault) = depth
 
--- what a spelling's bytes mean: two double quotes alone are the empty token; else quotes and backslashes are refused
-unfoldable pub meaning : ℕ → List ℕ → Lexeme
-meaning line bytes =
-    if bytes_eq bytes (34 ∷ 34 ∷ []) then Word (token_of line [] false)
-    else unless_quoting line bytes (find is_quoting bytes)
+-- what stands behind the last byte: nothing, or the fault of a token that isn't whole
+abbrev pub end_marks : Mode → List Mark
+end_marks (Outside joined) = []
+end_marks Comment = []
+end_marks Escaped = Fail TrailingBackslash ∷ []
+end_marks (Continued joined) = []
+end_marks (Quoted quote joined) = Fail UnterminatedQuote ∷ []
+end_marks (QuotedEscape quote) = Fail UnterminatedQuote ∷ []
 
--- what a spelling means, a longest run of bytes of a token
-abbrev pub lexeme : List Mark → Lexeme
-lexeme spelling = meaning (line_of spelling) (spelled spelling)
-
--- the lexemes of the marks up to a stanza's end
-abbrev pub words : List Mark → List Lexeme
-words row = map lexeme (filter is_filled (slice_split is_gap row))
-
--- the lexemes up to each stanza's end, from a mode and a line on
-unfoldable pub rows : Mode → ℕ → List ℕ → List (List Lexeme)
-rows mode line text = map words (slice_split is_stop (marks mode line text))
-
--- the stanzas of a text: what stands up to a stanza's end, where there is a token
-abbrev pub stanzas : List ℕ → List (List Lexeme)
-stanzas text = filter is_filled (rows Outside 1 text)
-
--- a stanza's lexemes and its end
-abbrev pub ended : List Lexeme → List Lexeme
-ended stanza = stanza ++ End ∷ []
-
--- what is read from a text: the lexemes of one stanza after another, each stanza with its end
-abbrev pub lexemes : List ℕ → List Lexeme
-lexemes text = flat_map ended (stanzas text)
-
--- what one reading gives and leaves: nothing at the text's end; nothing at a stanza's end, which is passed; the fault of a
--- refused spelling, which is never passed; a token, which is passed, or the fault of memory, where it is not
-abbrev pub Reads : List Lexeme → Result (Option Token) TextFault → List Lexeme → Type 0
-Reads [] result new = (result ≡ Ok None) × (new ≡ [])
-Reads (End ∷ later) result new = (result ≡ Ok None) × (new ≡ later)
-Reads (Bad line fault ∷ later) result new = (result ≡ Err fault) × (new ≡ Bad line fault ∷ later)
-Reads (Word token ∷ later) result new =
-    ((result ≡ Ok (Some token)) × (new ≡ later)) ⊎ ((result ≡ Err Memory) × (new ≡ Word token ∷ later))
-
--- the line of the token or of the refused spelling that is read next; elsewhere any line
-abbrev pub IsLineOf : List Lexeme → ℕ → Type 0
-IsLineOf [] line = Unit {0}
-IsLineOf (End ∷ later) line = Unit {0}
-IsLineOf (Bad first fault ∷ later) line = line ≡ first
-IsLineOf (Word token ∷ later) line = line ≡ token.line
+-- the marks of a text, one for each byte; whether parentheses are tokens, and how many are open
+abbrev pub marks : Bool → ℕ → Mode → List ℕ → List Mark
+marks parens depth mode [] = end_marks mode
+marks parens depth mode (byte ∷ text) =
+    let mark = mark_of parens depth mode byte text in
+    mark ∷ marks parens (open_after depth mark) (mode_after mode byte text) text

@@ -5,14 +5,20 @@ use std::process::Abort;
 
 #[derive(Clone, Copy, Debug)]
 enum Step {
-    // A plain token, and its line.
+    // A token that is spelled without quotes and backslashes, its line and its text.
     Plain(u32, &'static str),
-    // The empty token, and its line.
-    Empty(u32),
+    // One that isn't.
+    Spelled(u32, &'static str),
     // The end of a stanza.
     End,
-    // A spelling that is refused, and its line.
+    // A token that is refused, and its line.
     Refused(u32, TextFault),
+    // The switch for parentheses.
+    Parens(bool),
+    // The lines of a script.
+    Script(&'static str),
+    // A script without an end line.
+    NoScript,
 }
 
 struct Case {
@@ -20,7 +26,7 @@ struct Case {
     steps: &'static [Step],
 }
 
-const CASES: [Case; 9] = [
+const TOKENS: [Case; 12] = [
     Case {
         text: "",
         steps: &[],
@@ -28,14 +34,6 @@ const CASES: [Case; 9] = [
     Case {
         text: "# \"' \\\n \t\n\n",
         steps: &[],
-    },
-    Case {
-        text: "a",
-        steps: &[Step::Plain(1, "a"), Step::End],
-    },
-    Case {
-        text: "a\n",
-        steps: &[Step::Plain(1, "a"), Step::End],
     },
     Case {
         text: "\n\n a \t b # c\n#x\n  c#d\n",
@@ -48,17 +46,62 @@ const CASES: [Case; 9] = [
         ],
     },
     Case {
-        text: "\u{e9}\u{a0}\rb\u{b}c\t\"\"#\n\"\"",
+        text: "\u{e9}\u{a0}\rb\u{b}c\t\"\"#\n''",
         steps: &[
             Step::Plain(1, "\u{e9}\u{a0}\rb\u{b}c"),
-            Step::Empty(1),
+            Step::Spelled(1, ""),
             Step::End,
-            Step::Empty(2),
+            Step::Spelled(2, ""),
             Step::End,
         ],
     },
     Case {
-        text: "x\na\"\" y",
+        text: "A=\"b c\" '\"'d\"'\" \"#\" \"a\\\"b\\c\"",
+        steps: &[
+            Step::Spelled(1, "A=b c"),
+            Step::Spelled(1, "\"d'"),
+            Step::Spelled(1, "#"),
+            Step::Spelled(1, "a\"bc"),
+            Step::End,
+        ],
+    },
+    Case {
+        text: "a\\ b \\# \\\" \\\\ \\\u{e9}x \"\\\u{20ac}\"",
+        steps: &[
+            Step::Spelled(1, "a b"),
+            Step::Spelled(1, "#"),
+            Step::Spelled(1, "\""),
+            Step::Spelled(1, "\\"),
+            Step::Spelled(1, "\u{e9}x"),
+            Step::Spelled(1, "\u{20ac}"),
+            Step::End,
+        ],
+    },
+    Case {
+        text: "a \\\n\\\n b\\\nc # d \\\ne",
+        steps: &[
+            Step::Plain(1, "a"),
+            Step::Plain(3, "b"),
+            Step::Plain(4, "c"),
+            Step::End,
+            Step::Plain(5, "e"),
+            Step::End,
+        ],
+    },
+    Case {
+        text: "\"a  \\\n  b\" \"a\nb\" \"a  b \" \"c\\ \n d\"\nz",
+        steps: &[
+            Step::Spelled(1, "a b"),
+            Step::Spelled(2, "a b"),
+            Step::Spelled(3, "a  b "),
+            Step::Spelled(3, "c  d"),
+            Step::End,
+            Step::Plain(5, "z"),
+            Step::End,
+        ],
+    },
+    Case {
+        text: "x\na\" y\n\nz",
         steps: &[
             Step::Plain(1, "x"),
             Step::End,
@@ -67,66 +110,170 @@ const CASES: [Case; 9] = [
         ],
     },
     Case {
-        text: "'\\",
+        text: "\n'a\\",
         steps: &[
-            Step::Refused(1, TextFault::UnterminatedQuote),
-            Step::Refused(1, TextFault::UnterminatedQuote),
+            Step::Refused(2, TextFault::UnterminatedQuote),
+            Step::Refused(2, TextFault::UnterminatedQuote),
         ],
     },
     Case {
-        text: "b\\\"\n",
+        text: "b\\",
         steps: &[
             Step::Refused(1, TextFault::TrailingBackslash),
             Step::Refused(1, TextFault::TrailingBackslash),
+        ],
+    },
+    Case {
+        text: "(a)",
+        steps: &[Step::Plain(1, "(a)"), Step::End],
+    },
+];
+
+const PARENS: [Case; 2] = [
+    Case {
+        text: "on a(b # c\n \n\"(\"\\)c) d)\ne (f\ng)",
+        steps: &[
+            Step::Plain(1, "on"),
+            Step::Parens(true),
+            Step::Plain(1, "a"),
+            Step::Plain(1, "("),
+            Step::Plain(1, "b"),
+            Step::Spelled(3, "()c"),
+            Step::Plain(3, ")"),
+            Step::Plain(3, "d"),
+            Step::Plain(3, ")"),
+            Step::End,
+            Step::Plain(4, "e"),
+            Step::Parens(false),
+            Step::Plain(4, "(f"),
+            Step::End,
+            Step::Plain(5, "g)"),
+            Step::End,
+        ],
+    },
+    Case {
+        text: "a (\n",
+        steps: &[
+            Step::Parens(true),
+            Step::Plain(1, "a"),
+            Step::Plain(1, "("),
+            Step::End,
         ],
     },
 ];
 
-fn check_line(rt: &impl Abort, reached: u32, step: Step) {
-    match step {
-        Step::Plain(line, _) | Step::Empty(line) | Step::Refused(line, _) => {
-            assert_eq!(rt; reached, line);
-        }
-        Step::End => {}
-    }
+const SCRIPTS: [Case; 3] = [
+    Case {
+        text: "script\n\n # c\n  a \"\n end  scripts\n end \t script # x\nb\n",
+        steps: &[
+            Step::Plain(1, "script"),
+            Step::End,
+            Step::Script("\n # c\n  a \"\n end  scripts\n"),
+            Step::Plain(7, "b"),
+            Step::End,
+        ],
+    },
+    Case {
+        text: "script\nend script",
+        steps: &[Step::Plain(1, "script"), Step::End, Step::Script("")],
+    },
+    Case {
+        text: "script\nend scripts\nend",
+        steps: &[
+            Step::Plain(1, "script"),
+            Step::End,
+            Step::NoScript,
+            Step::Plain(2, "end"),
+            Step::Plain(2, "scripts"),
+            Step::End,
+            Step::Plain(3, "end"),
+            Step::End,
+        ],
+    },
+];
+
+fn check_token(rt: &impl Abort, token: &Token, line: u32, text: &str, plain: bool) {
+    assert_eq!(rt; token.line, line);
+    assert!(rt; token.text.is(text), "{token:?}");
+    assert_eq!(rt; token.plain, plain);
 }
 
-fn check_step(rt: &impl Abort, read: Result<Option<Token>, TextFault>, step: Step) {
+fn check_read(rt: &impl Abort, read: Result<Option<Token>, TextFault>, step: Step) {
     match (step, read) {
-        (Step::Plain(line, text), Ok(Some(token))) => {
-            assert_eq!(rt; token.line, line);
-            assert!(rt; token.text.is(text));
-            assert!(rt; token.plain);
-        }
-        (Step::Empty(line), Ok(Some(token))) => {
-            assert_eq!(rt; token.line, line);
-            assert!(rt; token.text.is(""));
-            assert!(rt; !token.plain);
-        }
+        (Step::Plain(line, text), Ok(Some(token))) => check_token(rt, &token, line, text, true),
+        (Step::Spelled(line, text), Ok(Some(token))) => check_token(rt, &token, line, text, false),
         (Step::End, Ok(None)) => {}
         (Step::Refused(_, fault), Err(refused)) => assert_eq!(rt; refused, fault),
         (step, read) => panic!(rt; "{read:?} for {step:?}"),
     }
 }
 
-#[test]
-fn reads_stanzas(rt: HostRuntime) {
-    for case in &CASES {
-        let text = case.text;
-        assert!(rt; text.len() < 100);
-        let mut lexer = Lexer::new(text);
-        let mut refused = false;
-        for step in case.steps {
-            assert!(rt; !lexer.at_end(), "before {step:?} of {text:?}");
-            refused = matches!(step, Step::Refused(..));
-            check_line(&rt, lexer.line(), *step);
-            let mut read = lexer.next(rt.alloc());
-            // Where one allocation is made to fail, the next call reads the same.
-            if matches!(read, Err(TextFault::Memory)) {
-                read = lexer.next(rt.alloc());
-            }
-            check_step(&rt, read, *step);
+fn check_next(rt: &impl Abort, alloc: Global, lexer: &mut Lexer, step: Step) {
+    match step {
+        Step::Plain(line, _) | Step::Spelled(line, _) | Step::Refused(line, _) => {
+            assert_eq!(rt; lexer.line(), line);
         }
-        assert_eq!(rt; lexer.at_end(), !refused, "behind {text:?}");
+        _ => {}
+    }
+    let mut read = lexer.next(alloc);
+    // Where one allocation is made to fail, the next call reads the same.
+    if matches!(read, Err(TextFault::Memory)) {
+        read = lexer.next(alloc);
+    }
+    check_read(rt, read, step);
+}
+
+fn check_script(rt: &impl Abort, alloc: Global, lexer: &mut Lexer, lines: Option<&'static str>) {
+    let mut read = lexer.script_lines(alloc);
+    if matches!(read, Err(TextFault::Memory)) {
+        read = lexer.script_lines(alloc);
+    }
+    match (read, lines) {
+        (Ok(Some(script)), Some(lines)) => assert!(rt; script.is(lines), "{script:?}"),
+        (Ok(None), None) => {}
+        (read, lines) => panic!(rt; "{read:?} for {lines:?}"),
+    }
+}
+
+fn check_step(rt: &impl Abort, alloc: Global, lexer: &mut Lexer, step: Step) {
+    match step {
+        Step::Parens(on) => lexer.parens(on),
+        Step::Script(lines) => check_script(rt, alloc, lexer, Some(lines)),
+        Step::NoScript => check_script(rt, alloc, lexer, None),
+        _ => check_next(rt, alloc, lexer, step),
+    }
+}
+
+fn check_case(rt: &impl Abort, alloc: Global, case: &Case) {
+    let text = case.text;
+    assert!(rt; text.len() < 100);
+    let mut lexer = Lexer::new(text);
+    let mut refused = false;
+    for step in case.steps {
+        assert!(rt; !lexer.at_end(), "before {step:?} of {text:?}");
+        refused = matches!(step, Step::Refused(..));
+        check_step(rt, alloc, &mut lexer, *step);
+    }
+    assert_eq!(rt; lexer.at_end(), !refused, "behind {text:?}");
+}
+
+#[test]
+fn reads_tokens(rt: HostRuntime) {
+    for case in &TOKENS {
+        check_case(&rt, rt.alloc(), case);
+    }
+}
+
+#[test]
+fn reads_parentheses(rt: HostRuntime) {
+    for case in &PARENS {
+        check_case(&rt, rt.alloc(), case);
+    }
+}
+
+#[test]
+fn reads_scripts(rt: HostRuntime) {
+    for case in &SCRIPTS {
+        check_case(&rt, rt.alloc(), case);
     }
 }

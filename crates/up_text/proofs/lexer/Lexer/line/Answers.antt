@@ -1,5 +1,5 @@
-use Rattle.up_text.proofs.Left.{IsLineOf-left}
+use Rattle.up_text.proofs.Readings.{line-read}
 use Rattle.up_text.proofs.lexer.Lexer.line.Goals as goal
 
 pub returns : goal.returns
-returns c = rw (← c.self.view_is) (IsLineOf-left c.self.inside.inside c.self.inside.line c.self.inside.rest.now c.self.invariant.passed c.self.invariant.no_empty_line)
+returns c = rw (← c.self.view_is) (line-read _ _ (c.after_gap.ensures.passed c.self.inside.parens))

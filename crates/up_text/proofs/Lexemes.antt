@@ -1,0 +1,236 @@
+-- What is read from a place on is what the next reading gives, and what is read behind it.
+use Rattle.std.proofs.Common.{◌≡◌, ◌⊎◌, inl, inr, ℕ, zero, suc, ◌+◌, ◌-◌, ◌*◌, ◌<◌, ◌≤◌, Bool, true, false, true≢false, cond, not, ◌||◌, List, [], ◌∷◌, length, take, drop, Option, None, Some, Result, Ok, Err, refl, sym, ap, ◌∙◌, subst, arith, if◌then◌else◌, length-drop, one-add}
+use Rattle.std.proofs.lemmas.List.{nil_from_length}
+use Rattle.std.specs.List.{prefix_len, take_while, list_all, flat_map}
+use Rattle.up_text.specs.declared.fault.TextFault.{TextFault}
+use Rattle.up_text.specs.declared.fault.TextFault.TheVariants.{UnterminatedQuote, TrailingBackslash}
+use Rattle.up_text.specs.declared.token.Token.{Token}
+use Rattle.up_text.specs.Tokens.{Mark, Part, Quoting, Folded, Alone, Blank, Passed, Stop, Fail, Mode, Outside, Comment, Escaped, Continued, Quoted, QuotedEscape, end_marks, mark_of, mode_after, open_after, marks}
+use Rattle.up_text.specs.Places.{Place, Reading, Answers, Got, Ended, Fails, passing, within, behind_stanza, is_spelled, fault_in, marks_at, gap_at, spelled, read_at, reading, line_at, is_gap}
+use Rattle.up_text.specs.Lexemes.{Lexeme, Word, Bad, End, Reads, lexeme_by, lexemes_from, readings_left, lexemes_of}
+
+-- a mark that no byte has
+abbrev is_fail : Mark → Bool
+is_fail (Fail fault) = true
+is_fail (Part byte) = false
+is_fail (Quoting byte) = false
+is_fail Folded = false
+is_fail (Alone byte) = false
+is_fail (Blank byte) = false
+is_fail Passed = false
+is_fail Stop = false
+
+nothing_behind : {X : Type 0} (n : ℕ) (x : X) (xs : List X) → drop n [] ≡ x ∷ xs → ⊥
+nothing_behind zero x xs is = cc
+nothing_behind (suc n) x xs is = cc
+
+fail_mark : (fault : TextFault) (n : ℕ) (mark : Mark) (ms : List Mark) → drop n (Fail fault ∷ []) ≡ mark ∷ ms → is_fail mark ≡ true
+fail_mark fault zero mark ms is = let same : Fail fault ≡ mark = cc in subst (λ m. is_fail m ≡ true) same refl
+fail_mark fault (suc n) mark ms is = absurd (nothing_behind n mark ms is)
+
+-- behind the last byte there is nothing but a fault
+end_mark : (mode : Mode) (n : ℕ) (mark : Mark) (ms : List Mark) → drop n (end_marks mode) ≡ mark ∷ ms → is_fail mark ≡ true
+end_mark (Outside joined) n mark ms is = absurd (nothing_behind n mark ms is)
+end_mark Comment n mark ms is = absurd (nothing_behind n mark ms is)
+end_mark Escaped n mark ms is = fail_mark TrailingBackslash n mark ms is
+end_mark (Continued joined) n mark ms is = absurd (nothing_behind n mark ms is)
+end_mark (Quoted quote joined) n mark ms is = fail_mark UnterminatedQuote n mark ms is
+end_mark (QuotedEscape quote) n mark ms is = fail_mark UnterminatedQuote n mark ms is
+
+-- any other mark is that of a byte
+mark_within : (parens : Bool) (depth : ℕ) (mode : Mode) (text : List ℕ) (n : ℕ) (mark : Mark) (ms : List Mark) → drop n (marks parens depth mode text) ≡ mark ∷ ms → is_fail mark ≡ false → n < length text
+mark_within parens depth mode [] n mark ms is byte = absurd (true≢false (sym (end_mark mode n mark ms is) ∙ byte))
+mark_within parens depth mode (b ∷ text) zero mark ms is byte = omega arith
+mark_within parens depth mode (b ∷ text) (suc n) mark ms is byte =
+    let below = mark_within parens (open_after depth (mark_of parens depth mode b text)) (mode_after mode b text) text n mark ms is byte in omega (arith, below)
+
+-- a byte of the text is left where a mark that isn't a fault is
+filled : (place : Place) (mark : Mark) (ms : List Mark) → drop (gap_at place) (marks_at place) ≡ mark ∷ ms → is_fail mark ≡ false → gap_at place < length place.rest
+unfolding marks_at
+filled place mark ms is byte = mark_within place.parens place.depth (Outside false) place.rest (gap_at place) mark ms is byte
+
+-- a place that has passed a byte behind a gap has less text left
+less : (place : Place) (n : ℕ) → gap_at place < length place.rest → 0 < n → length (drop n (drop (gap_at place) place.rest)) < length place.rest
+less place n gap some = omega (arith, length-drop n (drop (gap_at place) place.rest), length-drop (gap_at place) place.rest)
+
+-- the spelling that begins here has a mark
+has_mark : (mark : Mark) (ms : List Mark) → is_spelled mark ≡ true → 0 < length (take_while is_spelled (mark ∷ ms))
+has_mark mark ms is = rw (is, one-add (prefix_len is_spelled ms)) (omega arith)
+
+spelled_less : (place : Place) (spelling : List Mark) (found : Option TextFault) (token : Token) (behind : Place) → gap_at place < length place.rest → 0 < length spelling
+    → spelled (passing (gap_at place) place) spelling found ≡ Got token behind → length behind.rest < length place.rest
+spelled_less place spelling (Some fault) token behind gap some got = cc
+spelled_less place spelling None token behind gap some got =
+    let rest : drop (length spelling) (drop (gap_at place) place.rest) ≡ behind.rest = cc in
+    subst (λ r. length r < length place.rest) rest (less place (length spelling) gap some)
+
+-- what a token leaves, where the marks behind the gap are these
+token_less : (place : Place) (ms : List Mark) → drop (gap_at place) (marks_at place) ≡ ms → (token : Token) (behind : Place)
+    → read_at (passing (gap_at place) place) ms ≡ Got token behind → length behind.rest < length place.rest
+token_less place [] is token behind got = cc
+token_less place (Stop ∷ ms) is token behind got = cc
+token_less place (Alone byte ∷ ms) is token behind got =
+    let rest : drop 1 (drop (gap_at place) place.rest) ≡ behind.rest = cc in
+    subst (λ r. length r < length place.rest) rest (less place 1 (filled place (Alone byte) ms is refl) (omega arith))
+token_less place (Part byte ∷ ms) is token behind got =
+    spelled_less place (take_while is_spelled (Part byte ∷ ms)) (fault_in (take_while is_spelled (Part byte ∷ ms))) token behind (filled place (Part byte) ms is refl) (has_mark (Part byte) ms refl) got
+token_less place (Quoting byte ∷ ms) is token behind got =
+    spelled_less place (take_while is_spelled (Quoting byte ∷ ms)) (fault_in (take_while is_spelled (Quoting byte ∷ ms))) token behind (filled place (Quoting byte) ms is refl) (has_mark (Quoting byte) ms refl) got
+token_less place (Folded ∷ ms) is token behind got =
+    spelled_less place (take_while is_spelled (Folded ∷ ms)) (fault_in (take_while is_spelled (Folded ∷ ms))) token behind (filled place Folded ms is refl) (has_mark Folded ms refl) got
+token_less place (Fail fault ∷ ms) is token behind got = cc
+token_less place (Blank byte ∷ ms) is token behind got = cc
+token_less place (Passed ∷ ms) is token behind got = cc
+
+-- a token leaves less text
+pub reading_less : (place : Place) (token : Token) (behind : Place) → reading place ≡ Got token behind → length behind.rest < length place.rest
+unfolding reading
+reading_less place token behind got = token_less place (drop (gap_at place) (marks_at place)) refl token behind got
+
+spelled_ends : (place : Place) (spelling : List Mark) (found : Option TextFault) (behind : Place) → spelled place spelling found ≡ Ended behind → (behind.inside ≡ false) × (length behind.rest ≤ length place.rest)
+spelled_ends place spelling None behind ended = cc
+spelled_ends place spelling (Some fault) behind ended = cc
+
+-- an end leaves no more, outside a stanza
+ended_at : (place : Place) (ms : List Mark) (behind : Place) → read_at place ms ≡ Ended behind → (behind.inside ≡ false) × (length behind.rest ≤ length place.rest)
+ended_at place [] behind ended = (cc, let rest : place.rest ≡ behind.rest = cc in subst (λ r. length r ≤ length place.rest) rest (omega arith))
+ended_at place (Stop ∷ ms) behind ended = (cc, let rest : drop 1 place.rest ≡ behind.rest = cc in subst (λ r. length r ≤ length place.rest) rest (omega (arith, length-drop 1 place.rest)))
+ended_at place (Alone byte ∷ ms) behind ended = cc
+ended_at place (Part byte ∷ ms) behind ended = spelled_ends place (take_while is_spelled (Part byte ∷ ms)) (fault_in (take_while is_spelled (Part byte ∷ ms))) behind ended
+ended_at place (Quoting byte ∷ ms) behind ended = spelled_ends place (take_while is_spelled (Quoting byte ∷ ms)) (fault_in (take_while is_spelled (Quoting byte ∷ ms))) behind ended
+ended_at place (Folded ∷ ms) behind ended = spelled_ends place (take_while is_spelled (Folded ∷ ms)) (fault_in (take_while is_spelled (Folded ∷ ms))) behind ended
+ended_at place (Fail fault ∷ ms) behind ended = cc
+ended_at place (Blank byte ∷ ms) behind ended = (cc, let rest : place.rest ≡ behind.rest = cc in subst (λ r. length r ≤ length place.rest) rest (omega arith))
+ended_at place (Passed ∷ ms) behind ended = (cc, let rest : place.rest ≡ behind.rest = cc in subst (λ r. length r ≤ length place.rest) rest (omega arith))
+
+pub reading_ends : (place behind : Place) → reading place ≡ Ended behind → (behind.inside ≡ false) × (length behind.rest ≤ length place.rest)
+unfolding reading
+reading_ends place behind ended =
+    let at = ended_at (passing (gap_at place) place) (drop (gap_at place) (marks_at place)) behind ended in
+    (at.0, omega (arith, at.1, length-drop (gap_at place) place.rest))
+
+two_at_most : (b : Bool) → (if b then 2 else 1) ≤ 2
+two_at_most true = omega arith
+two_at_most false = omega arith
+
+one_at_least : (b : Bool) → 1 ≤ (if b then 2 else 1)
+one_at_least true = omega arith
+one_at_least false = omega arith
+
+-- what is left behind a token, and behind a stanza
+left_got : (place : Place) (token : Token) (behind : Place) → reading place ≡ Got token behind → readings_left behind < readings_left place
+left_got place token behind got = omega (arith, reading_less place token behind got, two_at_most behind.inside, one_at_least place.inside)
+
+left_ended : (place behind : Place) → place.inside ≡ true → reading place ≡ Ended behind → readings_left behind < readings_left place
+left_ended place behind inside ended =
+    let at = reading_ends place behind ended in
+    rw (inside, at.0) (omega (arith, at.1))
+
+-- more readings than enough give no more
+enough : (n k : ℕ) (place : Place) → readings_left place ≤ n → readings_left place ≤ k → lexemes_from n place ≡ lexemes_from k place
+unfolding lexemes_from
+enough zero k place few many = absurd (let one = one_at_least place.inside in omega (arith, few, one))
+enough (suc n) zero place few many = absurd (let one = one_at_least place.inside in omega (arith, many, one))
+enough (suc n) (suc k) place few many = by_reading (reading place) refl (λ behind less. enough n k behind (omega (arith, less, few)) (omega (arith, less, many)))
+  where
+    by_end : (inside : Bool) (behind : Place) → place.inside ≡ inside → reading place ≡ Ended behind → ((other : Place) → readings_left other < readings_left place → lexemes_from n other ≡ lexemes_from k other)
+        → (if inside then End ∷ lexemes_from n behind else []) ≡ (if inside then End ∷ lexemes_from k behind else [])
+    by_end true behind inside is more = ap (λ later. End ∷ later) (more behind (left_ended place behind inside is))
+    by_end false behind inside is more = refl
+    by_reading : (r : Reading) → reading place ≡ r → ((other : Place) → readings_left other < readings_left place → lexemes_from n other ≡ lexemes_from k other)
+        → lexeme_by (λ behind. lexemes_from n behind) place r ≡ lexeme_by (λ behind. lexemes_from k behind) place r
+    by_reading (Got token behind) is more = ap (λ later. Word token ∷ later) (more behind (left_got place token behind is))
+    by_reading (Ended behind) is more = by_end place.inside behind refl is more
+    by_reading (Fails fault) is more = refl
+
+one_more : (n : ℕ) (place : Place) → lexemes_from (suc n) place ≡ lexeme_by (λ behind. lexemes_from n behind) place (reading place)
+unfolding lexemes_from
+one_more n place = refl
+
+-- what is read from a place on: one reading, and what is read behind it
+pub lexemes_of-is : (place : Place) → lexemes_of place ≡ lexeme_by (λ behind. lexemes_of behind) place (reading place)
+unfolding lexemes_of
+lexemes_of-is place =
+    enough (readings_left place) (suc (readings_left place)) place (omega arith) (omega arith) ∙ one_more (readings_left place) place ∙ by_reading (reading place) refl
+  where
+    by_end : (inside : Bool) (behind : Place) → place.inside ≡ inside → reading place ≡ Ended behind
+        → (if inside then End ∷ lexemes_from (readings_left place) behind else []) ≡ (if inside then End ∷ lexemes_from (readings_left behind) behind else [])
+    by_end true behind inside is = ap (λ later. End ∷ later) (let less = left_ended place behind inside is in enough (readings_left place) (readings_left behind) behind (omega (arith, less)) (omega arith))
+    by_end false behind inside is = refl
+    by_reading : (r : Reading) → reading place ≡ r → lexeme_by (λ behind. lexemes_from (readings_left place) behind) place r ≡ lexeme_by (λ behind. lexemes_from (readings_left behind) behind) place r
+    by_reading (Got token behind) is = ap (λ later. Word token ∷ later) (let less = left_got place token behind is in enough (readings_left place) (readings_left behind) behind (omega (arith, less)) (omega arith))
+    by_reading (Ended behind) is = by_end place.inside behind refl is
+    by_reading (Fails fault) is = refl
+
+-- there is a mark for each byte
+marks_count : (parens : Bool) (depth : ℕ) (mode : Mode) (text : List ℕ) → length text ≤ length (marks parens depth mode text)
+marks_count parens depth mode [] = omega arith
+marks_count parens depth mode (byte ∷ text) =
+    let more = marks_count parens (open_after depth (mark_of parens depth mode byte text)) (mode_after mode byte text) text in omega (arith, more)
+
+-- behind a longest run what follows doesn't pass
+run_stops : (p : Mark → Bool) (ms : List Mark) (mark : Mark) (later : List Mark) → drop (prefix_len p ms) ms ≡ mark ∷ later → p mark ≡ false
+run_stops p [] mark later is = absurd (nothing_behind 0 mark later is)
+run_stops p (m ∷ ms) mark later is =
+    elim (p m) as (λ b. p m ≡ b → drop (cond b (1 + prefix_len p ms) 0) (m ∷ ms) ≡ mark ∷ later → p mark ≡ false) [
+      | true ↦ λ _ is. run_stops p ms mark later (rw (one-add (prefix_len p ms)) at is)
+      | false ↦ λ fails is. let same : m ≡ mark = cc in subst (λ x. p x ≡ false) same fails
+    ] refl is
+
+nothing_drop : (n : ℕ) (ms : List Mark) (text : List ℕ) → length text ≤ length ms → drop n ms ≡ [] → drop n text ≡ []
+nothing_drop n ms text fewer none =
+    let marks_left = length-drop n ms in
+    let left = length-drop n text in
+    nil_from_length (drop n text) (let zero_left : length (drop n ms) ≡ 0 = ap length none in omega (arith, marks_left, left, fewer, zero_left))
+
+-- at the end of the text, outside a stanza, there is nothing
+nothing_at : (line depth : ℕ) (parens : Bool) → lexemes_of (record { rest = []; line = line; inside = false; parens = parens; depth = depth }) ≡ []
+unfolding reading gap_at marks_at
+nothing_at line depth parens = lexemes_of-is (record { rest = []; line = line; inside = false; parens = parens; depth = depth })
+
+at_nothing : (place : Place) → place.rest ≡ [] → place.inside ≡ false → lexemes_of place ≡ []
+at_nothing place none outside =
+    ap (λ r. lexemes_of (record { rest = r; line = place.line; inside = place.inside; parens = place.parens; depth = place.depth })) none
+    ∙ ap (λ b. lexemes_of (record { rest = []; line = place.line; inside = b; parens = place.parens; depth = place.depth })) outside
+    ∙ nothing_at place.line place.depth place.parens
+
+no_end : (place : Place) (spelling : List Mark) (found : Option TextFault) (behind : Place) → spelled place spelling found ≡ Ended behind → (behind.rest ≡ []) × (behind.inside ≡ false)
+no_end place spelling None behind ended = cc
+no_end place spelling (Some fault) behind ended = cc
+
+-- outside a stanza only the text's end is an end
+ended_outside : (place : Place) (ms : List Mark) (behind : Place) → place.inside ≡ false → drop (gap_at place) (marks_at place) ≡ ms
+    → read_at (passing (gap_at place) place) ms ≡ Ended behind → (behind.rest ≡ []) × (behind.inside ≡ false)
+unfolding gap_at marks_at
+ended_outside place [] behind outside is ended =
+    let rest : drop (gap_at place) place.rest ≡ behind.rest = cc in
+    (sym rest ∙ nothing_drop (gap_at place) (marks_at place) place.rest (marks_count place.parens place.depth (Outside false) place.rest) is, cc)
+ended_outside place (Stop ∷ ms) behind outside is ended =
+    let no = run_stops (is_gap place.inside) (marks_at place) Stop ms is in absurd (true≢false (rw outside at no))
+ended_outside place (Blank byte ∷ ms) behind outside is ended = absurd (true≢false (run_stops (is_gap place.inside) (marks_at place) (Blank byte) ms is))
+ended_outside place (Passed ∷ ms) behind outside is ended = absurd (true≢false (run_stops (is_gap place.inside) (marks_at place) Passed ms is))
+ended_outside place (Alone byte ∷ ms) behind outside is ended = cc
+ended_outside place (Part byte ∷ ms) behind outside is ended = no_end (passing (gap_at place) place) (take_while is_spelled (Part byte ∷ ms)) (fault_in (take_while is_spelled (Part byte ∷ ms))) behind ended
+ended_outside place (Quoting byte ∷ ms) behind outside is ended = no_end (passing (gap_at place) place) (take_while is_spelled (Quoting byte ∷ ms)) (fault_in (take_while is_spelled (Quoting byte ∷ ms))) behind ended
+ended_outside place (Folded ∷ ms) behind outside is ended = no_end (passing (gap_at place) place) (take_while is_spelled (Folded ∷ ms)) (fault_in (take_while is_spelled (Folded ∷ ms))) behind ended
+ended_outside place (Fail fault ∷ ms) behind outside is ended = cc
+
+-- nothing is left behind the end of the text
+none_behind : (old behind : Place) → old.inside ≡ false → reading old ≡ Ended behind → lexemes_of behind ≡ []
+unfolding reading
+none_behind old behind outside ended =
+    let at = ended_outside old (drop (gap_at old) (marks_at old)) behind outside refl ended in
+    at_nothing behind at.0 at.1
+
+-- a call that reads at a place reads the lexemes from there on
+pub Reads-from_Answers : (old : Place) (result : Result (Option Token) TextFault) (new : Place) → Answers old (reading old) result new → Reads (lexemes_of old) result (lexemes_of new)
+Reads-from_Answers old result new answers = rw (lexemes_of-is old) (by_reading (reading old) refl answers)
+  where
+    by_end : (inside : Bool) (behind : Place) → old.inside ≡ inside → reading old ≡ Ended behind → (result ≡ Ok None) × (new ≡ behind) → Reads (if inside then End ∷ lexemes_of behind else []) result (lexemes_of new)
+    by_end true behind inside is answers = (answers.0, ap (λ place. lexemes_of place) answers.1)
+    by_end false behind inside is answers = (answers.0, ap (λ place. lexemes_of place) answers.1 ∙ none_behind old behind inside is)
+    by_reading : (r : Reading) → reading old ≡ r → Answers old r result new → Reads (lexeme_by (λ behind. lexemes_of behind) old r) result (lexemes_of new)
+    by_reading (Got token behind) is (inl answers) = inl (answers.0, ap (λ place. lexemes_of place) answers.1)
+    by_reading (Got token behind) is (inr answers) = inr (answers.0, ap (λ place. lexemes_of place) answers.1 ∙ lexemes_of-is old ∙ ap (λ r. lexeme_by (λ behind. lexemes_of behind) old r) is)
+    by_reading (Ended behind) is answers = by_end old.inside behind refl is answers
+    by_reading (Fails fault) is answers = (answers.0, ap (λ place. lexemes_of place) answers.1 ∙ lexemes_of-is old ∙ ap (λ r. lexeme_by (λ behind. lexemes_of behind) old r) is)

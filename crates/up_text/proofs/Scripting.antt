@@ -1,0 +1,268 @@
+-- The lines and the words of a script.
+use Rattle.std.proofs.Common.{◌≡◌, ℕ, ◌+◌, ◌-◌, ◌<◌, ◌≤◌, Bool, true, false, cond, not, ◌||◌, ◌&&◌, List, [], ◌∷◌, ◌++◌, Option, None, Some, Ok, Err, inl, inr, length, take, drop, refl, sym, ap, ◌∙◌, subst, one-add, add-zero, zero-add, arith, append_assoc, length-append, filter, eqb, codes, IsUtf8}
+use Rattle.std.proofs.lemmas.Bool.{and_parts, and_from, not-true, not-false, true≢false, false≢true, ne_eqb}
+use Rattle.std.proofs.lemmas.List.Sums.{prefix_len_stops}
+use Rattle.std.proofs.lemmas.Str.{IsCharBoundary-after_ascii, IsCharBoundary-at_seam}
+use Rattle.std.specs.Str.{bytes_eq, IsCharBoundary}
+use Rattle.std.proofs.lemmas.List.{take-append-drop, take_all, length-take-le, append-nil, take_at, drop_at, nil_from_length}
+use Rattle.up_text.proofs.Runs.{feeds-none, feeds-append, feeds-length}
+use Rattle.std.proofs.lemmas.List.Splits.{slice_split-cons_no, slice_split-cons_yes}
+use Rattle.std.specs.List.{list_all, prefix_len, slice_split, onto_first, concat}
+use Rattle.up_text.proofs.Cuts.{list_all-take, begins-drop, in_line-ascii}
+use Rattle.up_text.specs.Lexer.{is_in_word, is_in_code, is_in_line, BeginsWord, BeginsLine, EndsScript, Splits, place}
+use Rattle.up_text.specs.declared.fault.TextFault.{TextFault}
+use Rattle.up_text.specs.declared.fault.TextFault.TheVariants.{Memory}
+use Rattle.up_text.proofs.Readings.{place-behind}
+use Rattle.up_text.specs.Places.{Place, feeds, passing, behind_stanza}
+use Rattle.up_text.specs.Scripts.{lines_of, is_filled, words_in, are_end_words, is_end_line, script_in, ReadsScript}
+use Rattle.up_text.specs.Tokens.{is_line_feed, is_blank, begins}
+
+-- blanks in front change no word
+words-blanks : (text : List ℕ) → words_in text ≡ words_in (drop (prefix_len is_blank text) text)
+words-blanks [] = refl
+words-blanks (byte ∷ text) =
+    elim (is_blank byte) as (λ b. is_blank byte ≡ b → words_in (byte ∷ text) ≡ words_in (drop (cond b (1 + prefix_len is_blank text) 0) (byte ∷ text))) [
+      | true ↦ λ blank. rw one-add (ap (filter is_filled) (slice_split-cons_yes is_blank byte text blank) ∙ words-blanks text)
+      | false ↦ λ _. refl
+    ] refl
+
+-- there is always a first piece
+pub slice_split-filled : (p : ℕ → Bool) (xs : List ℕ) → (first : List ℕ) × (others : List (List ℕ)) × (slice_split p xs ≡ first ∷ others)
+slice_split-filled p [] = ([], [], refl)
+slice_split-filled p (x ∷ xs) =
+    let later = slice_split-filled p xs in
+    elim (p x) as (λ b. (first : List ℕ) × (others : List (List ℕ)) × (cond b ([] ∷ slice_split p xs) (onto_first x (slice_split p xs)) ≡ first ∷ others)) [
+      | true ↦ ([], slice_split p xs, refl)
+      | false ↦ (x ∷ later.0, later.1, ap (onto_first x) later.2)
+    ]
+
+-- a word in front is in the first piece
+slice_split-word : (word rest first : List ℕ) (others : List (List ℕ)) → list_all is_in_word word ≡ true → slice_split is_blank rest ≡ first ∷ others → slice_split is_blank (word ++ rest) ≡ (word ++ first) ∷ others
+unfolding is_in_word
+slice_split-word [] rest first others all is = is
+slice_split-word (byte ∷ word) rest first others all is =
+    let both = and_parts (is_in_word byte) (list_all is_in_word word) all in
+    slice_split-cons_no is_blank byte (word ++ rest) (not-true _ both.0) ∙ ap (onto_first byte) (slice_split-word word rest first others both.1 is)
+
+-- behind a word stands a blank or nothing, and so the first piece is the word
+first-none : (rest : List ℕ) → begins is_in_word rest ≡ false → (others : List (List ℕ)) × (slice_split is_blank rest ≡ [] ∷ others)
+unfolding is_in_word
+first-none [] ends = ([], refl)
+first-none (byte ∷ rest) ends = (slice_split is_blank rest, slice_split-cons_yes is_blank byte rest (not-false _ ends))
+
+words-word : (byte : ℕ) (word rest : List ℕ) → list_all is_in_word (byte ∷ word) ≡ true → begins is_in_word rest ≡ false → words_in ((byte ∷ word) ++ rest) ≡ (byte ∷ word) ∷ words_in rest
+words-word byte word rest all ends =
+    let first = first-none rest ends in
+    ap (filter is_filled) (slice_split-word (byte ∷ word) rest [] first.0 all first.1)
+    ∙ ap (λ w. w ∷ filter is_filled first.0) (append-none (byte ∷ word))
+    ∙ ap (λ pieces. (byte ∷ word) ∷ filter is_filled pieces) (sym first.1)
+  where
+    append-none : (xs : List ℕ) → xs ++ [] ≡ xs
+    append-none [] = refl
+    append-none (x ∷ xs) = ap (λ ys. x ∷ ys) (append-none xs)
+
+no-word_byte : (text : List ℕ) → begins is_in_word (drop (prefix_len is_in_word text) text) ≡ false
+no-word_byte [] = refl
+no-word_byte (byte ∷ text) =
+    elim (is_in_word byte) as (λ b. is_in_word byte ≡ b → begins is_in_word (drop (cond b (1 + prefix_len is_in_word text) 0) (byte ∷ text)) ≡ false) [
+      | true ↦ λ _. rw one-add (no-word_byte text)
+      | false ↦ λ fails. fails
+    ] refl
+
+in_word-is : (byte : ℕ) → is_blank byte ≡ false → is_in_word byte ≡ true
+unfolding is_in_word
+in_word-is byte other = rw other refl
+
+BeginsWord-filled : (text : List ℕ) (byte : ℕ) (words : List ℕ) → words_in text ≡ words_in (byte ∷ words) → is_blank byte ≡ false
+    → BeginsWord text (take (prefix_len is_in_word (byte ∷ words)) (byte ∷ words)) (drop (prefix_len is_in_word (byte ∷ words)) (byte ∷ words))
+BeginsWord-filled text byte words same none =
+    let first = in_word-is byte none in
+    let n = prefix_len is_in_word words in
+    let all : list_all is_in_word (byte ∷ take n words) ≡ true = and_from _ _ first (list_all-take is_in_word words) in
+    let split : words_in (byte ∷ (take n words ++ drop n words)) ≡ (byte ∷ take n words) ∷ words_in (drop n words) = words-word byte (take n words) (drop n words) all (no-word_byte words) in
+    let whole : words_in (byte ∷ words) ≡ (byte ∷ take n words) ∷ words_in (drop n words) = ap (λ ws. words_in (byte ∷ ws)) (sym (take-append-drop n words)) ∙ split in
+    rw (first, one-add) (same ∙ whole)
+
+-- the first word of a text behind its blanks
+pub BeginsWord-first : (text : List ℕ) → let words = drop (prefix_len is_blank text) text in BeginsWord text (take (prefix_len is_in_word words) words) (drop (prefix_len is_in_word words) words)
+BeginsWord-first text = by_words (drop (prefix_len is_blank text) text) (words-blanks text) (no_blank text)
+  where
+    no_blank : (text : List ℕ) → begins is_blank (drop (prefix_len is_blank text) text) ≡ false
+    no_blank [] = refl
+    no_blank (byte ∷ text) =
+        elim (is_blank byte) as (λ b. is_blank byte ≡ b → begins is_blank (drop (cond b (1 + prefix_len is_blank text) 0) (byte ∷ text)) ≡ false) [
+          | true ↦ λ _. rw one-add (no_blank text)
+          | false ↦ λ fails. fails
+        ] refl
+
+    by_words : (words : List ℕ) → words_in text ≡ words_in words → begins is_blank words ≡ false → BeginsWord text (take (prefix_len is_in_word words) words) (drop (prefix_len is_in_word words) words)
+    by_words [] same none = same
+    by_words (byte ∷ words) same none = BeginsWord-filled text byte words same none
+
+-- the first line of a text
+
+lines-none : (bytes : List ℕ) → list_all is_in_line bytes ≡ true → 0 < length bytes → lines_of bytes ≡ bytes ∷ []
+unfolding is_in_line
+lines-none [] all filled = absurd (omega arith)
+lines-none (byte ∷ []) all filled = rw (not-true _ (and_parts (is_in_line byte) true all).0) refl
+lines-none (byte ∷ next ∷ bytes) all filled =
+    let both = and_parts (is_in_line byte) (list_all is_in_line (next ∷ bytes)) all in
+    rw (not-true _ both.0) (ap (onto_first byte) (lines-none (next ∷ bytes) both.1 (omega arith)))
+
+lines-feed : (bytes : List ℕ) (feed : ℕ) (rest : List ℕ) → list_all is_in_line bytes ≡ true → is_line_feed feed ≡ true → lines_of (bytes ++ feed ∷ rest) ≡ (bytes ++ feed ∷ []) ∷ lines_of rest
+unfolding is_in_line
+lines-feed [] feed rest all is = rw is refl
+lines-feed (byte ∷ bytes) feed rest all is =
+    let both = and_parts (is_in_line byte) (list_all is_in_line bytes) all in
+    rw (not-true _ both.0) (ap (onto_first byte) (lines-feed bytes feed rest both.1 is))
+
+in_line-is : (byte : ℕ) → is_in_line byte ≡ true → is_line_feed byte ≡ false
+unfolding is_in_line
+in_line-is byte in_line = not-true _ in_line
+
+-- a line with its line feed
+line-split : (text front rest : List ℕ) (n : ℕ) → front ++ rest ≡ text → list_all is_in_line front ≡ true → length front ≡ n → begins is_in_line rest ≡ false → n < length text → BeginsLine text (take (n + 1) text) (drop (n + 1) text) 1
+unfolding is_in_line
+line-split text front [] n whole all long ends inside = absurd (omega (arith, ap length (sym whole), length-append front []))
+line-split text front (feed ∷ rest) n whole all long ends inside =
+    let is : is_line_feed feed ≡ true = not-false _ ends in
+    let cut : (front ++ feed ∷ []) ++ rest ≡ text = append_assoc front (feed ∷ []) rest ∙ whole in
+    let size : length (front ++ feed ∷ []) ≡ n + 1 = omega (arith, length-append front (feed ∷ []), long) in
+    let first : take (n + 1) text ≡ front ++ feed ∷ [] = ap (take (n + 1)) (sym cut) ∙ take_at (front ++ feed ∷ []) rest (n + 1) size in
+    let later : drop (n + 1) text ≡ rest = ap (drop (n + 1)) (sym cut) ∙ drop_at (front ++ feed ∷ []) rest (n + 1) size in
+    let none : feeds front ≡ 0 = feeds-none is_in_line front in_line-is all in
+    let one : feeds (feed ∷ []) ≡ 1 = rw is refl in
+    rw (first, later) (record {
+      joined = sym cut;
+      lines = ap lines_of (sym whole) ∙ lines-feed front feed rest all is;
+      counted = omega (arith, feeds-append front (feed ∷ []), none, one);
+      filled = omega (arith, size);
+    })
+
+pub BeginsLine-feed : (text : List ℕ) → prefix_len is_in_line text < length text → BeginsLine text (take (prefix_len is_in_line text + 1) text) (drop (prefix_len is_in_line text + 1) text) 1
+BeginsLine-feed text inside =
+    let n = prefix_len is_in_line text in
+    line-split text (take n text) (drop n text) n (take-append-drop n text) (list_all-take is_in_line text) (length-take-le n text (omega arith)) (begins-drop is_in_line text) inside
+
+-- it may be cut behind its line feed
+pub IsCharBoundary-after_line : (text : List ℕ) → IsUtf8 text → prefix_len is_in_line text < length text → IsCharBoundary text (prefix_len is_in_line text + 1)
+IsCharBoundary-after_line text utf8 inside =
+    IsCharBoundary-after_ascii text (prefix_len is_in_line text) utf8 inside (in_line-ascii _ (prefix_len_stops is_in_line text 0 inside))
+
+-- a last line without one
+pub BeginsLine-last : (text : List ℕ) → 0 < length text → length text ≤ prefix_len is_in_line text → BeginsLine text text [] 0
+BeginsLine-last text filled past =
+    let n = prefix_len is_in_line text in
+    let whole : take n text ≡ text = take_all n text past in
+    let all : list_all is_in_line text ≡ true = subst (λ t. list_all is_in_line t ≡ true) whole (list_all-take is_in_line text) in
+    record { joined = sym (append-nil text); lines = lines-none text all filled; counted = sym (feeds-none is_in_line text in_line-is all); filled = filled }
+
+-- a line's words
+
+pub and-false : (b : Bool) → (b && false) ≡ false
+and-false true = refl
+and-false false = refl
+
+both-tests : (a b : Bool) → cond a b false ≡ (a && (b && true))
+both-tests true true = refl
+both-tests true false = refl
+both-tests false b = refl
+
+words-test : (text first r1 second r2 third r3 : List ℕ) → BeginsWord text first r1 → BeginsWord r1 second r2 → BeginsWord r2 third r3
+    → are_end_words (words_in text) ≡ (bytes_eq first (codes "end") && (bytes_eq second (codes "script") && eqb (length third) 0))
+words-test text [] r1 second r2 third r3 a b c = rw a refl
+words-test text (x ∷ first) r1 [] r2 third r3 a b c = rw (a, b) (sym (and-false (bytes_eq (x ∷ first) (codes "end"))))
+words-test text (x ∷ first) r1 (y ∷ second) r2 [] r3 a b c = rw (a, b, c) (both-tests (bytes_eq (x ∷ first) (codes "end")) (bytes_eq (y ∷ second) (codes "script")))
+words-test text (x ∷ first) r1 (y ∷ second) r2 (z ∷ third) r3 a b c =
+    let none : eqb (length (z ∷ third)) 0 ≡ false = ne_eqb (length (z ∷ third)) 0 (λ same. absurd (omega arith)) in
+    rw (a, b, c) (sym (ap (λ t. bytes_eq (x ∷ first) (codes "end") && (bytes_eq (y ∷ second) (codes "script") && t)) none
+    ∙ ap (λ t. bytes_eq (x ∷ first) (codes "end") && t) (and-false (bytes_eq (y ∷ second) (codes "script")))
+    ∙ and-false (bytes_eq (x ∷ first) (codes "end"))))
+
+pub end-line : (line code first r1 second r2 third r3 : List ℕ) → code ≡ take (prefix_len is_in_code line) line → BeginsWord code first r1 → BeginsWord r1 second r2 → BeginsWord r2 third r3
+    → is_end_line line ≡ (bytes_eq first (codes "end") && (bytes_eq second (codes "script") && eqb (length third) 0))
+unfolding is_end_line is_in_code
+end-line line code first r1 second r2 third r3 is a b c = ap (λ t. are_end_words (words_in t)) (sym is) ∙ words-test code first r1 second r2 third r3 a b c
+
+-- the lines of a script so far
+pub record Passed (text : List ℕ) (line : ℕ) (rest : List ℕ) (reached : ℕ) : Type 0 where
+  pub before : List (List ℕ)
+  pub joined : text ≡ concat before ++ rest
+  pub found : (after : List (List ℕ)) (last : List ℕ) → script_in (lines_of rest) ≡ Some (after, last) → script_in (lines_of text) ≡ Some (before ++ after, last)
+  pub none : script_in (lines_of rest) ≡ None → script_in (lines_of text) ≡ None
+  pub counted : reached ≡ line + feeds (concat before)
+
+pub Passed-start : (text : List ℕ) (line : ℕ) → Passed text line text line
+Passed-start text line = record { before = []; joined = refl; found = λ after last is. is; none = λ is. is; counted = sym (add-zero line) }
+
+script-more : (line : List ℕ) (lines after : List (List ℕ)) (last : List ℕ) → is_end_line line ≡ false → script_in lines ≡ Some (after, last) → script_in (line ∷ lines) ≡ Some (line ∷ after, last)
+script-more line lines after last other is = rw (other, is) refl
+
+script-none : (line : List ℕ) (lines : List (List ℕ)) → is_end_line line ≡ false → script_in lines ≡ None → script_in (line ∷ lines) ≡ None
+script-none line lines other is = rw (other, is) refl
+
+concat-push : (before : List (List ℕ)) (line rest : List ℕ) → concat before ++ (line ++ rest) ≡ concat (before ++ line ∷ []) ++ rest
+concat-push [] line rest = ap (λ xs. xs ++ rest) (sym (append-nil line))
+concat-push (first ∷ before) line rest = append_assoc first (concat before) (line ++ rest) ∙ ap (λ xs. first ++ xs) (concat-push before line rest) ∙ sym (append_assoc first (concat (before ++ line ∷ [])) rest)
+
+feeds-push : (before : List (List ℕ)) (line : List ℕ) → feeds (concat (before ++ line ∷ [])) ≡ feeds (concat before) + feeds line
+feeds-push before line = ap feeds (sym (append-nil _) ∙ sym (concat-push before line []) ∙ ap (λ xs. concat before ++ xs) (append-nil line)) ∙ feeds-append (concat before) line
+
+pub Passed-more : (text : List ℕ) (line : ℕ) (rest : List ℕ) (reached : ℕ) (first behind : List ℕ) (count : ℕ) → Passed text line rest reached → BeginsLine rest first behind count → is_end_line first ≡ false → Passed text line behind (reached + count)
+Passed-more text line rest reached first behind count passed begins other = record {
+  before = passed.before ++ first ∷ [];
+  joined = passed.joined ∙ ap (λ xs. concat passed.before ++ xs) begins.joined ∙ concat-push passed.before first behind;
+  found = λ after last is. passed.found (first ∷ after) last (ap script_in begins.lines ∙ script-more first (lines_of behind) after last other is) ∙ ap (λ b. Some (b, last)) (sym (append_assoc passed.before (first ∷ []) after));
+  none = λ is. passed.none (ap script_in begins.lines ∙ script-none first (lines_of behind) other is);
+  counted = omega (arith, passed.counted, begins.counted, feeds-push passed.before first);
+}
+
+Passed-cut : (text : List ℕ) (line : ℕ) (rest : List ℕ) (reached : ℕ) → (passed : Passed text line rest reached) → length (concat passed.before) ≡ length text - length rest
+Passed-cut text line rest reached passed = omega (arith, ap length passed.joined, length-append (concat passed.before) rest)
+
+-- the text may be cut there
+pub Passed-boundary : (text : List ℕ) (line : ℕ) (rest : List ℕ) (reached : ℕ) → Passed text line rest reached → IsUtf8 rest → IsCharBoundary text (length text - length rest)
+Passed-boundary text line rest reached passed utf8 =
+    subst (IsCharBoundary text) (Passed-cut text line rest reached passed) (IsCharBoundary-at_seam text (concat passed.before) rest passed.joined utf8)
+
+pub Passed-end : (text : List ℕ) (line : ℕ) (rest : List ℕ) (reached : ℕ) (first behind : List ℕ) (count : ℕ) → Passed text line rest reached → BeginsLine rest first behind count → is_end_line first ≡ true → EndsScript text line (take (length text - length rest) text) behind (reached + count)
+Passed-end text line rest reached first behind count passed begins is = record {
+  before = passed.before;
+  last = first;
+  found = passed.found [] first (ap script_in begins.lines ∙ rw is refl) ∙ ap (λ b. Some (b, first)) (append-nil passed.before);
+  joined = passed.joined ∙ ap (λ xs. concat passed.before ++ xs) begins.joined ∙ sym (append_assoc (concat passed.before) first behind);
+  lines = ap (take (length text - length rest)) passed.joined ∙ take_at (concat passed.before) rest (length text - length rest) (Passed-cut text line rest reached passed);
+  counted = omega (arith, passed.counted, begins.counted, feeds-append (concat passed.before) first);
+}
+
+pub Passed-none : (text : List ℕ) (line : ℕ) (rest : List ℕ) (reached : ℕ) → Passed text line rest reached → length rest ≡ 0 → script_in (lines_of text) ≡ None
+Passed-none text line rest reached passed empty = passed.none (rw (nil_from_length rest empty) refl)
+
+pub Passed-fits : (text : List ℕ) (line : ℕ) (rest : List ℕ) (reached : ℕ) → Passed text line rest reached → (reached + length rest ≤ line + length text) × (length rest ≤ length text)
+Passed-fits text line rest reached passed = (omega (arith, passed.counted, feeds-length (concat passed.before), ap length passed.joined, length-append (concat passed.before) rest), omega (arith, ap length passed.joined, length-append (concat passed.before) rest))
+
+pub BeginsLine-shorter : (text line rest : List ℕ) (count : ℕ) → BeginsLine text line rest count → (length rest < length text) × (count + length rest ≤ length text)
+BeginsLine-shorter text line rest count begins = (omega (arith, ap length begins.joined, length-append line rest, begins.filled), omega (arith, ap length begins.joined, length-append line rest, begins.counted, feeds-length line))
+
+-- a script's end line, for a call of a lexer
+pub EndsScript-behind : (text : List ℕ) (line : ℕ) (script rest : List ℕ) (reached : ℕ) (inside parens : Bool) (depth : ℕ) → (ends : EndsScript text line script rest reached)
+    → place rest reached false parens 0 ≡ behind_stanza (passing (length (concat ends.before) + length ends.last) (place text line inside parens depth))
+EndsScript-behind text line script rest reached inside parens depth ends =
+    let size : length (concat ends.before ++ ends.last) ≡ length (concat ends.before) + length ends.last = length-append (concat ends.before) ends.last in
+    ap behind_stanza (sym (ap (λ n. passing n (place text line inside parens depth)) (sym size) ∙ place-behind text (concat ends.before ++ ends.last) rest line inside parens depth _ reached ends.joined refl ends.counted))
+
+pub EndsScript-fits : (text : List ℕ) (line : ℕ) (script rest : List ℕ) (reached : ℕ) → EndsScript text line script rest reached → (reached + length rest ≤ line + length text) × (length rest ≤ length text)
+EndsScript-fits text line script rest reached ends =
+    (omega (arith, ends.counted, feeds-length (concat ends.before ++ ends.last), ap length ends.joined, length-append (concat ends.before ++ ends.last) rest), omega (arith, ap length ends.joined, length-append (concat ends.before ++ ends.last) rest))
+
+-- what reading a script answers
+pub Script-none : (old : Place) → script_in (lines_of old.rest) ≡ None → ReadsScript old (Ok None) old
+Script-none old none = rw none (refl, refl)
+
+pub Script-lines : (text : List ℕ) (line : ℕ) (script rest : List ℕ) (reached : ℕ) (inside parens : Bool) (depth : ℕ) → EndsScript text line script rest reached → (lines : List ℕ) → lines ≡ script
+    → ReadsScript (place text line inside parens depth) (Ok (Some lines)) (place rest reached false parens 0)
+Script-lines text line script rest reached inside parens depth ends lines same = rw ends.found (inl (ap (λ t. Ok (Some t)) (same ∙ ends.lines), EndsScript-behind text line script rest reached inside parens depth ends))
+
+pub Script-memory : (text : List ℕ) (line : ℕ) (script rest : List ℕ) (reached : ℕ) (inside parens : Bool) (depth : ℕ) → EndsScript text line script rest reached
+    → ReadsScript (place text line inside parens depth) (Err Memory) (place text line inside parens depth)
+Script-memory text line script rest reached inside parens depth ends = rw ends.found (inr (refl, refl))

@@ -1,0 +1,65 @@
+//! A text under way.
+ghost use Rattle.std.specs.Prelude.{◌≡◌, ◌++◌, ◌⊎◌, ℕ, List, [], Some, None, Ok, Err, if◌then◌else◌, string_bytes};
+ghost use Rattle.up_text.specs.Lexer.{Holds, Finished};
+
+use crate::fault::TextFault;
+use crate::text::Text;
+use std::alloc::Global;
+use std::marker::Model;
+
+/// A text under way. Where memory is refused it only keeps that in mind, so that what stands behind is still read, and a fault
+/// there comes before the want of memory.
+#[derive(Debug, Drop)]
+pub struct Draft {
+    text: String,
+    refused: bool,
+}
+
+impl Model for Draft {
+    ghost use Rattle.std.specs.Prelude.{List, ℕ, Option};
+
+    ghost Value = { Option (List ℕ) };
+
+    ghost use Rattle.up_text.specs.Lexer.{draft_of};
+
+    ghost view = { draft_of };
+}
+
+impl Draft {
+    pub fn new(alloc: Global) -> Self
+        ensures { result ≡ Some [] }
+    {
+        Draft {
+            text: String::new(alloc),
+            refused: false,
+        }
+    }
+
+    /// Appends this part.
+    pub fn push(&mut self, part: &str)
+        ensures { (bytes : List ℕ) → Holds self.old bytes → Holds self.new (bytes ++ part.now) }
+    {
+        if !self.refused && self.text.push_str(part).is_err() {
+            self.refused = true;
+        }
+    }
+
+    pub fn finish(self) -> Result<Text, TextFault>
+        ensures { (bytes : List ℕ) → Holds self bytes → Finished bytes result }
+    {
+        let Draft { text, refused } = self;
+        if refused {
+            return Err(TextFault::Memory);
+        }
+        Ok(Text::new(text))
+    }
+}
+
+/// Appends a quote or a backslash where such are kept.
+pub fn push_quoting(out: &mut Draft, part: &str, keep: bool)
+    ensures { (bytes : List ℕ) → Holds out.old bytes → Holds out.new (bytes ++ (if keep then part.now else [])) }
+{
+    if keep {
+        out.push(part);
+    }
+}
