@@ -5,9 +5,10 @@ use Rattle.std.specs.List.{prefix_len, take_while, list_all, flat_map}
 use Rattle.up_text.specs.declared.fault.TextFault.{TextFault}
 use Rattle.up_text.specs.declared.fault.TextFault.TheVariants.{UnterminatedQuote, TrailingBackslash}
 use Rattle.up_text.specs.declared.token.Token.{Token}
+use Rattle.up_text.specs.Scripts.{is_filled}
 use Rattle.up_text.specs.Tokens.{Mark, Part, Quoting, Folded, Alone, Blank, Passed, Stop, Fail, Mode, Outside, Comment, Escaped, Continued, Quoted, QuotedEscape, end_marks, mark_of, mode_after, open_after, marks}
-use Rattle.up_text.specs.Places.{Place, Reading, Answers, Got, Ended, Fails, passing, within, behind_stanza, is_spelled, fault_in, marks_at, gap_at, spelled, read_at, reading, line_at, is_gap}
-use Rattle.up_text.specs.Lexemes.{Lexeme, Word, Bad, End, Reads, lexeme_by, lexemes_from, readings_left, lexemes_of}
+use Rattle.up_text.specs.Places.{Place, start, Reading, Answers, Got, Ended, Fails, passing, within, behind_stanza, is_spelled, fault_in, marks_at, gap_at, spelled, read_at, reading, line_at, is_gap}
+use Rattle.up_text.specs.Lexemes.{Lexeme, Word, Bad, End, Reads, IsLineOf, put_front, split_ends, stanzas, lexeme_by, lexemes_from, readings_left, lexemes_of}
 
 -- a mark that no byte has
 abbrev is_fail : Mark → Bool
@@ -234,3 +235,69 @@ Reads-from_Answers old result new answers = rw (lexemes_of-is old) (by_reading (
     by_reading (Got token behind) is (inr answers) = inr (answers.0, ap (λ place. lexemes_of place) answers.1 ∙ lexemes_of-is old ∙ ap (λ r. lexeme_by (λ behind. lexemes_of behind) old r) is)
     by_reading (Ended behind) is answers = by_end old.inside behind refl is answers
     by_reading (Fails fault) is answers = (answers.0, ap (λ place. lexemes_of place) answers.1 ∙ lexemes_of-is old ∙ ap (λ r. lexeme_by (λ behind. lexemes_of behind) old r) is)
+
+spelled_got : (place : Place) (spelling : List Mark) (found : Option TextFault) (token : Token) (behind : Place) → spelled place spelling found ≡ Got token behind → (token.line ≡ place.line) × (behind.inside ≡ true)
+spelled_got place spelling None token behind got = (cc, cc)
+spelled_got place spelling (Some fault) token behind got = cc
+
+got_at : (place : Place) (ms : List Mark) (token : Token) (behind : Place) → read_at place ms ≡ Got token behind → (token.line ≡ place.line) × (behind.inside ≡ true)
+got_at place [] token behind got = cc
+got_at place (Stop ∷ ms) token behind got = cc
+got_at place (Alone byte ∷ ms) token behind got = (cc, cc)
+got_at place (Part byte ∷ ms) token behind got = spelled_got place (take_while is_spelled (Part byte ∷ ms)) (fault_in (take_while is_spelled (Part byte ∷ ms))) token behind got
+got_at place (Quoting byte ∷ ms) token behind got = spelled_got place (take_while is_spelled (Quoting byte ∷ ms)) (fault_in (take_while is_spelled (Quoting byte ∷ ms))) token behind got
+got_at place (Folded ∷ ms) token behind got = spelled_got place (take_while is_spelled (Folded ∷ ms)) (fault_in (take_while is_spelled (Folded ∷ ms))) token behind got
+got_at place (Fail fault ∷ ms) token behind got = cc
+got_at place (Blank byte ∷ ms) token behind got = cc
+got_at place (Passed ∷ ms) token behind got = cc
+
+-- a token stands on the line that was reached, and the place behind it is inside a stanza
+pub reading_got : (place : Place) (token : Token) (behind : Place) → reading place ≡ Got token behind → (token.line ≡ line_at place) × (behind.inside ≡ true)
+unfolding reading
+reading_got place token behind got = got_at (passing (gap_at place) place) (drop (gap_at place) (marks_at place)) token behind got
+
+-- what is read next stands on that line
+pub IsLineOf-line_at : (place : Place) → IsLineOf (lexemes_of place) (line_at place)
+IsLineOf-line_at place = rw (lexemes_of-is place) (by_reading (reading place) refl)
+  where
+    by_end : (inside : Bool) (behind : Place) → IsLineOf (if inside then End ∷ lexemes_of behind else []) (line_at place)
+    by_end true behind = tt
+    by_end false behind = tt
+    by_reading : (r : Reading) → reading place ≡ r → IsLineOf (lexeme_by (λ behind. lexemes_of behind) place r) (line_at place)
+    by_reading (Got token behind) is = sym (reading_got place token behind is).0
+    by_reading (Ended behind) is = by_end place.inside behind
+    by_reading (Fails fault) is = refl
+
+-- the stanzas of lexemes that are read have a token each; the first goes on where a token of it was read before
+abbrev AreFilled : Bool → List (List Lexeme) → Type 0
+AreFilled false stanzas = list_all is_filled stanzas ≡ true
+AreFilled true stanzas = list_all is_filled (drop 1 stanzas) ≡ true
+
+put_filled : (lexeme : Lexeme) (stanzas : List (List Lexeme)) → list_all is_filled (drop 1 stanzas) ≡ true → (inside : Bool) → AreFilled inside (put_front lexeme stanzas)
+put_filled lexeme [] filled true = refl
+put_filled lexeme [] filled false = refl
+put_filled lexeme (stanza ∷ stanzas) filled true = filled
+put_filled lexeme (stanza ∷ stanzas) filled false = filled
+
+from_filled : (n : ℕ) (place : Place) → AreFilled place.inside (split_ends (lexemes_from n place))
+unfolding lexemes_from
+from_filled zero place = none place.inside
+  where
+    none : (inside : Bool) → AreFilled inside []
+    none true = refl
+    none false = refl
+from_filled (suc n) place = by_reading (reading place) refl (λ behind. from_filled n behind)
+  where
+    by_end : (inside : Bool) (behind : Place) → behind.inside ≡ false → AreFilled behind.inside (split_ends (lexemes_from n behind)) → AreFilled inside (split_ends (if inside then End ∷ lexemes_from n behind else []))
+    by_end true behind outside more = subst (λ b. AreFilled b (split_ends (lexemes_from n behind))) outside more
+    by_end false behind outside more = refl
+    by_reading : (r : Reading) → reading place ≡ r → ((behind : Place) → AreFilled behind.inside (split_ends (lexemes_from n behind)))
+        → AreFilled place.inside (split_ends (lexeme_by (λ behind. lexemes_from n behind) place r))
+    by_reading (Got token behind) is more = put_filled (Word token) (split_ends (lexemes_from n behind)) (subst (λ b. AreFilled b (split_ends (lexemes_from n behind))) (reading_got place token behind is).1 (more behind)) place.inside
+    by_reading (Ended behind) is more = by_end place.inside behind (reading_ends place behind is).0 (more behind)
+    by_reading (Fails fault) is more = put_filled (Bad (line_at place) fault) [] refl place.inside
+
+-- each stanza of a text has a token
+pub stanzas_filled : (text : List ℕ) → list_all is_filled (stanzas text) ≡ true
+unfolding lexemes_of
+stanzas_filled text = from_filled (readings_left (start text)) (start text)

@@ -58,3 +58,10 @@ Reads (End ∷ later) result new = (result ≡ Ok None) × (new ≡ later)
 Reads (Bad line fault ∷ later) result new = (result ≡ Err fault) × (new ≡ Bad line fault ∷ later)
 Reads (Word token ∷ later) result new =
     ((result ≡ Ok (Some token)) × (new ≡ later)) ⊎ ((result ≡ Err Memory) × (new ≡ Word token ∷ later))
+
+-- the line of the token or of the refused token that is read next; elsewhere any line
+abbrev pub IsLineOf : List Lexeme → ℕ → Type 0
+IsLineOf [] line = Unit {0}
+IsLineOf (End ∷ later) line = Unit {0}
+IsLineOf (Bad first fault ∷ later) line = line ≡ first
+IsLineOf (Word token ∷ later) line = line ≡ token.line
