@@ -1,13 +1,14 @@
 -- What is read from a place on is what the next reading gives, and what is read behind it.
-use Rattle.std.proofs.Common.{◌≡◌, ◌⊎◌, inl, inr, ℕ, zero, suc, ◌+◌, ◌-◌, ◌*◌, ◌<◌, ◌≤◌, Bool, true, false, true≢false, cond, not, ◌||◌, List, [], ◌∷◌, length, take, drop, Option, None, Some, Result, Ok, Err, refl, sym, ap, ◌∙◌, subst, arith, if◌then◌else◌, length-drop, one-add}
+use Rattle.std.proofs.Common.{◌≡◌, ◌⊎◌, inl, inr, ℕ, zero, suc, ◌+◌, ◌-◌, ◌*◌, ◌<◌, ◌≤◌, Bool, true, false, true≢false, cond, not, ◌||◌, ◌&&◌, List, [], ◌∷◌, length, take, drop, Option, None, Some, Result, Ok, Err, refl, sym, ap, ◌∙◌, subst, arith, if◌then◌else◌, length-drop, one-add}
 use Rattle.std.proofs.lemmas.List.{nil_from_length}
+use Rattle.std.proofs.lemmas.Bool.{and_parts, not-true}
 use Rattle.std.specs.List.{prefix_len, take_while, list_all, flat_map}
 use Rattle.up_text.specs.declared.fault.TextFault.{TextFault}
 use Rattle.up_text.specs.declared.fault.TextFault.TheVariants.{UnterminatedQuote, TrailingBackslash}
 use Rattle.up_text.specs.declared.token.Token.{Token}
 use Rattle.up_text.specs.Scripts.{is_filled}
 use Rattle.up_text.specs.Tokens.{Mark, Part, Quoting, Folded, Alone, Blank, Passed, Stop, Fail, Mode, Outside, Comment, Escaped, Continued, Quoted, QuotedEscape, end_marks, mark_of, mode_after, open_after, marks}
-use Rattle.up_text.specs.Places.{Place, start, Reading, Answers, Got, Ended, Fails, passing, within, behind_stanza, is_spelled, fault_in, marks_at, gap_at, spelled, read_at, reading, line_at, is_gap}
+use Rattle.up_text.specs.Places.{Place, start, Reading, Answers, Got, Ended, Fails, passing, within, behind_stanza, is_spelled, fault_in, marks_at, gap_at, spelled, is_finished, read_at, reading, line_at, is_gap}
 use Rattle.up_text.specs.Lexemes.{Lexeme, Word, Bad, End, Reads, IsLineOf, put_front, split_ends, stanzas, lexeme_by, lexemes_from, readings_left, lexemes_of}
 
 -- a mark that no byte has
@@ -301,3 +302,64 @@ from_filled (suc n) place = by_reading (reading place) refl (λ behind. from_fil
 pub stanzas_filled : (text : List ℕ) → list_all is_filled (stanzas text) ≡ true
 unfolding lexemes_of
 stanzas_filled text = from_filled (readings_left (start text)) (start text)
+
+-- a run that goes to the end
+all_dropped : (p : Mark → Bool) (ms : List Mark) → list_all p ms ≡ true → drop (prefix_len p ms) ms ≡ []
+all_dropped p [] all = refl
+all_dropped p (m ∷ ms) all =
+    let both = and_parts (p m) (list_all p ms) all in
+    rw (both.0, one-add (prefix_len p ms)) (all_dropped p ms both.1)
+
+none_left : (p : Mark → Bool) (ms : List Mark) → drop (prefix_len p ms) ms ≡ [] → list_all p ms ≡ true
+none_left p [] none = refl
+none_left p (m ∷ ms) none =
+    elim (p m) as (λ b. p m ≡ b → drop (cond b (1 + prefix_len p ms) 0) (m ∷ ms) ≡ [] → b && list_all p ms ≡ true) [
+      | true ↦ λ _ is. none_left p ms (rw (one-add (prefix_len p ms)) at is)
+      | false ↦ λ _ is. cc
+    ] refl none
+
+never_ends : (place : Place) (spelling : List Mark) (found : Option TextFault) (behind : Place) → spelled place spelling found ≡ Ended behind → ⊥
+never_ends place spelling None behind ended = cc
+never_ends place spelling (Some fault) behind ended = cc
+
+-- outside a stanza an end comes behind all marks
+ended_marks : (place : Place) (ms : List Mark) (behind : Place) → place.inside ≡ false → drop (gap_at place) (marks_at place) ≡ ms
+    → read_at (passing (gap_at place) place) ms ≡ Ended behind → ms ≡ []
+unfolding gap_at
+ended_marks place [] behind outside is ended = refl
+ended_marks place (Stop ∷ ms) behind outside is ended =
+    let no = run_stops (is_gap place.inside) (marks_at place) Stop ms is in absurd (true≢false (rw outside at no))
+ended_marks place (Blank byte ∷ ms) behind outside is ended = absurd (true≢false (run_stops (is_gap place.inside) (marks_at place) (Blank byte) ms is))
+ended_marks place (Passed ∷ ms) behind outside is ended = absurd (true≢false (run_stops (is_gap place.inside) (marks_at place) Passed ms is))
+ended_marks place (Alone byte ∷ ms) behind outside is ended = cc
+ended_marks place (Part byte ∷ ms) behind outside is ended = absurd (never_ends (passing (gap_at place) place) (take_while is_spelled (Part byte ∷ ms)) (fault_in (take_while is_spelled (Part byte ∷ ms))) behind ended)
+ended_marks place (Quoting byte ∷ ms) behind outside is ended = absurd (never_ends (passing (gap_at place) place) (take_while is_spelled (Quoting byte ∷ ms)) (fault_in (take_while is_spelled (Quoting byte ∷ ms))) behind ended)
+ended_marks place (Folded ∷ ms) behind outside is ended = absurd (never_ends (passing (gap_at place) place) (take_while is_spelled (Folded ∷ ms)) (fault_in (take_while is_spelled (Folded ∷ ms))) behind ended)
+ended_marks place (Fail fault ∷ ms) behind outside is ended = cc
+
+-- nothing is left where all is a gap outside a stanza
+pub none_when_finished : (place : Place) → is_finished place ≡ true → lexemes_of place ≡ []
+unfolding is_finished reading gap_at marks_at
+none_when_finished place finished =
+    let both = and_parts (not place.inside) (list_all (is_gap false) (marks_at place)) finished in
+    let outside : place.inside ≡ false = not-true place.inside both.0 in
+    let dropped : drop (prefix_len (is_gap place.inside) (marks_at place)) (marks_at place) ≡ [] = rw outside (all_dropped (is_gap false) (marks_at place) both.1) in
+    lexemes_of-is place ∙ rw (dropped, outside) refl
+
+finished_from : (place behind : Place) → place.inside ≡ false → reading place ≡ Ended behind → is_finished place ≡ true
+unfolding is_finished reading gap_at marks_at
+finished_from place behind outside ended =
+    let none = ended_marks place (drop (gap_at place) (marks_at place)) behind outside refl ended in
+    rw outside (none_left (is_gap false) (marks_at place) (rw outside at none))
+
+-- and only there
+pub finished_when_none : (place : Place) → lexemes_of place ≡ [] → is_finished place ≡ true
+finished_when_none place none = by_reading (reading place) refl (sym (lexemes_of-is place) ∙ none)
+  where
+    by_end : (inside : Bool) (behind : Place) → place.inside ≡ inside → reading place ≡ Ended behind → (if inside then End ∷ lexemes_of behind else []) ≡ [] → is_finished place ≡ true
+    by_end true behind inside is e = cc
+    by_end false behind inside is e = finished_from place behind inside is
+    by_reading : (r : Reading) → reading place ≡ r → lexeme_by (λ behind. lexemes_of behind) place r ≡ [] → is_finished place ≡ true
+    by_reading (Got token behind) is e = cc
+    by_reading (Ended behind) is e = by_end place.inside behind refl is e
+    by_reading (Fails fault) is e = cc
