@@ -1,7 +1,7 @@
 //! Reads a script.
 ghost use Rattle.std.specs.Prelude.{◌≡◌, ◌≤◌, ◌<◌, ◌+◌, ◌∷◌, IfOk, IfSome, MatchOption, true, false, length};
 ghost use Rattle.std.specs.List.{position_or_len};
-ghost use Rattle.up_text.specs.Tokens.{lexemes};
+ghost use Rattle.up_text.specs.Lexemes.{lexemes, lexemes_of};
 ghost use Rattle.initd.specs.Bundle.{lines_of};
 ghost use Rattle.initd.specs.Rows.{is_end, is_text, code_of, Continues, words_in, line_inputs, script_inputs};
 
@@ -58,8 +58,9 @@ enum Next {
     Bad,
 }
 
+#[tactic(auto, using(up_text::proofs::Lexemes::reads_lexemes))]
 fn next_word(alloc: Global, lexer: &mut Lexer) -> Result<Next, AllocError>
-    ensures { IfOk result (Continues lexer.old lexer.new) }
+    ensures { IfOk result (Continues (lexemes_of lexer.old) (lexemes_of lexer.new)) }
 {
     match lexer.next(alloc) {
         Ok(Some(token)) => Ok(Next::Word(token.text)),

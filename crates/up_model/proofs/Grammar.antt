@@ -7,7 +7,7 @@ use Rattle.std.proofs.lemmas.Bool.Decides.{Decides-eqb}
 use Rattle.std.proofs.lemmas.Slice.Eq.{bytes_eq-Decides, ends_is}
 use Rattle.std.proofs.Math.Seq.{take-append_seam}
 use Rattle.up_text.specs.Names.{is_name}
-use Rattle.up_text.specs.Tokens.{Lexeme, Word, Bad, End, stanzas}
+use Rattle.up_text.specs.Lexemes.{Lexeme, Word, Bad, End, stanzas}
 use Rattle.up_model.specs.declared.files.file.File.{File}
 use Rattle.up_model.specs.declared.files.job.JobDef.{JobDef}
 use Rattle.up_model.specs.declared.files.stanza.Stanza.{Stanza}

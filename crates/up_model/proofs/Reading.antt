@@ -2,12 +2,13 @@
 use Rattle.std.proofs.Common.{◌≡◌, ℕ, ◌<◌, true, List, [], ◌∷◌, length, Some, None, Err, cond, refl, sym, ◌∙◌, ap, arith, option_map, option_and_then}
 use Rattle.std.specs.List.{list_all}
 use Rattle.std.proofs.lemmas.Bool.{and_parts}
-use Rattle.up_text.specs.Tokens.{Lexeme, Word, Bad, End, is_filled, IsLineOf}
+use Rattle.up_text.specs.Lexemes.{Lexeme, Word, Bad, End, IsLineOf, put_front, split_ends}
+use Rattle.up_text.specs.Scripts.{is_filled}
 use Rattle.up_model.specs.declared.files.job.JobDef.{JobDef}
 use Rattle.up_model.specs.declared.files.stanza.Stanza.{Stanza}
 use Rattle.up_model.specs.declared.files.stanza.Stanza.TheVariants.{StartOn, StopOn, Exec}
 use Rattle.up_model.specs.Stanzas.{plain_texts, stanza_in, stanza_of, stanza_line}
-use Rattle.up_model.specs.Reading.{front_texts, after_end, front, put_front, split_ends, applied, job_with}
+use Rattle.up_model.specs.Reading.{front_texts, after_end, front, applied, job_with}
 
 -- lexemes that are left are a stanza and those behind it
 split_ends-front : (lexemes : List Lexeme) → (lexemes ≡ [] → ⊥) → split_ends lexemes ≡ front lexemes ∷ split_ends (after_end lexemes)

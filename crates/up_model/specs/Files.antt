@@ -4,7 +4,7 @@ use Rattle.std.specs.List.{list_any, find, filter_map, ends_with}
 use Rattle.std.specs.Result.{result_ok, result_err, result_map_both}
 use Rattle.std.specs.Str.{bytes_eq, is_utf8}
 use Rattle.up_text.specs.Names.{is_name}
-use Rattle.up_text.specs.Tokens.{Lexeme, stanzas}
+use Rattle.up_text.specs.Lexemes.{Lexeme, stanzas}
 use Rattle.up_model.specs.declared.files.file.File.{File}
 use Rattle.up_model.specs.declared.files.job.JobDef.{JobDef}
 use Rattle.up_model.specs.declared.files.fault.Fault.{Fault}

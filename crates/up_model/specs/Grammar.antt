@@ -2,7 +2,7 @@
 use Rattle.std.specs.Prelude.{◌≡◌, ℕ, Bool, true, false, List, [], ◌∷◌, ◌++◌, codes}
 use Rattle.std.specs.List.{list_all, AllZip}
 use Rattle.up_text.specs.Names.{is_name}
-use Rattle.up_text.specs.Tokens.{Lexeme, Word, Bad, End, stanzas}
+use Rattle.up_text.specs.Lexemes.{Lexeme, Word, Bad, End, stanzas}
 use Rattle.up_model.specs.declared.files.file.File.{File}
 use Rattle.up_model.specs.declared.files.job.JobDef.{JobDef}
 use Rattle.up_model.specs.declared.files.stanza.Stanza.{Stanza}

@@ -1,7 +1,7 @@
 -- How a reader goes on in the lexemes of a text.
 use Rattle.std.specs.Prelude.{◌≡◌, ℕ, if◌then◌else◌, MatchBool, List, [], ◌∷◌, Option, None, Some, option_map, Result}
 use Rattle.std.specs.List.{filter_map, find}
-use Rattle.up_text.specs.Tokens.{Lexeme, Word, Bad, End}
+use Rattle.up_text.specs.Lexemes.{Lexeme, Word, Bad, End}
 use Rattle.up_model.specs.declared.files.job.JobDef.{JobDef}
 use Rattle.up_model.specs.declared.files.stanza.Stanza.{Stanza}
 use Rattle.up_model.specs.declared.files.stanza.Stanza.TheVariants.{StartOn, StopOn, Exec}
@@ -38,18 +38,6 @@ front [] = []
 front (End ∷ later) = []
 front (Bad line fault ∷ later) = Bad line fault ∷ front later
 front (Word token ∷ later) = Word token ∷ front later
-
--- a lexeme in front of the first stanza
-abbrev pub put_front : Lexeme → List (List Lexeme) → List (List Lexeme)
-put_front lexeme [] = (lexeme ∷ []) ∷ []
-put_front lexeme (stanza ∷ stanzas) = (lexeme ∷ stanza) ∷ stanzas
-
--- the stanzas of lexemes, each up to its end
-abbrev pub split_ends : List Lexeme → List (List Lexeme)
-split_ends [] = []
-split_ends (End ∷ later) = [] ∷ split_ends later
-split_ends (Bad line fault ∷ later) = put_front (Bad line fault) (split_ends later)
-split_ends (Word token ∷ later) = put_front (Word token) (split_ends later)
 
 -- the job after a stanza
 abbrev pub applied : JobDef → Stanza → JobDef

@@ -3,7 +3,7 @@ use Rattle.std.specs.Prelude.{ℕ, Bool, ◌==◌, ◌&&◌, not, if◌then◌el
 use Rattle.std.specs.List.{list_any, list_all, filter_map}
 use Rattle.std.specs.Str.{bytes_eq}
 use Rattle.up_text.specs.Names.{is_name}
-use Rattle.up_text.specs.Tokens.{Lexeme, Word, Bad, End}
+use Rattle.up_text.specs.Lexemes.{Lexeme, Word, Bad, End}
 use Rattle.up_model.specs.declared.files.job.JobDef.{JobDef}
 use Rattle.up_model.specs.declared.files.stanza.Stanza.{Stanza}
 use Rattle.up_model.specs.declared.files.stanza.Stanza.TheVariants.{StartOn, StopOn, Exec}

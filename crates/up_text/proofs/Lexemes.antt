@@ -225,8 +225,8 @@ none_behind old behind outside ended =
     at_nothing behind at.0 at.1
 
 -- a call that reads at a place reads the lexemes from there on
-pub Reads-from_Answers : (old : Place) (result : Result (Option Token) TextFault) (new : Place) → Answers old (reading old) result new → Reads (lexemes_of old) result (lexemes_of new)
-Reads-from_Answers old result new answers = rw (lexemes_of-is old) (by_reading (reading old) refl answers)
+pub reads_lexemes : (old : Place) (result : Result (Option Token) TextFault) (new : Place) → Answers old (reading old) result new → Reads (lexemes_of old) result (lexemes_of new)
+reads_lexemes old result new answers = rw (lexemes_of-is old) (by_reading (reading old) refl answers)
   where
     by_end : (inside : Bool) (behind : Place) → old.inside ≡ inside → reading old ≡ Ended behind → (result ≡ Ok None) × (new ≡ behind) → Reads (if inside then End ∷ lexemes_of behind else []) result (lexemes_of new)
     by_end true behind inside is answers = (answers.0, ap (λ place. lexemes_of place) answers.1)
@@ -258,8 +258,8 @@ unfolding reading
 reading_got place token behind got = got_at (passing (gap_at place) place) (drop (gap_at place) (marks_at place)) token behind got
 
 -- what is read next stands on that line
-pub IsLineOf-line_at : (place : Place) → IsLineOf (lexemes_of place) (line_at place)
-IsLineOf-line_at place = rw (lexemes_of-is place) (by_reading (reading place) refl)
+pub line_lexemes : (place : Place) → IsLineOf (lexemes_of place) (line_at place)
+line_lexemes place = rw (lexemes_of-is place) (by_reading (reading place) refl)
   where
     by_end : (inside : Bool) (behind : Place) → IsLineOf (if inside then End ∷ lexemes_of behind else []) (line_at place)
     by_end true behind = tt

@@ -3,9 +3,10 @@ ghost use Rattle.std.specs.Prelude.{◌≡◌, ◌≤◌, IfOk, IfSome, OnSome, 
 ghost use Rattle.std.specs.List.{list_all};
 ghost use Rattle.std.specs.Option.{option_copied};
 ghost use Rattle.std.specs.Str.{is_utf8};
-ghost use Rattle.up_text.specs.Tokens.{stanzas, is_filled};
+ghost use Rattle.up_text.specs.Lexemes.{stanzas, split_ends, lexemes_of};
+ghost use Rattle.up_text.specs.Scripts.{is_filled};
 ghost use Rattle.up_model.specs.Stanzas.{stanza_in};
-ghost use Rattle.up_model.specs.Reading.{front_texts, after_end, split_ends, applied, job_with};
+ghost use Rattle.up_model.specs.Reading.{front_texts, after_end, applied, job_with};
 ghost use Rattle.up_model.specs.Files.{name_in, is_text, job_from, job_in, outcome_of};
 
 use crate::files::fault::{Fault, FaultCode};
@@ -23,8 +24,8 @@ const MAX_LEN: usize = 1_048_576;
 
 // What the stanza in front says; the lexer then stands behind its end.
 fn read_stanza(alloc: Global, lexer: &mut Lexer) -> Result<Option<Stanza>, AllocError>
-    ensures said { IfOk result (λ stanza. stanza ≡ option_and_then stanza_in (front_texts lexer.old)) }
-    ensures passed { IfOk result (λ stanza. OnSome stanza (lexer.new ≡ after_end lexer.old)) }
+    ensures said { IfOk result (λ stanza. stanza ≡ option_and_then stanza_in (front_texts (lexemes_of lexer.old))) }
+    ensures passed { IfOk result (λ stanza. OnSome stanza (lexemes_of lexer.new ≡ after_end (lexemes_of lexer.old))) }
 {
     match read_words(alloc, lexer)? {
         Some(words) => stanza_in(alloc, words),
@@ -44,8 +45,8 @@ fn apply(job: &mut JobDef, stanza: Stanza)
 
 // The job that the stanzas that are left define, or the line of the first unreadable one.
 fn read_stanzas(alloc: Global, lexer: Lexer, job: JobDef) -> Result<Result<JobDef, u32>, AllocError>
-    requires { list_all is_filled (split_ends lexer) ≡ true }
-    ensures { IfOk result (λ read. read ≡ job_with job (split_ends lexer.entry)) }
+    requires { list_all is_filled (split_ends (lexemes_of lexer)) ≡ true }
+    ensures { IfOk result (λ read. read ≡ job_with job (split_ends (lexemes_of lexer.entry))) }
 {
     let mut lexer = lexer;
     let mut job = job;

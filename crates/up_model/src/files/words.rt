@@ -1,5 +1,6 @@
 //! Reads the words of a stanza.
 ghost use Rattle.std.specs.Prelude.{◌≡◌, ◌≤◌, IfOk, OnSome, length};
+ghost use Rattle.up_text.specs.Lexemes.{lexemes_of};
 ghost use Rattle.up_model.specs.Reading.{Continues, front_texts, after_end};
 
 use std::alloc::{AllocError, Global};
@@ -16,9 +17,10 @@ pub(crate) enum Next {
     Other,
 }
 
+#[tactic(auto, using(up_text::proofs::Lexemes::reads_lexemes))]
 // What comes next; behind a word or an end the lexer goes on.
 fn next_word(alloc: Global, lexer: &mut Lexer) -> Result<Next, AllocError>
-    ensures { IfOk result (Continues lexer.old lexer.new) }
+    ensures { IfOk result (Continues (lexemes_of lexer.old) (lexemes_of lexer.new)) }
 {
     match lexer.next(alloc) {
         Ok(Some(token)) => {
@@ -39,8 +41,8 @@ pub(crate) fn read_words(
     alloc: Global,
     lexer: &mut Lexer,
 ) -> Result<Option<Items<Text>>, AllocError>
-    ensures words { IfOk result (λ words. words ≡ front_texts lexer.old) }
-    ensures passed { IfOk result (λ words. OnSome words (lexer.new ≡ after_end lexer.old)) }
+    ensures words { IfOk result (λ words. words ≡ front_texts (lexemes_of lexer.old)) }
+    ensures passed { IfOk result (λ words. OnSome words (lexemes_of lexer.new ≡ after_end (lexemes_of lexer.old))) }
 {
     let mut words: Vec<Text> = Vec::new(alloc);
     'words: loop {
