@@ -1,5 +1,5 @@
 -- How the marks go over a gap.
-use Rattle.std.proofs.Common.{◌≡◌, ℕ, ◌+◌, ◌≤◌, ◌<◌, Bool, true, false, cond, not, ◌&&◌, ◌||◌, eqb, List, [], ◌∷◌, ◌++◌, length, take, drop, refl, sym, ap, ◌∙◌, subst, suc, add-zero, arith, append_assoc, length-append}
+use Rattle.std.proofs.Common.{◌≡◌, ℕ, ◌+◌, ◌≤◌, ◌<◌, Bool, true, false, cond, not, ◌&&◌, ◌||◌, eqb, List, [], ◌∷◌, ◌++◌, length, drop, refl, sym, ap, ◌∙◌, suc, add-zero, arith, append_assoc, length-append}
 use Rattle.std.proofs.lemmas.Bool.{and_parts, and_from, or_parts, ne_eqb, or_cases, true≢false, false≢true}
 use Rattle.std.proofs.lemmas.List.{drop_at}
 use Rattle.std.proofs.lemmas.List.Folds.{list_all-append}
@@ -7,8 +7,8 @@ use Rattle.std.specs.List.{list_all, prefix_len}
 use Rattle.up_text.proofs.Readings.{prefix_len-front, place-behind, list_all-rest}
 use Rattle.up_text.proofs.Runs.{blank-is, feed-is, hash-is, backslash-is, feeds-none, feeds-append, feeds-length}
 use Rattle.up_text.specs.Lexer.{place, is_in_line, begins_joint, begins_gap, passes_feeds, Splits, GapRun, IsBehindGap}
-use Rattle.up_text.specs.Places.{feeds, is_gap, is_space, gap_at, marks_at, passing, is_finished}
-use Rattle.up_text.specs.Tokens.{Mark, Part, Quoting, Alone, Blank, Passed, Stop, Mode, Outside, Comment, Continued, marks, mark_outside, mode_outside, feed_mark, open_after, is_line_feed, is_blank, is_hash, is_quote, is_backslash, is_paren, begins, reaches_feed}
+use Rattle.up_text.specs.Places.{is_gap, gap_at, marks_at, passing, is_finished}
+use Rattle.up_text.specs.Tokens.{Mark, Part, Quoting, Alone, Blank, Passed, Stop, Outside, Comment, marks, mark_outside, feed_mark, open_after, is_line_feed, is_blank, is_hash, is_quote, is_backslash, is_paren, begins, reaches_feed}
 
 or-true : (b : Bool) → (true || b) ≡ true
 or-true b = refl

@@ -1,14 +1,14 @@
 -- What is read from a place on is what the next reading gives, and what is read behind it.
-use Rattle.std.proofs.Common.{◌≡◌, ◌⊎◌, inl, inr, ℕ, zero, suc, ◌+◌, ◌-◌, ◌*◌, ◌<◌, ◌≤◌, Bool, true, false, true≢false, cond, not, ◌||◌, ◌&&◌, List, [], ◌∷◌, length, take, drop, Option, None, Some, Result, Ok, Err, refl, sym, ap, ◌∙◌, subst, arith, if◌then◌else◌, length-drop, one-add}
+use Rattle.std.proofs.Common.{◌≡◌, inl, inr, ℕ, zero, suc, ◌+◌, ◌<◌, ◌≤◌, Bool, true, false, true≢false, cond, not, ◌&&◌, List, [], ◌∷◌, length, drop, Option, None, Some, Result, Ok, refl, sym, ap, ◌∙◌, subst, arith, if◌then◌else◌, length-drop, one-add}
 use Rattle.std.proofs.lemmas.List.{nil_from_length}
 use Rattle.std.proofs.lemmas.Bool.{and_parts, not-true}
-use Rattle.std.specs.List.{prefix_len, take_while, list_all, flat_map}
+use Rattle.std.specs.List.{prefix_len, take_while, list_all}
 use Rattle.up_text.specs.declared.fault.TextFault.{TextFault}
 use Rattle.up_text.specs.declared.fault.TextFault.TheVariants.{UnterminatedQuote, TrailingBackslash}
 use Rattle.up_text.specs.declared.token.Token.{Token}
 use Rattle.up_text.specs.Scripts.{is_filled}
 use Rattle.up_text.specs.Tokens.{Mark, Part, Quoting, Folded, Alone, Blank, Passed, Stop, Fail, Mode, Outside, Comment, Escaped, Continued, Quoted, QuotedEscape, end_marks, mark_of, mode_after, open_after, marks}
-use Rattle.up_text.specs.Places.{Place, start, Reading, Answers, Got, Ended, Fails, passing, within, behind_stanza, is_spelled, fault_in, marks_at, gap_at, spelled, is_finished, read_at, reading, line_at, is_gap}
+use Rattle.up_text.specs.Places.{Place, start, Reading, Answers, Got, Ended, Fails, passing, is_spelled, fault_in, marks_at, gap_at, spelled, is_finished, read_at, reading, line_at, is_gap}
 use Rattle.up_text.specs.Lexemes.{Lexeme, Word, Bad, End, Reads, IsLineOf, put_front, split_ends, stanzas, lexeme_by, lexemes_from, readings_left, lexemes_of}
 
 -- a mark that no byte has

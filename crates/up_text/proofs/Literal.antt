@@ -3,7 +3,7 @@ use Rattle.std.proofs.Common.{◌≡◌, ℕ, Bool, true, false, cond, not, ◌=
 use Rattle.std.proofs.lemmas.Bool.{and_parts, eqb-true, not-true}
 use Rattle.std.specs.List.{list_all}
 use Rattle.up_text.specs.Expanding.{run_before}
-use Rattle.up_text.specs.Expansion.{Sign, Plain, Closing, Parts, Done, Byte, before, innermost, signs, bytes_behind, texts_of, Expands, followed, meaning, expansion, expand}
+use Rattle.up_text.specs.Expansion.{Plain, Closing, Done, Byte, before, innermost, signs, bytes_behind, texts_of, Expands, followed, meaning, expansion, expand}
 
 -- a byte that isn't a $
 abbrev is_literal : ℕ → Bool

@@ -1,7 +1,7 @@
 -- How the marks go over the parts of a spelling.
-use Rattle.std.proofs.Common.{◌≡◌, ℕ, ◌+◌, ◌<◌, ◌≤◌, Bool, true, false, cond, not, ◌&&◌, ◌||◌, eqb, List, [], ◌∷◌, ◌++◌, Option, None, Some, map, length, take, drop, suc, refl, sym, ap, ◌∙◌, subst, add-zero, arith, append_assoc, append-nil, length-append}
+use Rattle.std.proofs.Common.{◌≡◌, ℕ, ◌+◌, ◌<◌, ◌≤◌, Bool, true, false, cond, ◌&&◌, ◌||◌, eqb, List, [], ◌∷◌, ◌++◌, Option, map, length, take, drop, suc, refl, sym, ap, ◌∙◌, subst, add-zero, arith, append_assoc, append-nil, length-append}
 use Rattle.std.proofs.lemmas.List.{length-map}
-use Rattle.std.proofs.lemmas.Bool.{and_parts, or_parts, not-true, not-false, true≢false, and_from, eqb-true}
+use Rattle.std.proofs.lemmas.Bool.{and_parts, or_parts, not-true, true≢false, and_from, eqb-true}
 use Rattle.std.proofs.lemmas.Bool.Decides.{nat_tests}
 use Rattle.std.proofs.lemmas.Grind.{flat_map-append}
 use Rattle.std.proofs.lemmas.List.Folds.{list_all-append}
@@ -10,7 +10,7 @@ use Rattle.up_text.specs.declared.fault.TextFault.{TextFault}
 use Rattle.up_text.specs.declared.fault.TextFault.TheVariants.{UnterminatedQuote, TrailingBackslash}
 use Rattle.up_text.specs.Lexer.{is_ordinary, is_literal, is_high, is_low, is_byte, begins_joint, begins_fold, ends_token, Splits, SplitsChar, Holds, shown, is_spelling, Run, Broken, Escape}
 use Rattle.up_text.specs.Places.{feeds}
-use Rattle.up_text.specs.Tokens.{Mark, Part, Quoting, Folded, Alone, Blank, Passed, Stop, Fail, Mode, Outside, Escaped, Quoted, QuotedEscape, marks, mark_of, mode_after, open_after, is_line_feed, is_blank, is_hash, is_quote, is_backslash, is_paren, begins, reaches_feed}
+use Rattle.up_text.specs.Tokens.{Mark, Part, Quoting, Folded, Fail, Mode, Outside, Quoted, marks, open_after, is_line_feed, is_blank, is_hash, is_quote, is_backslash, is_paren, begins, reaches_feed}
 
 -- what a byte is not
 

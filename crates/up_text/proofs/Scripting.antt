@@ -1,6 +1,6 @@
 -- The lines and the words of a script.
-use Rattle.std.proofs.Common.{◌≡◌, ℕ, ◌+◌, ◌-◌, ◌<◌, ◌≤◌, Bool, true, false, cond, not, ◌||◌, ◌&&◌, List, [], ◌∷◌, ◌++◌, Option, None, Some, Ok, Err, inl, inr, length, take, drop, refl, sym, ap, ◌∙◌, subst, one-add, add-zero, zero-add, arith, append_assoc, length-append, filter, eqb, codes, IsUtf8}
-use Rattle.std.proofs.lemmas.Bool.{and_parts, and_from, not-true, not-false, true≢false, false≢true, ne_eqb}
+use Rattle.std.proofs.Common.{◌≡◌, ℕ, ◌+◌, ◌-◌, ◌<◌, ◌≤◌, Bool, true, false, cond, ◌&&◌, List, [], ◌∷◌, ◌++◌, None, Some, Ok, Err, inl, inr, length, take, drop, refl, sym, ap, ◌∙◌, subst, one-add, add-zero, arith, append_assoc, length-append, filter, eqb, codes, IsUtf8}
+use Rattle.std.proofs.lemmas.Bool.{and_parts, and_from, not-true, not-false, ne_eqb}
 use Rattle.std.proofs.lemmas.List.Sums.{prefix_len_stops}
 use Rattle.std.proofs.lemmas.Str.{IsCharBoundary-after_ascii, IsCharBoundary-at_seam}
 use Rattle.std.specs.Str.{bytes_eq, IsCharBoundary}
@@ -9,8 +9,7 @@ use Rattle.up_text.proofs.Runs.{feeds-none, feeds-append, feeds-length}
 use Rattle.std.proofs.lemmas.List.Splits.{slice_split-cons_no, slice_split-cons_yes}
 use Rattle.std.specs.List.{list_all, prefix_len, slice_split, onto_first, concat}
 use Rattle.up_text.proofs.Cuts.{list_all-take, begins-drop, in_line-ascii}
-use Rattle.up_text.specs.Lexer.{is_in_word, is_in_code, is_in_line, BeginsWord, BeginsLine, EndsScript, Splits, place}
-use Rattle.up_text.specs.declared.fault.TextFault.{TextFault}
+use Rattle.up_text.specs.Lexer.{is_in_word, is_in_code, is_in_line, BeginsWord, BeginsLine, EndsScript, place}
 use Rattle.up_text.specs.declared.fault.TextFault.TheVariants.{Memory}
 use Rattle.up_text.proofs.Readings.{place-behind}
 use Rattle.up_text.specs.Places.{Place, feeds, passing, behind_stanza}

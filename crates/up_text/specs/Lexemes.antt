@@ -1,5 +1,5 @@
 -- All that a text means, token by token: what reading over and over gives.
-use Rattle.std.specs.Prelude.{◌≡◌, ◌⊎◌, ℕ, zero, suc, ◌+◌, ◌*◌, Bool, true, false, if◌then◌else◌, List, [], ◌∷◌, length, Option, None, Some, Result, Ok, Err}
+use Rattle.std.specs.Prelude.{◌≡◌, ◌⊎◌, ℕ, zero, suc, ◌+◌, ◌*◌, if◌then◌else◌, List, [], ◌∷◌, length, Option, None, Some, Result, Ok, Err}
 use Rattle.up_text.specs.declared.fault.TextFault.{TextFault}
 use Rattle.up_text.specs.declared.fault.TextFault.TheVariants.{Memory}
 use Rattle.up_text.specs.declared.token.Token.{Token}

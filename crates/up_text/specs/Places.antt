@@ -1,11 +1,10 @@
 -- Where a text is read, and what each reading gives and leaves.
-use Rattle.std.specs.Prelude.{◌≡◌, ◌⊎◌, ℕ, ◌+◌, ◌-◌, Bool, true, false, not, ◌&&◌, ◌||◌, ◌==◌, if◌then◌else◌, List, [], ◌∷◌, ◌++◌, length, take, drop, Option, None, Some, Result, Ok, Err, codes}
-use Rattle.std.specs.List.{list_all, filter, flat_map, concat, prefix_len, suffix_len, take_while, before_first, onto_first, slice_split}
-use Rattle.std.specs.Str.{bytes_eq}
+use Rattle.std.specs.Prelude.{◌≡◌, ◌⊎◌, ℕ, ◌+◌, Bool, true, false, not, ◌&&◌, ◌||◌, if◌then◌else◌, List, [], ◌∷◌, length, take, drop, Option, None, Some, Result, Ok, Err}
+use Rattle.std.specs.List.{list_all, flat_map, prefix_len, take_while}
 use Rattle.up_text.specs.declared.fault.TextFault.{TextFault}
 use Rattle.up_text.specs.declared.fault.TextFault.TheVariants.{Memory}
 use Rattle.up_text.specs.declared.token.Token.{Token}
-use Rattle.up_text.specs.Tokens.{Mark, Part, Quoting, Folded, Alone, Blank, Passed, Stop, Fail, Outside, is_line_feed, is_blank, is_hash, open_after, marks}
+use Rattle.up_text.specs.Tokens.{Mark, Part, Quoting, Folded, Alone, Blank, Passed, Stop, Fail, Outside, is_line_feed, open_after, marks}
 
 -- a place in a text: what is left of the text, the line of its first byte, whether a token of the stanza was read, whether
 -- parentheses are tokens, and how many are open

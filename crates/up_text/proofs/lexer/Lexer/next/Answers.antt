@@ -1,7 +1,7 @@
-use Rattle.std.proofs.Common.{◌≡◌, true, false, ◌∙◌, sym, ap, subst, arith, refl}
+use Rattle.std.proofs.Common.{◌≡◌, true, ◌∙◌, sym, subst, arith, refl}
 use Rattle.std.proofs.lemmas.Result.{err_from_is_err_and}
 use Rattle.up_text.proofs.Readings.{reading-behind, end-read, Answers-end, Answers-token, Answers-fault}
-use Rattle.up_text.specs.Lexer.{place, is_line_end, place_of, IsFaultOf}
+use Rattle.up_text.specs.Lexer.{is_line_end, place_of, IsFaultOf}
 use Rattle.up_text.proofs.lexer.Lexer.next.Goals as goal
 
 pub returns-then-is_line_end : goal.returns-then-is_line_end

@@ -1,4 +1,4 @@
-use Rattle.std.proofs.Common.{◌≡◌, Bool, true, false, ◌||◌, sym, ◌∙◌}
+use Rattle.std.proofs.Common.{◌≡◌, true, ◌||◌, sym, ◌∙◌}
 use Rattle.std.proofs.lemmas.Bool.{or_from, or_left, or_right}
 use Rattle.up_text.proofs.Runs.{Run-blanks_folded, Run-blanks_kept}
 use Rattle.up_text.specs.Lexer.{begins_fold}

@@ -1,4 +1,4 @@
-use Rattle.std.proofs.Common.{ℕ, Bool, false, length}
+use Rattle.std.proofs.Common.{Bool, false, length}
 use denote.Shadow.{shadow}
 use denote.Text.{Utf8}
 use Rattle.up_text.specs.Lexer.{Run}

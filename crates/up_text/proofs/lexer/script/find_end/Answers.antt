@@ -1,4 +1,4 @@
-use Rattle.std.proofs.Common.{◌≡◌, true, false, length, arith, ◌∙◌, sym, rules}
+use Rattle.std.proofs.Common.{◌≡◌, true, false, arith, ◌∙◌, sym, rules}
 use Rattle.up_text.proofs.Scripting.{Passed-more, Passed-end, Passed-fits, Passed-boundary, BeginsLine-shorter}
 use Rattle.up_text.specs.Scripts.{is_end_line}
 use Rattle.up_text.proofs.lexer.script.find_end.Goals as goal

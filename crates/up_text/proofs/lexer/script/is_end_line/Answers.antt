@@ -1,10 +1,9 @@
-use Rattle.std.proofs.Common.{◌≡◌, ◌&&◌, eqb, length, codes, sym, ◌∙◌, ap, take, true, false, refl}
+use Rattle.std.proofs.Common.{◌≡◌, codes, sym, ◌∙◌, ap, take, true, false, refl}
 use Rattle.std.proofs.lemmas.List.Sums.{prefix_len-le-length}
 use Rattle.std.specs.List.{prefix_len}
 use Rattle.std.specs.Str.{bytes_eq}
 use Rattle.up_text.proofs.Scripting.{end-line, and-false}
 use Rattle.up_text.specs.Lexer.{is_in_code}
-use Rattle.up_text.specs.Scripts.{is_end_line}
 use Rattle.up_text.proofs.lexer.script.is_end_line.Goals as goal
 
 pub split_at-requires : goal.split_at-requires

@@ -1,4 +1,4 @@
-use Rattle.std.proofs.Common.{◌≡◌, ◌<◌, ◌≤◌, length, arith, ◌∙◌, ap}
+use Rattle.std.proofs.Common.{◌≡◌, arith, ◌∙◌, ap}
 use Rattle.std.specs.List.{prefix_len}
 use Rattle.up_text.proofs.Scripting.{BeginsLine-feed, BeginsLine-last, IsCharBoundary-after_line}
 use Rattle.up_text.specs.Lexer.{is_in_line}

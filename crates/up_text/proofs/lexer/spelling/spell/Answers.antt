@@ -1,11 +1,9 @@
-use Rattle.std.proofs.Common.{◌≡◌, ◌++◌, List, [], ℕ, refl}
+use Rattle.std.proofs.Common.{◌++◌, [], refl}
 use Rattle.std.proofs.lemmas.Result.{err_from_is_err_and}
 use Rattle.std.specs.List.{flat_map}
-use Rattle.up_text.proofs.Readings.{token-broken, token-memory, spelled-read}
+use Rattle.up_text.proofs.Readings.{token-memory, spelled-read}
 use Rattle.up_text.proofs.Runs.{Run-fits, Run-shrinks}
-use Rattle.up_text.specs.Places.{given, token_of}
-use Rattle.up_text.specs.Lexer.{Broken, Holds}
-use Rattle.up_text.specs.Tokens.{Outside}
+use Rattle.up_text.specs.Places.{given}
 use Rattle.up_text.proofs.Readings.{ordinary-broken}
 use Rattle.up_text.proofs.lexer.spelling.spell.Goals as goal
 
