@@ -9,15 +9,7 @@ use Rattle.initd.specs.declared.script.Next.TheVariants as next
 use Rattle.initd.specs.Bundle.{lines_of}
 use Rattle.initd.specs.Script.{inputs_of}
 
--- the # before a comment, or a line feed
-unfoldable pub is_end : ℕ → Bool
-is_end byte = byte == 35 || byte == 10
-
--- what stands in a line before its comment and its line feed
-abbrev pub code_of : List ℕ → List ℕ
-code_of line = before_first is_end line
-
--- bytes that may stand outside comments: UTF-8 without the byte 0
+-- bytes that may stand in a script: UTF-8 without the byte 0
 unfoldable pub is_text : List ℕ → Bool
 is_text bytes = not (list_any (λ byte. byte == 0) bytes) && is_utf8 bytes
 
@@ -34,7 +26,7 @@ words_of text = if is_text text then words_in (lexemes text) else None
 
 -- the inputs of a line
 unfoldable pub line_inputs : List ℕ → Option (List Input)
-line_inputs line = option_and_then inputs_of (words_of (code_of line))
+line_inputs line = option_and_then inputs_of (words_of line)
 
 -- inputs before others, if any
 abbrev pub with_inputs : List Input → Result (List Input) ℕ → Result (List Input) ℕ

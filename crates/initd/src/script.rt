@@ -1,23 +1,14 @@
 //! Reads a script.
 ghost use Rattle.std.specs.Prelude.{◌≡◌, ◌≤◌, ◌<◌, ◌+◌, ◌∷◌, IfOk, IfSome, MatchOption, true, false, length};
-ghost use Rattle.std.specs.List.{position_or_len};
 ghost use Rattle.up_text.specs.Lexemes.{lexemes, lexemes_of};
 ghost use Rattle.initd.specs.Bundle.{lines_of};
-ghost use Rattle.initd.specs.Rows.{is_end, is_text, code_of, Continues, words_in, line_inputs, script_inputs};
+ghost use Rattle.initd.specs.Rows.{is_text, Continues, words_in, line_inputs, script_inputs};
 
 use crate::bundle::{as_text, split_line};
 use crate::words::inputs_of;
-use memchr::memchr2;
 use std::alloc::{AllocError, Global};
 use up_model::Input;
 use up_text::{Items, Lexer, Text, TextFault};
-
-// The place of the first # or line feed, or the length where there is none.
-fn end_place(bytes: &[u8]) -> usize
-    ensures { result ≡ position_or_len is_end bytes.now }
-{
-    memchr2(b'#', b'\n', bytes).unwrap_or(bytes.len())
-}
 
 // The first line, with its line feed, and the lines behind it.
 #[tactic(auto, using(crate::proofs::Splitting::front, crate::proofs::Splitting::length_first))]
@@ -28,14 +19,6 @@ fn next_line(text: &[u8]) -> (&[u8], &[u8])
     ensures within { length result.0.now ≤ length text.now }
 {
     split_line(text)
-}
-
-// What stands in a line before its comment and its line feed.
-fn code_of(line: &[u8]) -> &[u8]
-    ensures code { result.now ≡ code_of line.now }
-    ensures shorter { length result.now ≤ length line.now }
-{
-    &line[..end_place(line)]
 }
 
 // The bytes as a text, where they may stand in a script.
@@ -93,7 +76,7 @@ fn line_inputs(alloc: Global, line: &[u8]) -> Result<Option<Items<Input>>, Alloc
     requires { length line.now < 4294967295 }
     ensures { IfOk result (λ inputs. inputs ≡ line_inputs line.now) }
 {
-    let Some(text) = text_of(code_of(line)) else {
+    let Some(text) = text_of(line) else {
         return Ok(None);
     };
     match words_in(alloc, text)? {

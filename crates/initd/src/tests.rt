@@ -89,12 +89,12 @@ const BUNDLES: [Case; 19] = [
         status: 0,
     },
     Case {
-        bundle: b"%script\n # \xff\x00 \"'\\ \nrequest 1 list#\xff\n",
+        bundle: b"%script\n # \"'\\ \nrequest 1 list#\"\n",
         printed: "reply 1 failed \"Not supported: list\"\n",
         status: 0,
     },
     Case {
-        bundle: b"%script\nturn\nturn \xff # x\n",
+        bundle: b"%script\nturn\nturn # \xff\n",
         printed: "-:3: bad step\n",
         status: 2,
     },
@@ -104,7 +104,7 @@ const BUNDLES: [Case; 19] = [
         status: 2,
     },
     Case {
-        bundle: b"%file a.conf\nstart on go\nstop on halt\nexec /bin/d x\n%script\nemit go B=1 A=b=c B=\nturn 3\nspawned a \"\" main 4294967295\nturn 3\nemit halt\nturn 3\n",
+        bundle: b"%file a.conf\nstart on go\nstop on halt\nexec /bin/d x\n%script\nemit go B=1 'A=b'\\=c B=\nturn 3\nspawned a \"\" main 4294967295\nturn 3\nemit halt\nturn 3\n",
         printed: "event starting JOB=\"a\" INSTANCE=\"\"\nspawn a main \"/bin/d\" \"x\"\n  B=\"\"\n  A=\"b=c\"\n  UPSTART_EVENTS=\"go\"\n  UPSTART_JOB=\"a\"\n  UPSTART_INSTANCE=\"\"\nevent started JOB=\"a\" INSTANCE=\"\"\nevent stopping JOB=\"a\" INSTANCE=\"\" RESULT=\"ok\"\nsignal a 4294967295 TERM\n",
         status: 0,
     },
@@ -236,7 +236,7 @@ const BAD_STEPS: [&[u8]; 52] = [
     b"emit go K",
     b"emit go =V",
     b"emit go 1=V",
-    b"emit go K=\"a\"",
+    b"emit go K=\"a",
     b"emit go \"\"",
     b"clock",
     b"clock -1",

@@ -139,6 +139,7 @@ enough (suc n) (suc k) place few many = by_reading (reading place) refl (λ behi
         → (if inside then End ∷ lexemes_from n behind else []) ≡ (if inside then End ∷ lexemes_from k behind else [])
     by_end true behind inside is more = ap (λ later. End ∷ later) (more behind (left_ended place behind inside is))
     by_end false behind inside is more = refl
+
     by_reading : (r : Reading) → reading place ≡ r → ((other : Place) → readings_left other < readings_left place → lexemes_from n other ≡ lexemes_from k other)
         → lexeme_by (λ behind. lexemes_from n behind) place r ≡ lexeme_by (λ behind. lexemes_from k behind) place r
     by_reading (Got token behind) is more = ap (λ later. Word token ∷ later) (more behind (left_got place token behind is))
@@ -159,6 +160,7 @@ lexemes_of-is place =
         → (if inside then End ∷ lexemes_from (readings_left place) behind else []) ≡ (if inside then End ∷ lexemes_from (readings_left behind) behind else [])
     by_end true behind inside is = ap (λ later. End ∷ later) (let less = left_ended place behind inside is in enough (readings_left place) (readings_left behind) behind (omega (arith, less)) (omega arith))
     by_end false behind inside is = refl
+
     by_reading : (r : Reading) → reading place ≡ r → lexeme_by (λ behind. lexemes_from (readings_left place) behind) place r ≡ lexeme_by (λ behind. lexemes_from (readings_left behind) behind) place r
     by_reading (Got token behind) is = ap (λ later. Word token ∷ later) (let less = left_got place token behind is in enough (readings_left place) (readings_left behind) behind (omega (arith, less)) (omega arith))
     by_reading (Ended behind) is = by_end place.inside behind refl is
@@ -231,6 +233,7 @@ reads_lexemes old result new answers = rw (lexemes_of-is old) (by_reading (readi
     by_end : (inside : Bool) (behind : Place) → old.inside ≡ inside → reading old ≡ Ended behind → (result ≡ Ok None) × (new ≡ behind) → Reads (if inside then End ∷ lexemes_of behind else []) result (lexemes_of new)
     by_end true behind inside is answers = (answers.0, ap (λ place. lexemes_of place) answers.1)
     by_end false behind inside is answers = (answers.0, ap (λ place. lexemes_of place) answers.1 ∙ none_behind old behind inside is)
+
     by_reading : (r : Reading) → reading old ≡ r → Answers old r result new → Reads (lexeme_by (λ behind. lexemes_of behind) old r) result (lexemes_of new)
     by_reading (Got token behind) is (inl answers) = inl (answers.0, ap (λ place. lexemes_of place) answers.1)
     by_reading (Got token behind) is (inr answers) = inr (answers.0, ap (λ place. lexemes_of place) answers.1 ∙ lexemes_of-is old ∙ ap (λ r. lexeme_by (λ behind. lexemes_of behind) old r) is)
@@ -264,6 +267,7 @@ line_lexemes place = rw (lexemes_of-is place) (by_reading (reading place) refl)
     by_end : (inside : Bool) (behind : Place) → IsLineOf (if inside then End ∷ lexemes_of behind else []) (line_at place)
     by_end true behind = tt
     by_end false behind = tt
+
     by_reading : (r : Reading) → reading place ≡ r → IsLineOf (lexeme_by (λ behind. lexemes_of behind) place r) (line_at place)
     by_reading (Got token behind) is = sym (reading_got place token behind is).0
     by_reading (Ended behind) is = by_end place.inside behind
@@ -292,6 +296,7 @@ from_filled (suc n) place = by_reading (reading place) refl (λ behind. from_fil
     by_end : (inside : Bool) (behind : Place) → behind.inside ≡ false → AreFilled behind.inside (split_ends (lexemes_from n behind)) → AreFilled inside (split_ends (if inside then End ∷ lexemes_from n behind else []))
     by_end true behind outside more = subst (λ b. AreFilled b (split_ends (lexemes_from n behind))) outside more
     by_end false behind outside more = refl
+
     by_reading : (r : Reading) → reading place ≡ r → ((behind : Place) → AreFilled behind.inside (split_ends (lexemes_from n behind)))
         → AreFilled place.inside (split_ends (lexeme_by (λ behind. lexemes_from n behind) place r))
     by_reading (Got token behind) is more = put_filled (Word token) (split_ends (lexemes_from n behind)) (subst (λ b. AreFilled b (split_ends (lexemes_from n behind))) (reading_got place token behind is).1 (more behind)) place.inside
@@ -359,6 +364,7 @@ finished_when_none place none = by_reading (reading place) refl (sym (lexemes_of
     by_end : (inside : Bool) (behind : Place) → place.inside ≡ inside → reading place ≡ Ended behind → (if inside then End ∷ lexemes_of behind else []) ≡ [] → is_finished place ≡ true
     by_end true behind inside is e = cc
     by_end false behind inside is e = finished_from place behind inside is
+
     by_reading : (r : Reading) → reading place ≡ r → lexeme_by (λ behind. lexemes_of behind) place r ≡ [] → is_finished place ≡ true
     by_reading (Got token behind) is e = cc
     by_reading (Ended behind) is e = by_end place.inside behind refl is e
