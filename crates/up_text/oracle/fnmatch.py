@@ -80,15 +80,15 @@ def rows():
             yield pattern, draw.choice(others), False
 
 
-def quoted(text):
-    return '"' + text.decode("ascii").replace("\\", "\\\\") + '"'
+def escaped(text):
+    return text.decode("ascii").replace("\\", "\\\\")
 
 
-print("//! What fnmatch(3) says: a pattern, a text, and whether they match with flags 0 in the C locale.")
+print("//! What fnmatch(3) says: in each row a pattern, a text, and whether they match with flags 0 in the C locale.")
 print("//!")
 print("//! Written by oracle/fnmatch.py from the C library of Debian 12 (glibc 2.36); it says which patterns are left out.")
 print()
-print(f"pub const ROWS: [(&str, &str, bool); {ROWS}] = [")
+print('pub const ROWS: &str = "\\')
 for pattern, text, fits in itertools.islice(rows(), ROWS):
-    print(f"    ({quoted(pattern)}, {quoted(text)}, {str(fits).lower()}),")
-print("];")
+    print(escaped(pattern), escaped(text), str(fits).lower())
+print('";')
