@@ -9,6 +9,7 @@ pub mod fault;
 pub mod items;
 pub mod lexer;
 pub mod name;
+pub mod stub;
 pub mod text;
 pub mod token;
 
@@ -17,6 +18,7 @@ pub use fault::TextFault;
 pub use items::Items;
 pub use lexer::Lexer;
 pub use name::Name;
+pub use stub::{expand, glob, is_expandable, supported, Expanded};
 pub use text::Text;
 pub use token::Token;
 
