@@ -16,6 +16,7 @@ mod run;
 mod settle;
 #[cfg(test)]
 mod tests;
+mod truth;
 mod turn;
 
 pub use engine::Engine;
