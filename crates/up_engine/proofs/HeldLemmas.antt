@@ -22,7 +22,7 @@ pub positive_three : (a b : ℕ) → nat_lt 0 (a + b + 0) ≡ (nat_lt 0 a || nat
 positive_three a b = ap (nat_lt 0) (omega arith) ∙ positive_add a b
 
 occurs-append : (event : ℕ) (xs ys : List ℕ) → occurs event (xs ++ ys) ≡ occurs event xs + occurs event ys
-occurs-append event [] ys = refl
+occurs-append event [] ys = omega arith
 occurs-append event (x ∷ xs) ys = by_case (x == event) (occurs-append event xs ys)
   where
     by_case : (b : Bool) → occurs event (xs ++ ys) ≡ occurs event xs + occurs event ys
