@@ -1,5 +1,6 @@
 pub mod Fault
 pub mod Matching
+pub mod Parsing
 pub mod Syntax
 pub mod TreeCode
 pub mod Trees
