@@ -52,7 +52,7 @@ reads_leaf (token ∷ tokens) outer left tree says later =
     rw (step_other token outer left Before p.0) (gathers tokens (token ∷ []) outer left p.1 later)
 
 -- a plain token of one text is none of another
-plainly_apart : (a b : List ℕ) (token : Token) → bytes_eq a b ≡ false → is_plainly a token ≡ true → is_plainly b token ≡ false
+pub plainly_apart : (a b : List ℕ) (token : Token) → bytes_eq a b ≡ false → is_plainly a token ≡ true → is_plainly b token ≡ false
 plainly_apart a b token apart is =
     let p = and_parts token.plain (bytes_eq token.text a) is in
     let same : token.text ≡ a = (bytes_eq-Decides token.text a).0 p.1 in

@@ -1,1 +1,3 @@
 pub mod Complete
+pub mod Counting
+pub mod Sound

@@ -1,5 +1,5 @@
 -- How a parser goes through the tokens of an expression, one after another.
-use Rattle.std.specs.Prelude.{ℕ, Bool, nat_lt, List, [], ◌∷◌, ◌++◌, Option, None, Some, if◌then◌else◌, length, option_map}
+use Rattle.std.specs.Prelude.{ℕ, ◌+◌, Bool, nat_lt, List, [], ◌∷◌, ◌++◌, Option, None, Some, if◌then◌else◌, length, option_map}
 use Rattle.up_text.specs.declared.token.Token.{Token}
 use Rattle.up_expr.specs.Trees.{Tree, One}
 use Rattle.up_expr.specs.Syntax.{joined}
@@ -74,3 +74,12 @@ onward go (Some next) = go next
 abbrev pub outcome : List Token → Parser → Option Tree
 outcome [] parser = end_of parser
 outcome (token ∷ tokens) parser = onward (λ next. outcome tokens next) (step token parser)
+
+-- a parser before the first token
+abbrev pub begin : Parser
+begin = at [] None Before
+
+-- how many operators there are
+abbrev pub operators : List Token → ℕ
+operators [] = 0
+operators (token ∷ tokens) = if is_operator token then operators tokens + 1 else operators tokens
