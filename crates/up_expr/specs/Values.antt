@@ -1,6 +1,6 @@
 -- What the tokens of a leaf say (init(5), "Event conditions").
-use Rattle.std.specs.Prelude.{ℕ, ◌-◌, Bool, true, false, ◌==◌, nat_le, ◌&&◌, ◌||◌, not, List, [], ◌∷◌, length, take, map, Option, None, Some, if◌then◌else◌, codes}
-use Rattle.std.specs.List.{list_any, list_all, before_first, after_first, ends_with}
+use Rattle.std.specs.Prelude.{ℕ, ◌-◌, Bool, true, false, ◌==◌, nat_le, nat_lt, nat_eq, ◌&&◌, ◌||◌, not, List, [], ◌∷◌, length, take, map, Option, None, Some, if◌then◌else◌, codes}
+use Rattle.std.specs.List.{list_any, list_all, position_or_len, before_first, after_first, ends_with}
 use Rattle.std.specs.Str.{bytes_eq}
 use Rattle.up_text.specs.Names.{is_name, is_key}
 use Rattle.up_text.specs.declared.token.Token.{Token}
@@ -34,12 +34,16 @@ abbrev pub is_symbol : Token → Bool
 is_symbol token = is_open token || is_close token || is_operator token
 
 -- the = behind a key
-unfoldable pub is_equals : ℕ → Bool
+abbrev pub is_equals : ℕ → Bool
 is_equals byte = byte == 61
+
+-- a text with an = in it
+abbrev pub has_equals : List ℕ → Bool
+has_equals text = nat_lt (position_or_len is_equals text) (length text)
 
 -- a key with a ! behind it
 abbrev pub is_negated_key : List ℕ → Bool
-is_negated_key text = ends_with (λ a b. a == b) text (codes "!") && is_key (take (length text - 1) text)
+is_negated_key text = if ends_with nat_eq text (codes "!") then is_key (take (length text - 1) text) else false
 
 -- what a text says where this stands before its first =, and that behind it: KEY=VALUE, KEY!=VALUE, or a positional value
 abbrev pub test_by : List ℕ → List ℕ → List ℕ → Test
@@ -50,7 +54,7 @@ test_by text key value =
 
 -- what a value's text says
 unfoldable pub test_of : List ℕ → Test
-test_of text = if list_any is_equals text then test_by text (before_first is_equals text) (after_first is_equals text) else Place text
+test_of text = if has_equals text then test_by text (before_first is_equals text) (after_first is_equals text) else Place text
 
 -- a value that may stand in a job file: a good expansion, and a pattern that is supported as it is written
 abbrev pub is_value : List ℕ → Bool

@@ -8,6 +8,9 @@ pub mod condition;
 pub mod expr;
 pub mod fault;
 pub mod leaf;
+mod operand;
+mod symbol;
+mod value;
 
 pub use condition::Condition;
 pub use expr::{Expr, Leaf, Test};
