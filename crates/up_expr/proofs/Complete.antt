@@ -16,7 +16,7 @@ use Rattle.up_expr.specs.Parsing.{Pending, Position, Before, Within, Behind, Par
 abbrev pub Reaches : List Token → Parser → Parser → Type 0
 Reaches tokens from to = (later : List Token) → outcome (tokens ++ later) from ≡ outcome later to
 
-step_other : (token : Token) (outer : List Pending) (left : Pending) (position : Position) → is_symbol token ≡ false
+pub step_other : (token : Token) (outer : List Pending) (left : Pending) (position : Position) → is_symbol token ≡ false
     → step token (at outer left position) ≡ lengthened outer left token position
 step_other token outer left position none =
     let p = or_parts (is_open token || is_close token) (is_operator token) none in
@@ -58,11 +58,11 @@ plainly_apart a b token apart is =
     let same : token.text ≡ a = (bytes_eq-Decides token.text a).0 p.1 in
     rw (p.0, same, apart) refl
 
-close_no_open : (token : Token) → is_close token ≡ true → is_open token ≡ false
+pub close_no_open : (token : Token) → is_close token ≡ true → is_open token ≡ false
 close_no_open token is = plainly_apart (codes ")") (codes "(") token refl is
 
 -- an operator is no parenthesis
-operator_is : (token : Token) → is_operator token ≡ true → (is_open token ≡ false) × (is_close token ≡ false)
+pub operator_is : (token : Token) → is_operator token ≡ true → (is_open token ≡ false) × (is_close token ≡ false)
 operator_is token is = by_case (is_and token) refl
   where
     by_case : (b : Bool) → is_and token ≡ b → (is_open token ≡ false) × (is_close token ≡ false)
@@ -84,7 +84,7 @@ pub record EndsItem (tokens : List Token) (outer : List Pending) (left : Pending
   pub reaches : Reaches tokens (at outer left Before) (at outer left position)
   pub operand : operand position ≡ Some tree
 
-whole_one : (position : Position) (tree : Tree) → operand position ≡ Some tree → whole None (operand position) ≡ Some tree
+pub whole_one : (position : Position) (tree : Tree) → operand position ≡ Some tree → whole None (operand position) ≡ Some tree
 whole_one position tree is = rw is refl
 
 ends_item : {tokens : List Token} {outer : List Pending} {tree : Tree} → EndsItem tokens outer None tree → Ends tokens outer tree
@@ -121,8 +121,8 @@ joins l r operator outer tree (Some tl) (Some tr) is says first second =
       left = Some (tl, operator);
       position = back.position;
       reaches = then_reads l (operator ∷ r) (at outer None Before) (at outer front.left front.position) (at outer (Some (tl, operator)) back.position)
-        front.reaches
-        (then_reads (operator ∷ []) r (at outer front.left front.position) (at outer (Some (tl, operator)) Before) (at outer (Some (tl, operator)) back.position)
+          front.reaches
+          (then_reads (operator ∷ []) r (at outer front.left front.position) (at outer (Some (tl, operator)) Before) (at outer (Some (tl, operator)) back.position)
           (reads_operator operator outer front.left front.position tl is front.whole) back.reaches);
       whole = rw back.operand says;
     }
@@ -137,20 +137,22 @@ reads (Group opening inner closing) outer tree right says deep =
     let p = and_parts (is_open opening && is_close closing) (is_right inner) right in
     let q = and_parts (is_open opening) (is_close closing) p.0 in
     let item : (left : Pending) → EndsItem (tokens_of (Group opening inner closing)) outer left tree = λ left.
-        let ends = (reads inner (left ∷ outer) tree p.1 says (omega (arith, deep))).1 in
-        record {
-          position = Behind tree;
-          reaches = then_reads (opening ∷ []) (tokens_of inner ++ closing ∷ []) (at outer left Before) (at (left ∷ outer) None Before) (at outer left (Behind tree))
-            (reads_open opening outer left q.0 (omega (arith, deep)))
-            (then_reads (tokens_of inner) (closing ∷ []) (at (left ∷ outer) None Before) (at (left ∷ outer) ends.left ends.position) (at outer left (Behind tree))
-              ends.reaches (reads_close closing outer left ends.left ends.position tree q.1 ends.whole));
-          operand = refl;
-        } in
+    let ends = (reads inner (left ∷ outer) tree p.1 says (omega (arith, deep))).1 in
+    record {
+      position = Behind tree;
+      reaches = then_reads (opening ∷ []) (tokens_of inner ++ closing ∷ []) (at outer left Before) (at (left ∷ outer) None Before) (at outer left (Behind tree))
+          (reads_open opening outer left q.0 (omega (arith, deep)))
+          (then_reads (tokens_of inner) (closing ∷ []) (at (left ∷ outer) None Before) (at (left ∷ outer) ends.left ends.position) (at outer left (Behind tree))
+          ends.reaches (reads_close closing outer left ends.left ends.position tree q.1 ends.whole));
+      operand = refl;
+    } in
     (λ left item_is. item left, ends_item (item None))
 reads (Joined l operator r) outer tree right says deep =
     let p = and_parts (is_operator operator && is_item r && is_right l) (is_right r) right in
     let q = and_parts (is_operator operator && is_item r) (is_right l) p.0 in
-    let o = and_parts (is_operator operator) (is_item r) q.0 in
-    (λ left item_is. cc, joins (tokens_of l) (tokens_of r) operator outer tree (tree_in l) (tree_in r) o.0 says
-      (λ t is. (reads l outer t q.1 is (omega (arith, deep))).1)
-      (λ t is left. (reads r outer t p.1 is (omega (arith, deep))).0 left o.1))
+    let o = and_parts (is_operator operator) (is_item r) q.0 in (
+      λ left item_is. cc,
+      joins (tokens_of l) (tokens_of r) operator outer tree (tree_in l) (tree_in r) o.0 says
+          (λ t is. (reads l outer t q.1 is (omega (arith, deep))).1)
+          (λ t is left. (reads r outer t p.1 is (omega (arith, deep))).0 left o.1),
+    )

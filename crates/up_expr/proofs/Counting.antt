@@ -55,11 +55,10 @@ counted (Joined l operator r) tree right says =
 -- tokens that write a tree end in it
 pub complete : (tokens : List Token) (tree : Tree) → Writes tokens tree → (outcome tokens begin ≡ Some tree) × (operators tokens + 1 ≤ 2048)
 complete tokens tree writes =
-    let ends = (reads writes.syntax [] tree writes.right writes.says (omega (arith, writes.shallow))).1 in
-    (
+    let ends = (reads writes.syntax [] tree writes.right writes.says (omega (arith, writes.shallow))).1 in (
       ap (λ ts. outcome ts begin) (sym writes.written ∙ sym (append-nil (tokens_of writes.syntax))) ∙ ends.reaches [] ∙ ends.whole,
       let count = counted writes.syntax tree writes.right writes.says in
-      rw (← writes.written) (omega (arith, count, writes.few)),
+          rw (← writes.written) (omega (arith, count, writes.few)),
     )
 
 -- nothing was read yet

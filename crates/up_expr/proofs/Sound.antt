@@ -191,10 +191,12 @@ step_reads tokens token parser read = by_open (is_open token) refl
     by_operator : (b : Bool) → is_operator token ≡ b → Steps tokens token (if b then option_map (λ tree. at parser.outer (Some (tree, token)) Before) (whole parser.left (operand parser.position)) else lengthened parser.outer parser.left token parser.position)
     by_operator true is = operator_reads tokens token parser.outer parser.left parser.position read is (whole parser.left (operand parser.position)) refl
     by_operator false is = lengthened_reads tokens token parser.outer parser.left parser.position read
+
     by_close : (b : Bool) → is_close token ≡ b
         → Steps tokens token (if b then closed parser.outer (whole parser.left (operand parser.position)) else (if is_operator token then option_map (λ tree. at parser.outer (Some (tree, token)) Before) (whole parser.left (operand parser.position)) else lengthened parser.outer parser.left token parser.position))
     by_close true is = closed_reads tokens token parser.outer parser.left parser.position read is (whole parser.left (operand parser.position)) refl
     by_close false is = by_operator (is_operator token) refl
+
     by_open : (b : Bool) → is_open token ≡ b
         → Steps tokens token (if b then opened parser.outer parser.left parser.position else (if is_close token then closed parser.outer (whole parser.left (operand parser.position)) else (if is_operator token then option_map (λ tree. at parser.outer (Some (tree, token)) Before) (whole parser.left (operand parser.position)) else lengthened parser.outer parser.left token parser.position)))
     by_open true is = opened_reads tokens token parser.outer parser.left parser.position read is

@@ -1,5 +1,5 @@
 -- How a parser goes through the tokens of an expression, one after another.
-use Rattle.std.specs.Prelude.{ℕ, ◌+◌, Bool, nat_lt, List, [], ◌∷◌, ◌++◌, Option, None, Some, if◌then◌else◌, length, option_map}
+use Rattle.std.specs.Prelude.{ℕ, ◌+◌, Bool, false, nat_lt, List, [], ◌∷◌, ◌++◌, Option, None, Some, if◌then◌else◌, length, option_map}
 use Rattle.up_text.specs.declared.token.Token.{Token}
 use Rattle.up_expr.specs.Trees.{Tree, One}
 use Rattle.up_expr.specs.Syntax.{joined}
@@ -83,3 +83,8 @@ begin = at [] None Before
 abbrev pub operators : List Token → ℕ
 operators [] = 0
 operators (token ∷ tokens) = if is_operator token then operators tokens + 1 else operators tokens
+
+-- tokens whose first one passes
+abbrev pub begins : (Token → Bool) → List Token → Bool
+begins passes [] = false
+begins passes (token ∷ tokens) = passes token

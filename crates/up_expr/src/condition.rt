@@ -36,4 +36,12 @@ impl Condition {
     {
         &self.expr
     }
+
+    /// The expression, which keeps its memory.
+    pub fn into_expr(self) -> Expr
+        ensures { tree_of result ≡ self }
+    {
+        let Condition { expr } = self;
+        expr
+    }
 }

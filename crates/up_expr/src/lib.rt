@@ -9,6 +9,7 @@ pub mod expr;
 pub mod fault;
 pub mod leaf;
 mod operand;
+mod parse;
 mod symbol;
 mod value;
 

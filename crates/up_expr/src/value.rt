@@ -8,7 +8,7 @@ use crate::expr::Test;
 use crate::fault::ExprFault;
 use std::alloc::{AllocError, Global};
 use up_text::env::is_key;
-use up_text::{is_expandable, supported, Text};
+use up_text::{Text, is_expandable, supported};
 
 // The parts of a text before and behind its first =, where it has one.
 fn split_value(text: &str) -> Option<(&str, &str)>
@@ -22,13 +22,7 @@ fn negated_key(text: &str) -> Option<&str>
     ensures { MatchOption result (values.is_negated_key text.now ≡ false) (λ key. (values.is_negated_key text.now ≡ true) × (key.now ≡ take (length text.now - 1) text.now)) }
 {
     match text.strip_suffix("!") {
-        Some(key) => {
-            if is_key(key) {
-                Some(key)
-            } else {
-                None
-            }
-        }
+        Some(key) => { if is_key(key) { Some(key) } else { None } }
         None => None,
     }
 }
