@@ -63,7 +63,7 @@ abbrev pub matches : List Item → List ℕ → Bool
 matches [] bytes = is_nil bytes
 matches (item ∷ items) bytes = item_from item (matches items) bytes
 
--- a byte that means something else in a pattern: * ? [ and the backslash
+-- a byte that means something else in a pattern: a star, a question mark, an opening bracket or a backslash
 abbrev pub is_special : ℕ → Bool
 is_special byte = byte == 42 || (byte == 63 || (byte == 91 || byte == 92))
 
