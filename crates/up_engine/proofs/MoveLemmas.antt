@@ -10,10 +10,6 @@ pub or_else-nil : (entries : List Entry) → or_else entries [] ≡ entries
 or_else-nil [] = refl
 or_else-nil (entry ∷ entries) = refl
 
-pub or_else-any : (entries others : List Entry) → is_any entries ≡ true → or_else entries others ≡ entries
-or_else-any [] others any = cc
-or_else-any (entry ∷ entries) others any = refl
-
 pub or_else-none : (entries others : List Entry) → is_any entries ≡ false → or_else entries others ≡ others
 or_else-none [] others none = refl
 or_else-none (entry ∷ entries) others none = cc

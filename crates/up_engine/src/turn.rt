@@ -71,7 +71,7 @@ fn is_held(book: &Book, jobs: &[JobDef], event: usize) -> bool
 
 /// The event of a turn: the oldest that is unhandled, or handled and not held.
 #[tactic(auto, using(crate::proofs::HeldLemmas::turn_left))]
-pub fn turn_event(book: &Book, jobs: &[JobDef]) -> Option<Live>
+pub(crate) fn turn_event(book: &Book, jobs: &[JobDef]) -> Option<Live>
     ensures { option_map live_of result ≡ model.turn_event jobs.now (model_queue.queue book.now) book.now }
 {
     for live in book.queue() {

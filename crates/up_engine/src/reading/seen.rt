@@ -64,7 +64,7 @@ fn first(records: &[Record], expression: Expression, leaf: &Name) -> Option<usiz
 }
 
 /// The first event that an expression keeps, where the job file has it.
-pub fn kept(records: &[Record], expression: Expression, leaf: &Option<Name>) -> Option<usize>
+pub(crate) fn kept(records: &[Record], expression: Expression, leaf: &Option<Name>) -> Option<usize>
     ensures { result ≡ seen.kept leaf.now (seen.seen (expression_of expression) (chronicle records.now)) }
 {
     match leaf {
@@ -90,7 +90,7 @@ fn offered_by(next: &Record, expression: Expression) -> Option<bool>
 
 /// Whether an expression was offered the event of this step.
 #[tactic(auto, using(crate::proofs::Chronicles::chronicle_more))]
-pub fn was_offered(records: &[Record], expression: Expression) -> bool
+pub(crate) fn was_offered(records: &[Record], expression: Expression) -> bool
     ensures { result ≡ seen.was_offered (expression_of expression) (chronicle records.now) }
 {
     let mut left = records.len();
@@ -115,7 +115,7 @@ fn newborn_by(next: &Record, place: usize, instance: usize) -> Option<bool>
 
 /// Whether an instance was made in this step.
 #[tactic(auto, using(crate::proofs::Chronicles::chronicle_more, crate::proofs::Chronicles::length_front))]
-pub fn is_newborn(records: &[Record], instance: usize) -> bool
+pub(crate) fn is_newborn(records: &[Record], instance: usize) -> bool
     ensures { result ≡ offer.is_newborn instance (chronicle records.now) }
 {
     let mut left = records.len();
@@ -140,7 +140,7 @@ fn offering_by(next: &Record) -> Option<Option<usize>>
 
 /// The event that this step handles.
 #[tactic(auto, using(crate::proofs::Chronicles::chronicle_more))]
-pub fn offering(records: &[Record]) -> Option<usize>
+pub(crate) fn offering(records: &[Record]) -> Option<usize>
     ensures { result ≡ offer.offering (chronicle records.now) }
 {
     let mut left = records.len();
