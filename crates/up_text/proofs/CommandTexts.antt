@@ -1,5 +1,5 @@
 -- What the parts of a command's text are together.
-use Rattle.std.proofs.Common.{◌≡◌, ℕ, ◌+◌, ◌<◌, ◌≤◌, Bool, true, false, cond, not, ◌||◌, List, [], ◌∷◌, ◌++◌, Option, None, Some, Ok, Err, inl, inr, length, drop, refl, sym, ap, ◌∙◌, subst, add-zero, arith, append_assoc, append-nil, length-append}
+use Rattle.std.proofs.Common.{◌≡◌, ℕ, ◌+◌, ◌<◌, ◌≤◌, Bool, true, false, cond, not, ◌||◌, List, [], ◌∷◌, ◌++◌, Option, None, Some, Ok, Err, inl, inr, length, drop, refl, sym, ap, ◌∙◌, add-zero, arith, append_assoc, append-nil, length-append}
 use Rattle.std.proofs.lemmas.Bool.{false≢true}
 use Rattle.std.proofs.lemmas.Grind.{flat_map-append}
 use Rattle.std.proofs.lemmas.List.{drop_at}
@@ -9,9 +9,9 @@ use Rattle.up_text.proofs.Readings.{prefix_len-front, place-behind, filled-front
 use Rattle.up_text.proofs.Runs.{Holds-same, feeds-append, feeds-length}
 use Rattle.up_text.proofs.Tidying.{GoesOn, tidied-front, tidied-behind, take_while-behind, spelled-kept, spaces-kept, kept-both, kept-all, row-behind, row-ends, row-goes_on}
 use Rattle.up_text.specs.CommandParts.{marks_in, row_in, tidied, is_kept, Between, Told, Refused}
-use Rattle.up_text.specs.Commands.{row_at, trimmed, command_in, ReadsCommand}
-use Rattle.up_text.specs.Lexer.{place, begins_joint, is_line_end, is_spelling, begins_gap, ends_token, GapRun, Run, Broken, Holds, Finished, shown}
-use Rattle.up_text.specs.Places.{fault_in, feeds, is_space, is_stop, passing, written}
+use Rattle.up_text.specs.Commands.{row_at, trimmed, ReadsCommand}
+use Rattle.up_text.specs.Lexer.{place, begins_joint, is_line_end, is_spelling, begins_gap, ends_token, GapRun, Run, Broken, shown}
+use Rattle.up_text.specs.Places.{fault_in, feeds, is_space, is_stop, written}
 use Rattle.up_text.specs.Tokens.{Mark, Part, Quoting, Folded, Alone, Blank, Passed, Stop, Fail, Outside, is_blank, is_hash}
 use Rattle.up_text.specs.declared.fault.TextFault.{TextFault}
 use Rattle.up_text.specs.declared.fault.TextFault.TheVariants.{Memory}

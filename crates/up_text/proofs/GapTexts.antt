@@ -1,16 +1,16 @@
 -- What a gap inside a command is written as.
-use Rattle.std.proofs.Common.{◌≡◌, ℕ, ◌+◌, Bool, true, false, cond, ◌&&◌, ◌||◌, List, [], ◌∷◌, ◌++◌, Option, length, map, refl, sym, ap, ◌∙◌, subst, suc, arith, append_assoc, append-nil, length-append}
+use Rattle.std.proofs.Common.{◌≡◌, ℕ, Bool, true, false, cond, ◌&&◌, ◌||◌, List, [], ◌∷◌, ◌++◌, Option, length, map, refl, sym, ap, ◌∙◌, arith, append_assoc, append-nil, length-append}
 use Rattle.std.proofs.lemmas.Bool.{and_parts, and_from, or_parts, true≢false, false≢true}
 use Rattle.std.proofs.lemmas.Grind.{flat_map-append}
 use Rattle.std.proofs.lemmas.List.{length-map, nil_from_length}
 use Rattle.std.proofs.lemmas.List.Folds.{list_all-append}
 use Rattle.std.specs.List.{list_all, flat_map, prefix_len}
 use Rattle.up_text.proofs.Gaps.{ends-gap_mark, unjoined}
-use Rattle.up_text.proofs.Runs.{blank-is, feed-is, backslash-is, reaches-blanks, feeds-none, feeds-append, Holds-same}
+use Rattle.up_text.proofs.Runs.{blank-is, backslash-is, reaches-blanks, feeds-none, feeds-append, Holds-same}
 use Rattle.up_text.specs.CommandParts.{marks_in, Between}
 use Rattle.up_text.specs.Lexer.{is_line_end, begins_joint, begins_fold, begins_gap, Splits, GapRun, Holds}
 use Rattle.up_text.specs.Places.{is_space, is_gap, written}
-use Rattle.up_text.specs.Tokens.{Mark, Part, Quoting, Folded, Alone, Blank, Passed, Stop, Fail, Mode, Outside, Comment, Escaped, Continued, Quoted, QuotedEscape, end_marks, marks, mark_of, mark_outside, mode_after, open_after, feed_mark, is_line_feed, is_blank, is_hash, is_quote, is_backslash, begins, reaches_feed}
+use Rattle.up_text.specs.Tokens.{Mark, Part, Quoting, Blank, Passed, Stop, Mode, Outside, Comment, Escaped, Continued, Quoted, QuotedEscape, end_marks, marks, mark_of, mark_outside, mode_after, open_after, is_line_feed, is_blank, is_hash, is_quote, is_backslash, begins}
 
 -- modes in which nothing more of a gap is written
 
@@ -168,7 +168,7 @@ written-blanks : (blanks : List ℕ) → flat_map written (map (gap_mark false) 
 written-blanks [] = refl
 written-blanks (byte ∷ blanks) = ap (λ bytes. byte ∷ bytes) (written-blanks blanks)
 
--- a gap before which no line feed stands is one of blanks and joined lines
+-- inside a stanza a gap has no stanza's end in it
 pub gap-spaces : (front : List Mark) → list_all (is_gap true) front ≡ true → list_all is_space front ≡ true
 gap-spaces [] all = refl
 gap-spaces (mark ∷ front) all =

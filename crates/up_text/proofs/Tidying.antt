@@ -1,7 +1,7 @@
 -- Marks without the blanks at their end, and marks up to a stanza's end.
-use Rattle.std.proofs.Common.{◌≡◌, ℕ, ◌+◌, ◌-◌, ◌≤◌, Bool, true, false, cond, not, ◌&&◌, ◌||◌, List, [], ◌∷◌, ◌++◌, length, take, drop, reverse, refl, sym, ap, ◌∙◌, suc, one-add, arith, append_assoc, append-nil, length-append}
+use Rattle.std.proofs.Common.{◌≡◌, ℕ, ◌+◌, ◌-◌, Bool, true, false, cond, not, ◌||◌, List, [], ◌∷◌, ◌++◌, length, take, reverse, refl, sym, ap, ◌∙◌, arith, append_assoc, length-append}
 use Rattle.std.proofs.lemmas.Bool.{and_parts, and_from, or_parts, true≢false, false≢true}
-use Rattle.std.proofs.lemmas.List.{take_at, drop_at, length-reverse, reverse-append}
+use Rattle.std.proofs.lemmas.List.{take_at, length-reverse, reverse-append}
 use Rattle.std.proofs.Math.Seq.{take-append-add}
 use Rattle.std.proofs.lemmas.List.Folds.{list_all-append}
 use Rattle.std.proofs.lemmas.List.Sums.{suffix_len-le-length, take_while-cons}
@@ -12,7 +12,7 @@ use Rattle.up_text.proofs.Runs.{all-weaker}
 use Rattle.up_text.specs.CommandParts.{marks_in, row_in, tidied, is_kept}
 use Rattle.up_text.specs.Lexer.{is_line_end, is_spelling, begins_gap}
 use Rattle.up_text.specs.Places.{is_space, is_stop}
-use Rattle.up_text.specs.Tokens.{Mark, Part, Quoting, Folded, Alone, Blank, Passed, Stop, Fail, Outside, marks, mark_of, mode_after, mark_outside, open_after, feed_mark, is_line_feed, is_blank, is_hash, is_quote, is_backslash, is_paren, begins, reaches_feed}
+use Rattle.up_text.specs.Tokens.{Mark, Part, Quoting, Folded, Alone, Blank, Passed, Stop, Fail, Outside, marks, mode_after, mark_outside, open_after, is_line_feed, is_blank, is_hash, is_quote, is_backslash, begins, reaches_feed}
 
 -- lists
 

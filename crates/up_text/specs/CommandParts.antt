@@ -6,7 +6,7 @@ use Rattle.up_text.specs.Tokens.{Mark, Fail, Outside, marks}
 use Rattle.up_text.specs.Places.{feeds, is_space, is_stop, written}
 use Rattle.up_text.specs.Lexer.{Holds, is_line_end, is_spelling, begins_gap}
 
--- the marks of a text where a command is read, also behind its stanza's end
+-- the marks of a text in which a command is read, those behind its stanza's end too: parentheses are bytes like any other
 abbrev pub marks_in : List ℕ → List Mark
 marks_in text = marks false 0 (Outside false) text
 
@@ -34,7 +34,8 @@ pub record Between (text : List ℕ) (line : ℕ) (rest : List ℕ) (reached : �
   pub counted : reached ≡ line + feeds bytes
   pub pushed : (held : List ℕ) → Holds old held → Holds new (held ++ (if is_line_end rest then [] else flat_map written front))
 
--- part of a command's text, and what is appended for it: what is left of the marks without the blanks at the end is left behind it
+-- part of a command's text, and the marks that are appended for it: without the blanks at their end, the marks of the text are these
+-- and then those of the rest
 pub record Told (text : List ℕ) (line : ℕ) (rest : List ℕ) (reached : ℕ) (old new : Option (List ℕ)) : Type 0 where
   pub bytes : List ℕ
   pub front : List Mark

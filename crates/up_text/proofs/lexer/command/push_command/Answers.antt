@@ -1,4 +1,4 @@
-use Rattle.std.proofs.Common.{◌≡◌, ◌∙◌, sym, false, arith, rules}
+use Rattle.std.proofs.Common.{◌∙◌, sym, arith, rules}
 use Rattle.std.proofs.lemmas.Result.{err_from_is_err_and}
 use Rattle.up_text.proofs.CommandTexts.{Told-then, Told-none, Told-fits, Refused-then, begins-word}
 use Rattle.up_text.proofs.lexer.command.push_command.Goals as goal

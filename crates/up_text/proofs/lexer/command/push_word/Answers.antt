@@ -1,5 +1,5 @@
 use Rattle.std.proofs.Common.{arith}
-use Rattle.up_text.proofs.CommandTexts.{Told-word, Between-fits, spelling-shorter}
+use Rattle.up_text.proofs.CommandTexts.{Told-word}
 use Rattle.up_text.proofs.Runs.{Run-fits}
 use Rattle.up_text.proofs.lexer.command.push_word.Goals as goal
 
