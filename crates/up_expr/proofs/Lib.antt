@@ -1,0 +1,4 @@
+pub mod Complete
+pub mod Counting
+pub mod Going
+pub mod Sound
