@@ -1,11 +1,11 @@
 -- How a reader goes on in the lexemes of a text.
-use Rattle.std.specs.Prelude.{◌≡◌, ℕ, if◌then◌else◌, MatchBool, List, [], ◌∷◌, Option, None, Some, option_map, Result}
+use Rattle.std.specs.Prelude.{◌≡◌, ℕ, if◌then◌else◌, MatchBool, List, [], ◌∷◌, map, Option, None, Some, option_map, Result}
 use Rattle.std.specs.List.{filter_map, find}
 use Rattle.up_text.specs.Lexemes.{Lexeme, Word, Bad, End}
 use Rattle.up_model.specs.declared.files.job.JobDef.{JobDef}
 use Rattle.up_model.specs.declared.files.stanza.Stanza.{Stanza}
 use Rattle.up_model.specs.declared.files.stanza.Stanza.TheVariants.{StartOn, StopOn, Exec}
-use Rattle.up_model.specs.Stanzas.{start_of, stop_of, exec_of, stanza_of}
+use Rattle.up_model.specs.Stanzas.{start_of, stop_of, exec_of, stanza_of, named}
 use Rattle.up_model.specs.Files.{job_unless, is_unreadable}
 use Rattle.up_model.specs.declared.files.words.Next.{Next}
 use Rattle.up_model.specs.declared.files.words.Next.TheVariants as next
@@ -41,8 +41,8 @@ front (Word token ∷ later) = Word token ∷ front later
 
 -- the job after a stanza
 abbrev pub applied : JobDef → Stanza → JobDef
-applied job (StartOn name) = record job { start_on = Some name }
-applied job (StopOn name) = record job { stop_on = Some name }
+applied job (StartOn name) = record job { start_on = Some (named name) }
+applied job (StopOn name) = record job { stop_on = Some (named name) }
 applied job (Exec words) = record job { main = Some words }
 
 -- the last of these, or else the first argument
@@ -54,8 +54,8 @@ last_or found (x ∷ xs) = last_or (Some x) xs
 abbrev pub job_after : JobDef → List Stanza → JobDef
 job_after job stanzas = record {
   name = job.name;
-  start_on = last_or job.start_on (filter_map start_of stanzas);
-  stop_on = last_or job.stop_on (filter_map stop_of stanzas);
+  start_on = last_or job.start_on (map named (filter_map start_of stanzas));
+  stop_on = last_or job.stop_on (map named (filter_map stop_of stanzas));
   main = last_or job.main (filter_map exec_of stanzas);
 }
 

@@ -1,9 +1,10 @@
 -- What the stanzas of a job file say (init(5)).
-use Rattle.std.specs.Prelude.{ℕ, Bool, ◌==◌, ◌&&◌, not, if◌then◌else◌, List, [], ◌∷◌, Option, None, Some, option_map, option_and_then, unwrap_or, codes}
+use Rattle.std.specs.Prelude.{ℕ, Bool, ◌==◌, ◌&&◌, not, if◌then◌else◌, List, [], ◌∷◌, map, Option, None, Some, option_map, option_and_then, unwrap_or, codes}
 use Rattle.std.specs.List.{list_any, list_all, filter_map}
 use Rattle.std.specs.Str.{bytes_eq}
 use Rattle.up_text.specs.Names.{is_name}
 use Rattle.up_text.specs.Lexemes.{Lexeme, Word, Bad, End}
+use Rattle.up_expr.specs.Trees.{Tree, One}
 use Rattle.up_model.specs.declared.files.job.JobDef.{JobDef}
 use Rattle.up_model.specs.declared.files.stanza.Stanza.{Stanza}
 use Rattle.up_model.specs.declared.files.stanza.Stanza.TheVariants.{StartOn, StopOn, Exec}
@@ -86,11 +87,15 @@ abbrev pub last : {X : Type 0} → List X → Option X
 last [] = None
 last (x ∷ xs) = Some (unwrap_or (last xs) x)
 
+-- an event of this name, whatever its variables are
+abbrev pub named : List ℕ → Tree
+named name = One (record { event = name; values = [] })
+
 -- the job of this name that stanzas define: the last one of each kind counts
 abbrev pub job_of : List ℕ → List Stanza → JobDef
 job_of name stanzas = record {
   name = name;
-  start_on = last (filter_map start_of stanzas);
-  stop_on = last (filter_map stop_of stanzas);
+  start_on = last (map named (filter_map start_of stanzas));
+  stop_on = last (map named (filter_map stop_of stanzas));
   main = last (filter_map exec_of stanzas);
 }

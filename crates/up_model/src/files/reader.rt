@@ -5,7 +5,7 @@ ghost use Rattle.std.specs.Option.{option_copied};
 ghost use Rattle.std.specs.Str.{is_utf8};
 ghost use Rattle.up_text.specs.Lexemes.{stanzas, split_ends, lexemes_of};
 ghost use Rattle.up_text.specs.Scripts.{is_filled};
-ghost use Rattle.up_model.specs.Stanzas.{stanza_in};
+ghost use Rattle.up_model.specs.Stanzas.{stanza_in, named};
 ghost use Rattle.up_model.specs.Reading.{front_texts, after_end, applied, job_with};
 ghost use Rattle.up_model.specs.Files.{name_in, is_text, job_from, job_in, outcome_of};
 
@@ -17,7 +17,8 @@ use crate::files::stanza::Stanza;
 use crate::files::words::read_words;
 use std::alloc::{AllocError, Global};
 use std::str;
-use up_text::{Lexer, Name};
+use up_expr::{Condition, Expr, Leaf};
+use up_text::{Items, Lexer, Name};
 
 /// The longest file that is read, in bytes.
 const MAX_LEN: usize = 1_048_576;
@@ -33,12 +34,20 @@ fn read_stanza(alloc: Global, lexer: &mut Lexer) -> Result<Option<Stanza>, Alloc
     }
 }
 
-fn apply(job: &mut JobDef, stanza: Stanza)
+// An event of this name, whatever its variables are.
+fn named(alloc: Global, event: Name) -> Condition
+    ensures { result ≡ named event }
+{
+    let values = Items::new(Vec::new(alloc));
+    Condition::new(Expr::Leaf(Leaf { event, values }))
+}
+
+fn apply(alloc: Global, job: &mut JobDef, stanza: Stanza)
     ensures { job.new ≡ applied job.old stanza }
 {
     match stanza {
-        Stanza::StartOn(name) => job.start_on = Some(name),
-        Stanza::StopOn(name) => job.stop_on = Some(name),
+        Stanza::StartOn(name) => job.start_on = Some(named(alloc, name)),
+        Stanza::StopOn(name) => job.stop_on = Some(named(alloc, name)),
         Stanza::Exec(words) => job.main = Some(words),
     }
 }
@@ -53,7 +62,7 @@ fn read_stanzas(alloc: Global, lexer: Lexer, job: JobDef) -> Result<Result<JobDe
     'stanzas: while !lexer.at_end() {
         let line = lexer.line();
         match read_stanza(alloc, &mut lexer)? {
-            Some(stanza) => apply(&mut job, stanza),
+            Some(stanza) => apply(alloc, &mut job, stanza),
             None => return Ok(Err(line)),
         }
     }
