@@ -9,9 +9,9 @@ use Rattle.up_model.specs.Readings.{event_at}
 use Rattle.up_model.specs.Seen.{seen, sighted, env_of, same_expression}
 
 -- the first match is among the older ones, if there is one
-pub first-append : (leaf : Leaf) (older newer : List Sight) → first leaf (older ++ newer) ≡ option_or (first leaf older) (first leaf newer)
-first-append leaf [] newer = refl
-first-append leaf (sight ∷ older) newer = by_case (matches leaf sight.name sight.vars sight.env) (first-append leaf older newer)
+pub first_append : (leaf : Leaf) (older newer : List Sight) → first leaf (older ++ newer) ≡ option_or (first leaf older) (first leaf newer)
+first_append leaf [] newer = refl
+first_append leaf (sight ∷ older) newer = by_case (matches leaf sight.name sight.vars sight.env) (first_append leaf older newer)
   where
     by_case : (b : Bool) → first leaf (older ++ newer) ≡ option_or (first leaf older) (first leaf newer)
         → cond b (Some sight.event) (first leaf (older ++ newer)) ≡ option_or (cond b (Some sight.event) (first leaf older)) (first leaf newer)
@@ -21,4 +21,4 @@ first-append leaf (sight ∷ older) newer = by_case (matches leaf sight.name sig
 -- an offer adds its event to what was seen
 pub seen_offered : (base : List (List ℕ × List ℕ)) (expression other : Expression) (event : ℕ) (c : List Entry) (leaf : Leaf) → same_expression other expression ≡ true
     → first leaf (seen base expression (Offered other event ∷ c)) ≡ option_or (first leaf (seen base expression c)) (first leaf (sighted event (event_at event c) (env_of base expression c)))
-seen_offered base expression other event c leaf same = rw same (first-append leaf (seen base expression c) (sighted event (event_at event c) (env_of base expression c)))
+seen_offered base expression other event c leaf same = rw same (first_append leaf (seen base expression c) (sighted event (event_at event c) (env_of base expression c)))

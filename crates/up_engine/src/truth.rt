@@ -23,7 +23,7 @@ pub struct Verdict {
 
 // The verdict of a leaf by the event that it keeps.
 fn leaf_verdict(alloc: Global, found: Option<usize>) -> Result<Verdict, AllocError>
-    ensures { IfOk result (λ verdict. verdict ≡ record { holds = is_some found; taken = option_to_list found }) }
+    ensures { IfOk result (λ said. said ≡ record { holds = is_some found; taken = option_to_list found }) }
 {
     let mut places = Vec::new(alloc);
     if let Some(place) = found {
@@ -43,7 +43,7 @@ fn joined(left: Items<usize>, right: Items<usize>) -> Result<Items<usize>, Alloc
 }
 
 fn both(alloc: Global, left: Verdict, right: Verdict) -> Result<Verdict, AllocError>
-    ensures { IfOk result (λ verdict. verdict ≡ both left right) }
+    ensures { IfOk result (λ said. said ≡ both left right) }
 {
     let holds = left.holds && right.holds;
     let taken = if holds {
@@ -55,7 +55,7 @@ fn both(alloc: Global, left: Verdict, right: Verdict) -> Result<Verdict, AllocEr
 }
 
 fn either(left: Verdict, right: Verdict) -> Result<Verdict, AllocError>
-    ensures { IfOk result (λ verdict. verdict ≡ either left right) }
+    ensures { IfOk result (λ said. said ≡ either left right) }
 {
     let holds = left.holds || right.holds;
     let taken = joined(left.taken, right.taken)?;
@@ -69,7 +69,7 @@ fn judge(
     expression: Expression,
     expr: &Expr,
 ) -> Result<Verdict, AllocError>
-    ensures { IfOk result (λ verdict. verdict ≡ verdict_of_tree (tree_of expr.now) (seen.seen base.now (expression_of expression) book.now)) }
+    ensures { IfOk result (λ said. said ≡ verdict_of_tree (tree_of expr.now) (seen.seen base.now (expression_of expression) book.now)) }
 {
     match expr {
         Expr::Leaf(leaf) => {
@@ -100,7 +100,7 @@ pub fn verdict_of(
     expression: Expression,
     condition: &Option<Condition>,
 ) -> Result<Verdict, AllocError>
-    ensures { IfOk result (λ verdict. verdict ≡ verdict condition.now (seen.seen base.now (expression_of expression) book.now)) }
+    ensures { IfOk result (λ said. said ≡ verdict condition.now (seen.seen base.now (expression_of expression) book.now)) }
 {
     match condition {
         Some(condition) => {

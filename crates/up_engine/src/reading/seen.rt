@@ -70,6 +70,9 @@ fn matched(
     let Some(event) = event_at(earlier, place) else {
         return Ok(None);
     };
+    if !event.name.is(&leaf.event) {
+        return Ok(None);
+    }
     let none = Env::new(alloc);
     let env = env_of(earlier, base, &none, expression);
     if is_match(alloc, leaf, event, env)? {
@@ -97,6 +100,7 @@ fn matched_after(
     }
 }
 
+#[tactic(auto, using(crate::proofs::SeenLemmas::seen_offered))]
 fn first_after(
     alloc: Global,
     base: &Env,
