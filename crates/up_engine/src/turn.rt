@@ -38,7 +38,7 @@ fn is_held_by_instance(
     place: usize,
     event: usize,
 ) -> Result<bool, AllocError>
-    ensures { IfOk result (λ held. held ≡ nat_lt 0 (held.count_of_instances base.now job.now event (read.instances_of place book.now) book.now)) }
+    ensures { IfOk result (λ holds. holds ≡ nat_lt 0 (held.count_of_instances base.now job.now event (read.instances_of place book.now) book.now)) }
 {
     let Some(instance) = book.instance_of(place, "") else {
         return Ok(false);
@@ -63,7 +63,7 @@ fn is_held_by_job(
     place: usize,
     event: usize,
 ) -> Result<bool, AllocError>
-    ensures { IfOk result (λ held. held ≡ nat_lt 0 (held.occurs event (seen.kept job.now.start_on (seen.seen base.now (entry.StartOn place) book.now)) + held.count_of_instances base.now job.now event (read.instances_of place book.now) book.now)) }
+    ensures { IfOk result (λ holds. holds ≡ nat_lt 0 (held.occurs event (seen.kept job.now.start_on (seen.seen base.now (entry.StartOn place) book.now)) + held.count_of_instances base.now job.now event (read.instances_of place book.now) book.now)) }
 {
     let start = keeps(
         alloc,
@@ -89,7 +89,7 @@ fn is_held(
     jobs: &[JobDef],
     event: usize,
 ) -> Result<bool, AllocError>
-    ensures { IfOk result (λ held. held ≡ held.is_held base.now jobs.now event book.now) }
+    ensures { IfOk result (λ holds. holds ≡ held.is_held base.now jobs.now event book.now) }
 {
     for (place, job) in jobs.iter().enumerate() {
         if is_held_by_job(alloc, base, book, job, place, event)? {
