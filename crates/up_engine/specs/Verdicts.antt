@@ -1,5 +1,5 @@
 -- What an expression says of what it has seen, and what its sides say together.
-use Rattle.std.specs.Prelude.{ℕ, ◌&&◌, ◌||◌, List, [], ◌++◌, Option, if◌then◌else◌}
+use Rattle.std.specs.Prelude.{◌&&◌, ◌||◌, List, [], ◌++◌, Option, if◌then◌else◌}
 use Rattle.up_expr.specs.Trees.{Tree}
 use Rattle.up_expr.specs.Truth.{Sight}
 use Rattle.up_expr.specs.Truth as truth

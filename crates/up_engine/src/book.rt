@@ -83,7 +83,7 @@ fn count(records: &Vec<Record>) -> usize
 
 impl Book {
     /// Nothing has happened.
-    pub fn new(alloc: Global) -> Self
+    pub(crate) fn new(alloc: Global) -> Self
         ensures { result ≡ [] }
     {
         Book {
@@ -93,89 +93,89 @@ impl Book {
     }
 
     /// One entry more.
-    pub fn add(&mut self, next: Record) -> Result<(), AllocError>
+    pub(crate) fn add(&mut self, next: Record) -> Result<(), AllocError>
         ensures { OnOk result (self.new ≡ entry_of next ∷ self.old) }
     {
         append(&mut self.records, &mut self.queue, next)
     }
 
     /// What happened, oldest first.
-    pub fn records(&self) -> &[Record]
+    pub(crate) fn records(&self) -> &[Record]
         ensures { chronicle result.now ≡ self.now }
     {
         self.records.as_slice()
     }
 
     /// The events that haven't finished, by age.
-    pub fn queue(&self) -> &[Live]
+    pub(crate) fn queue(&self) -> &[Live]
         ensures { map live_of result.now ≡ model.queue self.now }
     {
         self.queue.as_slice()
     }
 
     /// How many events haven't finished.
-    pub fn live_events(&self) -> usize
+    pub(crate) fn live_events(&self) -> usize
         ensures { result ≡ length (model.queue self.now) }
     {
         count_live(&self.queue)
     }
 
     /// How many entries there are: the place of the next one.
-    pub fn len(&self) -> usize
+    pub(crate) fn len(&self) -> usize
         ensures { result ≡ length self.now }
     {
         count(&self.records)
     }
 
-    pub fn goal(&self, instance: usize) -> Goal
+    pub(crate) fn goal(&self, instance: usize) -> Goal
         ensures { result ≡ read.goal instance self.now }
     {
         life::goal(self.records.as_slice(), instance)
     }
 
-    pub fn state_of(&self, instance: usize) -> State
+    pub(crate) fn state_of(&self, instance: usize) -> State
         ensures { result ≡ read.state_of instance self.now }
     {
         life::state_of(self.records.as_slice(), instance)
     }
 
-    pub fn holders(&self, instance: usize) -> &[usize]
+    pub(crate) fn holders(&self, instance: usize) -> &[usize]
         ensures { result.now ≡ read.holders instance self.now }
     {
         life::holders(self.records.as_slice(), instance)
     }
 
-    pub fn blocker(&self, instance: usize) -> Option<usize>
+    pub(crate) fn blocker(&self, instance: usize) -> Option<usize>
         ensures { result ≡ read.blocker instance self.now }
     {
         life::blocker(self.records.as_slice(), instance)
     }
 
-    pub fn instance_of(&self, job: usize, name: &str) -> Option<usize>
+    pub(crate) fn instance_of(&self, job: usize, name: &str) -> Option<usize>
         ensures { result ≡ read.instance_of job name.now self.now }
     {
         life::instance_of(self.records.as_slice(), job, name)
     }
 
-    pub fn awaited(&self, instance: usize, job: &Name, name: &str, process: Process) -> bool
+    pub(crate) fn awaited(&self, instance: usize, job: &Name, name: &str, process: Process) -> bool
         ensures { result ≡ read.awaited instance (record { job = job.now; instance = name.now }) process self.now }
     {
         process::awaited(self.records.as_slice(), instance, job, name, process)
     }
 
-    pub fn pid_of(&self, job: &Name, name: &str, process: Process) -> Option<u32>
+    pub(crate) fn pid_of(&self, job: &Name, name: &str, process: Process) -> Option<u32>
         ensures { result ≡ read.pid_of (record { job = job.now; instance = name.now }) process self.now }
     {
         process::pid_of(self.records.as_slice(), job, name, process)
     }
 
-    pub fn event_at(&self, place: usize) -> Option<&Event>
+    pub(crate) fn event_at(&self, place: usize) -> Option<&Event>
         ensures { option_copied result ≡ read.event_at place self.now }
     {
         place::event_at(self.records.as_slice(), place)
     }
 
-    pub fn first(
+    pub(crate) fn first(
         &self,
         alloc: Global,
         base: &Env,
@@ -187,19 +187,19 @@ impl Book {
         seen::first(alloc, base, self.records.as_slice(), expression, leaf)
     }
 
-    pub fn was_offered(&self, expression: Expression) -> bool
+    pub(crate) fn was_offered(&self, expression: Expression) -> bool
         ensures { result ≡ seen.was_offered (expression_of expression) self.now }
     {
         seen::was_offered(self.records.as_slice(), expression)
     }
 
-    pub fn is_newborn(&self, instance: usize) -> bool
+    pub(crate) fn is_newborn(&self, instance: usize) -> bool
         ensures { result ≡ offer.is_newborn instance self.now }
     {
         seen::is_newborn(self.records.as_slice(), instance)
     }
 
-    pub fn offering(&self) -> Option<usize>
+    pub(crate) fn offering(&self) -> Option<usize>
         ensures { result ≡ offer.offering self.now }
     {
         seen::offering(self.records.as_slice())

@@ -22,7 +22,7 @@ use up_text::{Env, Items, Text};
 
 /// Does the first thing that is due, and answers whether anything was.
 #[tactic(auto, using(crate::proofs::MoveLemmas::none_nil), unfolding(up_model::specs::Due::due))]
-pub fn do_next(
+pub(crate) fn do_next(
     alloc: Global,
     base: &Env,
     jobs: &[JobDef],
@@ -78,7 +78,7 @@ fn is_running(state: State) -> bool
 
 /// Whether an input is expected: the answer for a process that is ordered and unanswered, the end of one that lives, or any other.
 #[tactic(auto, unfolding(up_model::specs::Answers::is_expected))]
-pub fn is_expected(book: &Book, jobs: &[JobDef], given: &Input) -> bool
+pub(crate) fn is_expected(book: &Book, jobs: &[JobDef], given: &Input) -> bool
     ensures { result ≡ answer.is_expected jobs.now given.now book.now }
 {
     match given {
@@ -210,7 +210,7 @@ fn effect(
 }
 
 /// Takes an input in, with its own effect, where `turn` is the event that a turn would take.
-pub fn act(
+pub(crate) fn act(
     alloc: Global,
     jobs: &[JobDef],
     book: &mut Book,

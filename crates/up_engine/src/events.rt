@@ -47,7 +47,7 @@ fn event(alloc: Global, name: &str, vars: Env) -> Result<Event, AllocError>
 }
 
 /// An instance enters starting (starting(7)).
-pub fn starting(alloc: Global, job: &Name, name: &str) -> Result<Event, AllocError>
+pub(crate) fn starting(alloc: Global, job: &Name, name: &str) -> Result<Event, AllocError>
     ensures { IfOk result (λ event. event ≡ model.starting (record { job = job.now; instance = name.now })) }
 {
     let vars = about(alloc, job, name)?;
@@ -55,7 +55,7 @@ pub fn starting(alloc: Global, job: &Name, name: &str) -> Result<Event, AllocErr
 }
 
 /// An instance enters running (started(7)).
-pub fn started(alloc: Global, job: &Name, name: &str) -> Result<Event, AllocError>
+pub(crate) fn started(alloc: Global, job: &Name, name: &str) -> Result<Event, AllocError>
     ensures { IfOk result (λ event. event ≡ model.started (record { job = job.now; instance = name.now })) }
 {
     let vars = about(alloc, job, name)?;
@@ -63,7 +63,7 @@ pub fn started(alloc: Global, job: &Name, name: &str) -> Result<Event, AllocErro
 }
 
 /// An instance enters stopping (stopping(7)).
-pub fn stopping(alloc: Global, job: &Name, name: &str) -> Result<Event, AllocError>
+pub(crate) fn stopping(alloc: Global, job: &Name, name: &str) -> Result<Event, AllocError>
     ensures { IfOk result (λ event. event ≡ model.stopping (record { job = job.now; instance = name.now })) }
 {
     let vars = about_with_result(alloc, job, name)?;
@@ -71,7 +71,7 @@ pub fn stopping(alloc: Global, job: &Name, name: &str) -> Result<Event, AllocErr
 }
 
 /// An instance enters waiting (stopped(7)).
-pub fn stopped(alloc: Global, job: &Name, name: &str) -> Result<Event, AllocError>
+pub(crate) fn stopped(alloc: Global, job: &Name, name: &str) -> Result<Event, AllocError>
     ensures { IfOk result (λ event. event ≡ model.stopped (record { job = job.now; instance = name.now })) }
 {
     let vars = about_with_result(alloc, job, name)?;
@@ -128,7 +128,7 @@ fn names_of(alloc: Global, book: &Book, places: &[usize]) -> Result<String, Allo
 }
 
 /// The environment of a start by the events at these places.
-pub fn start_env(
+pub(crate) fn start_env(
     alloc: Global,
     base: &Env,
     book: &Book,

@@ -4,7 +4,7 @@ ghost use Rattle.up_model.specs.Tests as test;
 
 use up_model::Goal;
 
-pub fn is_start(goal: Goal) -> bool
+pub(crate) fn is_start(goal: Goal) -> bool
     ensures { result ≡ test.is_start goal }
 {
     match goal {

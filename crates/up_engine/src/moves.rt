@@ -245,7 +245,11 @@ fn move_in(alloc: Global, book: &mut Book, job: &JobDef, place: usize) -> Result
 
 /// Moves the first instance, job by job, that may leave its state, and answers whether there was one.
 #[tactic(auto, using(crate::proofs::MoveLemmas::move_left))]
-pub fn move_first(alloc: Global, book: &mut Book, jobs: &[JobDef]) -> Result<bool, AllocError>
+pub(crate) fn move_first(
+    alloc: Global,
+    book: &mut Book,
+    jobs: &[JobDef],
+) -> Result<bool, AllocError>
     ensures entries { OnOk result (book.new ≡ model.move_from jobs.now 0 book.old ++ book.old) }
     ensures any { IfOk result (λ moved. moved ≡ is_any (model.move_from jobs.now 0 book.old)) }
 {

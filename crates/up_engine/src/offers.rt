@@ -208,7 +208,7 @@ fn offer_first(
 
 /// Offers the event that this step handles, where it handles one, to the first expression that it wasn't offered to, and answers
 /// whether there was one.
-pub fn offer_next(
+pub(crate) fn offer_next(
     alloc: Global,
     base: &Env,
     book: &mut Book,

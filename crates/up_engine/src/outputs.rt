@@ -213,7 +213,7 @@ fn step_start(records: &[Record]) -> usize
 
 /// The starts, signals, events and replies of the last step, in order.
 #[tactic(auto, using(crate::proofs::Chronicles::chronicle_more))]
-pub fn outputs(
+pub(crate) fn outputs(
     alloc: Global,
     jobs: &[JobDef],
     records: &[Record],

@@ -24,7 +24,7 @@ fn marked(live: Live, event: usize) -> Live
 }
 
 /// Marks an event as handled.
-pub fn mark_handled(queue: &mut [Live], event: usize)
+pub(crate) fn mark_handled(queue: &mut [Live], event: usize)
     ensures { map live_of queue.new ≡ model.with_handled event (map live_of queue.old) }
 {
     for live in queue.iter_mut() {
@@ -39,7 +39,7 @@ fn keep_others(queue: &mut Vec<Live>, event: usize)
 }
 
 /// Takes an event out.
-pub fn remove(queue: &mut Vec<Live>, event: usize)
+pub(crate) fn remove(queue: &mut Vec<Live>, event: usize)
     ensures { map live_of queue.new.items ≡ model.without_event event (map live_of queue.old.items) }
 {
     keep_others(queue, event);

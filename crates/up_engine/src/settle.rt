@@ -25,7 +25,7 @@ fn settle(alloc: Global, base: &Env, jobs: &[JobDef], book: &mut Book) -> Result
 
 /// Takes an input in, and then does what is due until nothing is. `turn` is the event that a turn would take.
 #[tactic(auto, unfolding(up_model::specs::Answers::after))]
-pub fn run_step(
+pub(crate) fn run_step(
     alloc: Global,
     base: &Env,
     jobs: &[JobDef],

@@ -93,7 +93,7 @@ fn judge(
 }
 
 /// What an expression says of what it has seen, where the job file has it.
-pub fn verdict_of(
+pub(crate) fn verdict_of(
     alloc: Global,
     base: &Env,
     book: &Book,
@@ -157,7 +157,7 @@ fn has_leaf_of(
 }
 
 /// Whether a leaf of the expression, where the job file has it, keeps the event.
-pub fn keeps(
+pub(crate) fn keeps(
     alloc: Global,
     base: &Env,
     book: &Book,

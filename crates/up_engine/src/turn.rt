@@ -101,7 +101,7 @@ fn is_held(
 
 /// The event of a turn: the oldest that is unhandled, or handled and not held.
 #[tactic(auto, using(crate::proofs::HeldLemmas::turn_left))]
-pub fn turn_event(
+pub(crate) fn turn_event(
     alloc: Global,
     base: &Env,
     book: &Book,

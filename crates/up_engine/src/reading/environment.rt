@@ -44,7 +44,7 @@ fn env_after<'a>(
 
 /// The environment in force: the one that was pending when starting was entered last.
 #[tactic(auto, using(crate::proofs::Chronicles::chronicle_more))]
-pub fn env(records: &[Record], instance: usize) -> Option<&Env>
+pub(crate) fn env(records: &[Record], instance: usize) -> Option<&Env>
     ensures { option_map_or (λ env. env.now) result [] ≡ reading.env instance (chronicle records.now) }
 {
     let mut pending = None;

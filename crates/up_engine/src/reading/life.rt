@@ -21,7 +21,7 @@ fn goal_after(next: &Record, instance: usize, before: Goal) -> Goal
 }
 
 #[tactic(auto, using(crate::proofs::Chronicles::chronicle_more))]
-pub fn goal(records: &[Record], instance: usize) -> Goal
+pub(crate) fn goal(records: &[Record], instance: usize) -> Goal
     ensures { result ≡ reading.goal instance (chronicle records.now) }
 {
     let mut found = Goal::Stop;
@@ -44,7 +44,7 @@ fn state_after(next: &Record, instance: usize, before: State) -> State
 }
 
 #[tactic(auto, using(crate::proofs::Chronicles::chronicle_more))]
-pub fn state_of(records: &[Record], instance: usize) -> State
+pub(crate) fn state_of(records: &[Record], instance: usize) -> State
     ensures { result ≡ reading.state_of instance (chronicle records.now) }
 {
     let mut found = State::Waiting;
@@ -70,7 +70,7 @@ fn holders_after<'a>(next: &'a Record, instance: usize, before: &'a [usize]) -> 
 }
 
 #[tactic(auto, using(crate::proofs::Chronicles::chronicle_more))]
-pub fn holders(records: &[Record], instance: usize) -> &[usize]
+pub(crate) fn holders(records: &[Record], instance: usize) -> &[usize]
     ensures { result.now ≡ reading.holders instance (chronicle records.now) }
 {
     let mut found: &[usize] = &[];
@@ -127,7 +127,7 @@ fn blocker_after(
 }
 
 #[tactic(auto, using(crate::proofs::Chronicles::chronicle_more, crate::proofs::Chronicles::length_front))]
-pub fn blocker(records: &[Record], instance: usize) -> Option<usize>
+pub(crate) fn blocker(records: &[Record], instance: usize) -> Option<usize>
     ensures { result ≡ reading.blocker instance (chronicle records.now) }
 {
     let mut found = None;
@@ -160,7 +160,7 @@ fn instance_after(
 }
 
 #[tactic(auto, using(crate::proofs::Chronicles::chronicle_more, crate::proofs::Chronicles::length_front))]
-pub fn instance_of(records: &[Record], job: usize, name: &str) -> Option<usize>
+pub(crate) fn instance_of(records: &[Record], job: usize, name: &str) -> Option<usize>
     ensures { result ≡ reading.instance_of job name.now (chronicle records.now) }
 {
     let mut found = None;

@@ -26,7 +26,7 @@ fn event_of(found: &Record) -> Option<&Event>
 }
 
 /// The event that was queued at a place.
-pub fn event_at(records: &[Record], place: usize) -> Option<&Event>
+pub(crate) fn event_at(records: &[Record], place: usize) -> Option<&Event>
     ensures { option_copied result ≡ reading.event_at place (chronicle records.now) }
 {
     match record_at(records, place) {
@@ -45,7 +45,7 @@ fn made_of(found: &Record) -> Option<(usize, &str)>
 }
 
 /// The job and the name of the instance that was made at a place.
-pub fn made_at(records: &[Record], place: usize) -> Option<(usize, &str)>
+pub(crate) fn made_at(records: &[Record], place: usize) -> Option<(usize, &str)>
     ensures { option_map (λ made. (made.0, made.1.now)) result ≡ reading.made_at place (chronicle records.now) }
 {
     match record_at(records, place) {
@@ -64,7 +64,7 @@ fn id_of(found: &Record) -> Option<u64>
 }
 
 /// The number under which the request at a place is answered.
-pub fn id_at(records: &[Record], place: usize) -> Option<u64>
+pub(crate) fn id_at(records: &[Record], place: usize) -> Option<u64>
     ensures { result ≡ reading.id_at place (chronicle records.now) }
 {
     match record_at(records, place) {

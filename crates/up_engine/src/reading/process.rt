@@ -63,7 +63,7 @@ fn awaited_after(
 
 /// Whether a process was ordered and not answered since.
 #[tactic(auto, using(crate::proofs::Chronicles::chronicle_more))]
-pub fn awaited(
+pub(crate) fn awaited(
     records: &[Record],
     instance: usize,
     job: &Name,
@@ -109,7 +109,7 @@ fn pid_after(
 
 /// The number of a living process.
 #[tactic(auto, using(crate::proofs::Chronicles::chronicle_more))]
-pub fn pid_of(records: &[Record], job: &Name, name: &str, process: Process) -> Option<u32>
+pub(crate) fn pid_of(records: &[Record], job: &Name, name: &str, process: Process) -> Option<u32>
     ensures { result ≡ reading.pid_of (record { job = job.now; instance = name.now }) process (chronicle records.now) }
 {
     let mut found = None;

@@ -129,7 +129,7 @@ fn first_after(
 
 /// The first event that a leaf of an expression matches, of those that the expression was offered since it fired last.
 #[tactic(auto, using(crate::proofs::Chronicles::chronicle_more))]
-pub fn first(
+pub(crate) fn first(
     alloc: Global,
     base: &Env,
     records: &[Record],
@@ -170,7 +170,7 @@ fn offered_by(next: &Record, expression: Expression) -> Option<bool>
 
 /// Whether an expression was offered the event of this step.
 #[tactic(auto, using(crate::proofs::Chronicles::chronicle_more))]
-pub fn was_offered(records: &[Record], expression: Expression) -> bool
+pub(crate) fn was_offered(records: &[Record], expression: Expression) -> bool
     ensures { result ≡ seen.was_offered (expression_of expression) (chronicle records.now) }
 {
     let mut left = records.len();
@@ -195,7 +195,7 @@ fn newborn_by(next: &Record, place: usize, instance: usize) -> Option<bool>
 
 /// Whether an instance was made in this step.
 #[tactic(auto, using(crate::proofs::Chronicles::chronicle_more, crate::proofs::Chronicles::length_front))]
-pub fn is_newborn(records: &[Record], instance: usize) -> bool
+pub(crate) fn is_newborn(records: &[Record], instance: usize) -> bool
     ensures { result ≡ offer.is_newborn instance (chronicle records.now) }
 {
     let mut left = records.len();
@@ -220,7 +220,7 @@ fn offering_by(next: &Record) -> Option<Option<usize>>
 
 /// The event that this step handles.
 #[tactic(auto, using(crate::proofs::Chronicles::chronicle_more))]
-pub fn offering(records: &[Record]) -> Option<usize>
+pub(crate) fn offering(records: &[Record]) -> Option<usize>
     ensures { result ≡ offer.offering (chronicle records.now) }
 {
     let mut left = records.len();
