@@ -9,7 +9,7 @@ pub mod expr;
 pub mod fault;
 pub mod leaf;
 mod operand;
-mod parse;
+pub mod parse;
 mod symbol;
 mod value;
 
@@ -17,3 +17,4 @@ pub use condition::Condition;
 pub use expr::{Expr, Leaf, Test};
 pub use fault::ExprFault;
 pub use leaf::leaf_matches;
+pub use parse::parse_expr;
