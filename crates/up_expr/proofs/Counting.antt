@@ -78,3 +78,10 @@ written tokens tree ends few =
       few = omega (arith, ap operators read.text, count, few);
       shallow = omega (arith, read.shallow);
     }
+
+-- tokens write one tree
+pub same_tree : (tokens : List Token) (tree other : Tree) → Writes tokens tree → Writes tokens other → tree ≡ other
+same_tree tokens tree other writes also =
+    let ends : outcome tokens begin ≡ Some tree = (complete tokens tree writes).0 in
+    let ends_too : outcome tokens begin ≡ Some other = (complete tokens other also).0 in
+    cc

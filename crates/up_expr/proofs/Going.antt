@@ -135,44 +135,6 @@ pub leaf_refused : (tokens : List Token) (outer : List Pending) (left : Pending)
 leaf_refused tokens outer left no_open none =
     refused_by (take (leaf_count tokens) tokens) (drop (leaf_count tokens) tokens) tokens outer left (take-append-drop (leaf_count tokens) tokens) (front_plain tokens) none (behind_leaf tokens) no_open
 
--- a parenthesis opens
-pub open_read : (token : Token) (tokens : List Token) (outer : List Pending) (left : Pending) → is_open token ≡ true → length outer < 256
-    → outcome (token ∷ tokens) (at outer left Before) ≡ outcome tokens (at (left ∷ outer) None Before)
-open_read token tokens outer left is room = rw (is, lt-ltb (length outer) 256 room) refl
-
--- but not within 256 others
-pub open_refused : (token : Token) (tokens : List Token) (outer : List Pending) (left : Pending) → is_open token ≡ true → 256 ≤ length outer
-    → outcome (token ∷ tokens) (at outer left Before) ≡ None
-open_refused token tokens outer left is full = rw (is, le-ltb (length outer) 256 full) refl
-
--- it closes behind a tree
-pub close_read : (token : Token) (tokens : List Token) (outer : List Pending) (left : Pending) (tree : Tree) → is_close token ≡ true
-    → outcome (token ∷ tokens) (at (left ∷ outer) None (Behind tree)) ≡ outcome tokens (at outer left (Behind tree))
-close_read token tokens outer left tree is = rw (close_no_open token is, is) refl
-
--- where neither it nor an operator comes, it stays open
-pub close_refused : (tokens : List Token) (outer : List Pending) (left : Pending) (tree : Tree) → begins is_close tokens ≡ false → begins is_operator tokens ≡ false
-    → outcome tokens (at (left ∷ outer) None (Behind tree)) ≡ None
-close_refused [] outer left tree no_close no_operator = refl
-close_refused (token ∷ tokens) outer left tree no_close no_operator = by_open (is_open token) refl
-  where
-    by_open : (b : Bool) → is_open token ≡ b → outcome (token ∷ tokens) (at (left ∷ outer) None (Behind tree)) ≡ None
-    by_open true is = rw is refl
-    by_open false is = rw (is, no_close, no_operator) refl
-
--- tokens behind the whole tree
-pub rest_refused : (tokens : List Token) (tree : Tree) → length tokens ≢ 0 → begins is_operator tokens ≡ false → outcome tokens (at [] None (Behind tree)) ≡ None
-rest_refused [] tree some no_operator = absurd (some refl)
-rest_refused (token ∷ tokens) tree some no_operator = by_open (is_open token) refl
-  where
-    by_close : (b : Bool) → is_open token ≡ false → is_close token ≡ b → outcome (token ∷ tokens) (at [] None (Behind tree)) ≡ None
-    by_close true no_open is = rw (no_open, is) refl
-    by_close false no_open is = rw (no_open, is, no_operator) refl
-
-    by_open : (b : Bool) → is_open token ≡ b → outcome (token ∷ tokens) (at [] None (Behind tree)) ≡ None
-    by_open true is = rw is refl
-    by_open false is = by_close (is_close token) is refl
-
 -- an operator behind a tree
 pub operator_read : (token : Token) (tokens : List Token) (outer : List Pending) (left : Pending) (tree joint : Tree) → is_operator token ≡ true → whole left (Some tree) ≡ Some joint
     → outcome (token ∷ tokens) (at outer left (Behind tree)) ≡ outcome tokens (at outer (Some (joint, token)) Before)

@@ -7,6 +7,7 @@
 pub mod condition;
 pub mod expr;
 pub mod fault;
+pub mod laws;
 pub mod leaf;
 mod operand;
 pub mod parse;
@@ -18,3 +19,6 @@ pub use expr::{Expr, Leaf, Test};
 pub use fault::ExprFault;
 pub use leaf::leaf_matches;
 pub use parse::parse_expr;
+
+#[cfg(test)]
+mod tests;

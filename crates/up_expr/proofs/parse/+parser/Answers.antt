@@ -1,5 +1,5 @@
-use Rattle.std.proofs.Common.{◌≡◌, ◌∙◌, ap, sym, refl, Some, None, List, length, arith}
-use Rattle.up_expr.specs.Parsing.{Pending, at, Before, Behind, outcome}
+use Rattle.std.proofs.Common.{◌∙◌, ap, sym, refl, Some, None, length, arith}
+use Rattle.up_expr.specs.Parsing.{at, Behind, outcome}
 use Rattle.up_expr.proofs.Going.{operator_read, merged}
 use Rattle.up_expr.proofs.parse.+parser.Goals as goal
 

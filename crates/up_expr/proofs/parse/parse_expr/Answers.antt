@@ -1,5 +1,4 @@
-use Rattle.std.proofs.Common.{◌≡◌, ◌≤◌, ◌+◌, inl, inr, ⊎_elim, ap, Err, arith}
-use Rattle.up_expr.specs.Parsing.{operators}
+use Rattle.std.proofs.Common.{◌≡◌, inl, inr, ⊎_elim, ap, Err, arith}
 use Rattle.up_expr.specs.declared.fault.ExprFault.TheVariants.{Memory}
 use Rattle.up_expr.proofs.Counting.{complete, written}
 use Rattle.up_expr.proofs.parse.parse_expr.Goals as goal
