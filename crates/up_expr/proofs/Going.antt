@@ -1,15 +1,14 @@
 -- How what tokens end in goes on from one token or one operand to the next.
-use Rattle.std.proofs.Common.{◌≡◌, ◌≢◌, ℕ, ◌+◌, ◌≤◌, ◌<◌, Bool, true, false, not, ◌||◌, List, [], ◌∷◌, ◌++◌, Option, None, Some, length, take, drop, refl, sym, ap, ◌∙◌, subst, cond, arith, one-add, append-nil, option_map, if◌then◌else◌}
-use Rattle.std.specs.Prelude.{nat_lt}
+use Rattle.std.proofs.Common.{◌≡◌, ℕ, ◌+◌, Bool, true, false, not, ◌||◌, List, [], ◌∷◌, ◌++◌, None, Some, take, drop, refl, sym, ap, ◌∙◌, subst, cond, one-add, option_map, if◌then◌else◌}
 use Rattle.std.specs.List.{list_any, prefix_len}
-use Rattle.std.proofs.lemmas.Bool.{true≢false, or_parts, or_from, lt-ltb, le-ltb, not-false, not-true}
+use Rattle.std.proofs.lemmas.Bool.{true≢false, or_parts, or_from}
 use Rattle.std.proofs.lemmas.List.{take-append-drop}
 use Rattle.up_text.specs.declared.token.Token.{Token}
 use Rattle.up_expr.specs.declared.expr.Leaf.{Leaf}
 use Rattle.up_expr.specs.Trees.{Tree, One}
 use Rattle.up_expr.specs.Values.{is_open, is_close, is_operator, is_symbol, leaf_of}
-use Rattle.up_expr.specs.Parsing.{Pending, Position, Before, Within, Behind, Parser, at, operand, whole, opened, closed, lengthened, step, finished, end_of, onward, outcome, begins}
-use Rattle.up_expr.proofs.Complete.{step_other, gathers, close_no_open, operator_is}
+use Rattle.up_expr.specs.Parsing.{Pending, Position, Before, Within, Behind, at, operand, whole, opened, closed, lengthened, finished, onward, outcome, begins}
+use Rattle.up_expr.proofs.Complete.{step_other, gathers, operator_is}
 
 whole_none : (left : Pending) → whole left None ≡ None
 whole_none None = refl
