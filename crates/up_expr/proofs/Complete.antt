@@ -1,16 +1,16 @@
 -- Each syntax is read: running its tokens ends where its tree is whole.
-use Rattle.std.proofs.Common.{◌≡◌, ℕ, ◌+◌, ◌≤◌, ◌<◌, Bool, true, false, not, ◌&&◌, ◌||◌, max, List, [], ◌∷◌, ◌++◌, Option, None, Some, length, refl, sym, ap, ◌∙◌, subst, arith, append_assoc, append-nil, option_map, if◌then◌else◌}
+use Rattle.std.proofs.Common.{◌≡◌, ℕ, ◌+◌, ◌≤◌, ◌<◌, Bool, true, false, ◌&&◌, ◌||◌, List, [], ◌∷◌, ◌++◌, Option, None, Some, length, refl, ◌∙◌, arith, append_assoc, append-nil, option_map}
 use Rattle.std.specs.List.{list_any}
-use Rattle.std.proofs.lemmas.Bool.{and_parts, or_parts, lt-ltb, not-true}
+use Rattle.std.proofs.lemmas.Bool.{and_parts, or_parts, lt-ltb}
 use Rattle.std.specs.Prelude.{codes}
 use Rattle.std.specs.Str.{bytes_eq}
 use Rattle.std.proofs.lemmas.Slice.Eq.{bytes_eq-Decides}
 use Rattle.up_text.specs.declared.token.Token.{Token}
 use Rattle.up_expr.specs.declared.expr.Leaf.{Leaf}
 use Rattle.up_expr.specs.Trees.{Tree, One}
-use Rattle.up_expr.specs.Syntax.{Syntax, Bare, Group, Joined, tokens_of, is_item, is_right, joined, with_both, tree_in, depth}
-use Rattle.up_expr.specs.Values.{is_plainly, is_open, is_close, is_and, is_or, is_operator, is_symbol, values_of, are_values, leaf_of}
-use Rattle.up_expr.specs.Parsing.{Pending, Position, Before, Within, Behind, Parser, at, operand, whole, opened, closed, step, outcome, onward, lengthened}
+use Rattle.up_expr.specs.Syntax.{Syntax, Bare, Group, Joined, tokens_of, is_item, is_right, with_both, tree_in, depth}
+use Rattle.up_expr.specs.Values.{is_plainly, is_open, is_close, is_and, is_or, is_operator, is_symbol, leaf_of}
+use Rattle.up_expr.specs.Parsing.{Pending, Position, Before, Within, Behind, Parser, at, operand, whole, step, outcome, lengthened}
 
 -- a parser that reads some tokens is then at this place, whatever comes
 abbrev pub Reaches : List Token → Parser → Parser → Type 0

@@ -1,15 +1,15 @@
 -- A syntax has one leaf more than operators, and the parser's tree is the one that the grammar gives.
-use Rattle.std.proofs.Common.{◌≡◌, ◌⊎◌, ℕ, ◌+◌, ◌≤◌, Bool, true, false, ◌&&◌, ◌||◌, List, [], ◌∷◌, ◌++◌, Option, None, Some, length, refl, sym, ap, ◌∙◌, subst, arith, append-nil, option_map, if◌then◌else◌}
+use Rattle.std.proofs.Common.{◌≡◌, ◌+◌, ◌≤◌, Bool, true, false, ◌&&◌, ◌||◌, List, [], ◌∷◌, ◌++◌, Option, None, Some, refl, sym, ap, ◌∙◌, arith, append-nil, if◌then◌else◌}
 use Rattle.std.specs.Prelude.{codes}
 use Rattle.std.specs.List.{list_any}
 use Rattle.std.proofs.lemmas.Bool.{and_parts, or_parts, or_from}
 use Rattle.up_text.specs.declared.token.Token.{Token}
 use Rattle.up_expr.specs.Trees.{Tree}
-use Rattle.up_expr.specs.Syntax.{Syntax, Bare, Group, Joined, tokens_of, is_item, is_right, with_both, tree_in, leaves, depth, Writes}
-use Rattle.up_expr.specs.Values.{is_plainly, is_open, is_close, is_and, is_or, is_operator, is_symbol, leaf_of}
+use Rattle.up_expr.specs.Syntax.{Syntax, Bare, Group, Joined, tokens_of, is_item, is_right, with_both, tree_in, leaves, Writes}
+use Rattle.up_expr.specs.Values.{is_open, is_close, is_and, is_or, is_operator, is_symbol, leaf_of}
 use Rattle.up_expr.specs.Parsing.{operators, begin, outcome}
 use Rattle.up_expr.proofs.Complete.{bare_leaf, plainly_apart, reads}
-use Rattle.up_expr.proofs.Sound.{HasRead, Reads, sound}
+use Rattle.up_expr.proofs.Sound.{HasRead, sound}
 
 operators-append : (front back : List Token) → operators (front ++ back) ≡ operators front + operators back
 operators-append [] back = omega arith
@@ -78,3 +78,10 @@ written tokens tree ends few =
       few = omega (arith, ap operators read.text, count, few);
       shallow = omega (arith, read.shallow);
     }
+
+-- tokens write one tree
+pub same_tree : (tokens : List Token) (tree other : Tree) → Writes tokens tree → Writes tokens other → tree ≡ other
+same_tree tokens tree other writes also =
+    let ends : outcome tokens begin ≡ Some tree = (complete tokens tree writes).0 in
+    let ends_too : outcome tokens begin ≡ Some other = (complete tokens other also).0 in
+    cc

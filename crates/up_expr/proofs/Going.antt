@@ -1,15 +1,14 @@
 -- How what tokens end in goes on from one token or one operand to the next.
-use Rattle.std.proofs.Common.{◌≡◌, ◌≢◌, ℕ, ◌+◌, ◌≤◌, ◌<◌, Bool, true, false, not, ◌||◌, List, [], ◌∷◌, ◌++◌, Option, None, Some, length, take, drop, refl, sym, ap, ◌∙◌, subst, cond, arith, one-add, append-nil, option_map, if◌then◌else◌}
-use Rattle.std.specs.Prelude.{nat_lt}
+use Rattle.std.proofs.Common.{◌≡◌, ℕ, ◌+◌, Bool, true, false, not, ◌||◌, List, [], ◌∷◌, ◌++◌, None, Some, take, drop, refl, sym, ap, ◌∙◌, subst, cond, one-add, option_map, if◌then◌else◌}
 use Rattle.std.specs.List.{list_any, prefix_len}
-use Rattle.std.proofs.lemmas.Bool.{true≢false, or_parts, or_from, lt-ltb, le-ltb, not-false, not-true}
+use Rattle.std.proofs.lemmas.Bool.{true≢false, or_parts, or_from}
 use Rattle.std.proofs.lemmas.List.{take-append-drop}
 use Rattle.up_text.specs.declared.token.Token.{Token}
 use Rattle.up_expr.specs.declared.expr.Leaf.{Leaf}
 use Rattle.up_expr.specs.Trees.{Tree, One}
 use Rattle.up_expr.specs.Values.{is_open, is_close, is_operator, is_symbol, leaf_of}
-use Rattle.up_expr.specs.Parsing.{Pending, Position, Before, Within, Behind, Parser, at, operand, whole, opened, closed, lengthened, step, finished, end_of, onward, outcome, begins}
-use Rattle.up_expr.proofs.Complete.{step_other, gathers, close_no_open, operator_is}
+use Rattle.up_expr.specs.Parsing.{Pending, Position, Before, Within, Behind, at, operand, whole, opened, closed, lengthened, finished, onward, outcome, begins}
+use Rattle.up_expr.proofs.Complete.{step_other, gathers, operator_is}
 
 whole_none : (left : Pending) → whole left None ≡ None
 whole_none None = refl
@@ -134,44 +133,6 @@ pub leaf_refused : (tokens : List Token) (outer : List Pending) (left : Pending)
     → outcome tokens (at outer left Before) ≡ None
 leaf_refused tokens outer left no_open none =
     refused_by (take (leaf_count tokens) tokens) (drop (leaf_count tokens) tokens) tokens outer left (take-append-drop (leaf_count tokens) tokens) (front_plain tokens) none (behind_leaf tokens) no_open
-
--- a parenthesis opens
-pub open_read : (token : Token) (tokens : List Token) (outer : List Pending) (left : Pending) → is_open token ≡ true → length outer < 256
-    → outcome (token ∷ tokens) (at outer left Before) ≡ outcome tokens (at (left ∷ outer) None Before)
-open_read token tokens outer left is room = rw (is, lt-ltb (length outer) 256 room) refl
-
--- but not within 256 others
-pub open_refused : (token : Token) (tokens : List Token) (outer : List Pending) (left : Pending) → is_open token ≡ true → 256 ≤ length outer
-    → outcome (token ∷ tokens) (at outer left Before) ≡ None
-open_refused token tokens outer left is full = rw (is, le-ltb (length outer) 256 full) refl
-
--- it closes behind a tree
-pub close_read : (token : Token) (tokens : List Token) (outer : List Pending) (left : Pending) (tree : Tree) → is_close token ≡ true
-    → outcome (token ∷ tokens) (at (left ∷ outer) None (Behind tree)) ≡ outcome tokens (at outer left (Behind tree))
-close_read token tokens outer left tree is = rw (close_no_open token is, is) refl
-
--- where neither it nor an operator comes, it stays open
-pub close_refused : (tokens : List Token) (outer : List Pending) (left : Pending) (tree : Tree) → begins is_close tokens ≡ false → begins is_operator tokens ≡ false
-    → outcome tokens (at (left ∷ outer) None (Behind tree)) ≡ None
-close_refused [] outer left tree no_close no_operator = refl
-close_refused (token ∷ tokens) outer left tree no_close no_operator = by_open (is_open token) refl
-  where
-    by_open : (b : Bool) → is_open token ≡ b → outcome (token ∷ tokens) (at (left ∷ outer) None (Behind tree)) ≡ None
-    by_open true is = rw is refl
-    by_open false is = rw (is, no_close, no_operator) refl
-
--- tokens behind the whole tree
-pub rest_refused : (tokens : List Token) (tree : Tree) → length tokens ≢ 0 → begins is_operator tokens ≡ false → outcome tokens (at [] None (Behind tree)) ≡ None
-rest_refused [] tree some no_operator = absurd (some refl)
-rest_refused (token ∷ tokens) tree some no_operator = by_open (is_open token) refl
-  where
-    by_close : (b : Bool) → is_open token ≡ false → is_close token ≡ b → outcome (token ∷ tokens) (at [] None (Behind tree)) ≡ None
-    by_close true no_open is = rw (no_open, is) refl
-    by_close false no_open is = rw (no_open, is, no_operator) refl
-
-    by_open : (b : Bool) → is_open token ≡ b → outcome (token ∷ tokens) (at [] None (Behind tree)) ≡ None
-    by_open true is = rw is refl
-    by_open false is = by_close (is_close token) is refl
 
 -- an operator behind a tree
 pub operator_read : (token : Token) (tokens : List Token) (outer : List Pending) (left : Pending) (tree joint : Tree) → is_operator token ≡ true → whole left (Some tree) ≡ Some joint

@@ -2,3 +2,4 @@ pub mod Complete
 pub mod Counting
 pub mod Going
 pub mod Sound
+pub mod Truths

@@ -1,13 +1,12 @@
 -- What was read is the text of a syntax.
-use Rattle.std.proofs.Common.{◌≡◌, ℕ, ◌+◌, ◌≤◌, ◌<◌, Bool, true, false, ◌&&◌, max, List, [], ◌∷◌, ◌++◌, Option, None, Some, length, refl, sym, ap, ◌∙◌, subst, arith, append_assoc, append-nil, option_map, if◌then◌else◌}
+use Rattle.std.proofs.Common.{◌≡◌, ℕ, ◌+◌, ◌≤◌, Bool, true, false, List, [], ◌∷◌, ◌++◌, Option, None, Some, length, refl, sym, ap, ◌∙◌, subst, arith, append_assoc, append-nil, option_map, if◌then◌else◌}
 use Rattle.std.specs.Prelude.{nat_lt}
 use Rattle.std.proofs.lemmas.Bool.{and_from, ltb-true}
 use Rattle.up_text.specs.declared.token.Token.{Token}
-use Rattle.up_expr.specs.declared.expr.Leaf.{Leaf}
-use Rattle.up_expr.specs.Trees.{Tree, One}
-use Rattle.up_expr.specs.Syntax.{Syntax, Bare, Group, Joined, tokens_of, is_item, is_right, joined, with_both, tree_in, depth}
-use Rattle.up_expr.specs.Values.{is_open, is_close, is_operator, leaf_of}
-use Rattle.up_expr.specs.Parsing.{Pending, Position, Before, Within, Behind, Parser, at, operand, whole, opened, closed, lengthened, step, finished, end_of, onward, outcome}
+use Rattle.up_expr.specs.Trees.{Tree}
+use Rattle.up_expr.specs.Syntax.{Syntax, Bare, Group, Joined, tokens_of, is_item, is_right, tree_in, depth}
+use Rattle.up_expr.specs.Values.{is_open, is_close, is_operator}
+use Rattle.up_expr.specs.Parsing.{Pending, Position, Before, Within, Behind, Parser, at, operand, whole, opened, closed, lengthened, step, finished, onward, outcome}
 
 -- a right syntax of these tokens that says this tree, within so many parentheses
 pub record Reads (tokens : List Token) (tree : Tree) (around : ℕ) : Type 0 where

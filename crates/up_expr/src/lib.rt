@@ -7,9 +7,10 @@
 pub mod condition;
 pub mod expr;
 pub mod fault;
+pub mod laws;
 pub mod leaf;
 mod operand;
-mod parse;
+pub mod parse;
 mod symbol;
 mod value;
 
@@ -17,3 +18,7 @@ pub use condition::Condition;
 pub use expr::{Expr, Leaf, Test};
 pub use fault::ExprFault;
 pub use leaf::leaf_matches;
+pub use parse::parse_expr;
+
+#[cfg(test)]
+mod tests;

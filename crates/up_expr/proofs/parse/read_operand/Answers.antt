@@ -1,4 +1,4 @@
-use Rattle.std.proofs.Common.{◌≡◌, ◌⊎◌, inl, inr, ⊎_elim, sym, ap, ◌∙◌, Some, None, Err, List, take}
+use Rattle.std.proofs.Common.{◌≡◌, inl, inr, ⊎_elim, ap, Some, Err, take}
 use Rattle.up_expr.specs.declared.fault.ExprFault.TheVariants.{Memory}
 use Rattle.std.proofs.lemmas.List.Sums.{prefix_len-le-length}
 use Rattle.up_expr.specs.Values.{leaf_of}
