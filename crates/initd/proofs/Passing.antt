@@ -37,18 +37,6 @@ shorter byte (next ∷ text) = by_case (is_feed byte) (shorter next text)
     by_case true h = omega arith
     by_case false h = omega arith
 
--- nothing was passed yet
-pub passed_none : (text : List ℕ) → Passed text [] text 0
-passed_none text = record {
-  passed = refl;
-  content = refl;
-  files = refl;
-  script = refl;
-  number = λ n. let e : n + 0 ≡ n = omega arith in ap (λ m. script_line m (lines_of text)) e;
-  bad = λ n. let e : n + 0 ≡ n = omega arith in ap (λ m. bad_path m (lines_of text)) e;
-  within = omega arith;
-}
-
 -- one line more
 pub passed_line : (text front : List ℕ) (byte : ℕ) (rest : List ℕ) (lines : ℕ) → is_header (first_line (byte ∷ rest)) ≡ false → Passed text front (byte ∷ rest) lines
     → Passed text (front ++ first_line (byte ∷ rest)) (after_line (byte ∷ rest)) (lines + 1)
@@ -66,13 +54,6 @@ passed_line text front byte rest lines none before =
       bad = λ n. let e : n + (lines + 1) ≡ n + lines + 1 = omega arith in ap (λ m. bad_path m (lines_of (after_line (byte ∷ rest)))) e ∙ sym (rw (first, no_script, no_file) refl) ∙ before.bad n;
       within = omega (arith, before.within, shorter byte rest);
     }
-
--- what was passed is the front of the text
-pub passed_front : (text front rest : List ℕ) (lines : ℕ) → Passed text front rest lines → take (length text - length rest) text ≡ front
-passed_front text front rest lines p =
-    let long : length text ≡ length front + length rest = ap length p.passed ∙ length-append front rest in
-    let count : length text - length rest ≡ length front = omega arith in
-    rw (count, p.passed) (take-append_seam front rest)
 
 -- a text begins with a header where it is empty, or its first line is one
 pub begins_first : (text : List ℕ) → begins_header (lines_of text) ≡ ((length text == 0) || is_header (first_line text))

@@ -1,5 +1,5 @@
 -- A search for a move, one job on.
-use Rattle.std.proofs.Common.{◌≡◌, ℕ, ◌+◌, ◌<◌, true, false, List, [], ◌∷◌, Option, None, Some, length, drop, get_or, refl, ap, add-one, drop-cons}
+use Rattle.std.proofs.Common.{◌≡◌, ℕ, ◌+◌, ◌<◌, false, List, [], ◌∷◌, Option, None, Some, length, drop, get_or, refl, ap, add-one, drop-cons}
 use Rattle.up_model.specs.declared.files.job.JobDef.{JobDef}
 use Rattle.up_model.specs.Chronicle.{Entry}
 use Rattle.up_model.specs.Moves.{or_else, move_of, move_in, move_from}
@@ -9,10 +9,6 @@ use Rattle.up_engine.specs.Moved.{is_any}
 pub or_else-nil : (entries : List Entry) → or_else entries [] ≡ entries
 or_else-nil [] = refl
 or_else-nil (entry ∷ entries) = refl
-
-pub or_else-any : (entries others : List Entry) → is_any entries ≡ true → or_else entries others ≡ entries
-or_else-any [] others any = cc
-or_else-any (entry ∷ entries) others any = refl
 
 pub or_else-none : (entries others : List Entry) → is_any entries ≡ false → or_else entries others ≡ others
 or_else-none [] others none = refl

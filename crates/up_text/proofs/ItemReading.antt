@@ -1,5 +1,5 @@
 -- How the items of a pattern follow from one another.
-use Rattle.std.proofs.Common.{◌≡◌, ℕ, ◌+◌, ◌≤◌, Bool, true, false, cond, List, [], ◌∷◌, length, drop, zero, suc, refl, sym, ap, subst, ◌∙◌, arith}
+use Rattle.std.proofs.Common.{◌≡◌, ℕ, ◌+◌, ◌≤◌, Bool, true, false, cond, List, [], ◌∷◌, length, drop, zero, suc, refl, sym, ap, ◌∙◌, arith}
 use Rattle.std.specs.List.{list_any}
 use Rattle.std.proofs.lemmas.List.{drop-drop}
 use Rattle.std.specs.Prelude.{◌==◌}
@@ -9,7 +9,7 @@ use Rattle.up_text.specs.declared.pattern.Symbol.{Symbol}
 use Rattle.up_text.specs.declared.pattern.Symbol.TheVariants.{Bare, Escaped, Trailing}
 use Rattle.up_text.specs.declared.pattern.Reading.{Reading}
 use Rattle.up_text.specs.Matching.{IsFlat, MeansItem, item_of_part}
-use Rattle.up_text.specs.Pattern.{symbols, is_open, is_close, is_not, begins, before_close, body, inner, is_closed, has_class, Item, Run, Any, Only, Class, Among, ranges, lone_item, set_item, item_of, more, items_from, all_items}
+use Rattle.up_text.specs.Pattern.{symbols, is_open, is_close, is_not, begins, before_close, body, inner, is_closed, has_class, Item, Run, Any, Only, Among, ranges, lone_item, set_item, item_of, more, items_from, all_items}
 
 -- symbols that belong to an item before are passed
 items_from-drop : (taken : ℕ) (symbols : List Symbol) → items_from taken symbols ≡ items_from 0 (drop taken symbols)
@@ -88,11 +88,6 @@ flat-open after classless unclosed =
       classless = classless-inner after (ap has_class (sym (body-all (inner after) unclosed)) ∙ classless);
     }
 
--- and from there on a [ stands for itself
-pub flat-rest : (symbol : Symbol) (after : List Symbol) → IsFlat (symbol ∷ after) → IsFlat after
-flat-rest symbol [] flat = record { unclosed = refl; classless = refl }
-flat-rest symbol (next ∷ after) flat = record { unclosed = none-behind after flat.unclosed; classless = (or_parts _ _ flat.classless).1 }
-
 inner-unclosed : (n : Bool) (after : List Symbol) → list_any is_close (drop 1 after) ≡ false → list_any is_close (drop 1 (cond n (drop 1 after) after)) ≡ false
 inner-unclosed true after none = none-behind (drop 1 after) none
 inner-unclosed false after none = none
@@ -122,10 +117,6 @@ item-flat symbol after flat = by_case (is_open symbol) refl
         rw (no_class, unclosed) (sym (lone-open symbol is))
     by_case false is = refl
 
--- the item of a set, by how the set ends
-pub set-class : (after : List Symbol) → has_class (body (inner after)) ≡ true → set_item after ≡ Class
-set-class after class = rw class refl
-
 pub set-open : (after : List Symbol) → has_class (body (inner after)) ≡ false → is_closed (inner after) ≡ false → set_item after ≡ Only 91
 set-open after class unclosed = rw (class, unclosed) refl
 
@@ -139,17 +130,6 @@ inner-drop false count after = let same : 0 + count ≡ count = omega arith in a
 
 pub set-behind : (inverted : Bool) (found : List (ℕ × ℕ)) (after : List Symbol) → drop (more (Among inverted found) after) after ≡ drop (length (body (inner after)) + 1) (inner after)
 set-behind inverted found after = inner-drop (begins is_not after) (length (body (inner after)) + 1) after
-
--- what read_inner gives, by how the set ends
-pub means-class : (text : List ℕ) (reading : Reading) → has_class (body (inner (symbols text))) ≡ true → item_of_part reading.part ≡ Class → reading.rest.now ≡ text → reading.ahead ≡ true → MeansItem (set_item (symbols text)) text reading
-means-class text reading class part rest sets =
-    let item = set-class (symbols text) class in
-    record {
-      part = part ∙ sym item;
-      rest = rw (item, rest) refl;
-      flat = λ none. absurd (false≢true (sym none ∙ sets));
-      shorter = rw rest (omega arith);
-    }
 
 pub means-open : (text : List ℕ) (reading : Reading) → has_class (body (inner (symbols text))) ≡ false → is_closed (inner (symbols text)) ≡ false → item_of_part reading.part ≡ Only 91 → reading.rest.now ≡ text → MeansItem (set_item (symbols text)) text reading
 means-open text reading classless unclosed part rest =
@@ -195,8 +175,5 @@ pub reading-lone : (text rest : List ℕ) (symbol : Symbol) (part : Item) → sy
 reading-lone text rest symbol part is part_is lone =
     all_items-first text rest symbol (symbols rest) is (ap (λ n. drop n (symbols rest)) (sym (ap (λ item. more item (symbols rest)) lone ∙ more-lone symbol (symbols rest))))
     ∙ ap (λ item. item ∷ all_items rest) (lone ∙ sym part_is)
-
-pub flat-behind : (text rest : List ℕ) (symbol : Symbol) → symbols text ≡ symbol ∷ symbols rest → IsFlat (symbols text) → IsFlat (symbols rest)
-flat-behind text rest symbol is flat = flat-rest symbol (symbols rest) (subst IsFlat is flat)
 
 pub ruleset readings = (all_items-none, reading-set)

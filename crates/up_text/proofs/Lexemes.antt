@@ -89,18 +89,19 @@ pub reading_less : (place : Place) (token : Token) (behind : Place) → reading 
 unfolding reading
 reading_less place token behind got = token_less place (drop (gap_at place) (marks_at place)) refl token behind got
 
-spelled_ends : (place : Place) (spelling : List Mark) (found : Option TextFault) (behind : Place) → spelled place spelling found ≡ Ended behind → (behind.inside ≡ false) × (length behind.rest ≤ length place.rest)
-spelled_ends place spelling None behind ended = cc
-spelled_ends place spelling (Some fault) behind ended = cc
+-- a spelling is no end
+never_ends : (place : Place) (spelling : List Mark) (found : Option TextFault) (behind : Place) → spelled place spelling found ≡ Ended behind → ⊥
+never_ends place spelling None behind ended = cc
+never_ends place spelling (Some fault) behind ended = cc
 
 -- an end leaves no more, outside a stanza
 ended_at : (place : Place) (ms : List Mark) (behind : Place) → read_at place ms ≡ Ended behind → (behind.inside ≡ false) × (length behind.rest ≤ length place.rest)
 ended_at place [] behind ended = (cc, let rest : place.rest ≡ behind.rest = cc in subst (λ r. length r ≤ length place.rest) rest (omega arith))
 ended_at place (Stop ∷ ms) behind ended = (cc, let rest : drop 1 place.rest ≡ behind.rest = cc in subst (λ r. length r ≤ length place.rest) rest (omega (arith, length-drop 1 place.rest)))
 ended_at place (Alone byte ∷ ms) behind ended = cc
-ended_at place (Part byte ∷ ms) behind ended = spelled_ends place (take_while is_spelled (Part byte ∷ ms)) (fault_in (take_while is_spelled (Part byte ∷ ms))) behind ended
-ended_at place (Quoting byte ∷ ms) behind ended = spelled_ends place (take_while is_spelled (Quoting byte ∷ ms)) (fault_in (take_while is_spelled (Quoting byte ∷ ms))) behind ended
-ended_at place (Folded ∷ ms) behind ended = spelled_ends place (take_while is_spelled (Folded ∷ ms)) (fault_in (take_while is_spelled (Folded ∷ ms))) behind ended
+ended_at place (Part byte ∷ ms) behind ended = absurd (never_ends place (take_while is_spelled (Part byte ∷ ms)) (fault_in (take_while is_spelled (Part byte ∷ ms))) behind ended)
+ended_at place (Quoting byte ∷ ms) behind ended = absurd (never_ends place (take_while is_spelled (Quoting byte ∷ ms)) (fault_in (take_while is_spelled (Quoting byte ∷ ms))) behind ended)
+ended_at place (Folded ∷ ms) behind ended = absurd (never_ends place (take_while is_spelled (Folded ∷ ms)) (fault_in (take_while is_spelled (Folded ∷ ms))) behind ended)
 ended_at place (Fail fault ∷ ms) behind ended = cc
 ended_at place (Blank byte ∷ ms) behind ended = (cc, let rest : place.rest ≡ behind.rest = cc in subst (λ r. length r ≤ length place.rest) rest (omega arith))
 ended_at place (Passed ∷ ms) behind ended = (cc, let rest : place.rest ≡ behind.rest = cc in subst (λ r. length r ≤ length place.rest) rest (omega arith))
@@ -198,32 +199,36 @@ at_nothing place none outside =
     ∙ ap (λ b. lexemes_of (record { rest = []; line = place.line; inside = b; parens = place.parens; depth = place.depth })) outside
     ∙ nothing_at place.line place.depth place.parens
 
-no_end : (place : Place) (spelling : List Mark) (found : Option TextFault) (behind : Place) → spelled place spelling found ≡ Ended behind → (behind.rest ≡ []) × (behind.inside ≡ false)
-no_end place spelling None behind ended = cc
-no_end place spelling (Some fault) behind ended = cc
+-- outside a stanza an end comes behind all marks
+ended_marks : (place : Place) (ms : List Mark) (behind : Place) → place.inside ≡ false → drop (gap_at place) (marks_at place) ≡ ms
+    → read_at (passing (gap_at place) place) ms ≡ Ended behind → ms ≡ []
+unfolding gap_at
+ended_marks place [] behind outside is ended = refl
+ended_marks place (Stop ∷ ms) behind outside is ended =
+    let no = run_stops (is_gap place.inside) (marks_at place) Stop ms is in absurd (true≢false (rw outside at no))
+ended_marks place (Blank byte ∷ ms) behind outside is ended = absurd (true≢false (run_stops (is_gap place.inside) (marks_at place) (Blank byte) ms is))
+ended_marks place (Passed ∷ ms) behind outside is ended = absurd (true≢false (run_stops (is_gap place.inside) (marks_at place) Passed ms is))
+ended_marks place (Alone byte ∷ ms) behind outside is ended = cc
+ended_marks place (Part byte ∷ ms) behind outside is ended = absurd (never_ends (passing (gap_at place) place) (take_while is_spelled (Part byte ∷ ms)) (fault_in (take_while is_spelled (Part byte ∷ ms))) behind ended)
+ended_marks place (Quoting byte ∷ ms) behind outside is ended = absurd (never_ends (passing (gap_at place) place) (take_while is_spelled (Quoting byte ∷ ms)) (fault_in (take_while is_spelled (Quoting byte ∷ ms))) behind ended)
+ended_marks place (Folded ∷ ms) behind outside is ended = absurd (never_ends (passing (gap_at place) place) (take_while is_spelled (Folded ∷ ms)) (fault_in (take_while is_spelled (Folded ∷ ms))) behind ended)
+ended_marks place (Fail fault ∷ ms) behind outside is ended = cc
 
--- outside a stanza only the text's end is an end
-ended_outside : (place : Place) (ms : List Mark) (behind : Place) → place.inside ≡ false → drop (gap_at place) (marks_at place) ≡ ms
+-- and then only the text's end is one
+ended_empty : (place : Place) (ms : List Mark) (behind : Place) → ms ≡ [] → drop (gap_at place) (marks_at place) ≡ ms
     → read_at (passing (gap_at place) place) ms ≡ Ended behind → (behind.rest ≡ []) × (behind.inside ≡ false)
 unfolding gap_at marks_at
-ended_outside place [] behind outside is ended =
+ended_empty place [] behind none is ended =
     let rest : drop (gap_at place) place.rest ≡ behind.rest = cc in
     (sym rest ∙ nothing_drop (gap_at place) (marks_at place) place.rest (marks_count place.parens place.depth (Outside false) place.rest) is, cc)
-ended_outside place (Stop ∷ ms) behind outside is ended =
-    let no = run_stops (is_gap place.inside) (marks_at place) Stop ms is in absurd (true≢false (rw outside at no))
-ended_outside place (Blank byte ∷ ms) behind outside is ended = absurd (true≢false (run_stops (is_gap place.inside) (marks_at place) (Blank byte) ms is))
-ended_outside place (Passed ∷ ms) behind outside is ended = absurd (true≢false (run_stops (is_gap place.inside) (marks_at place) Passed ms is))
-ended_outside place (Alone byte ∷ ms) behind outside is ended = cc
-ended_outside place (Part byte ∷ ms) behind outside is ended = no_end (passing (gap_at place) place) (take_while is_spelled (Part byte ∷ ms)) (fault_in (take_while is_spelled (Part byte ∷ ms))) behind ended
-ended_outside place (Quoting byte ∷ ms) behind outside is ended = no_end (passing (gap_at place) place) (take_while is_spelled (Quoting byte ∷ ms)) (fault_in (take_while is_spelled (Quoting byte ∷ ms))) behind ended
-ended_outside place (Folded ∷ ms) behind outside is ended = no_end (passing (gap_at place) place) (take_while is_spelled (Folded ∷ ms)) (fault_in (take_while is_spelled (Folded ∷ ms))) behind ended
-ended_outside place (Fail fault ∷ ms) behind outside is ended = cc
+ended_empty place (m ∷ ms) behind none is ended = cc
 
 -- nothing is left behind the end of the text
 none_behind : (old behind : Place) → old.inside ≡ false → reading old ≡ Ended behind → lexemes_of behind ≡ []
 unfolding reading
 none_behind old behind outside ended =
-    let at = ended_outside old (drop (gap_at old) (marks_at old)) behind outside refl ended in
+    let none = ended_marks old (drop (gap_at old) (marks_at old)) behind outside refl ended in
+    let at = ended_empty old (drop (gap_at old) (marks_at old)) behind none refl ended in
     at_nothing behind at.0 at.1
 
 -- a call that reads at a place reads the lexemes from there on
@@ -322,25 +327,6 @@ none_left p (m ∷ ms) none =
       | true ↦ λ _ is. none_left p ms (rw (one-add (prefix_len p ms)) at is)
       | false ↦ λ _ is. cc
     ] refl none
-
-never_ends : (place : Place) (spelling : List Mark) (found : Option TextFault) (behind : Place) → spelled place spelling found ≡ Ended behind → ⊥
-never_ends place spelling None behind ended = cc
-never_ends place spelling (Some fault) behind ended = cc
-
--- outside a stanza an end comes behind all marks
-ended_marks : (place : Place) (ms : List Mark) (behind : Place) → place.inside ≡ false → drop (gap_at place) (marks_at place) ≡ ms
-    → read_at (passing (gap_at place) place) ms ≡ Ended behind → ms ≡ []
-unfolding gap_at
-ended_marks place [] behind outside is ended = refl
-ended_marks place (Stop ∷ ms) behind outside is ended =
-    let no = run_stops (is_gap place.inside) (marks_at place) Stop ms is in absurd (true≢false (rw outside at no))
-ended_marks place (Blank byte ∷ ms) behind outside is ended = absurd (true≢false (run_stops (is_gap place.inside) (marks_at place) (Blank byte) ms is))
-ended_marks place (Passed ∷ ms) behind outside is ended = absurd (true≢false (run_stops (is_gap place.inside) (marks_at place) Passed ms is))
-ended_marks place (Alone byte ∷ ms) behind outside is ended = cc
-ended_marks place (Part byte ∷ ms) behind outside is ended = absurd (never_ends (passing (gap_at place) place) (take_while is_spelled (Part byte ∷ ms)) (fault_in (take_while is_spelled (Part byte ∷ ms))) behind ended)
-ended_marks place (Quoting byte ∷ ms) behind outside is ended = absurd (never_ends (passing (gap_at place) place) (take_while is_spelled (Quoting byte ∷ ms)) (fault_in (take_while is_spelled (Quoting byte ∷ ms))) behind ended)
-ended_marks place (Folded ∷ ms) behind outside is ended = absurd (never_ends (passing (gap_at place) place) (take_while is_spelled (Folded ∷ ms)) (fault_in (take_while is_spelled (Folded ∷ ms))) behind ended)
-ended_marks place (Fail fault ∷ ms) behind outside is ended = cc
 
 -- nothing is left where all is a gap outside a stanza
 pub none_when_finished : (place : Place) → is_finished place ≡ true → lexemes_of place ≡ []

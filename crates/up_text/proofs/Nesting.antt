@@ -69,11 +69,6 @@ pub meanings_default : (env : List (List ℕ × List ℕ)) (key : List ℕ) (emp
 meanings_default env key emptied value texts is =
     rw (← is) (meanings-before env (Expands value) (outside texts) ∙ ap (λ ts. followed (Expands value) (meanings env ts)) (drop-outside 0 texts))
 
--- a key whose text is needed
-pub meanings_needed : (env : List (List ℕ × List ℕ)) (key : List ℕ) (emptied : Bool) (texts : List Parts) → None ≡ counted emptied (value_of key env) → meanings env (nested key emptied texts) ≡ meanings env texts
-meanings_needed env key emptied texts is =
-    rw (← is) (meanings-before env (meaning env (innermost texts)) (outside texts) ∙ meanings-split env texts)
-
 is_some-option_map : {A B : Type 0} (f : A → B) (o : Option A) → is_some (option_map f o) ≡ is_some o
 is_some-option_map f None = refl
 is_some-option_map f (Some x) = refl

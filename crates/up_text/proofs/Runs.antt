@@ -154,19 +154,6 @@ Run-then {parens} {keep} {mode} {between} {behind} {text} {middle} {rest} {line}
       (b.pushed (held ++ flat_map (shown keep) a.front) (a.pushed held holds));
 }
 
--- nothing at all
-pub Run-none : (parens keep : Bool) (mode : Mode) (text : List ℕ) (line : ℕ) (out : Option (List ℕ)) → Run parens keep mode text line mode text line out out
-Run-none parens keep mode text line out = record {
-  bytes = [];
-  front = [];
-  joined = refl;
-  same = λ depth. refl;
-  long = refl;
-  spelled = refl;
-  counted = sym (add-zero line);
-  pushed = λ held holds. Holds-same out held (held ++ []) (sym (append-nil held)) holds;
-}
-
 -- a fault behind a part
 pub Broken-then : {parens keep : Bool} {mode between : Mode} {text middle : List ℕ} {line crossed : ℕ} {old half : Option (List ℕ)} {fault : TextFault}
     → Run parens keep mode text line between middle crossed old half → Broken parens between middle fault → Broken parens mode text fault

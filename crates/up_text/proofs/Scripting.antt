@@ -1,19 +1,17 @@
 -- The lines and the words of a script.
-use Rattle.std.proofs.Common.{◌≡◌, ℕ, ◌+◌, ◌-◌, ◌<◌, ◌≤◌, Bool, true, false, cond, ◌&&◌, List, [], ◌∷◌, ◌++◌, None, Some, Ok, Err, inl, inr, length, take, drop, refl, sym, ap, ◌∙◌, subst, one-add, add-zero, arith, append_assoc, length-append, filter, eqb, codes, IsUtf8}
+use Rattle.std.proofs.Common.{◌≡◌, ℕ, ◌+◌, ◌-◌, ◌<◌, ◌≤◌, Bool, true, false, cond, ◌&&◌, List, [], ◌∷◌, ◌++◌, None, Some, length, take, drop, refl, sym, ap, ◌∙◌, subst, one-add, arith, append_assoc, length-append, filter, eqb, codes, IsUtf8}
 use Rattle.std.proofs.lemmas.Bool.{and_parts, and_from, not-true, not-false, ne_eqb}
 use Rattle.std.proofs.lemmas.List.Sums.{prefix_len_stops}
 use Rattle.std.proofs.lemmas.Str.{IsCharBoundary-after_ascii, IsCharBoundary-at_seam}
 use Rattle.std.specs.Str.{bytes_eq, IsCharBoundary}
-use Rattle.std.proofs.lemmas.List.{take-append-drop, take_all, length-take-le, append-nil, take_at, drop_at, nil_from_length}
+use Rattle.std.proofs.lemmas.List.{take-append-drop, take_all, length-take-le, append-nil, take_at, drop_at}
 use Rattle.up_text.proofs.Runs.{feeds-none, feeds-append, feeds-length}
 use Rattle.std.proofs.lemmas.List.Splits.{slice_split-cons_no, slice_split-cons_yes}
 use Rattle.std.specs.List.{list_all, prefix_len, slice_split, onto_first, concat}
 use Rattle.up_text.proofs.Cuts.{list_all-take, begins-drop, in_line-ascii}
-use Rattle.up_text.specs.Lexer.{is_in_word, is_in_code, is_in_line, BeginsWord, BeginsLine, EndsScript, place}
-use Rattle.up_text.specs.declared.fault.TextFault.TheVariants.{Memory}
-use Rattle.up_text.proofs.Readings.{place-behind}
-use Rattle.up_text.specs.Places.{Place, feeds, passing, behind_stanza}
-use Rattle.up_text.specs.Scripts.{lines_of, is_filled, words_in, are_end_words, is_end_line, script_in, ReadsScript}
+use Rattle.up_text.specs.Lexer.{is_in_word, is_in_code, is_in_line, BeginsWord, BeginsLine, EndsScript}
+use Rattle.up_text.specs.Places.{feeds}
+use Rattle.up_text.specs.Scripts.{lines_of, is_filled, words_in, are_end_words, is_end_line, script_in}
 use Rattle.up_text.specs.Tokens.{is_line_feed, is_blank, begins}
 
 -- blanks in front change no word
@@ -191,9 +189,6 @@ pub record Passed (text : List ℕ) (line : ℕ) (rest : List ℕ) (reached : �
   pub none : script_in (lines_of rest) ≡ None → script_in (lines_of text) ≡ None
   pub counted : reached ≡ line + feeds (concat before)
 
-pub Passed-start : (text : List ℕ) (line : ℕ) → Passed text line text line
-Passed-start text line = record { before = []; joined = refl; found = λ after last is. is; none = λ is. is; counted = sym (add-zero line) }
-
 script-more : (line : List ℕ) (lines after : List (List ℕ)) (last : List ℕ) → is_end_line line ≡ false → script_in lines ≡ Some (after, last) → script_in (line ∷ lines) ≡ Some (line ∷ after, last)
 script-more line lines after last other is = rw (other, is) refl
 
@@ -234,34 +229,12 @@ Passed-end text line rest reached first behind count passed begins is = record {
   counted = omega (arith, passed.counted, begins.counted, feeds-append (concat passed.before) first);
 }
 
-pub Passed-none : (text : List ℕ) (line : ℕ) (rest : List ℕ) (reached : ℕ) → Passed text line rest reached → length rest ≡ 0 → script_in (lines_of text) ≡ None
-Passed-none text line rest reached passed empty = passed.none (rw (nil_from_length rest empty) refl)
-
 pub Passed-fits : (text : List ℕ) (line : ℕ) (rest : List ℕ) (reached : ℕ) → Passed text line rest reached → (reached + length rest ≤ line + length text) × (length rest ≤ length text)
 Passed-fits text line rest reached passed = (omega (arith, passed.counted, feeds-length (concat passed.before), ap length passed.joined, length-append (concat passed.before) rest), omega (arith, ap length passed.joined, length-append (concat passed.before) rest))
 
 pub BeginsLine-shorter : (text line rest : List ℕ) (count : ℕ) → BeginsLine text line rest count → (length rest < length text) × (count + length rest ≤ length text)
 BeginsLine-shorter text line rest count begins = (omega (arith, ap length begins.joined, length-append line rest, begins.filled), omega (arith, ap length begins.joined, length-append line rest, begins.counted, feeds-length line))
 
--- a script's end line, for a call of a lexer
-pub EndsScript-behind : (text : List ℕ) (line : ℕ) (script rest : List ℕ) (reached : ℕ) (inside parens : Bool) (depth : ℕ) → (ends : EndsScript text line script rest reached)
-    → place rest reached false parens 0 ≡ behind_stanza (passing (length (concat ends.before) + length ends.last) (place text line inside parens depth))
-EndsScript-behind text line script rest reached inside parens depth ends =
-    let size : length (concat ends.before ++ ends.last) ≡ length (concat ends.before) + length ends.last = length-append (concat ends.before) ends.last in
-    ap behind_stanza (sym (ap (λ n. passing n (place text line inside parens depth)) (sym size) ∙ place-behind text (concat ends.before ++ ends.last) rest line inside parens depth _ reached ends.joined refl ends.counted))
-
 pub EndsScript-fits : (text : List ℕ) (line : ℕ) (script rest : List ℕ) (reached : ℕ) → EndsScript text line script rest reached → (reached + length rest ≤ line + length text) × (length rest ≤ length text)
 EndsScript-fits text line script rest reached ends =
     (omega (arith, ends.counted, feeds-length (concat ends.before ++ ends.last), ap length ends.joined, length-append (concat ends.before ++ ends.last) rest), omega (arith, ap length ends.joined, length-append (concat ends.before ++ ends.last) rest))
-
--- what reading a script answers
-pub Script-none : (old : Place) → script_in (lines_of old.rest) ≡ None → ReadsScript old (Ok None) old
-Script-none old none = rw none (refl, refl)
-
-pub Script-lines : (text : List ℕ) (line : ℕ) (script rest : List ℕ) (reached : ℕ) (inside parens : Bool) (depth : ℕ) → EndsScript text line script rest reached → (lines : List ℕ) → lines ≡ script
-    → ReadsScript (place text line inside parens depth) (Ok (Some lines)) (place rest reached false parens 0)
-Script-lines text line script rest reached inside parens depth ends lines same = rw ends.found (inl (ap (λ t. Ok (Some t)) (same ∙ ends.lines), EndsScript-behind text line script rest reached inside parens depth ends))
-
-pub Script-memory : (text : List ℕ) (line : ℕ) (script rest : List ℕ) (reached : ℕ) (inside parens : Bool) (depth : ℕ) → EndsScript text line script rest reached
-    → ReadsScript (place text line inside parens depth) (Err Memory) (place text line inside parens depth)
-Script-memory text line script rest reached inside parens depth ends = rw ends.found (inr (refl, refl))

@@ -9,5 +9,6 @@ pub mod Matching
 pub mod Names
 pub mod Pattern
 pub mod Places
+pub mod Printing
 pub mod Scripts
 pub mod Tokens

@@ -7,6 +7,7 @@ ghost use Rattle.up_text.specs.Scripts.{ReadsScript};
 mod bytes;
 mod draft;
 mod gap;
+pub mod laws;
 mod quoted;
 mod script;
 mod spelling;

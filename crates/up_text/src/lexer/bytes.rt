@@ -7,7 +7,7 @@ ghost use Rattle.up_text.specs.Lexer.{is_ordinary, is_literal, is_high, is_low, 
 use memchr::memchr;
 
 #[tactic(auto, unfolding(crate::specs::Tokens::is_blank))]
-pub fn is_blank(byte: u8) -> bool
+pub(crate) fn is_blank(byte: u8) -> bool
     ensures { result ≡ is_blank byte }
 {
     byte == b' ' || byte == b'\t'
@@ -57,7 +57,7 @@ fn is_high(byte: u8) -> bool
 }
 
 // How many blanks the bytes begin with.
-pub fn blanks_len(bytes: &[u8]) -> usize
+pub(crate) fn blanks_len(bytes: &[u8]) -> usize
     ensures { result ≡ prefix_len is_blank bytes.now }
 {
     bytes.iter().take_while(|byte| is_blank(**byte)).count()
@@ -88,34 +88,34 @@ fn high_len(bytes: &[u8]) -> usize
 }
 
 // How many bytes stand before the line feed.
-pub fn line_len(bytes: &[u8]) -> usize
+pub(crate) fn line_len(bytes: &[u8]) -> usize
     ensures { result ≡ prefix_len is_in_line bytes.now }
 {
     memchr(b'\n', bytes).unwrap_or(bytes.len())
 }
 
 #[tactic(auto, unfolding(crate::specs::Tokens::is_hash))]
-pub fn begins_comment(text: &str) -> bool
+pub(crate) fn begins_comment(text: &str) -> bool
     ensures { result ≡ begins is_hash text.now }
 {
     text.as_bytes().first() == Some(&b'#')
 }
 
 #[tactic(auto, unfolding(crate::specs::Tokens::is_line_feed))]
-pub fn begins_feed(text: &str) -> bool
+pub(crate) fn begins_feed(text: &str) -> bool
     ensures { result ≡ begins is_line_feed text.now }
 {
     text.as_bytes().first() == Some(&b'\n')
 }
 
 #[tactic(auto, unfolding(crate::specs::Tokens::is_backslash))]
-pub fn begins_backslash(text: &str) -> bool
+pub(crate) fn begins_backslash(text: &str) -> bool
     ensures { result ≡ begins is_backslash text.now }
 {
     text.as_bytes().first() == Some(&b'\\')
 }
 
-pub fn begins_blank(text: &str) -> bool
+pub(crate) fn begins_blank(text: &str) -> bool
     ensures { result ≡ begins is_blank text.now }
 {
     match text.as_bytes().first() {
@@ -124,7 +124,7 @@ pub fn begins_blank(text: &str) -> bool
     }
 }
 
-pub fn begins_quote(text: &str) -> bool
+pub(crate) fn begins_quote(text: &str) -> bool
     ensures { result ≡ begins is_quote text.now }
 {
     match text.as_bytes().first() {
@@ -133,7 +133,7 @@ pub fn begins_quote(text: &str) -> bool
     }
 }
 
-pub fn begins_paren(text: &str) -> bool
+pub(crate) fn begins_paren(text: &str) -> bool
     ensures { result ≡ begins is_paren text.now }
 {
     match text.as_bytes().first() {
@@ -142,7 +142,7 @@ pub fn begins_paren(text: &str) -> bool
     }
 }
 
-pub fn is_line_end(text: &str) -> bool
+pub(crate) fn is_line_end(text: &str) -> bool
     ensures { result ≡ is_line_end text.now }
 {
     text.is_empty() || begins_feed(text)
@@ -150,7 +150,7 @@ pub fn is_line_end(text: &str) -> bool
 
 // Whether a line end is escaped here, and so is a blank.
 #[tactic(auto, unfolding(crate::specs::Tokens::is_backslash, crate::specs::Tokens::is_line_feed))]
-pub fn begins_joint(text: &str) -> bool
+pub(crate) fn begins_joint(text: &str) -> bool
     ensures { result ≡ begins_joint text.now }
 {
     match text.as_bytes().split_first() {
@@ -160,7 +160,7 @@ pub fn begins_joint(text: &str) -> bool
 }
 
 // Whether the text begins with part of a gap between two tokens.
-pub fn begins_gap(text: &str, passes: bool) -> bool
+pub(crate) fn begins_gap(text: &str, passes: bool) -> bool
     ensures { result ≡ begins_gap passes text.now }
 {
     begins_blank(text)
@@ -170,7 +170,7 @@ pub fn begins_gap(text: &str, passes: bool) -> bool
 }
 
 // Whether a token that was read so far ends here.
-pub fn ends_token(text: &str, parens: bool) -> bool
+pub(crate) fn ends_token(text: &str, parens: bool) -> bool
     ensures { result ≡ ends_token parens text.now }
 {
     is_line_end(text)
@@ -181,21 +181,21 @@ pub fn ends_token(text: &str, parens: bool) -> bool
 }
 
 /// The blanks that the text begins with, and what stands behind them.
-pub fn split_blanks(text: &str) -> (&str, &str)
+pub(crate) fn split_blanks(text: &str) -> (&str, &str)
     ensures { Splits is_blank text.now result.0.now result.1.now }
 {
     text.split_at(blanks_len(text.as_bytes()))
 }
 
 /// The bytes that stand for themselves outside quotes, and what stands behind them.
-pub fn split_ordinary(text: &str, parens: bool) -> (&str, &str)
+pub(crate) fn split_ordinary(text: &str, parens: bool) -> (&str, &str)
     ensures { Splits (is_ordinary parens) text.now result.0.now result.1.now }
 {
     text.split_at(ordinary_len(text.as_bytes(), parens))
 }
 
 /// The bytes that stand for themselves in a quoted piece and are no blanks, and what stands behind them.
-pub fn split_literal(text: &str, quote: u8) -> (&str, &str)
+pub(crate) fn split_literal(text: &str, quote: u8) -> (&str, &str)
     requires { is_quote quote ≡ true }
     ensures { Splits (is_literal quote) text.now result.0.now result.1.now }
 {
@@ -203,14 +203,14 @@ pub fn split_literal(text: &str, quote: u8) -> (&str, &str)
 }
 
 /// The line without its line feed, and what stands behind it.
-pub fn split_line(text: &str) -> (&str, &str)
+pub(crate) fn split_line(text: &str) -> (&str, &str)
     ensures { Splits is_in_line text.now result.0.now result.1.now }
 {
     text.split_at(line_len(text.as_bytes()))
 }
 
 /// The first byte, which is ASCII, and what stands behind it.
-pub fn split_first(text: &str) -> (&str, &str)
+pub(crate) fn split_first(text: &str) -> (&str, &str)
     requires { begins is_low text.now ≡ true }
     ensures front { result.0.now ≡ take 1 text.now }
     ensures rest { result.1.now ≡ drop 1 text.now }
@@ -219,7 +219,7 @@ pub fn split_first(text: &str) -> (&str, &str)
 }
 
 /// The first character, and what stands behind it.
-pub fn split_char(text: &str) -> (&str, &str)
+pub(crate) fn split_char(text: &str) -> (&str, &str)
     requires { 0 < length text.now }
     ensures { SplitsChar text.now result.0.now result.1.now }
 {

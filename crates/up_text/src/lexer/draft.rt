@@ -26,7 +26,7 @@ impl Model for Draft {
 }
 
 impl Draft {
-    pub fn new(alloc: Global) -> Self
+    pub(crate) fn new(alloc: Global) -> Self
         ensures { result ≡ Some [] }
     {
         Draft {
@@ -36,7 +36,7 @@ impl Draft {
     }
 
     /// Appends this part.
-    pub fn push(&mut self, part: &str)
+    pub(crate) fn push(&mut self, part: &str)
         ensures { (bytes : List ℕ) → Holds self.old bytes → Holds self.new (bytes ++ part.now) }
     {
         if !self.refused && self.text.push_str(part).is_err() {
@@ -44,7 +44,7 @@ impl Draft {
         }
     }
 
-    pub fn finish(self) -> Result<Text, TextFault>
+    pub(crate) fn finish(self) -> Result<Text, TextFault>
         ensures { (bytes : List ℕ) → Holds self bytes → Finished bytes result }
     {
         let Draft { text, refused } = self;
@@ -56,7 +56,7 @@ impl Draft {
 }
 
 /// Appends a quote or a backslash where such are kept.
-pub fn push_quoting(out: &mut Draft, part: &str, keep: bool)
+pub(crate) fn push_quoting(out: &mut Draft, part: &str, keep: bool)
     ensures { (bytes : List ℕ) → Holds out.old bytes → Holds out.new (bytes ++ (if keep then part.now else [])) }
 {
     if keep {

@@ -28,7 +28,7 @@ fn pass_part(text: &str, line: u32, passes: bool) -> (u32, &str)
 
 /// The text behind the gap that it begins with, and its line. Line feeds are part of the gap outside a stanza and while a
 /// parenthesis is open.
-pub fn after_gap(text: &str, line: u32, inside: bool, depth: u32) -> (u32, &str)
+pub(crate) fn after_gap(text: &str, line: u32, inside: bool, depth: u32) -> (u32, &str)
     requires { line + length text.now < 2 ^ 32 }
     ensures passed { (parens : Bool) → IsBehindGap (place text.now line inside parens depth) (place result.1.now result.0 inside parens depth) }
     ensures ends { begins_gap (passes_feeds inside depth) result.1.now ≡ false }

@@ -27,7 +27,7 @@ fn begins_fold(text: &str) -> bool
 }
 
 /// Appends the character behind a backslash, and gives what stands behind it, or nothing where the text ends at the backslash.
-pub fn push_escape<'a>(out: &mut Draft, text: &'a str, keep: bool) -> Option<&'a str>
+pub(crate) fn push_escape<'a>(out: &mut Draft, text: &'a str, keep: bool) -> Option<&'a str>
     requires { begins is_backslash text.now ≡ true }
     ensures { IsEscape keep text.now out.old out.new result }
 {
@@ -117,7 +117,7 @@ fn push_part<'a>(
 }
 
 /// Appends a quoted piece from behind its opening quote on, and gives the line and the text behind its closing quote.
-pub fn push_quoted<'a>(
+pub(crate) fn push_quoted<'a>(
     out: &mut Draft,
     text: &'a str,
     line: u32,

@@ -89,7 +89,7 @@ fn split_line(text: &str) -> (&str, &str, u32)
 }
 
 /// The script's lines, the text behind its end line and the line there, where there is an end line.
-pub fn find_end(text: &str, line: u32) -> Option<(&str, &str, u32)>
+pub(crate) fn find_end(text: &str, line: u32) -> Option<(&str, &str, u32)>
     requires { line + length text.now < 2 ^ 32 }
     ensures { MatchOption result (script_in (lines_of text.now) ≡ None) (λ end. EndsScript text.now line end.0.now end.1.now end.2) }
 {

@@ -67,7 +67,7 @@ fn push_piece<'a>(
 }
 
 /// Appends the rest of a spelling, and gives the line and the text behind it. With `keep` its quotes and backslashes stay.
-pub fn push_spelling<'a>(
+pub(crate) fn push_spelling<'a>(
     out: &mut Draft,
     text: &'a str,
     line: u32,
@@ -163,7 +163,7 @@ fn open_behind(text: &str, depth: u32) -> u32
 }
 
 /// The token that the text begins with, the line and the text behind it, and how many parentheses are open there.
-pub fn read_token<'a>(
+pub(crate) fn read_token<'a>(
     alloc: Global,
     text: &'a str,
     line: u32,
