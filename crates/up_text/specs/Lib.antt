@@ -10,5 +10,6 @@ pub mod Names
 pub mod Pattern
 pub mod Places
 pub mod Printing
+pub mod Rows
 pub mod Scripts
 pub mod Tokens
