@@ -10,7 +10,7 @@ use up_text::{Env, Items, Name, Text, TextFault};
 
 /// Why a row couldn't be tried: memory was refused, or its file or a name isn't readable.
 #[derive(Debug, Drop)]
-struct Untried;
+pub(crate) struct Untried;
 
 impl From<AllocError> for Untried {
     fn from(_: AllocError) -> Untried {

@@ -1,6 +1,7 @@
 use super::*;
 use std::test::Fail;
-use up_text::{Items, Name, Text};
+use up_expr::{Condition, Expr};
+use up_text::{Items, Text};
 
 fn add(alloc: Global, folder: &mut Folder, path: &str, bytes: &[u8]) -> Result<(), AllocError> {
     let path = Text::from_str(alloc, path)?;
@@ -8,10 +9,13 @@ fn add(alloc: Global, folder: &mut Folder, path: &str, bytes: &[u8]) -> Result<(
     folder.add(path, Items::new(bytes))
 }
 
-fn is_event(event: &Option<Name>, name: &str) -> bool {
-    match event {
-        Some(event) => event.as_str() == name,
-        None => false,
+fn is_event(condition: &Option<Condition>, name: &str) -> bool {
+    let Some(condition) = condition else {
+        return false;
+    };
+    match condition.expr() {
+        Expr::Leaf(leaf) => leaf.event.as_str() == name && leaf.values.as_slice().is_empty(),
+        Expr::And(_, _) | Expr::Or(_, _) => false,
     }
 }
 
