@@ -185,7 +185,7 @@ GapRun-joint inside parens depth joined (byte ∷ feed ∷ rest) line joint =
 
 -- what ends a gap
 
-ends-gap_mark : (inside parens : Bool) (depth : ℕ) (joined : Bool) (byte : ℕ) (text : List ℕ) → begins_gap (passes_feeds inside depth) (byte ∷ text) ≡ false → is_gap inside (mark_outside parens depth joined byte text) ≡ false
+pub ends-gap_mark : (inside parens : Bool) (depth : ℕ) (joined : Bool) (byte : ℕ) (text : List ℕ) → begins_gap (passes_feeds inside depth) (byte ∷ text) ≡ false → is_gap inside (mark_outside parens depth joined byte text) ≡ false
 ends-gap_mark inside parens depth joined byte text ends =
     by_case inside (eqb depth 0) (is_line_feed byte) (is_blank byte) (is_hash byte) (is_backslash byte) (begins is_line_feed text) (is_quote byte) (parens && is_paren byte) ends
   where

@@ -104,7 +104,7 @@ read-front at (Passed ∷ front) later filled all spelling is = absurd (false≢
 read-front at (Stop ∷ front) later filled all spelling is = absurd (false≢true all)
 
 -- a spelling of which something is read
-filled-front : (parens : Bool) (text bytes rest : List ℕ) (front : List Mark) → text ≡ bytes ++ rest → length front ≡ length bytes → ends_token parens text ≡ false → ends_token parens rest ≡ true → 0 < length front
+pub filled-front : (parens : Bool) (text bytes rest : List ℕ) (front : List Mark) → text ≡ bytes ++ rest → length front ≡ length bytes → ends_token parens text ≡ false → ends_token parens rest ≡ true → 0 < length front
 filled-front parens text [] rest front joined long before behind = absurd (true≢false (sym behind ∙ sym (ap (ends_token parens) joined) ∙ before))
 filled-front parens text (byte ∷ bytes) rest front joined long before behind = omega arith
 

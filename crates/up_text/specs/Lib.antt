@@ -1,4 +1,5 @@
 pub mod Bindings
+pub mod CommandParts
 pub mod Commands
 pub mod Expanding
 pub mod Expansion

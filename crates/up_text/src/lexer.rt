@@ -3,8 +3,10 @@ ghost use Rattle.std.specs.Prelude.{◌≡◌, ◌+◌, ◌<◌, ◌≤◌, ◌^
 ghost use Rattle.up_text.specs.Lexer.{is_line_end};
 ghost use Rattle.up_text.specs.Places.{feeds, start, reading, Answers, line_at, is_finished, switched};
 ghost use Rattle.up_text.specs.Scripts.{ReadsScript};
+ghost use Rattle.up_text.specs.Commands.{ReadsCommand};
 
 mod bytes;
+mod command;
 mod draft;
 mod gap;
 pub mod laws;
@@ -14,6 +16,8 @@ mod spelling;
 
 use crate::fault::TextFault;
 use crate::lexer::bytes::{begins_feed, is_line_end, split_first};
+use crate::lexer::command::push_command;
+use crate::lexer::draft::Draft;
 use crate::lexer::gap::after_gap;
 use crate::lexer::script::find_end;
 use crate::lexer::spelling::read_token;
@@ -123,6 +127,21 @@ impl<'a> Lexer<'a> {
         self.inside = true;
         self.depth = depth;
         Ok(Some(token))
+    }
+
+    /// The rest of the stanza as it is written: quotes and backslashes stay, the comment and the blanks at both ends go, and each run
+    /// of blanks with a line end in it is one space. The stanza's end is not passed. A text that isn't whole is refused again at
+    /// each later call; where memory was refused, the next call reads it again.
+    pub fn command_text(&mut self, alloc: Global) -> Result<Text, TextFault>
+        ensures { ReadsCommand self.old result self.new }
+    {
+        let (line, rest) = after_gap(self.rest, self.line, true, 0);
+        let mut out = Draft::new(alloc);
+        let (line, rest) = push_command(&mut out, rest, line)?;
+        let text = out.finish()?;
+        self.rest = rest;
+        self.line = line;
+        Ok(text)
     }
 
     /// The lines of a script up to its end line, each with its line feed; the end line is passed too. `None` where there is no

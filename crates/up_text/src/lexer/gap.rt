@@ -31,6 +31,7 @@ fn pass_part(text: &str, line: u32, passes: bool) -> (u32, &str)
 pub(crate) fn after_gap(text: &str, line: u32, inside: bool, depth: u32) -> (u32, &str)
     requires { line + length text.now < 2 ^ 32 }
     ensures passed { (parens : Bool) → IsBehindGap (place text.now line inside parens depth) (place result.1.now result.0 inside parens depth) }
+    ensures run { (parens : Bool) → GapRun inside parens depth false text.now line result.1.now result.0 }
     ensures ends { begins_gap (passes_feeds inside depth) result.1.now ≡ false }
     ensures in_range { result.0 + length result.1.now ≤ line + length text.now }
     ensures shorter { length result.1.now ≤ length text.now }

@@ -19,6 +19,10 @@ enum Step {
     Script(&'static str),
     // A script without an end line.
     NoScript,
+    // The text of a command.
+    Command(&'static str),
+    // One that is refused.
+    RefusedCommand(TextFault),
 }
 
 struct Case {
@@ -192,6 +196,167 @@ const SCRIPTS: [Case; 3] = [
     },
 ];
 
+const COMMANDS: [Case; 7] = [
+    Case {
+        text: "exec  a 'b  c' \"d\\\"\" \\e\t# f\ng",
+        steps: &[
+            Step::Plain(1, "exec"),
+            Step::Command("a 'b  c' \"d\\\"\" \\e"),
+            Step::End,
+            Step::Plain(2, "g"),
+            Step::End,
+        ],
+    },
+    Case {
+        text: "exec \t a  \t b \t\nc",
+        steps: &[
+            Step::Plain(1, "exec"),
+            Step::Command("a  \t b"),
+            Step::End,
+            Step::Plain(2, "c"),
+            Step::End,
+        ],
+    },
+    Case {
+        text: "exec a#b\nexec a \\# '#'#\nexec a\\ \nc",
+        steps: &[
+            Step::Plain(1, "exec"),
+            Step::Command("a"),
+            Step::End,
+            Step::Plain(2, "exec"),
+            Step::Command("a \\# '#'"),
+            Step::End,
+            Step::Plain(3, "exec"),
+            Step::Command("a\\ "),
+            Step::End,
+            Step::Plain(4, "c"),
+            Step::End,
+        ],
+    },
+    Case {
+        text: "exec\nexec \t# a\nexec \\\n\t\nb\nexec",
+        steps: &[
+            Step::Plain(1, "exec"),
+            Step::Command(""),
+            Step::End,
+            Step::Plain(2, "exec"),
+            Step::Command(""),
+            Step::End,
+            Step::Plain(3, "exec"),
+            Step::Command(""),
+            Step::End,
+            Step::Plain(5, "b"),
+            Step::End,
+            Step::Plain(6, "exec"),
+            Step::Command(""),
+            Step::End,
+        ],
+    },
+    Case {
+        text: "exec a b c d\nexec e f\ng",
+        steps: &[
+            Step::Plain(1, "exec"),
+            Step::Plain(1, "a"),
+            Step::Command("b c d"),
+            Step::Command(""),
+            Step::End,
+            Step::Plain(2, "exec"),
+            Step::Command("e f"),
+            Step::End,
+            Step::Plain(3, "g"),
+            Step::End,
+        ],
+    },
+    Case {
+        text: "exec (a) \u{e9}\u{a0} '\u{20ac}' \\\u{e9}) # b\nc (d)",
+        steps: &[
+            Step::Plain(1, "exec"),
+            Step::Parens(true),
+            Step::Command("(a) \u{e9}\u{a0} '\u{20ac}' \\\u{e9})"),
+            Step::End,
+            Step::Plain(2, "c"),
+            Step::Plain(2, "("),
+            Step::Plain(2, "d"),
+            Step::Plain(2, ")"),
+            Step::End,
+        ],
+    },
+    Case {
+        text: "exec \" ' \" ' \" ' $ \\\\ # \"",
+        steps: &[
+            Step::Plain(1, "exec"),
+            Step::Command("\" ' \" ' \" ' $ \\\\"),
+            Step::End,
+        ],
+    },
+];
+
+const JOINED_COMMANDS: [Case; 3] = [
+    Case {
+        text: "exec a \\\n  \\\n\t b\\\nc\nd",
+        steps: &[
+            Step::Plain(1, "exec"),
+            Step::Command("a b c"),
+            Step::End,
+            Step::Plain(5, "d"),
+            Step::End,
+        ],
+    },
+    Case {
+        text: "exec \\\n a  b \\\n # c\nd",
+        steps: &[
+            Step::Plain(1, "exec"),
+            Step::Command("a  b"),
+            Step::End,
+            Step::Plain(4, "d"),
+            Step::End,
+        ],
+    },
+    Case {
+        text: "exec \"a  \\\n  b\" 'c \n\n d' \"e\\ \nf\"\ng",
+        steps: &[
+            Step::Plain(1, "exec"),
+            Step::Command("\"a b\" 'c d' \"e\\  f\""),
+            Step::End,
+            Step::Plain(6, "g"),
+            Step::End,
+        ],
+    },
+];
+
+const REFUSED_COMMANDS: [Case; 3] = [
+    Case {
+        text: "exec a \"b\n\nc",
+        steps: &[
+            Step::Plain(1, "exec"),
+            Step::RefusedCommand(TextFault::UnterminatedQuote),
+            Step::RefusedCommand(TextFault::UnterminatedQuote),
+            Step::Plain(1, "a"),
+            Step::Refused(1, TextFault::UnterminatedQuote),
+        ],
+    },
+    Case {
+        text: "exec a \\\n b\\",
+        steps: &[
+            Step::Plain(1, "exec"),
+            Step::RefusedCommand(TextFault::TrailingBackslash),
+            Step::RefusedCommand(TextFault::TrailingBackslash),
+            Step::Plain(1, "a"),
+            Step::Refused(2, TextFault::TrailingBackslash),
+        ],
+    },
+    Case {
+        text: "exec a # '\nb",
+        steps: &[
+            Step::Plain(1, "exec"),
+            Step::Command("a"),
+            Step::End,
+            Step::Plain(2, "b"),
+            Step::End,
+        ],
+    },
+];
+
 fn check_token(rt: &impl Abort, token: &Token, line: u32, text: &str, plain: bool) {
     assert_eq!(rt; token.line, line);
     assert!(rt; token.text.is(text), "{token:?}");
@@ -235,11 +400,35 @@ fn check_script(rt: &impl Abort, alloc: Global, lexer: &mut Lexer, lines: Option
     }
 }
 
+fn read_command(alloc: Global, lexer: &mut Lexer) -> Result<Text, TextFault> {
+    let read = lexer.command_text(alloc);
+    if matches!(read, Err(TextFault::Memory)) {
+        return lexer.command_text(alloc);
+    }
+    read
+}
+
+fn check_command(rt: &impl Abort, alloc: Global, lexer: &mut Lexer, text: &'static str) {
+    match read_command(alloc, lexer) {
+        Ok(command) => assert!(rt; command.is(text), "{command:?} for {text:?}"),
+        Err(fault) => panic!(rt; "{fault:?} for {text:?}"),
+    }
+}
+
+fn check_refused(rt: &impl Abort, alloc: Global, lexer: &mut Lexer, fault: TextFault) {
+    match read_command(alloc, lexer) {
+        Ok(command) => panic!(rt; "{command:?} for {fault:?}"),
+        Err(refused) => assert_eq!(rt; refused, fault),
+    }
+}
+
 fn check_step(rt: &impl Abort, alloc: Global, lexer: &mut Lexer, step: Step) {
     match step {
         Step::Parens(on) => lexer.parens(on),
         Step::Script(lines) => check_script(rt, alloc, lexer, Some(lines)),
         Step::NoScript => check_script(rt, alloc, lexer, None),
+        Step::Command(text) => check_command(rt, alloc, lexer, text),
+        Step::RefusedCommand(fault) => check_refused(rt, alloc, lexer, fault),
         _ => check_next(rt, alloc, lexer, step),
     }
 }
@@ -274,6 +463,27 @@ fn reads_parentheses(rt: HostRuntime) {
 #[test]
 fn reads_scripts(rt: HostRuntime) {
     for case in &SCRIPTS {
+        check_case(&rt, rt.alloc(), case);
+    }
+}
+
+#[test]
+fn reads_commands(rt: HostRuntime) {
+    for case in &COMMANDS {
+        check_case(&rt, rt.alloc(), case);
+    }
+}
+
+#[test]
+fn joins_lines_of_commands(rt: HostRuntime) {
+    for case in &JOINED_COMMANDS {
+        check_case(&rt, rt.alloc(), case);
+    }
+}
+
+#[test]
+fn refuses_commands(rt: HostRuntime) {
+    for case in &REFUSED_COMMANDS {
         check_case(&rt, rt.alloc(), case);
     }
 }

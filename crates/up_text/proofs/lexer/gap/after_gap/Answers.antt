@@ -22,6 +22,9 @@ gap-preserved c = record {
 pub returns-clause-passed : goal.returns-clause-passed
 returns-clause-passed c = λ parens. behind-gap c.args.inside parens c.args.depth c.args.text.now c.args.line _ _ (c.gap.invariant.run parens) (rw (← c.gap.invariant.passes) (sym c.begins_gap.ensures ∙ c.gap-test.false))
 
+pub returns-clause-run : goal.returns-clause-run
+returns-clause-run c = λ parens. c.gap.invariant.run parens
+
 pub returns-clause-in_range : goal.returns-clause-in_range
 returns-clause-in_range c = GapRun-fits (c.gap.invariant.run true)
 

@@ -1,0 +1,64 @@
+//! The text of a command.
+ghost use Rattle.std.specs.Prelude.{◌≡◌, ◌+◌, ◌<◌, ◌^◌, true, false, length, IfOk, MatchResult};
+ghost use Rattle.up_text.specs.Tokens.{Outside};
+ghost use Rattle.up_text.specs.Lexer.{begins_gap, ends_token, is_line_end, Broken};
+ghost use Rattle.up_text.specs.CommandParts.{Between, Told, Refused};
+
+use crate::fault::TextFault;
+use crate::lexer::bytes::{begins_joint, is_line_end, split_blanks};
+use crate::lexer::draft::Draft;
+use crate::lexer::gap::after_gap;
+use crate::lexer::spelling::push_spelling;
+
+// Passes a gap, and appends what it is written as: its blanks as they stand, or one space where lines are joined. A gap before the
+// stanza's end isn't written.
+fn push_gap<'a>(out: &mut Draft, text: &'a str, line: u32) -> (u32, &'a str)
+    requires { line + length text.now < 2 ^ 32 }
+    ensures { Between text.now line result.1.now result.0 out.old out.new }
+{
+    let (blanks, rest) = split_blanks(text);
+    let between = if begins_joint(rest) { " " } else { blanks };
+    let (reached, behind) = after_gap(rest, line, true, 0);
+    if !is_line_end(behind) {
+        out.push(between);
+    }
+    (reached, behind)
+}
+
+// Appends a spelling and the gap behind it.
+fn push_word<'a>(out: &mut Draft, text: &'a str, line: u32) -> Result<(u32, &'a str), TextFault>
+    requires begins { ends_token false text.now ≡ false }
+    requires in_range { line + length text.now < 2 ^ 32 }
+    ensures means { MatchResult result
+        (λ read. Told text.now line read.1.now read.0 out.old out.new)
+        (Broken false (Outside false) text.now) }
+    ensures ends { IfOk result (λ read. begins_gap false read.1.now ≡ false) }
+    ensures shorter { IfOk result (λ read. length read.1.now < length text.now) }
+{
+    let (reached, behind) = push_spelling(out, text, line, false, true)?;
+    let (line, rest) = push_gap(out, behind, reached);
+    Ok((line, rest))
+}
+
+/// Appends a command's text from behind its gap on, and gives the line and the text at its end.
+pub fn push_command<'a>(
+    out: &mut Draft,
+    text: &'a str,
+    line: u32,
+) -> Result<(u32, &'a str), TextFault>
+    requires begins { begins_gap false text.now ≡ false }
+    requires in_range { line + length text.now < 2 ^ 32 }
+    ensures means { MatchResult result
+        (λ read. Told text.now line read.1.now read.0 out.old out.new)
+        (Refused text.now) }
+    ensures ends { IfOk result (λ read. is_line_end read.1.now ≡ true) }
+{
+    let mut rest = text;
+    let mut line = line;
+    'words: while !is_line_end(rest) {
+        let (reached, behind) = push_word(out, rest, line)?;
+        line = reached;
+        rest = behind;
+    }
+    Ok((line, rest))
+}
