@@ -1,3 +1,6 @@
+//! The worked rows, step by step.
+mod expressions;
+
 use crate::{Engine, StepError};
 use std::alloc::{AllocError, Global};
 use std::process::Abort;
@@ -34,6 +37,7 @@ impl From<CompileError> for Untried {
 #[derive(Clone, Copy)]
 enum Given {
     Emit(&'static str),
+    EmitWith(&'static str, &'static str, &'static str),
     Turn,
     Spawned(u32),
     Refused,
@@ -79,6 +83,12 @@ fn input(alloc: Global, given: Given) -> Result<Input, Untried> {
         Given::Emit(name) => {
             let name = Name::new(alloc, name)?;
             let vars = Env::new(alloc);
+            Ok(Input::Emit(Event { name, vars }))
+        }
+        Given::EmitWith(name, key, value) => {
+            let name = Name::new(alloc, name)?;
+            let mut vars = Env::new(alloc);
+            vars.set(alloc, key, value)?;
             Ok(Input::Emit(Event { name, vars }))
         }
         Given::Turn => Ok(Input::Turn),

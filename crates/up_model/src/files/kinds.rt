@@ -148,11 +148,7 @@ fn read_command(alloc: Global, lexer: &mut Lexer) -> Result<Option<Items<Text>>,
 }
 
 // What the stanza says whose first token is this one; the lexer then stands behind its end.
-fn read_kind(
-    alloc: Global,
-    kind: &Text,
-    lexer: &mut Lexer,
-) -> Result<Option<Stanza>, AllocError>
+fn read_kind(alloc: Global, kind: &Text, lexer: &mut Lexer) -> Result<Option<Stanza>, AllocError>
     ensures { IfOk result (λ stanza. IsFound (said_by kind.now lexer.old) stanza lexer.new) }
 {
     if kind.is("start") {
@@ -171,10 +167,7 @@ fn read_kind(
 }
 
 /// What the stanza in front says; the lexer then stands behind its end.
-pub(crate) fn read_stanza(
-    alloc: Global,
-    lexer: &mut Lexer,
-) -> Result<Option<Stanza>, AllocError>
+pub(crate) fn read_stanza(alloc: Global, lexer: &mut Lexer) -> Result<Option<Stanza>, AllocError>
     ensures { IfOk result (λ stanza. IsFound (stanza_at lexer.old) stanza lexer.new) }
 {
     match next_token(alloc, lexer)? {

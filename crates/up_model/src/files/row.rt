@@ -31,10 +31,7 @@ pub(crate) fn next_token(alloc: Global, lexer: &mut Lexer) -> Result<Next, Alloc
 }
 
 /// The tokens up to the stanza's end, behind which the lexer then stands.
-pub(crate) fn read_row(
-    alloc: Global,
-    lexer: &mut Lexer,
-) -> Result<Option<Items<Token>>, AllocError>
+pub(crate) fn read_row(alloc: Global, lexer: &mut Lexer) -> Result<Option<Items<Token>>, AllocError>
     ensures { IfOk result (λ row. IsFound (row_of lexer.old) row lexer.new) }
 {
     let mut tokens: Vec<Token> = Vec::new(alloc);

@@ -1,3 +1,6 @@
+//! Folders of job files.
+mod expressions;
+
 use super::*;
 use std::test::Fail;
 use up_expr::{Condition, Expr};
@@ -95,15 +98,13 @@ fn the_last_stanza_counts(rt: HostRuntime) -> Result<(), Fail> {
 #[test]
 fn unreadable_files_are_reported(rt: HostRuntime) -> Result<(), Fail> {
     let alloc = rt.alloc();
-    let cases: [(&str, &[u8], u32); 14] = [
+    let cases: [(&str, &[u8], u32); 12] = [
         ("a.conf", b"# c\n\nsetuid root\n", 3),
         ("a.conf", b"exec x\n\n'y' z\n", 3),
         ("a.conf", b"exec x\nexec y \"z\"\n", 2),
         ("a.conf", b"exec \"\"\n", 1),
         ("a.conf", b"exec\n", 1),
         ("a.conf", b"exec a|b\n", 1),
-        ("a.conf", b"exec x\nstart on and\n", 2),
-        ("a.conf", b"start on a b\n", 1),
         ("a.conf", b"start a\n", 1),
         ("a.conf", b"exec x\nstop on a=b\n", 2),
         ("a=b.conf", b"\n\nexec x\n", 1),
