@@ -35,7 +35,7 @@ impl From<CompileError> for Untried {
 
 /// An input, as a row writes it. The processes are main of the job `a`.
 #[derive(Clone, Copy)]
-enum Given {
+pub(crate) enum Given {
     Emit(&'static str),
     EmitWith(&'static str, &'static str, &'static str),
     Turn,
@@ -47,9 +47,9 @@ enum Given {
 }
 
 /// An input, the outputs that it gives, the live events then, and whether a turn would do something.
-type Row = (Given, &'static str, usize, bool);
+pub(crate) type Row = (Given, &'static str, usize, bool);
 
-const STARTING: &'static str = "starting JOB=a INSTANCE=; ";
+pub(crate) const STARTING: &'static str = "starting JOB=a INSTANCE=; ";
 
 const STARTED: &'static str = "started JOB=a INSTANCE=; ";
 
@@ -208,7 +208,7 @@ fn table(alloc: Global, file: &str) -> Result<Table, Untried> {
     Ok(table)
 }
 
-fn check_rows(rt: &impl Abort, alloc: Global, file: &str, rows: &[Row]) -> Result<(), Untried> {
+pub(crate) fn check_rows(rt: &impl Abort, alloc: Global, file: &str, rows: &[Row]) -> Result<(), Untried> {
     let table = table(alloc, file)?;
     let mut engine = Engine::new(alloc, table, Env::new(alloc));
     for (i, (given, outputs, live, turn)) in rows.iter().enumerate() {

@@ -6,7 +6,8 @@ const NAMED_FILE: &'static str = "start on A and B\nexec /bin/d\n";
 
 #[test]
 fn and_keeps_first(rt: HostRuntime) -> Result<(), Fail> {
-    let spawn = "spawn a() Main [/bin/d ] in / silent=false X=1 UPSTART_EVENTS=A B UPSTART_JOB=a UPSTART_INSTANCE=; ";
+    let spawn =
+        "spawn a() Main [/bin/d ] in / silent=false X=1 UPSTART_EVENTS=A B UPSTART_JOB=a UPSTART_INSTANCE=; ";
     let rows = [
         (Given::EmitWith("A", "X", "1"), "", 1, true),
         (Given::EmitWith("A", "X", "2"), "", 2, true),
@@ -24,25 +25,22 @@ fn and_keeps_first(rt: HostRuntime) -> Result<(), Fail> {
 
 #[test]
 fn and_of_same_event(rt: HostRuntime) -> Result<(), Fail> {
-    let spawn = "spawn a() Main [/bin/d ] in / silent=false UPSTART_EVENTS=A A UPSTART_JOB=a UPSTART_INSTANCE=; ";
+    let spawn =
+        "spawn a() Main [/bin/d ] in / silent=false UPSTART_EVENTS=A A UPSTART_JOB=a UPSTART_INSTANCE=; ";
     let rows = [
         (Given::Emit("A"), "", 1, true),
         (Given::Turn, STARTING, 2, true),
         (Given::Turn, "", 2, true),
         (Given::Turn, spawn, 1, false),
     ];
-    check_rows(
-        &rt,
-        rt.alloc(),
-        "start on A and A\nexec /bin/d\n",
-        &rows,
-    )?;
+    check_rows(&rt, rt.alloc(), "start on A and A\nexec /bin/d\n", &rows)?;
     Ok(())
 }
 
 #[test]
 fn or_after_half_an_and(rt: HostRuntime) -> Result<(), Fail> {
-    let spawn = "spawn a() Main [/bin/d ] in / silent=false UPSTART_EVENTS=B UPSTART_JOB=a UPSTART_INSTANCE=; ";
+    let spawn =
+        "spawn a() Main [/bin/d ] in / silent=false UPSTART_EVENTS=B UPSTART_JOB=a UPSTART_INSTANCE=; ";
     let rows = [
         (Given::Emit("A"), "", 1, true),
         (Given::Emit("B"), "", 2, true),
@@ -93,11 +91,6 @@ fn value_by_default(rt: HostRuntime) -> Result<(), Fail> {
         (Given::EmitWith("A", "X", "1"), "", 1, true),
         (Given::Turn, STARTING, 2, true),
     ];
-    check_rows(
-        &rt,
-        rt.alloc(),
-        "start on A X=${Z-1}\nexec /bin/d\n",
-        &rows,
-    )?;
+    check_rows(&rt, rt.alloc(), "start on A X=${Z-1}\nexec /bin/d\n", &rows)?;
     Ok(())
 }

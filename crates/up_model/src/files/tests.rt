@@ -6,7 +6,7 @@ use std::test::Fail;
 use up_expr::{Condition, Expr};
 use up_text::{Items, Text};
 
-fn add(alloc: Global, folder: &mut Folder, path: &str, bytes: &[u8]) -> Result<(), AllocError> {
+pub(crate) fn add(alloc: Global, folder: &mut Folder, path: &str, bytes: &[u8]) -> Result<(), AllocError> {
     let path = Text::from_str(alloc, path)?;
     let bytes = Vec::from_slice(alloc, bytes)?;
     folder.add(path, Items::new(bytes))
@@ -22,7 +22,7 @@ fn is_event(condition: &Option<Condition>, name: &str) -> bool {
     }
 }
 
-fn are_words(words: &Option<Items<Text>>, expected: &[&str]) -> bool {
+pub(crate) fn are_words(words: &Option<Items<Text>>, expected: &[&str]) -> bool {
     match words {
         Some(words) => {
             let words = words.as_slice();
@@ -37,7 +37,7 @@ fn are_words(words: &Option<Items<Text>>, expected: &[&str]) -> bool {
 }
 
 // The line of the fault of a folder with this file alone, where it has no job and one fault.
-fn fault_line(alloc: Global, path: &str, bytes: &[u8]) -> Result<Option<u32>, CompileError> {
+pub(crate) fn fault_line(alloc: Global, path: &str, bytes: &[u8]) -> Result<Option<u32>, CompileError> {
     let mut folder = Folder::new(alloc);
     add(alloc, &mut folder, path, bytes)?;
     let (table, report) = compile(alloc, &folder)?;
