@@ -1,6 +1,5 @@
 -- Lines that begin neither a file nor the script are passed.
-use Rattle.std.proofs.Common.{◌≡◌, ℕ, suc, Option, Some, None, slice_get, ◌==◌, ◌+◌, ◌-◌, ◌<◌, ◌≤◌, Bool, true, false, cond, ◌&&◌, ◌||◌, List, [], ◌∷◌, ◌++◌, length, take, refl, sym, ◌∙◌, ap, arith, append_assoc, length-append}
-use Rattle.std.proofs.Math.Seq.{take-append_seam}
+use Rattle.std.proofs.Common.{◌≡◌, ℕ, suc, Option, Some, None, slice_get, ◌==◌, ◌+◌, ◌<◌, ◌≤◌, Bool, true, false, cond, ◌&&◌, ◌||◌, List, [], ◌∷◌, ◌++◌, length, refl, sym, ◌∙◌, ap, arith, append_assoc}
 use Rattle.std.proofs.lemmas.Bool.{or_parts, ne_eqb}
 use Rattle.std.proofs.lemmas.Bool.Decides.{nat_tests}
 use Rattle.initd.specs.Bundle.{lines_of, first_line, after_line, is_script, is_file, is_header, lead, files_of, script_text, script_line, bad_path, begins_header, is_feed}

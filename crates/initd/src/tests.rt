@@ -1,4 +1,5 @@
 //! What is printed for bundles.
+mod expressions;
 mod rows;
 mod streams;
 

@@ -9,14 +9,14 @@ use Rattle.up_model.specs.Seen.{was_offered}
 use Rattle.up_engine.specs.Moved.{is_any, offer_of_job}
 use Rattle.up_engine.proofs.MoveLemmas.{or_else-nil, or_else-none}
 
-abbrev pub stop_found : JobDef → ℕ → List Entry → Option ℕ → List Entry
-stop_found job event c None = []
-stop_found job event c (Some place) = where_true (not (is_newborn place c || was_offered (StopOn place) c)) (stop_offer job place event c)
+abbrev pub stop_found : List (List ℕ × List ℕ) → JobDef → ℕ → List Entry → Option ℕ → List Entry
+stop_found base job event c None = []
+stop_found base job event c (Some place) = where_true (not (is_newborn place c || was_offered (StopOn place) c)) (stop_offer base job place event c)
 
 -- a job has its one instance, or none
-pub stop_offer_in_one : (job : JobDef) (event : ℕ) (c : List Entry) (found : Option ℕ) → stop_offer_in job (instance_at [] found) event c ≡ stop_found job event c found
-stop_offer_in_one job event c None = refl
-stop_offer_in_one job event c (Some place) = or_else-nil _
+pub stop_offer_in_one : (base : List (List ℕ × List ℕ)) (job : JobDef) (event : ℕ) (c : List Entry) (found : Option ℕ) → stop_offer_in base job (instance_at [] found) event c ≡ stop_found base job event c found
+stop_offer_in_one base job event c None = refl
+stop_offer_in_one base job event c (Some place) = or_else-nil _
 
 or_else-assoc : (xs ys zs : List Entry) → or_else xs (or_else ys zs) ≡ or_else (or_else xs ys) zs
 or_else-assoc [] ys zs = refl
@@ -28,7 +28,7 @@ pub offer_left : (base : List (List ℕ × List ℕ)) (jobs : List JobDef) (i ev
 offer_left base jobs i event d c within =
     let one : drop i jobs ≡ get_or jobs i d ∷ drop (i + 1) jobs = rw add-one (drop-cons jobs i d within) in
     ap (λ left. offer_from base left i event c) one
-    ∙ or_else-assoc (stop_offer_in (get_or jobs i d) (instances_of i c) event c) (where_true (not (was_offered (StartOn i) c)) (start_offer base (get_or jobs i d) i event c)) (offer_from base (drop (i + 1) jobs) (i + 1) event c)
+    ∙ or_else-assoc (stop_offer_in base (get_or jobs i d) (instances_of i c) event c) (where_true (not (was_offered (StartOn i) c)) (start_offer base (get_or jobs i d) i event c)) (offer_from base (drop (i + 1) jobs) (i + 1) event c)
 
 -- where a job has nothing to be offered, what is left is with the others
 pub offer_step : (base : List (List ℕ × List ℕ)) (jobs : List JobDef) (i event : ℕ) (job : JobDef) (c : List Entry) → i < length jobs → job ≡ get_or jobs i job

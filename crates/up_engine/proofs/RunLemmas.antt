@@ -53,7 +53,7 @@ answered_more steps answered engine base jobs c inputs given so_far means = (
 
 -- the steps before an input that was refused memory
 pub refused_run : (steps : List Step) (engine : Engine) (base : List (List ℕ × List ℕ)) (jobs : List JobDef) (c : List Entry) (inputs passed left : List Input) (given : Input)
-    → inputs ≡ passed ++ given ∷ left → steps ≡ answers base jobs c passed → DownAt engine jobs (after_all base jobs c passed) → StepsMean true steps engine base jobs c inputs
+    → inputs ≡ passed ++ given ∷ left → steps ≡ answers base jobs c passed → DownAt engine base jobs (after_all base jobs c passed) → StepsMean true steps engine base jobs c inputs
 refused_run steps engine base jobs c inputs passed left given whole so_far down =
     let count : length steps ≡ length passed = ap length so_far ∙ length-answers base jobs c passed in
     let front : take (length steps) inputs ≡ passed = rw (count, whole) (take-append_seam passed (given ∷ left)) in

@@ -3,3 +3,4 @@ pub mod Moved
 pub mod Queues
 pub mod Records
 pub mod Stands
+pub mod Verdicts

@@ -15,4 +15,4 @@ is_any (entry ∷ entries) = true
 -- the offer to the first expression of a job that the event wasn't offered to
 abbrev pub offer_of_job : List (List ℕ × List ℕ) → JobDef → ℕ → ℕ → List Entry → List Entry
 offer_of_job base job from event c =
-    or_else (stop_offer_in job (instances_of from c) event c) (where_true (not (was_offered (StartOn from) c)) (start_offer base job from event c))
+    or_else (stop_offer_in base job (instances_of from c) event c) (where_true (not (was_offered (StartOn from) c)) (start_offer base job from event c))

@@ -1,6 +1,7 @@
 //! The engine's memory: what happened, in order, and the queue of events beside it.
-ghost use Rattle.std.specs.Prelude.{◌≡◌, List, ◌∷◌, [], length, map, OnOk, OnErr};
+ghost use Rattle.std.specs.Prelude.{◌≡◌, List, ◌∷◌, [], length, map, IfOk, OnOk, OnErr};
 ghost use Rattle.std.specs.Option.{option_copied, option_map_or};
+ghost use Rattle.up_expr.specs.Truth as truth;
 ghost use Rattle.up_model.specs.Chronicle.{Entry};
 ghost use Rattle.up_model.specs.Readings as read;
 ghost use Rattle.up_model.specs.Seen as seen;
@@ -14,6 +15,7 @@ use crate::reading::{environment, life, place, process, seen};
 use crate::record::{Expression, Record};
 use std::alloc::{AllocError, Global};
 use std::marker::Model;
+use up_expr::Leaf;
 use up_model::{Event, Goal, Process, State};
 use up_text::{Env, Name};
 
@@ -173,10 +175,16 @@ impl Book {
         place::event_at(self.records.as_slice(), place)
     }
 
-    pub(crate) fn kept(&self, expression: Expression, leaf: &Option<Name>) -> Option<usize>
-        ensures { result ≡ seen.kept leaf.now (seen.seen (expression_of expression) self.now) }
+    pub(crate) fn first(
+        &self,
+        alloc: Global,
+        base: &Env,
+        expression: Expression,
+        leaf: &Leaf,
+    ) -> Result<Option<usize>, AllocError>
+        ensures { IfOk result (λ found. found ≡ truth.first leaf.now (seen.seen base.now (expression_of expression) self.now)) }
     {
-        seen::kept(self.records.as_slice(), expression, leaf)
+        seen::first(alloc, base, self.records.as_slice(), expression, leaf)
     }
 
     pub(crate) fn was_offered(&self, expression: Expression) -> bool

@@ -1,8 +1,9 @@
 //! What is due, the effect of an input, and whether it is expected.
-ghost use Rattle.std.specs.Prelude.{◌≡◌, ◌++◌, ◌∷◌, [], Option, map, IfOk, OnOk, option_map};
+ghost use Rattle.std.specs.Prelude.{◌≡◌, ◌++◌, ◌∷◌, [], List, ℕ, Option, map, IfOk, OnOk, option_map};
 ghost use Rattle.up_model.specs.Answers as answer;
 ghost use Rattle.up_model.specs.Chronicle as entry;
 ghost use Rattle.up_model.specs.Due as model;
+ghost use Rattle.up_model.specs.Queue.{queue};
 ghost use Rattle.up_model.specs.Tests as test;
 ghost use Rattle.up_model.specs.Requests as request;
 ghost use Rattle.up_engine.specs.Moved.{is_any};
@@ -15,7 +16,6 @@ use crate::moves::move_first;
 use crate::offers::offer_next;
 use crate::queue::Live;
 use crate::record::{Origin, Record};
-use crate::turn::turn_event;
 use std::alloc::{AllocError, Global};
 use up_model::{Answer, Command, Goal, Input, JobDef, Process, State, Who};
 use up_text::{Env, Items, Text};
@@ -175,8 +175,9 @@ fn effect(
     jobs: &[JobDef],
     book: &Book,
     given: &Input,
+    turn: Option<Live>,
 ) -> Result<Option<Record>, AllocError>
-    ensures { IfOk result (λ next. model.effect jobs.now given.now book.now ≡ entries_of next ++ entry.Given given.now ∷ []) }
+    ensures { IfOk result (λ next. (base : List (List ℕ × List ℕ)) → option_map live_of turn ≡ model.turn_event base jobs.now (queue book.now) book.now → model.effect base jobs.now given.now book.now ≡ entries_of next ++ entry.Given given.now ∷ []) }
 {
     match given {
         Input::Emit(event) => {
@@ -203,21 +204,22 @@ fn effect(
             instance_named(book, jobs, who),
             *process,
         ),
-        Input::Turn => Ok(turned(turn_event(book, jobs))),
+        Input::Turn => Ok(turned(turn)),
         Input::Spawned { .. } | Input::Clock(_) => Ok(None),
     }
 }
 
-/// Takes an input in, with its own effect.
+/// Takes an input in, with its own effect, where `turn` is the event that a turn would take.
 pub(crate) fn act(
     alloc: Global,
     jobs: &[JobDef],
     book: &mut Book,
     given: Input,
+    turn: Option<Live>,
 ) -> Result<(), AllocError>
-    ensures { OnOk result (book.new ≡ model.effect jobs.now given book.old ++ book.old) }
+    ensures { OnOk result ((base : List (List ℕ × List ℕ)) → option_map live_of turn ≡ model.turn_event base jobs.now (queue book.old) book.old → book.new ≡ model.effect base jobs.now given book.old ++ book.old) }
 {
-    let effect = effect(alloc, jobs, book, &given)?;
+    let effect = effect(alloc, jobs, book, &given, turn)?;
     book.add(Record::Given(given))?;
     if let Some(next) = effect {
         book.add(next)?;

@@ -9,6 +9,7 @@ use crate::book::Book;
 use crate::due::is_expected;
 use crate::fault::StepError;
 use crate::outputs::outputs;
+use crate::queue::Live;
 use crate::run::Run;
 use crate::settle::run_step;
 use crate::turn::turn_event;
@@ -25,10 +26,11 @@ pub struct Engine {
     table: Table,
     base: Env,
     book: Book,
+    // The event that a turn would take.
+    turn: Option<Live>,
     // A step was refused memory in its midst; what the engine tells of its events is then what held before that step.
     down: bool,
     live: usize,
-    turn: bool,
 }
 
 impl Engine {
@@ -43,16 +45,16 @@ impl Engine {
             table,
             base,
             book: Book::new(alloc),
+            turn: None,
             down: false,
             live: 0,
-            turn: false,
         }
     }
 
     /// How many events were queued and haven't finished. Takes no memory.
     pub fn live_events(&self) -> usize
         ensures up { (base : List (List ℕ × List ℕ)) (jobs : List JobValue) (c : List Entry) → Stands self.now base jobs c → result ≡ length (queue.queue c) }
-        ensures down { (jobs : List JobValue) (c : List Entry) → DownAt self.now jobs c → result ≡ length (queue.queue c) }
+        ensures down { (base : List (List ℕ × List ℕ)) (jobs : List JobValue) (c : List Entry) → DownAt self.now base jobs c → result ≡ length (queue.queue c) }
     {
         if self.down {
             return self.live;
@@ -62,13 +64,10 @@ impl Engine {
 
     /// Whether a turn would handle or finish an event. Takes no memory.
     pub fn has_turn(&self) -> bool
-        ensures up { (base : List (List ℕ × List ℕ)) (jobs : List JobValue) (c : List Entry) → Stands self.now base jobs c → result ≡ is_some (due.turn_event jobs (queue.queue c) c) }
-        ensures down { (jobs : List JobValue) (c : List Entry) → DownAt self.now jobs c → result ≡ is_some (due.turn_event jobs (queue.queue c) c) }
+        ensures up { (base : List (List ℕ × List ℕ)) (jobs : List JobValue) (c : List Entry) → Stands self.now base jobs c → result ≡ is_some (due.turn_event base jobs (queue.queue c) c) }
+        ensures down { (base : List (List ℕ × List ℕ)) (jobs : List JobValue) (c : List Entry) → DownAt self.now base jobs c → result ≡ is_some (due.turn_event base jobs (queue.queue c) c) }
     {
-        if self.down {
-            return self.turn;
-        }
-        turn_event(&self.book, self.table.as_slice()).is_some()
+        self.turn.is_some()
     }
 
     /// Takes one input, and answers what it asks for, in order. Refused with `NotExpected` for the answer or the end of a process
@@ -84,7 +83,6 @@ impl Engine {
             return Err(StepError::NotExpected);
         }
         self.live = self.book.live_events();
-        self.turn = turn_event(&self.book, self.table.as_slice()).is_some();
         self.down = true;
         run_step(
             self.alloc,
@@ -92,8 +90,10 @@ impl Engine {
             self.table.as_slice(),
             &mut self.book,
             given,
+            self.turn,
         )?;
         let found = outputs(self.alloc, self.table.as_slice(), self.book.records())?;
+        self.turn = turn_event(self.alloc, &self.base, &self.book, self.table.as_slice())?;
         self.down = false;
         Ok(found)
     }

@@ -17,6 +17,7 @@ mod run;
 mod settle;
 #[cfg(test)]
 mod tests;
+mod truth;
 mod turn;
 
 pub use engine::Engine;

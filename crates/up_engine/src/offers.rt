@@ -16,33 +16,30 @@ use crate::book::Book;
 use crate::events::start_env;
 use crate::goal::is_start;
 use crate::record::{Expression, Record};
+use crate::truth::{Verdict, verdict_of};
 use std::alloc::{AllocError, Global};
 use up_model::{Goal, JobDef};
 use up_text::{Env, Items, Text};
 
-// A list of one place.
-fn one(alloc: Global, place: usize) -> Result<Items<usize>, AllocError>
-    ensures { IfOk result (λ items. items ≡ place ∷ []) }
+fn copy_of(alloc: Global, places: &Items<usize>) -> Result<Items<usize>, AllocError>
+    ensures { IfOk result (λ copy. copy ≡ places.now) }
 {
-    let mut items = Vec::with_capacity(alloc, 1)?;
-    items.push(place)?;
-    Ok(Items::new(items))
+    Ok(Items::new(Vec::from_slice(alloc, places.as_slice())?))
 }
 
-// The goal becomes stop by the event at a place, where it is start.
+// The goal becomes stop by these events, where it is start.
 fn stop_by(
     alloc: Global,
     book: &mut Book,
     instance: usize,
-    place: usize,
+    holders: Items<usize>,
     goal: Goal,
 ) -> Result<(), AllocError>
-    ensures { OnOk result (book.new ≡ where_true (test.is_start goal) (entry.Aimed instance goal_stop [] (place ∷ []) ∷ entry.Released instance false ∷ []) ++ book.old) }
+    ensures { OnOk result (book.new ≡ where_true (test.is_start goal) (entry.Aimed instance goal_stop [] holders ∷ entry.Released instance false ∷ []) ++ book.old) }
 {
     if is_start(goal) {
         book.add(Record::Released(instance))?;
         let environment = Env::new(alloc);
-        let holders = one(alloc, place)?;
         let goal = Goal::Stop;
         book.add(Record::Aimed {
             instance,
@@ -57,37 +54,38 @@ fn stop_by(
 // Offers the event to an instance's `stop on`.
 fn offer_stop(
     alloc: Global,
+    base: &Env,
     book: &mut Book,
     job: &JobDef,
     instance: usize,
     event: usize,
 ) -> Result<(), AllocError>
-    ensures { OnOk result (book.new ≡ model.stop_offer job.now instance event book.old ++ book.old) }
+    ensures { OnOk result (book.new ≡ model.stop_offer base.now job.now instance event book.old ++ book.old) }
 {
     let goal = book.goal(instance);
     let expression = Expression::StopOn(instance);
     book.add(Record::Offered { expression, event })?;
-    match book.kept(expression, &job.stop_on) {
-        Some(place) => {
-            let taken = one(alloc, place)?;
-            book.add(Record::Fired { expression, taken })?;
-            stop_by(alloc, book, instance, place, goal)
-        }
-        None => Ok(()),
+    let Verdict { holds, taken } = verdict_of(alloc, base, book, expression, &job.stop_on)?;
+    if holds {
+        let holders = copy_of(alloc, &taken)?;
+        book.add(Record::Fired { expression, taken })?;
+        stop_by(alloc, book, instance, holders, goal)?;
     }
+    Ok(())
 }
 
 // Offers the event to the `stop on` of the job's instance, unless it was, or the event made the instance.
 #[tactic(auto, using(crate::proofs::OfferLemmas::stop_offer_in_one))]
 fn offer_stop_in(
     alloc: Global,
+    base: &Env,
     book: &mut Book,
     job: &JobDef,
     place: usize,
     event: usize,
 ) -> Result<bool, AllocError>
-    ensures entries { OnOk result (book.new ≡ model.stop_offer_in job.now (read.instances_of place book.old) event book.old ++ book.old) }
-    ensures any { IfOk result (λ offered. offered ≡ is_any (model.stop_offer_in job.now (read.instances_of place book.old) event book.old)) }
+    ensures entries { OnOk result (book.new ≡ model.stop_offer_in base.now job.now (read.instances_of place book.old) event book.old ++ book.old) }
+    ensures any { IfOk result (λ offered. offered ≡ is_any (model.stop_offer_in base.now job.now (read.instances_of place book.old) event book.old)) }
 {
     let Some(instance) = book.instance_of(place, "") else {
         return Ok(false);
@@ -95,29 +93,28 @@ fn offer_stop_in(
     if book.is_newborn(instance) || book.was_offered(Expression::StopOn(instance)) {
         return Ok(false);
     }
-    offer_stop(alloc, book, job, instance, event)?;
+    offer_stop(alloc, base, book, job, instance, event)?;
     Ok(true)
 }
 
-// The goal becomes start by the event at a place: of the instance, where its goal is stop, or of a new one.
+// The goal becomes start by these events: of the instance, where its goal is stop, or of a new one.
 fn start_by(
     alloc: Global,
     base: &Env,
     book: &mut Book,
     job: &JobDef,
     from: usize,
-    place: usize,
+    holders: Items<usize>,
     found: Option<usize>,
 ) -> Result<(), AllocError>
-    ensures { OnOk result (book.new ≡ model.start_by base.now job.now from (place ∷ []) found book.old ++ book.old) }
+    ensures { OnOk result (book.new ≡ model.start_by base.now job.now from holders found book.old ++ book.old) }
 {
     if let Some(instance) = found
         && is_start(book.goal(instance))
     {
         return Ok(());
     }
-    let environment = start_env(alloc, base, book, &[place], &job.name, "")?;
-    let holders = one(alloc, place)?;
+    let environment = start_env(alloc, base, book, holders.as_slice(), &job.name, "")?;
     let goal = Goal::Start;
     match found {
         Some(instance) => {
@@ -157,14 +154,13 @@ fn offer_start(
     let found = book.instance_of(from, "");
     let expression = Expression::StartOn(from);
     book.add(Record::Offered { expression, event })?;
-    match book.kept(expression, &job.start_on) {
-        Some(place) => {
-            let taken = one(alloc, place)?;
-            book.add(Record::Fired { expression, taken })?;
-            start_by(alloc, base, book, job, from, place, found)
-        }
-        None => Ok(()),
+    let Verdict { holds, taken } = verdict_of(alloc, base, book, expression, &job.start_on)?;
+    if holds {
+        let holders = copy_of(alloc, &taken)?;
+        book.add(Record::Fired { expression, taken })?;
+        start_by(alloc, base, book, job, from, holders, found)?;
     }
+    Ok(())
 }
 
 // Offers the event to the first expression of a job that it wasn't offered to.
@@ -180,7 +176,7 @@ fn offer_in(
     ensures entries { OnOk result (book.new ≡ offer_of_job base.now job.now from event book.old ++ book.old) }
     ensures any { IfOk result (λ offered. offered ≡ is_any (offer_of_job base.now job.now from event book.old)) }
 {
-    if offer_stop_in(alloc, book, job, from, event)? {
+    if offer_stop_in(alloc, base, book, job, from, event)? {
         return Ok(true);
     }
     if book.was_offered(Expression::StartOn(from)) {

@@ -1,3 +1,6 @@
+//! The worked rows, step by step.
+mod expressions;
+
 use crate::{Engine, StepError};
 use std::alloc::{AllocError, Global};
 use std::process::Abort;
@@ -10,7 +13,7 @@ use up_text::{Env, Items, Name, Text, TextFault};
 
 /// Why a row couldn't be tried: memory was refused, or its file or a name isn't readable.
 #[derive(Debug, Drop)]
-struct Untried;
+pub(crate) struct Untried;
 
 impl From<AllocError> for Untried {
     fn from(_: AllocError) -> Untried {
@@ -32,8 +35,9 @@ impl From<CompileError> for Untried {
 
 /// An input, as a row writes it. The processes are main of the job `a`.
 #[derive(Clone, Copy)]
-enum Given {
+pub(crate) enum Given {
     Emit(&'static str),
+    EmitWith(&'static str, &'static str, &'static str),
     Turn,
     Spawned(u32),
     Refused,
@@ -43,9 +47,9 @@ enum Given {
 }
 
 /// An input, the outputs that it gives, the live events then, and whether a turn would do something.
-type Row = (Given, &'static str, usize, bool);
+pub(crate) type Row = (Given, &'static str, usize, bool);
 
-const STARTING: &'static str = "starting JOB=a INSTANCE=; ";
+pub(crate) const STARTING: &'static str = "starting JOB=a INSTANCE=; ";
 
 const STARTED: &'static str = "started JOB=a INSTANCE=; ";
 
@@ -79,6 +83,12 @@ fn input(alloc: Global, given: Given) -> Result<Input, Untried> {
         Given::Emit(name) => {
             let name = Name::new(alloc, name)?;
             let vars = Env::new(alloc);
+            Ok(Input::Emit(Event { name, vars }))
+        }
+        Given::EmitWith(name, key, value) => {
+            let name = Name::new(alloc, name)?;
+            let mut vars = Env::new(alloc);
+            vars.set(alloc, key, value)?;
             Ok(Input::Emit(Event { name, vars }))
         }
         Given::Turn => Ok(Input::Turn),
@@ -198,7 +208,7 @@ fn table(alloc: Global, file: &str) -> Result<Table, Untried> {
     Ok(table)
 }
 
-fn check_rows(rt: &impl Abort, alloc: Global, file: &str, rows: &[Row]) -> Result<(), Untried> {
+pub(crate) fn check_rows(rt: &impl Abort, alloc: Global, file: &str, rows: &[Row]) -> Result<(), Untried> {
     let table = table(alloc, file)?;
     let mut engine = Engine::new(alloc, table, Env::new(alloc));
     for (i, (given, outputs, live, turn)) in rows.iter().enumerate() {

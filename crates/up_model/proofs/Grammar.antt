@@ -1,5 +1,5 @@
 -- A file gives a job where it defines it by the grammar.
-use Rattle.std.proofs.Common.{◌≡◌, ℕ, ◌-◌, Bool, true, false, ◌&&◌, List, [], ◌∷◌, ◌++◌, length, take, Option, Some, None, Result, Ok, Err, cond, refl, sym, ◌∙◌, ap, subst, find, option_map, option_and_then, codes, nat_eq, arith, length-append, ◌↔◌}
+use Rattle.std.proofs.Common.{◌≡◌, ℕ, zero, suc, ◌+◌, ◌<◌, ◌-◌, Bool, true, false, ◌&&◌, List, [], ◌∷◌, ◌++◌, length, take, Option, Some, None, Result, Ok, Err, cond, refl, sym, ◌∙◌, ap, subst, find, option_map, option_and_then, codes, nat_eq, arith, length-append, ◌↔◌}
 use Rattle.std.specs.List.{list_all, AllZip, filter_map, ends_with, Contains, Any}
 use Rattle.std.specs.Result.{result_ok, result_map_both}
 use Rattle.std.specs.Str.{bytes_eq}
@@ -7,141 +7,69 @@ use Rattle.std.proofs.lemmas.Bool.Decides.{Decides-eqb}
 use Rattle.std.proofs.lemmas.Slice.Eq.{bytes_eq-Decides, ends_is}
 use Rattle.std.proofs.Math.Seq.{take-append_seam}
 use Rattle.up_text.specs.Names.{is_name}
-use Rattle.up_text.specs.Lexemes.{Lexeme, Word, Bad, End, stanzas}
+use Rattle.up_text.specs.declared.token.Token.{Token}
+use Rattle.up_text.specs.Lexemes.{Word, lexeme_by, lexemes_of}
+use Rattle.up_text.specs.Places.{Place, Got, start, reading, line_at, is_finished}
+use Rattle.up_text.proofs.Lexemes.{lexemes_of-is, none_when_finished}
 use Rattle.up_model.specs.declared.files.file.File.{File}
 use Rattle.up_model.specs.declared.files.job.JobDef.{JobDef}
 use Rattle.up_model.specs.declared.files.stanza.Stanza.{Stanza}
 use Rattle.up_model.specs.declared.files.stanza.Stanza.TheVariants.{StartOn, StopOn, Exec}
-use Rattle.up_model.specs.Stanzas.{is_event, is_command_word, plain_texts, event_of, command_of, said_by, stanza_in, stanza_of, job_of}
-use Rattle.up_model.specs.Files.{is_text, is_unreadable, job_unless, job_from, job_in, fault_at, name_in, outcome_of, job_of_file, jobs_of}
+use Rattle.up_model.specs.Stanzas.{Found, Said, stanza_at, said_then, said_from, said_of, job_of}
+use Rattle.up_model.specs.Files.{is_text, job_unless, job_from, job_in, fault_at, name_in, outcome_of, job_of_file, jobs_of}
 use Rattle.up_model.specs.Order.{is_below}
 use Rattle.up_model.proofs.Members.{any_from_ordered, ordered_from_any}
-use Rattle.up_model.specs.Grammar.{words_of, may_stand, Spells, Writes, Defines}
+use Rattle.up_model.specs.Grammar.{Written, Stands, Defines}
+use Rattle.up_model.proofs.Reading.{said_finished, said_more}
+use Rattle.up_model.proofs.Standing.{Stands-stanza_at, stanza_at-Stands, stanza_less, stands_first}
 
-plain_texts-Spells : (lexemes : List Lexeme) (texts : List (List ℕ)) → Spells lexemes texts → plain_texts lexemes ≡ Some texts
-plain_texts-Spells [] [] spells = refl
-plain_texts-Spells [] (text ∷ texts) spells = absurd spells
-plain_texts-Spells (Word token ∷ lexemes) [] spells = absurd spells
-plain_texts-Spells (Word token ∷ lexemes) (text ∷ texts) spells = rw (spells.0, plain_texts-Spells lexemes texts spells.2, spells.1) refl
-plain_texts-Spells (Bad line fault ∷ lexemes) texts spells = absurd spells
-plain_texts-Spells (End ∷ lexemes) texts spells = absurd spells
-
-Spells-plain_texts : (lexemes : List Lexeme) (texts : List (List ℕ)) → plain_texts lexemes ≡ Some texts → Spells lexemes texts
-Spells-plain_texts [] [] e = tt
-Spells-plain_texts [] (text ∷ texts) e = absurd (cc)
-Spells-plain_texts (Bad line fault ∷ lexemes) texts e = absurd (cc)
-Spells-plain_texts (End ∷ lexemes) texts e = absurd (cc)
-Spells-plain_texts (Word token ∷ lexemes) texts e =
-    by_case token.plain (plain_texts lexemes) refl refl texts e (Spells-plain_texts lexemes)
+-- behind the end of a text nothing is read
+goes_on : (place next : Place) (token : Token) → reading place ≡ Got token next → is_finished place ≡ false
+goes_on place next token got = by_case (is_finished place) refl
   where
-    by_case : (plain : Bool) (others : Option (List (List ℕ))) → token.plain ≡ plain → plain_texts lexemes ≡ others → (texts : List (List ℕ)) → cond plain (option_map (λ us. token.text ∷ us) others) None ≡ Some texts
-        → ((us : List (List ℕ)) → plain_texts lexemes ≡ Some us → Spells lexemes us) → Spells (Word token ∷ lexemes) texts
-    by_case false others p q texts e ih = absurd (cc)
-    by_case true None p q texts e ih = absurd (cc)
-    by_case true (Some us) p q [] e ih = absurd (cc)
-    by_case true (Some us) p q (text ∷ texts) e ih =
-        let first : token.text ≡ text = cc in
-        let rest : us ≡ texts = cc in
-        (p, first, ih texts (q ∙ ap Some rest))
+    by_case : (finished : Bool) → is_finished place ≡ finished → is_finished place ≡ false
+    by_case true finished =
+        let some : lexemes_of place ≡ Word token ∷ lexemes_of next = lexemes_of-is place ∙ ap (lexeme_by (λ behind. lexemes_of behind) place) got in
+        let none = none_when_finished place finished in
+        cc
+    by_case false finished = finished
 
--- words that may stand say the stanza that they write
-stanza_in-words_of : (stanza : Stanza) → may_stand stanza ≡ true → stanza_in (words_of stanza) ≡ Some stanza
-stanza_in-words_of (StartOn name) may = rw may refl
-stanza_in-words_of (StopOn name) may = rw may refl
-stanza_in-words_of (Exec []) may = absurd (cc)
-stanza_in-words_of (Exec (word ∷ words)) may = rw may refl
+-- stanzas that are written are read
+said-Written : (place : Place) (said : List Stanza) → Written place said → said_of place ≡ (said, None)
+said-Written place [] finished = said_finished place finished
+said-Written place (stanza ∷ said) written =
+    let stands = written.1 in
+    let first = stands_first place stanza written.0 stands in
+    said_more place (Some (stanza, written.0)) (goes_on place first.1 first.0 first.2) (stanza_at-Stands place stanza written.0 stands)
+    ∙ ap (λ (others : Said). (stanza ∷ others.0, others.1)) (said-Written written.0 said written.2)
 
--- what the event of a stanza says of its words
-event_of-Some : (texts : List (List ℕ)) (name : List ℕ) → event_of texts ≡ Some name → (texts ≡ codes "on" ∷ name ∷ []) × (is_event name ≡ true)
-event_of-Some [] name e = absurd (cc)
-event_of-Some (on ∷ []) name e = absurd (cc)
-event_of-Some (on ∷ word ∷ other ∷ others) name e = absurd (cc)
-event_of-Some (on ∷ word ∷ []) name e = by_case (bytes_eq on (codes "on")) (is_event word) refl refl e
+-- and only these
+written_from : (n : ℕ) (place : Place) (said : List Stanza) → length place.rest < n → said_from n place ≡ (said, None) → Written place said
+unfolding said_from
+written_from zero place said few is = absurd (omega (arith, few))
+written_from (suc n) place said few is =
+    by_finished (is_finished place) refl is (λ behind others less is. written_from n behind others (omega (arith, less, few)) is)
   where
-    by_case : (a b : Bool) → bytes_eq on (codes "on") ≡ a → is_event word ≡ b → cond (a && b) (Some word) None ≡ Some name → (on ∷ word ∷ [] ≡ codes "on" ∷ name ∷ []) × (is_event name ≡ true)
-    by_case false b p q e = absurd (cc)
-    by_case true false p q e = absurd (cc)
-    by_case true true p q e =
-        let first : on ≡ codes "on" = (bytes_eq-Decides on (codes "on")).0 p in
-        let same : word ≡ name = cc in
-        (ap (λ t. t ∷ word ∷ []) first ∙ ap (λ w. codes "on" ∷ w ∷ []) same, sym (ap is_event same) ∙ q)
+    by_found : (found : Found Stanza) → stanza_at place ≡ found → said_then (λ behind. said_from n behind) (line_at place) found ≡ (said, None)
+        → ((behind : Place) (others : List Stanza) → length behind.rest < length place.rest → said_from n behind ≡ (others, None) → Written behind others) → Written place said
+    by_found None e is more =
+        let line : Some (line_at place) ≡ None = ap (λ (p : Said). p.1) is in
+        cc
+    by_found (Some found) e is more =
+        let others = said_from n found.1 in
+        let whole = ap (λ (p : Said). p.1) is in
+        let same = ap (λ (p : Said). p.0) is in
+        subst (Written place) same (found.1, Stands-stanza_at place found.0 found.1 e, more found.1 others.0 (stanza_less place found.0 found.1 e) (ap (λ none. (others.0, none)) whole))
 
-command_of-Some : (texts words : List (List ℕ)) → command_of texts ≡ Some words → (texts ≡ words) × (may_stand (Exec words) ≡ true)
-command_of-Some [] words e = absurd (cc)
-command_of-Some (text ∷ texts) words e = by_case (list_all is_command_word (text ∷ texts)) refl e
-  where
-    by_case : (b : Bool) → list_all is_command_word (text ∷ texts) ≡ b → cond b (Some (text ∷ texts)) None ≡ Some words → (text ∷ texts ≡ words) × (may_stand (Exec words) ≡ true)
-    by_case false p e = absurd (cc)
-    by_case true p e =
-        let same : text ∷ texts ≡ words = cc in
-        (same, subst (λ ws. may_stand (Exec ws) ≡ true) same p)
+    by_finished : (finished : Bool) → is_finished place ≡ finished → cond finished ([], None) (said_then (λ behind. said_from n behind) (line_at place) (stanza_at place)) ≡ (said, None)
+        → ((behind : Place) (others : List Stanza) → length behind.rest < length place.rest → said_from n behind ≡ (others, None) → Written behind others) → Written place said
+    by_finished true e is more =
+        subst (Written place) (ap (λ (p : Said). p.0) is) e
+    by_finished false e is more = by_found (stanza_at place) refl is more
 
--- what a value under a function is
-mapped : {X Y : Type 0} (f : X → Y) (o : Option X) (y : Y) → option_map f o ≡ Some y → (x : X) × (o ≡ Some x) × (f x ≡ y)
-mapped f None y e = absurd (cc)
-mapped f (Some x) y e = (x, refl, let same : f x ≡ y = cc in same)
-
--- what a stanza that words say has in it
-said_by-Some : (kind : List ℕ) (texts : List (List ℕ)) (stanza : Stanza) → said_by kind texts ≡ Some stanza → (kind ∷ texts ≡ words_of stanza) × (may_stand stanza ≡ true)
-said_by-Some kind texts stanza e = by_case (bytes_eq kind (codes "start")) (bytes_eq kind (codes "stop")) (bytes_eq kind (codes "exec")) refl refl refl e
-  where
-    by_case : (a b c : Bool) → bytes_eq kind (codes "start") ≡ a → bytes_eq kind (codes "stop") ≡ b → bytes_eq kind (codes "exec") ≡ c
-        → cond a (option_map StartOn (event_of texts)) (cond b (option_map StopOn (event_of texts)) (cond c (option_map Exec (command_of texts)) None)) ≡ Some stanza
-        → (kind ∷ texts ≡ words_of stanza) × (may_stand stanza ≡ true)
-    by_case true b c p q r e =
-        let m = mapped StartOn (event_of texts) stanza e in
-        let w = event_of-Some texts m.0 m.1 in
-        let first : kind ≡ codes "start" = (bytes_eq-Decides kind (codes "start")).0 p in
-        subst (λ s. (kind ∷ texts ≡ words_of s) × (may_stand s ≡ true)) m.2 (ap (λ k. k ∷ texts) first ∙ ap (λ ts. codes "start" ∷ ts) w.0, w.1)
-    by_case false true c p q r e =
-        let m = mapped StopOn (event_of texts) stanza e in
-        let w = event_of-Some texts m.0 m.1 in
-        let first : kind ≡ codes "stop" = (bytes_eq-Decides kind (codes "stop")).0 q in
-        subst (λ s. (kind ∷ texts ≡ words_of s) × (may_stand s ≡ true)) m.2 (ap (λ k. k ∷ texts) first ∙ ap (λ ts. codes "stop" ∷ ts) w.0, w.1)
-    by_case false false true p q r e =
-        let m = mapped Exec (command_of texts) stanza e in
-        let w = command_of-Some texts m.0 m.1 in
-        let first : kind ≡ codes "exec" = (bytes_eq-Decides kind (codes "exec")).0 r in
-        subst (λ s. (kind ∷ texts ≡ words_of s) × (may_stand s ≡ true)) m.2 (ap (λ k. k ∷ texts) first ∙ ap (λ ts. codes "exec" ∷ ts) w.0, w.1)
-    by_case false false false p q r e = absurd (cc)
-
-stanza_of-Writes : (lexemes : List Lexeme) (stanza : Stanza) → Writes lexemes stanza → stanza_of lexemes ≡ Some stanza
-stanza_of-Writes lexemes stanza writes =
-    ap (option_and_then stanza_in) (plain_texts-Spells lexemes (words_of stanza) writes.0) ∙ stanza_in-words_of stanza writes.1
-
-Writes-stanza_in : (lexemes : List Lexeme) (texts : List (List ℕ)) (stanza : Stanza) → Spells lexemes texts → stanza_in texts ≡ Some stanza → Writes lexemes stanza
-Writes-stanza_in lexemes [] stanza spells e = absurd (cc)
-Writes-stanza_in lexemes (kind ∷ texts) stanza spells e =
-    let w = said_by-Some kind texts stanza e in
-    (subst (Spells lexemes) w.0 spells, w.1)
-
-Writes-stanza_of : (lexemes : List Lexeme) (stanza : Stanza) → stanza_of lexemes ≡ Some stanza → Writes lexemes stanza
-Writes-stanza_of lexemes stanza e = by_case (plain_texts lexemes) refl e
-  where
-    by_case : (o : Option (List (List ℕ))) → plain_texts lexemes ≡ o → option_and_then stanza_in o ≡ Some stanza → Writes lexemes stanza
-    by_case None p e = absurd (cc)
-    by_case (Some texts) p e = Writes-stanza_in lexemes texts stanza (Spells-plain_texts lexemes texts p) e
-
--- stanzas that are written are readable, and say what they write
-readable : (all : List (List Lexeme)) (said : List Stanza) → AllZip Writes all said → (find is_unreadable all ≡ None) × (filter_map stanza_of all ≡ said)
-readable [] [] written = (refl, refl)
-readable [] (stanza ∷ said) written = absurd written
-readable (lexemes ∷ all) [] written = absurd written
-readable (lexemes ∷ all) (stanza ∷ said) written =
-    let first = stanza_of-Writes lexemes stanza written.0 in
-    let rest = readable all said written.1 in
-    (rw first rest.0, rw (first, rest.1) refl)
-
--- readable stanzas are written
-written_from : (all : List (List Lexeme)) → find is_unreadable all ≡ None → AllZip Writes all (filter_map stanza_of all)
-written_from [] none = tt
-written_from (lexemes ∷ all) none = by_case (stanza_of lexemes) refl (written_from all)
-  where
-    by_case : (o : Option Stanza) → stanza_of lexemes ≡ o → (find is_unreadable all ≡ None → AllZip Writes all (filter_map stanza_of all)) → AllZip Writes (lexemes ∷ all) (filter_map stanza_of (lexemes ∷ all))
-    by_case None p ih =
-        let clash : Some lexemes ≡ None = sym (rw p refl) ∙ none in
-        absurd (cc)
-    by_case (Some stanza) p ih = rw p (Writes-stanza_of lexemes stanza p, ih (rw p at none))
+Written-said : (place : Place) (said : List Stanza) → said_of place ≡ (said, None) → Written place said
+unfolding said_of
+Written-said place said is = written_from (length place.rest + 1) place said (omega arith) is
 
 -- the path of a job by its name
 name_in-path : (path name : List ℕ) → path ≡ name ++ codes ".conf" → name_in path ≡ Some name
@@ -162,13 +90,11 @@ path-name_in path name e = by_case (ends_with nat_eq path (codes ".conf")) refl 
         let front : take (length path - 5) path ≡ name = cc in
         is.0 p ∙ ap (λ n. n ++ codes ".conf") front
 
-job_from-written : (name : List ℕ) (all : List (List Lexeme)) (said : List Stanza) → AllZip Writes all said → job_from name all ≡ Ok (job_of name said)
+job_from-written : (name text : List ℕ) (said : List Stanza) → Written (start text) said → job_from name text ≡ Ok (job_of name said)
 unfolding job_from
-job_from-written name all said written =
-    let both = readable all said written in
-    rw (both.0, both.1) refl
+job_from-written name text said written = rw (said-Written (start text) said written) refl
 
-job_in-readable : (name bytes : List ℕ) → is_name name ≡ true → is_text bytes ≡ true → job_in name bytes ≡ job_from name (stanzas bytes)
+job_in-readable : (name bytes : List ℕ) → is_name name ≡ true → is_text bytes ≡ true → job_in name bytes ≡ job_from name bytes
 unfolding job_in
 job_in-readable name bytes named text = rw (named, text) refl
 
@@ -180,28 +106,27 @@ outcome_of-job file name job path read = rw (path, read) refl
 pub job_of_file-Defines : (file : File) (job : JobDef) → Defines file job → job_of_file file ≡ Some job
 job_of_file-Defines file job defines =
     let read : job_in job.name file.bytes ≡ Ok job =
-    job_in-readable job.name file.bytes defines.name defines.text ∙ job_from-written job.name (stanzas file.bytes) defines.said defines.written ∙ ap Ok (sym defines.meaning) in
+    job_in-readable job.name file.bytes defines.name defines.text ∙ job_from-written job.name file.bytes defines.said defines.written ∙ ap Ok (sym defines.meaning) in
     ap (option_and_then result_ok) (outcome_of-job file job.name job (name_in-path file.path job.name defines.path) read)
 
 defines_from : (file : File) (name : List ℕ) (job : JobDef) → name_in file.path ≡ Some name → job_in name file.bytes ≡ Ok job → Defines file job
 unfolding job_in job_from
 defines_from file name job path read =
-    by_case (is_name name) (is_text file.bytes) (find is_unreadable (stanzas file.bytes)) refl refl refl read
+    by_case (is_name name) (is_text file.bytes) (said_of (start file.bytes)).0 (said_of (start file.bytes)).1 refl refl refl read
   where
-    by_case : (a b : Bool) (o : Option (List Lexeme)) → is_name name ≡ a → is_text file.bytes ≡ b → find is_unreadable (stanzas file.bytes) ≡ o
-        → cond (a && b) (job_unless (job_of name (filter_map stanza_of (stanzas file.bytes))) o) (Err 1) ≡ Ok job → Defines file job
-    by_case false b o p q r e = absurd (cc)
-    by_case true false o p q r e = absurd (cc)
-    by_case true true (Some lexemes) p q r e = absurd (cc)
-    by_case true true None p q r e =
-        let said = filter_map stanza_of (stanzas file.bytes) in
+    by_case : (a b : Bool) (said : List Stanza) (line : Option ℕ) → is_name name ≡ a → is_text file.bytes ≡ b → said_of (start file.bytes) ≡ (said, line)
+        → cond (a && b) (job_unless (job_of name said) line) (Err 1) ≡ Ok job → Defines file job
+    by_case false b said line p q r e = cc
+    by_case true false said line p q r e = cc
+    by_case true true said (Some line) p q r e = cc
+    by_case true true said None p q r e =
         let is : job_of name said ≡ job = cc in
         let here : Defines file (job_of name said) = record {
           path = path-name_in file.path name path;
           name = p;
           text = q;
           said = said;
-          written = written_from (stanzas file.bytes) r;
+          written = Written-said (start file.bytes) said r;
           meaning = refl;
         } in
         subst (Defines file) is here

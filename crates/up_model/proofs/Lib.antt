@@ -10,6 +10,7 @@ pub mod QueueLaws
 pub mod Reading
 pub mod Settling
 pub mod Sparing
+pub mod Standing
 pub mod Stanzas
 pub mod Texts
 pub mod TurnLaws

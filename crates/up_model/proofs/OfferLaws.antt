@@ -6,7 +6,8 @@ use Rattle.up_model.specs.declared.state.Goal.TheVariants.{Start, Stop}
 use Rattle.up_model.specs.declared.files.job.JobDef.{JobDef}
 use Rattle.up_model.specs.Chronicle.{Entry, Offered, Fired, Aimed, Released, StartOn, StopOn}
 use Rattle.up_model.specs.Readings.{instance_of, goal, state_of, blocker}
-use Rattle.up_model.specs.Seen.{Sight, seen, holds, taken, was_offered}
+use Rattle.up_expr.specs.Truth.{Sight}
+use Rattle.up_model.specs.Seen.{seen, holds, taken, was_offered}
 use Rattle.up_model.specs.Events.{events_at, start_env}
 use Rattle.up_model.specs.Offers.{is_newborn, stop_by, stop_offer, start_by, start_offer}
 use Rattle.up_model.specs.Tests.{is_start}
@@ -40,8 +41,8 @@ pub record Lessens (offers : Bool) (job p : ℕ) (c es : List Entry) : Type 0 wh
   pub less : job_share offers job (es ++ c) < job_share offers job c
 
 -- the instance's `stop on` is offered
-pub stop_offer-offers : (job : JobDef) (at p event : ℕ) (c : List Entry) → OffersStop at p c (stop_offer job p event c)
-stop_offer-offers job at p event c =
+pub stop_offer-offers : (base : List (List ℕ × List ℕ)) (job : JobDef) (at p event : ℕ) (c : List Entry) → OffersStop at p c (stop_offer base job p event c)
+stop_offer-offers base job at p event c =
     either (OffersStop at p c) (holds job.stop_on sights) (stop_by p events c ++ Fired (StopOn p) events ∷ []) (Offered (StopOn p) event ∷ [])
     (either (λ es. OffersStop at p c (es ++ Offered (StopOn p) event ∷ [])) (is_start (goal p c)) (Aimed p Stop [] events ∷ Released p false ∷ []) (Fired (StopOn p) events ∷ [])
     (record { of = (refl, (tt, (tt, (refl, tt)))); still = refl; offered = rw (eq-eqb p p refl) refl; start = refl })
@@ -49,15 +50,15 @@ stop_offer-offers job at p event c =
     (record { of = (refl, tt); still = refl; offered = rw (eq-eqb p p refl) refl; start = refl })
   where
     sights : List Sight
-    sights = seen (StopOn p) (Offered (StopOn p) event ∷ c)
+    sights = seen base (StopOn p) (Offered (StopOn p) event ∷ c)
 
     events : List ℕ
     events = taken job.stop_on sights
 
 -- which leaves the job less to do
-pub stop_offer-lessens : (job : JobDef) (at p event : ℕ) (c : List Entry) → instance_of at [] c ≡ Some p → (is_newborn p c || was_offered (StopOn p) c) ≡ false
-    → Lessens true at p c (stop_offer job p event c)
-stop_offer-lessens job at p event c found left = record {
+pub stop_offer-lessens : (base : List (List ℕ × List ℕ)) (job : JobDef) (at p event : ℕ) (c : List Entry) → instance_of at [] c ≡ Some p → (is_newborn p c || was_offered (StopOn p) c) ≡ false
+    → Lessens true at p c (stop_offer base job p event c)
+stop_offer-lessens base job at p event c found left = record {
   of = offers.of;
   less = less _ _ _ _ (offer_share true (was_offered (StartOn at) c)) (moves-few (goal p d) (state_of p d) (is_some (blocker p d)))
       (job_share-some true at p d true (was_offered (StartOn at) c) (offers.still ∙ found) (ap (λ done. is_newborn p d || done) offers.offered ∙ or-true (is_newborn p d)) offers.start)
@@ -65,10 +66,10 @@ stop_offer-lessens job at p event c found left = record {
 }
   where
     d : List Entry
-    d = stop_offer job p event c ++ c
+    d = stop_offer base job p event c ++ c
 
-    offers : OffersStop at p c (stop_offer job p event c)
-    offers = stop_offer-offers job at p event c
+    offers : OffersStop at p c (stop_offer base job p event c)
+    offers = stop_offer-offers base job at p event c
 
     less : (m n j k y : ℕ) → j < 6 → m ≡ j + 0 + 0 + y → n ≡ k + 6 + 0 + y → m < n
     less m n j k y few now before = omega arith
@@ -85,7 +86,7 @@ start_offer-offers base job at p event c found =
     (record { of = (refl, tt); still = refl; newborn = refl; stop = refl; offered = rw (eq-eqb at at refl) refl }))
   where
     sights : List Sight
-    sights = seen (StartOn at) (Offered (StartOn at) event ∷ c)
+    sights = seen base (StartOn at) (Offered (StartOn at) event ∷ c)
 
     events : List ℕ
     events = taken job.start_on sights
@@ -159,7 +160,7 @@ start_offer-makes base job at event c none left =
     p = suc (suc (length c))
 
     sights : List Sight
-    sights = seen (StartOn at) (Offered (StartOn at) event ∷ c)
+    sights = seen base (StartOn at) (Offered (StartOn at) event ∷ c)
 
     events : List ℕ
     events = taken job.start_on sights

@@ -147,40 +147,40 @@ status-without_event_other event other (live ∷ lives) h = by_case (live.place 
     by_case false differs ih = ap (λ rest. if live.place == other then Some live.handled else rest) ih
 
 -- what holds of all events of the queue holds of a turn's
-pub turn_event-all : (P : Live → Type 0) (jobs : List JobDef) (lives : List Live) (c : List Entry) (live : Live) → AllByRecursion P lives
-    → turn_event jobs lives c ≡ Some live → P live
-turn_event-all P jobs [] c live h e = cc
-turn_event-all P jobs (first ∷ lives) c live h e = by_case (not first.handled || not (is_held jobs first.place c)) e (turn_event-all P jobs lives c live h.1)
+pub turn_event-all : (P : Live → Type 0) (base : List (List ℕ × List ℕ)) (jobs : List JobDef) (lives : List Live) (c : List Entry) (live : Live) → AllByRecursion P lives
+    → turn_event base jobs lives c ≡ Some live → P live
+turn_event-all P base jobs [] c live h e = cc
+turn_event-all P base jobs (first ∷ lives) c live h e = by_case (not first.handled || not (is_held base jobs first.place c)) e (turn_event-all P base jobs lives c live h.1)
   where
-    by_case : (b : Bool) → (if b then Some first else turn_event jobs lives c) ≡ Some live → (turn_event jobs lives c ≡ Some live → P live) → P live
+    by_case : (b : Bool) → (if b then Some first else turn_event base jobs lives c) ≡ Some live → (turn_event base jobs lives c ≡ Some live → P live) → P live
     by_case true e ih = let same : first ≡ live = cc in subst P same h.0
     by_case false e ih = ih e
 
 -- the event of a turn is in the queue
-pub turn_event-status : (n : ℕ) (jobs : List JobDef) (lives : List Live) (c : List Entry) (live : Live) → AreByAge lives n → turn_event jobs lives c ≡ Some live
+pub turn_event-status : (n : ℕ) (base : List (List ℕ × List ℕ)) (jobs : List JobDef) (lives : List Live) (c : List Entry) (live : Live) → AreByAge lives n → turn_event base jobs lives c ≡ Some live
     → status live.place lives ≡ Some live.handled
-turn_event-status n jobs [] c live h e = cc
-turn_event-status n jobs (first ∷ lives) c live h e = by_case (not first.handled || not (is_held jobs first.place c)) e (turn_event-status n jobs lives c live h.2)
+turn_event-status n base jobs [] c live h e = cc
+turn_event-status n base jobs (first ∷ lives) c live h e = by_case (not first.handled || not (is_held base jobs first.place c)) e (turn_event-status n base jobs lives c live h.2)
   where
-    by_case : (b : Bool) → (if b then Some first else turn_event jobs lives c) ≡ Some live
-        → (turn_event jobs lives c ≡ Some live → status live.place lives ≡ Some live.handled)
+    by_case : (b : Bool) → (if b then Some first else turn_event base jobs lives c) ≡ Some live
+        → (turn_event base jobs lives c ≡ Some live → status live.place lives ≡ Some live.handled)
         → (if first.place == live.place then Some first.handled else status live.place lives) ≡ Some live.handled
     by_case true e ih = let same : first ≡ live = cc in subst (λ it. (if first.place == it.place then Some first.handled else status it.place lives) ≡ Some it.handled) same (rw (eq-eqb first.place first.place refl) refl)
     by_case false e ih =
-        let younger : first.place < live.place = turn_event-all (λ other. first.place < other.place) jobs lives c live h.1 e in
+        let younger : first.place < live.place = turn_event-all (λ other. first.place < other.place) base jobs lives c live h.1 e in
         rw (ne_eqb first.place live.place (λ same. omega arith)) (ih e)
 
 -- and isn't held where it was handled
-pub turn_event-held : (jobs : List JobDef) (lives : List Live) (c : List Entry) (live : Live) → turn_event jobs lives c ≡ Some live → live.handled ≡ true
-    → is_held jobs live.place c ≡ false
-turn_event-held jobs [] c live e handled = cc
-turn_event-held jobs (first ∷ lives) c live e handled =
-    by_case first.handled (is_held jobs first.place c) refl refl e (λ rest. turn_event-held jobs lives c live rest handled)
+pub turn_event-held : (base : List (List ℕ × List ℕ)) (jobs : List JobDef) (lives : List Live) (c : List Entry) (live : Live) → turn_event base jobs lives c ≡ Some live → live.handled ≡ true
+    → is_held base jobs live.place c ≡ false
+turn_event-held base jobs [] c live e handled = cc
+turn_event-held base jobs (first ∷ lives) c live e handled =
+    by_case first.handled (is_held base jobs first.place c) refl refl e (λ rest. turn_event-held base jobs lives c live rest handled)
   where
-    by_case : (b held : Bool) → first.handled ≡ b → is_held jobs first.place c ≡ held → (if not b || not held then Some first else turn_event jobs lives c) ≡ Some live
-        → (turn_event jobs lives c ≡ Some live → is_held jobs live.place c ≡ false) → is_held jobs live.place c ≡ false
+    by_case : (b held : Bool) → first.handled ≡ b → is_held base jobs first.place c ≡ held → (if not b || not held then Some first else turn_event base jobs lives c) ≡ Some live
+        → (turn_event base jobs lives c ≡ Some live → is_held base jobs live.place c ≡ false) → is_held base jobs live.place c ≡ false
     by_case true true f g e ih = ih e
-    by_case true false f g e ih = let same : first ≡ live = cc in subst (λ it. is_held jobs it.place c ≡ false) same g
+    by_case true false f g e ih = let same : first ≡ live = cc in subst (λ it. is_held base jobs it.place c ≡ false) same g
     by_case false held f g e ih =
         let same : first ≡ live = cc in
         let unhandled : live.handled ≡ false = subst (λ it. it.handled ≡ false) same f in

@@ -86,4 +86,4 @@ settle_rests base jobs c = settle_rest (work jobs c) base jobs c (omega arith)
 -- nothing is due after an input
 pub after_rests : (base : List (List ℕ × List ℕ)) (jobs : List JobDef) (c : List Entry) (given : Input) → due base jobs (after base jobs c given) ≡ []
 unfolding after
-after_rests base jobs c given = settle_rests base jobs (effect jobs given c ++ c)
+after_rests base jobs c given = settle_rests base jobs (effect base jobs given c ++ c)

@@ -1,7 +1,7 @@
 -- What the stanzas of a job file make of a job, from the first one on.
 use Rattle.std.proofs.Common.{◌≡◌, ℕ, List, [], ◌∷◌, Some, None, refl, unwrap_or}
-use Rattle.up_text.specs.Lexemes.{Lexeme}
-use Rattle.up_model.specs.Stanzas.{last}
+use Rattle.up_text.specs.Places.{start}
+use Rattle.up_model.specs.Stanzas.{last, said_of}
 use Rattle.up_model.specs.Files.{job_from}
 use Rattle.up_model.specs.Reading.{last_or, job_with}
 
@@ -13,6 +13,6 @@ last_or-None : {X : Type 0} (xs : List X) → last_or None xs ≡ last xs
 last_or-None [] = refl
 last_or-None (x ∷ xs) = last_or-Some x xs
 
-pub job_with-empty : (name : List ℕ) (all : List (List Lexeme)) → job_with (record { name = name; start_on = None; stop_on = None; main = None }) all ≡ job_from name all
+pub job_with-empty : (name text : List ℕ) → job_with (record { name = name; start_on = None; stop_on = None; main = None }) (said_of (start text)) ≡ job_from name text
 unfolding job_from
-job_with-empty name all = simp last_or-None
+job_with-empty name text = simp last_or-None

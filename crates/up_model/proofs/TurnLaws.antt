@@ -116,13 +116,13 @@ finished-keeps event c here keeps = record {
         (rw (status-without_event event (queue c)) (rw (eq-eqb event event refl) (ap (λ n. 1 + n) now.1 ∙ sym now.0), le_of_eq now.0, λ later. absurd (omega arith)))
 
 -- so a turn leaves the counts fitting
-turned-keeps : (jobs : List JobDef) (c : List Entry) (found : Option Live) → turn_event jobs (queue c) c ≡ found → Keeps (Given input.Turn ∷ c)
+turned-keeps : (base : List (List ℕ × List ℕ)) (jobs : List JobDef) (c : List Entry) (found : Option Live) → turn_event base jobs (queue c) c ≡ found → Keeps (Given input.Turn ∷ c)
     → Keeps (turned found ++ Given input.Turn ∷ c)
-turned-keeps jobs c None found keeps = keeps
-turned-keeps jobs c (Some live) found keeps = by_case live.handled refl
+turned-keeps base jobs c None found keeps = keeps
+turned-keeps base jobs c (Some live) found keeps = by_case live.handled refl
   where
     here : status live.place (queue c) ≡ Some live.handled
-    here = turn_event-status (length c) jobs (queue c) c live (queue_by_age c) found
+    here = turn_event-status (length c) base jobs (queue c) c live (queue_by_age c) found
 
     by_case : (b : Bool) → live.handled ≡ b → Keeps ((if b then Finished live.place ∷ [] else Handled live.place ∷ []) ++ Given input.Turn ∷ c)
     by_case true handled = finished-keeps live.place (Given input.Turn ∷ c) (here ∙ ap (λ b. Some b) handled) keeps
@@ -168,22 +168,22 @@ ended-quiet None process c = tt
 ended-quiet (Some instance) process c = where_true-quiet (is_main process && is_running (state_of instance c)) (give_up instance c) (give_up-quiet instance c)
 
 -- the effect of an input leaves the counts fitting
-pub effect-keeps : (jobs : List JobDef) (given : Input) (c : List Entry) → Keeps c → Keeps (effect jobs given c ++ c)
+pub effect-keeps : (base : List (List ℕ × List ℕ)) (jobs : List JobDef) (given : Input) (c : List Entry) → Keeps c → Keeps (effect base jobs given c ++ c)
 unfolding effect
-effect-keeps jobs (input.Emit event) c keeps = quiets-keep (Queued Outside event ∷ Given (input.Emit event) ∷ []) c (tt, (tt, tt)) keeps
-effect-keeps jobs (input.Request id request) c keeps = quiets-keep (Replied (length c) (not_supported request.command) ∷ Given (input.Request id request) ∷ []) c (tt, (tt, tt)) keeps
-effect-keeps jobs (input.Spawned who process pid) c keeps = quiet-keeps (Given (input.Spawned who process pid)) c tt keeps
-effect-keeps jobs (input.Refused who process) c keeps =
+effect-keeps base jobs (input.Emit event) c keeps = quiets-keep (Queued Outside event ∷ Given (input.Emit event) ∷ []) c (tt, (tt, tt)) keeps
+effect-keeps base jobs (input.Request id request) c keeps = quiets-keep (Replied (length c) (not_supported request.command) ∷ Given (input.Request id request) ∷ []) c (tt, (tt, tt)) keeps
+effect-keeps base jobs (input.Spawned who process pid) c keeps = quiet-keeps (Given (input.Spawned who process pid)) c tt keeps
+effect-keeps base jobs (input.Refused who process) c keeps =
     rw append_assoc (quiets-keep (refused (instance_named jobs 0 who c) process c) (Given (input.Refused who process) ∷ c) (refused-quiet (instance_named jobs 0 who c) process c) (quiet-keeps (Given (input.Refused who process)) c tt keeps))
-effect-keeps jobs (input.Ended who process how) c keeps =
+effect-keeps base jobs (input.Ended who process how) c keeps =
     rw append_assoc (quiets-keep (ended (instance_named jobs 0 who c) process c) (Given (input.Ended who process how) ∷ c) (ended-quiet (instance_named jobs 0 who c) process c) (quiet-keeps (Given (input.Ended who process how)) c tt keeps))
-effect-keeps jobs (input.Clock reading) c keeps = quiet-keeps (Given (input.Clock reading)) c tt keeps
-effect-keeps jobs input.Turn c keeps = rw append_assoc (turned-keeps jobs c (turn_event jobs (queue c) c) refl (quiet-keeps (Given input.Turn) c tt keeps))
+effect-keeps base jobs (input.Clock reading) c keeps = quiet-keeps (Given (input.Clock reading)) c tt keeps
+effect-keeps base jobs input.Turn c keeps = rw append_assoc (turned-keeps base jobs c (turn_event base jobs (queue c) c) refl (quiet-keeps (Given input.Turn) c tt keeps))
 
 -- so does an input
 pub after-keeps : (base : List (List ℕ × List ℕ)) (jobs : List JobDef) (c : List Entry) (given : Input) → Keeps c → Keeps (after base jobs c given)
 unfolding after
-after-keeps base jobs c given keeps = settle-keeps (work jobs (effect jobs given c ++ c)) base jobs (effect jobs given c ++ c) (effect-keeps jobs given c keeps)
+after-keeps base jobs c given keeps = settle-keeps (work jobs (effect base jobs given c ++ c)) base jobs (effect base jobs given c ++ c) (effect-keeps base jobs given c keeps)
 
 -- also where it may not be expected
 pub next-keeps : (base : List (List ℕ × List ℕ)) (jobs : List JobDef) (c : List Entry) (given : Input) → Keeps c → Keeps (next base jobs c given)
@@ -243,27 +243,27 @@ quiet-finishes : (es rest : List Entry) (event : ℕ) → AllByRecursion IsQuiet
 quiet-finishes es rest event quiet e = (subst (AllByRecursion IsQuiet) e quiet).0
 
 -- a turn finishes none that is held
-turned-finishes : (jobs : List JobDef) (c rest : List Entry) (event : ℕ) (found : Option Live) → turn_event jobs (queue c) c ≡ found
-    → turned found ++ Given input.Turn ∷ [] ≡ Finished event ∷ rest → is_held jobs event c ≡ false
-turned-finishes jobs c rest event None found e = cc
-turned-finishes jobs c rest event (Some live) found e = by_case live.handled refl e
+turned-finishes : (base : List (List ℕ × List ℕ)) (jobs : List JobDef) (c rest : List Entry) (event : ℕ) (found : Option Live) → turn_event base jobs (queue c) c ≡ found
+    → turned found ++ Given input.Turn ∷ [] ≡ Finished event ∷ rest → is_held base jobs event c ≡ false
+turned-finishes base jobs c rest event None found e = cc
+turned-finishes base jobs c rest event (Some live) found e = by_case live.handled refl e
   where
     by_case : (b : Bool) → live.handled ≡ b → (if b then Finished live.place ∷ [] else Handled live.place ∷ []) ++ Given input.Turn ∷ [] ≡ Finished event ∷ rest
-        → is_held jobs event c ≡ false
+        → is_held base jobs event c ≡ false
     by_case true handled e =
         let same : live.place ≡ event = cc in
-        subst (λ it. is_held jobs it c ≡ false) same (turn_event-held jobs (queue c) c live found handled)
+        subst (λ it. is_held base jobs it c ≡ false) same (turn_event-held base jobs (queue c) c live found handled)
     by_case false handled e = cc
 
 -- and no other input finishes one
-pub effect_finishes : (jobs : List JobDef) (given : Input) (c rest : List Entry) (event : ℕ) → effect jobs given c ≡ Finished event ∷ rest → is_held jobs event c ≡ false
+pub effect_finishes : (base : List (List ℕ × List ℕ)) (jobs : List JobDef) (given : Input) (c rest : List Entry) (event : ℕ) → effect base jobs given c ≡ Finished event ∷ rest → is_held base jobs event c ≡ false
 unfolding effect
-effect_finishes jobs (input.Emit it) c rest event e = absurd (quiet-finishes _ rest event (tt, (tt, tt)) e)
-effect_finishes jobs (input.Request id request) c rest event e = absurd (quiet-finishes _ rest event (tt, (tt, tt)) e)
-effect_finishes jobs (input.Spawned who process pid) c rest event e = absurd (quiet-finishes _ rest event (tt, tt) e)
-effect_finishes jobs (input.Refused who process) c rest event e =
+effect_finishes base jobs (input.Emit it) c rest event e = absurd (quiet-finishes _ rest event (tt, (tt, tt)) e)
+effect_finishes base jobs (input.Request id request) c rest event e = absurd (quiet-finishes _ rest event (tt, (tt, tt)) e)
+effect_finishes base jobs (input.Spawned who process pid) c rest event e = absurd (quiet-finishes _ rest event (tt, tt) e)
+effect_finishes base jobs (input.Refused who process) c rest event e =
     absurd (quiet-finishes _ rest event (quiets-append (refused (instance_named jobs 0 who c) process c) (Given (input.Refused who process) ∷ []) (refused-quiet (instance_named jobs 0 who c) process c) (tt, tt)) e)
-effect_finishes jobs (input.Ended who process how) c rest event e =
+effect_finishes base jobs (input.Ended who process how) c rest event e =
     absurd (quiet-finishes _ rest event (quiets-append (ended (instance_named jobs 0 who c) process c) (Given (input.Ended who process how) ∷ []) (ended-quiet (instance_named jobs 0 who c) process c) (tt, tt)) e)
-effect_finishes jobs (input.Clock reading) c rest event e = absurd (quiet-finishes _ rest event (tt, tt) e)
-effect_finishes jobs input.Turn c rest event e = turned-finishes jobs c rest event (turn_event jobs (queue c) c) refl e
+effect_finishes base jobs (input.Clock reading) c rest event e = absurd (quiet-finishes _ rest event (tt, tt) e)
+effect_finishes base jobs input.Turn c rest event e = turned-finishes base jobs c rest event (turn_event base jobs (queue c) c) refl e

@@ -138,13 +138,13 @@ not-false true h = cc
 not-false false h = refl
 
 -- an offer to a `stop on` lowers the work
-stop_offer_in-lowers : (job : JobDef) (jobs : List JobDef) (from event : ℕ) (c : List Entry) (o : Option ℕ) → instance_of from [] c ≡ o
-    → (stop_offer_in job (instance_at [] o) event c ≡ []) ⊎ Lowers true (job ∷ jobs) from c (stop_offer_in job (instance_at [] o) event c)
-stop_offer_in-lowers job jobs from event c None found = inl refl
-stop_offer_in-lowers job jobs from event c (Some p) found =
-    or_else-either (Lowers true (job ∷ jobs) from c) (where_true (not (is_newborn p c || was_offered (StopOn p) c)) (stop_offer job p event c)) []
-    (where_true-either (Lowers true (job ∷ jobs) from c) (not (is_newborn p c || was_offered (StopOn p) c)) (stop_offer job p event c)
-    (λ left. lowers-here true job jobs from p c _ (apart from p c found) (stop_offer-lessens job from p event c found (not-false _ left))))
+stop_offer_in-lowers : (base : List (List ℕ × List ℕ)) (job : JobDef) (jobs : List JobDef) (from event : ℕ) (c : List Entry) (o : Option ℕ) → instance_of from [] c ≡ o
+    → (stop_offer_in base job (instance_at [] o) event c ≡ []) ⊎ Lowers true (job ∷ jobs) from c (stop_offer_in base job (instance_at [] o) event c)
+stop_offer_in-lowers base job jobs from event c None found = inl refl
+stop_offer_in-lowers base job jobs from event c (Some p) found =
+    or_else-either (Lowers true (job ∷ jobs) from c) (where_true (not (is_newborn p c || was_offered (StopOn p) c)) (stop_offer base job p event c)) []
+    (where_true-either (Lowers true (job ∷ jobs) from c) (not (is_newborn p c || was_offered (StopOn p) c)) (stop_offer base job p event c)
+    (λ left. lowers-here true job jobs from p c _ (apart from p c found) (stop_offer-lessens base job from p event c found (not-false _ left))))
     (inl refl)
 
 -- an offer to a `start on` does
@@ -163,8 +163,8 @@ offer_from-lowers : (base : List (List ℕ × List ℕ)) (jobs : List JobDef) (f
     → (offer_from base jobs from event c ≡ []) ⊎ Lowers true jobs from c (offer_from base jobs from event c)
 offer_from-lowers base [] from event c = inl refl
 offer_from-lowers base (job ∷ jobs) from event c =
-    or_else-either (Lowers true (job ∷ jobs) from c) (stop_offer_in job (instances_of from c) event c) _
-    (stop_offer_in-lowers job jobs from event c (instance_of from [] c) refl)
+    or_else-either (Lowers true (job ∷ jobs) from c) (stop_offer_in base job (instances_of from c) event c) _
+    (stop_offer_in-lowers base job jobs from event c (instance_of from [] c) refl)
     (or_else-either (Lowers true (job ∷ jobs) from c) (where_true (not (was_offered (StartOn from) c)) (start_offer base job from event c)) (offer_from base jobs (from + 1) event c)
     (where_true-either (Lowers true (job ∷ jobs) from c) (not (was_offered (StartOn from) c)) (start_offer base job from event c)
     (λ left. start_offer-lowers base job jobs from event c (instance_of from [] c) refl (not-false _ left)))

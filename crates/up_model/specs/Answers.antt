@@ -15,7 +15,7 @@ use Rattle.up_model.specs.Outputs.{gave}
 
 -- the chronicle after an input: its effect, and then what is due until nothing is
 unfoldable pub after : List (List ℕ × List ℕ) → List JobDef → List Entry → Input → List Entry
-after base jobs c given = let d = effect jobs given c ++ c in settle (work jobs d) base jobs d
+after base jobs c given = let d = effect base jobs given c ++ c in settle (work jobs d) base jobs d
 
 -- whether an instance awaits the answer for a process
 abbrev pub awaits : Option ℕ → Who → Process → List Entry → Bool

@@ -48,9 +48,9 @@ ended None process c = []
 ended (Some instance) process c = where_true (is_main process && is_running (state_of instance c)) (give_up instance c)
 
 -- the event of a turn: the oldest that is unhandled, or handled and not held
-abbrev pub turn_event : List JobDef → List Live → List Entry → Option Live
-turn_event jobs [] c = None
-turn_event jobs (live ∷ lives) c = if not live.handled || not (is_held jobs live.place c) then Some live else turn_event jobs lives c
+abbrev pub turn_event : List (List ℕ × List ℕ) → List JobDef → List Live → List Entry → Option Live
+turn_event base jobs [] c = None
+turn_event base jobs (live ∷ lives) c = if not live.handled || not (is_held base jobs live.place c) then Some live else turn_event base jobs lives c
 
 -- an unhandled event is handled, a handled one finishes
 abbrev pub turned : Option Live → List Entry
@@ -58,11 +58,11 @@ turned None = []
 turned (Some live) = if live.handled then Finished live.place ∷ [] else Handled live.place ∷ []
 
 -- the effect of an input, in front of the input itself
-unfoldable pub effect : List JobDef → Input → List Entry → List Entry
-effect jobs (input.Emit event) c = Queued Outside event ∷ Given (input.Emit event) ∷ []
-effect jobs (input.Request id request) c = Replied (length c) (not_supported request.command) ∷ Given (input.Request id request) ∷ []
-effect jobs (input.Spawned who process pid) c = Given (input.Spawned who process pid) ∷ []
-effect jobs (input.Refused who process) c = refused (instance_named jobs 0 who c) process c ++ Given (input.Refused who process) ∷ []
-effect jobs (input.Ended who process how) c = ended (instance_named jobs 0 who c) process c ++ Given (input.Ended who process how) ∷ []
-effect jobs (input.Clock reading) c = Given (input.Clock reading) ∷ []
-effect jobs input.Turn c = turned (turn_event jobs (queue c) c) ++ Given input.Turn ∷ []
+unfoldable pub effect : List (List ℕ × List ℕ) → List JobDef → Input → List Entry → List Entry
+effect base jobs (input.Emit event) c = Queued Outside event ∷ Given (input.Emit event) ∷ []
+effect base jobs (input.Request id request) c = Replied (length c) (not_supported request.command) ∷ Given (input.Request id request) ∷ []
+effect base jobs (input.Spawned who process pid) c = Given (input.Spawned who process pid) ∷ []
+effect base jobs (input.Refused who process) c = refused (instance_named jobs 0 who c) process c ++ Given (input.Refused who process) ∷ []
+effect base jobs (input.Ended who process how) c = ended (instance_named jobs 0 who c) process c ++ Given (input.Ended who process how) ∷ []
+effect base jobs (input.Clock reading) c = Given (input.Clock reading) ∷ []
+effect base jobs input.Turn c = turned (turn_event base jobs (queue c) c) ++ Given input.Turn ∷ []

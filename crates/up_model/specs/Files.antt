@@ -1,10 +1,10 @@
 -- What the files of a folder say (init(5)).
-use Rattle.std.specs.Prelude.{◌≡◌, ℕ, ◌-◌, Bool, true, false, ◌==◌, nat_eq, nat_le, ◌&&◌, ◌||◌, not, if◌then◌else◌, List, [], ◌∷◌, length, take, map, filter, Option, None, Some, option_map, option_and_then, is_none, Result, Ok, Err, codes}
-use Rattle.std.specs.List.{list_any, find, filter_map, ends_with}
+use Rattle.std.specs.Prelude.{◌≡◌, ℕ, ◌-◌, Bool, true, false, ◌==◌, nat_eq, nat_le, ◌&&◌, ◌||◌, not, if◌then◌else◌, List, [], ◌∷◌, length, take, map, filter, Option, None, Some, option_map, option_and_then, Result, Ok, Err, codes}
+use Rattle.std.specs.List.{list_any, filter_map, ends_with}
 use Rattle.std.specs.Result.{result_ok, result_err, result_map_both}
 use Rattle.std.specs.Str.{bytes_eq, is_utf8}
 use Rattle.up_text.specs.Names.{is_name}
-use Rattle.up_text.specs.Lexemes.{Lexeme, stanzas}
+use Rattle.up_text.specs.Places.{start}
 use Rattle.up_model.specs.declared.files.file.File.{File}
 use Rattle.up_model.specs.declared.files.job.JobDef.{JobDef}
 use Rattle.up_model.specs.declared.files.fault.Fault.{Fault}
@@ -12,7 +12,7 @@ use Rattle.up_model.specs.declared.files.fault.FaultCode.TheVariants.{UnknownSta
 use Rattle.up_model.specs.declared.files.refusal.CompileError.{CompileError}
 use Rattle.up_model.specs.declared.files.refusal.CompileError.TheVariants.{TooManyJobs, SameName, Memory}
 use Rattle.up_model.specs.Order.{in_order}
-use Rattle.up_model.specs.Stanzas.{stanza_of, stanza_line, job_of}
+use Rattle.up_model.specs.Stanzas.{said_of, job_of}
 
 -- the name of the job that a path stands for: the path without `.conf`
 abbrev pub name_in : List ℕ → Option (List ℕ)
@@ -22,22 +22,18 @@ name_in path = if ends_with nat_eq path (codes ".conf") then Some (take (length 
 unfoldable pub is_text : List ℕ → Bool
 is_text bytes = nat_le (length bytes) 1048576 && not (list_any (λ byte. byte == 0) bytes) && is_utf8 bytes
 
--- a stanza that says nothing
-abbrev pub is_unreadable : List Lexeme → Bool
-is_unreadable lexemes = is_none (stanza_of lexemes)
-
 -- the job, but at an unreadable stanza its line
-abbrev pub job_unless : JobDef → Option (List Lexeme) → Result JobDef ℕ
+abbrev pub job_unless : JobDef → Option ℕ → Result JobDef ℕ
 job_unless job None = Ok job
-job_unless job (Some lexemes) = Err (stanza_line lexemes)
+job_unless job (Some line) = Err line
 
--- the job that stanzas define, or the line of the first unreadable one
-unfoldable pub job_from : List ℕ → List (List Lexeme) → Result JobDef ℕ
-job_from name all = job_unless (job_of name (filter_map stanza_of all)) (find is_unreadable all)
+-- the job that a text's stanzas define, or the line of the first unreadable one
+unfoldable pub job_from : List ℕ → List ℕ → Result JobDef ℕ
+job_from name text = let said = said_of (start text) in job_unless (job_of name said.0) said.1
 
 -- the job of this name that the bytes of its file define, or the line of the fault
 unfoldable pub job_in : List ℕ → List ℕ → Result JobDef ℕ
-job_in name bytes = if is_name name && is_text bytes then job_from name (stanzas bytes) else Err 1
+job_in name bytes = if is_name name && is_text bytes then job_from name bytes else Err 1
 
 -- a fault at this line of a file
 abbrev pub fault_at : List ℕ → ℕ → Fault

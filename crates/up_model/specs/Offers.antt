@@ -22,18 +22,18 @@ abbrev pub stop_by : ℕ → List ℕ → List Entry → List Entry
 stop_by instance events c = where_true (is_start (goal instance c)) (Aimed instance Stop [] events ∷ Released instance false ∷ [])
 
 -- an instance's `stop on` is offered the event, and fires if it is true then
-abbrev pub stop_offer : JobDef → ℕ → ℕ → List Entry → List Entry
-stop_offer job instance event c =
-    let sights = seen (StopOn instance) (Offered (StopOn instance) event ∷ c) in
+abbrev pub stop_offer : List (List ℕ × List ℕ) → JobDef → ℕ → ℕ → List Entry → List Entry
+stop_offer base job instance event c =
+    let sights = seen base (StopOn instance) (Offered (StopOn instance) event ∷ c) in
     where_true (holds job.stop_on sights) (stop_by instance (taken job.stop_on sights) c ++ Fired (StopOn instance) (taken job.stop_on sights) ∷ []) ++ Offered (StopOn instance) event ∷ []
 
 -- the event is offered to the `stop on` of the first of a job's instances that it wasn't offered to; an instance that it made isn't
 -- offered it
-abbrev pub stop_offer_in : JobDef → List Instance → ℕ → List Entry → List Entry
-stop_offer_in job [] event c = []
-stop_offer_in job (instance ∷ instances) event c =
-    or_else (where_true (not (is_newborn instance.place c || was_offered (StopOn instance.place) c)) (stop_offer job instance.place event c))
-    (stop_offer_in job instances event c)
+abbrev pub stop_offer_in : List (List ℕ × List ℕ) → JobDef → List Instance → ℕ → List Entry → List Entry
+stop_offer_in base job [] event c = []
+stop_offer_in base job (instance ∷ instances) event c =
+    or_else (where_true (not (is_newborn instance.place c || was_offered (StopOn instance.place) c)) (stop_offer base job instance.place event c))
+    (stop_offer_in base job instances event c)
 
 -- the goal becomes start, by events that the job's expression took: of the instance with the empty name where its goal is stop,
 -- or of a new one
@@ -47,7 +47,7 @@ start_by base job from events (Some instance) c =
 abbrev pub start_offer : List (List ℕ × List ℕ) → JobDef → ℕ → ℕ → List Entry → List Entry
 start_offer base job from event c =
     let offered = Offered (StartOn from) event ∷ c in
-    let sights = seen (StartOn from) offered in
+    let sights = seen base (StartOn from) offered in
     let fired = Fired (StartOn from) (taken job.start_on sights) ∷ offered in
     where_true (holds job.start_on sights) (start_by base job from (taken job.start_on sights) (instance_of from [] c) fired ++ Fired (StartOn from) (taken job.start_on sights) ∷ []) ++ Offered (StartOn from) event ∷ []
 
@@ -56,7 +56,7 @@ start_offer base job from event c =
 abbrev pub offer_from : List (List ℕ × List ℕ) → List JobDef → ℕ → ℕ → List Entry → List Entry
 offer_from base [] from event c = []
 offer_from base (job ∷ jobs) from event c =
-    or_else (stop_offer_in job (instances_of from c) event c)
+    or_else (stop_offer_in base job (instances_of from c) event c)
     (or_else (where_true (not (was_offered (StartOn from) c)) (start_offer base job from event c))
     (offer_from base jobs (from + 1) event c))
 

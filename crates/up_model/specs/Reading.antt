@@ -1,48 +1,43 @@
--- How a reader goes on in the lexemes of a text.
-use Rattle.std.specs.Prelude.{◌≡◌, ℕ, if◌then◌else◌, MatchBool, List, [], ◌∷◌, Option, None, Some, option_map, Result}
-use Rattle.std.specs.List.{filter_map, find}
-use Rattle.up_text.specs.Lexemes.{Lexeme, Word, Bad, End}
+-- How a reader goes on from a place in a text.
+use Rattle.std.specs.Prelude.{◌≡◌, ℕ, List, [], ◌∷◌, ◌++◌, Bool, true, false, Option, None, Some, Result, codes}
+use Rattle.std.specs.List.{filter_map}
+use Rattle.std.specs.Str.{bytes_eq}
+use Rattle.up_text.specs.declared.fault.TextFault.{TextFault}
+use Rattle.up_text.specs.declared.token.Token.{Token}
+use Rattle.up_text.specs.Places.{Place, Reading, Got, Ended, Fails, reading}
+use Rattle.up_model.specs.declared.files.row.Next.{Next}
+use Rattle.up_model.specs.declared.files.row.Next.TheVariants as next
 use Rattle.up_model.specs.declared.files.job.JobDef.{JobDef}
 use Rattle.up_model.specs.declared.files.stanza.Stanza.{Stanza}
 use Rattle.up_model.specs.declared.files.stanza.Stanza.TheVariants.{StartOn, StopOn, Exec}
-use Rattle.up_model.specs.Stanzas.{start_of, stop_of, exec_of, stanza_of}
-use Rattle.up_model.specs.Files.{job_unless, is_unreadable}
-use Rattle.up_model.specs.declared.files.words.Next.{Next}
-use Rattle.up_model.specs.declared.files.words.Next.TheVariants as next
+use Rattle.up_model.specs.Files.{job_unless}
+use Rattle.up_model.specs.Stanzas.{Found, Said, expression_by, start_of, stop_of, exec_of}
 
--- what a lexer that has these lexemes left gives next, and what it has left then
-abbrev pub Continues : List Lexeme → List Lexeme → Next → Type 0
-Continues [] new step = (step ≡ next.End) × (new ≡ [])
-Continues (End ∷ later) new step = (step ≡ next.End) × (new ≡ later)
-Continues (Bad line fault ∷ later) new step = step ≡ next.Other
-Continues (Word token ∷ later) new step =
-    MatchBool token.plain ((step ≡ next.Word token.text) × (new ≡ later)) (step ≡ next.Other)
+-- what the next call of a lexer gives, and where it stands then
+abbrev pub Continues : Place → Place → Next → Type 0
+Continues old new (next.Token token) = reading old ≡ Got token new
+Continues old new next.End = reading old ≡ Ended new
+Continues old new next.Refused = (fault : TextFault) × (reading old ≡ Fails fault)
 
--- the texts up to the end in front, where each lexeme there is a plain token
-abbrev pub front_texts : List Lexeme → Option (List (List ℕ))
-front_texts [] = Some []
-front_texts (End ∷ later) = Some []
-front_texts (Bad line fault ∷ later) = None
-front_texts (Word token ∷ later) = if token.plain then option_map (λ texts. token.text ∷ texts) (front_texts later) else None
+-- a part of a stanza is read as it is found
+abbrev pub IsFound : {X : Type 0} → Found X → Option X → Place → Type 0
+IsFound found None new = found ≡ None
+IsFound found (Some x) new = found ≡ Some (x, new)
 
--- the lexemes behind the end in front
-abbrev pub after_end : List Lexeme → List Lexeme
-after_end [] = []
-after_end (End ∷ later) = later
-after_end (Bad line fault ∷ later) = after_end later
-after_end (Word token ∷ later) = after_end later
+-- whether the token `on` is read, and the place behind it
+abbrev pub HasOn : Reading → Bool → Place → Type 0
+HasOn read true new = (token : Token) × (read ≡ Got token new) × (bytes_eq token.text (codes "on") ≡ true)
+HasOn read false new = expression_by read ≡ None
 
--- the lexemes before the end in front
-abbrev pub front : List Lexeme → List Lexeme
-front [] = []
-front (End ∷ later) = []
-front (Bad line fault ∷ later) = Bad line fault ∷ front later
-front (Word token ∷ later) = Word token ∷ front later
+-- items that were read, and those behind them
+abbrev pub put_before : {X : Type 0} → List X → Found (List X) → Found (List X)
+put_before xs None = None
+put_before xs (Some row) = Some (xs ++ row.0, row.1)
 
 -- the job after a stanza
 abbrev pub applied : JobDef → Stanza → JobDef
-applied job (StartOn name) = record job { start_on = Some name }
-applied job (StopOn name) = record job { stop_on = Some name }
+applied job (StartOn tree) = record job { start_on = Some tree }
+applied job (StopOn tree) = record job { stop_on = Some tree }
 applied job (Exec words) = record job { main = Some words }
 
 -- the last of these, or else the first argument
@@ -60,5 +55,5 @@ job_after job stanzas = record {
 }
 
 -- the job after all of these stanzas, or the line of the first unreadable one
-abbrev pub job_with : JobDef → List (List Lexeme) → Result JobDef ℕ
-job_with job all = job_unless (job_after job (filter_map stanza_of all)) (find is_unreadable all)
+abbrev pub job_with : JobDef → Said → Result JobDef ℕ
+job_with job said = job_unless (job_after job said.0) said.1

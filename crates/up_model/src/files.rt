@@ -15,12 +15,12 @@ mod order;
 mod reader;
 pub mod refusal;
 pub mod report;
+mod row;
 pub mod stanza;
 pub mod table;
 #[cfg(test)]
 mod tests;
 mod twice;
-mod words;
 
 pub use fault::{Fault, FaultCode};
 pub use file::File;

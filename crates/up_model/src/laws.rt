@@ -43,5 +43,5 @@ pub fn orderly()
 /// An event that is held doesn't finish: a step that finishes one does so where nothing held it.
 #[tactic(auto, using(crate::proofs::TurnLaws::effect_finishes))]
 pub fn blocked()
-    ensures { (jobs : List JobDef) (given : Input) (c rest : List Entry) (event : ℕ) → effect jobs given c ≡ Finished event ∷ rest → is_held jobs event c ≡ false }
+    ensures { (base : List (List ℕ × List ℕ)) (jobs : List JobDef) (given : Input) (c rest : List Entry) (event : ℕ) → effect base jobs given c ≡ Finished event ∷ rest → is_held base jobs event c ≡ false }
 {}

@@ -116,12 +116,12 @@ two_at_most : (b : Bool) → (if b then 2 else 1) ≤ 2
 two_at_most true = omega arith
 two_at_most false = omega arith
 
-one_at_least : (b : Bool) → 1 ≤ (if b then 2 else 1)
+pub one_at_least : (b : Bool) → 1 ≤ (if b then 2 else 1)
 one_at_least true = omega arith
 one_at_least false = omega arith
 
 -- what is left behind a token, and behind a stanza
-left_got : (place : Place) (token : Token) (behind : Place) → reading place ≡ Got token behind → readings_left behind < readings_left place
+pub left_got : (place : Place) (token : Token) (behind : Place) → reading place ≡ Got token behind → readings_left behind < readings_left place
 left_got place token behind got = omega (arith, reading_less place token behind got, two_at_most behind.inside, one_at_least place.inside)
 
 left_ended : (place behind : Place) → place.inside ≡ true → reading place ≡ Ended behind → readings_left behind < readings_left place

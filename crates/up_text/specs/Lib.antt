@@ -11,5 +11,6 @@ pub mod Names
 pub mod Pattern
 pub mod Places
 pub mod Printing
+pub mod Rows
 pub mod Scripts
 pub mod Tokens

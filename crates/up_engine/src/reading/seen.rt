@@ -1,14 +1,21 @@
 //! What an expression has seen, and what is still to be offered.
-ghost use Rattle.std.specs.Prelude.{◌≡◌, List, ◌∷◌, length, unwrap_or};
+ghost use Rattle.std.specs.Prelude.{◌≡◌, List, [], ◌∷◌, length, unwrap_or, IfOk};
+ghost use Rattle.std.specs.Option.{option_or};
+ghost use Rattle.up_expr.specs.Matching.{matches};
+ghost use Rattle.up_expr.specs.Truth as truth;
 ghost use Rattle.up_model.specs.Chronicle.{Entry};
 ghost use Rattle.up_model.specs.Readings as reading;
 ghost use Rattle.up_model.specs.Seen as seen;
 ghost use Rattle.up_model.specs.Offers as offer;
 ghost use Rattle.up_engine.specs.Records.{entry_of, expression_of, chronicle};
 
+use crate::reading::environment::env;
 use crate::reading::place::event_at;
 use crate::record::{Expression, Record};
-use up_text::Name;
+use std::alloc::{AllocError, Global};
+use up_expr::{Leaf, leaf_matches};
+use up_model::Event;
+use up_text::Env;
 
 fn same_expression(a: Expression, b: Expression) -> bool
     ensures { result ≡ seen.same_expression (expression_of a) (expression_of b) }
@@ -21,56 +28,129 @@ fn same_expression(a: Expression, b: Expression) -> bool
     }
 }
 
-fn matched(earlier: &[Record], place: usize, leaf: &Name) -> Option<usize>
-    ensures { result ≡ seen.first leaf.now (seen.sighted place (reading.event_at place (chronicle earlier.now))) }
+// The environment by which the expression's values expand, where this is what happened so far.
+fn env_of<'a>(
+    earlier: &'a [Record],
+    base: &'a Env,
+    none: &'a Env,
+    expression: Expression,
+) -> &'a Env
+    requires { none.now ≡ [] }
+    ensures { result.now ≡ seen.env_of base.now (expression_of expression) (chronicle earlier.now) }
 {
-    match event_at(earlier, place) {
-        Some(event) if event.name.is(leaf) => Some(place),
-        _ => None,
+    match expression {
+        Expression::StartOn(_) => base,
+        Expression::StopOn(instance) => match env(earlier, instance) {
+            Some(found) => found,
+            None => none,
+        },
     }
 }
 
+// Whether the leaf matches the event; the one fault of the lower call is want of memory.
+fn is_match(alloc: Global, leaf: &Leaf, event: &Event, env: &Env) -> Result<bool, AllocError>
+    ensures { IfOk result (λ found. found ≡ matches leaf.now event.now.name event.now.vars env.now) }
+{
+    match leaf_matches(alloc, leaf, &event.name, &event.vars, env) {
+        Ok(found) => Ok(found),
+        Err(_) => Err(AllocError),
+    }
+}
+
+fn matched(
+    alloc: Global,
+    base: &Env,
+    earlier: &[Record],
+    place: usize,
+    expression: Expression,
+    leaf: &Leaf,
+) -> Result<Option<usize>, AllocError>
+    ensures { IfOk result (λ found. found ≡ truth.first leaf.now (seen.sighted place (reading.event_at place (chronicle earlier.now)) (seen.env_of base.now (expression_of expression) (chronicle earlier.now)))) }
+{
+    let Some(event) = event_at(earlier, place) else {
+        return Ok(None);
+    };
+    if !event.name.is(&leaf.event) {
+        return Ok(None);
+    }
+    let none = Env::new(alloc);
+    let env = env_of(earlier, base, &none, expression);
+    if is_match(alloc, leaf, event, env)? {
+        Ok(Some(place))
+    } else {
+        Ok(None)
+    }
+}
+
+// A leaf that keeps an event keeps it.
+fn matched_after(
+    alloc: Global,
+    base: &Env,
+    earlier: &[Record],
+    place: usize,
+    expression: Expression,
+    leaf: &Leaf,
+    before: Option<usize>,
+) -> Result<Option<usize>, AllocError>
+    ensures { IfOk result (λ found. found ≡ option_or before (truth.first leaf.now (seen.sighted place (reading.event_at place (chronicle earlier.now)) (seen.env_of base.now (expression_of expression) (chronicle earlier.now))))) }
+{
+    match before {
+        Some(kept) => Ok(Some(kept)),
+        None => matched(alloc, base, earlier, place, expression, leaf),
+    }
+}
+
+#[tactic(auto, using(crate::proofs::SeenLemmas::seen_offered))]
 fn first_after(
+    alloc: Global,
+    base: &Env,
     earlier: &[Record],
     next: &Record,
     expression: Expression,
-    leaf: &Name,
+    leaf: &Leaf,
     before: Option<usize>,
-) -> Option<usize>
-    ensures { before ≡ seen.first leaf.now (seen.seen (expression_of expression) (chronicle earlier.now)) → result ≡ seen.first leaf.now (seen.seen (expression_of expression) (entry_of next.now ∷ chronicle earlier.now)) }
+) -> Result<Option<usize>, AllocError>
+    ensures { IfOk result (λ found. before ≡ truth.first leaf.now (seen.seen base.now (expression_of expression) (chronicle earlier.now)) → found ≡ truth.first leaf.now (seen.seen base.now (expression_of expression) (entry_of next.now ∷ chronicle earlier.now))) }
 {
     match next {
         Record::Offered {
             expression: other,
             event,
-        } if same_expression(*other, expression) => before.or(matched(earlier, *event, leaf)),
+        } if same_expression(*other, expression) => matched_after(
+            alloc, base, earlier, *event, expression, leaf, before,
+        ),
         Record::Fired {
             expression: other,
             ..
-        } if same_expression(*other, expression) => None,
-        _ => before,
+        } if same_expression(*other, expression) => Ok(None),
+        _ => Ok(before),
     }
 }
 
+/// The first event that a leaf of an expression matches, of those that the expression was offered since it fired last.
 #[tactic(auto, using(crate::proofs::Chronicles::chronicle_more))]
-fn first(records: &[Record], expression: Expression, leaf: &Name) -> Option<usize>
-    ensures { result ≡ seen.first leaf.now (seen.seen (expression_of expression) (chronicle records.now)) }
+pub(crate) fn first(
+    alloc: Global,
+    base: &Env,
+    records: &[Record],
+    expression: Expression,
+    leaf: &Leaf,
+) -> Result<Option<usize>, AllocError>
+    ensures { IfOk result (λ found. found ≡ truth.first leaf.now (seen.seen base.now (expression_of expression) (chronicle records.now))) }
 {
     let mut found = None;
     for (place, next) in records.iter().enumerate() {
-        found = first_after(&records[..place], next, expression, leaf, found);
+        found = first_after(
+            alloc,
+            base,
+            &records[..place],
+            next,
+            expression,
+            leaf,
+            found,
+        )?;
     }
-    found
-}
-
-/// The first event that an expression keeps, where the job file has it.
-pub(crate) fn kept(records: &[Record], expression: Expression, leaf: &Option<Name>) -> Option<usize>
-    ensures { result ≡ seen.kept leaf.now (seen.seen (expression_of expression) (chronicle records.now)) }
-{
-    match leaf {
-        Some(leaf) => first(records, expression, leaf),
-        None => None,
-    }
+    Ok(found)
 }
 
 // The readings below ask of the current step alone, so they look back from the newest record, and stop where the step began.

@@ -1,12 +1,18 @@
-//! Tells what the words of a stanza say.
-ghost use Rattle.std.specs.Prelude.{◌≡◌, IfOk, None, Some, if◌then◌else◌};
+//! Reads what a stanza says.
+ghost use Rattle.std.specs.Prelude.{◌≡◌, IfOk, MatchBool, None, Some, true, if◌then◌else◌};
 ghost use Rattle.std.specs.List.{list_all, list_any};
 ghost use Rattle.up_text.specs.Names.{is_name};
-ghost use Rattle.up_model.specs.Stanzas.{is_shell, is_command_word, is_event, event_of, command_of, said_by, stanza_in};
+ghost use Rattle.up_text.specs.Places.{reading, switched};
+ghost use Rattle.up_text.specs.Rows.{row_of};
+ghost use Rattle.up_expr.specs.declared.fault.ExprFault.TheVariants.{Memory};
+ghost use Rattle.up_model.specs.Reading.{IsFound, HasOn};
+ghost use Rattle.up_model.specs.Stanzas.{is_shell, is_command_word, command_of, command_at, tree_of, found_by, unswitched, expression_by, said_by, stanza_at};
 
+use crate::files::row::{Next, next_token, read_row, read_words};
 use crate::files::stanza::Stanza;
 use std::alloc::{AllocError, Global};
-use up_text::{Items, Name, Text, TextFault};
+use up_expr::{Condition, ExprFault, parse_expr};
+use up_text::{Items, Lexer, Name, Text, TextFault, Token};
 
 #[tactic(auto, unfolding(crate::specs::Stanzas::is_shell))]
 fn is_shell(byte: u8) -> bool
@@ -67,64 +73,106 @@ pub(crate) fn make_name(alloc: Global, text: &str) -> Result<Option<Name>, Alloc
     }
 }
 
-fn make_event(alloc: Global, text: &Text) -> Result<Option<Name>, AllocError>
-    ensures { IfOk result (λ name. name ≡ (if is_event text.now then Some text.now else None)) }
+// Whether the token `on` comes next; the lexer then stands behind it.
+fn read_on(alloc: Global, lexer: &mut Lexer) -> Result<bool, AllocError>
+    ensures { IfOk result (λ found. HasOn (reading lexer.old) found lexer.new) }
 {
-    if text.is("and") || text.is("or") {
-        return Ok(None);
+    match next_token(alloc, lexer)? {
+        Next::Token(token) => Ok(token.text.is("on")),
+        Next::End => Ok(false),
+        Next::Refused => Ok(false),
     }
-    make_name(alloc, text.as_str())
 }
 
-fn read_event(alloc: Global, words: &[Text]) -> Result<Option<Name>, AllocError>
-    ensures { IfOk result (λ event. event ≡ event_of words.now) }
+fn is_memory(fault: ExprFault) -> bool
+    ensures { MatchBool result (fault ≡ Memory) (fault ≡ Memory → ⊥) }
 {
-    match words {
-        [on, name] => {
-            if on.is("on") {
-                make_event(alloc, name)
-            } else {
-                Ok(None)
+    matches!(fault, ExprFault::Memory)
+}
+
+// The expression that the tokens write.
+fn parse(alloc: Global, tokens: &[Token]) -> Result<Option<Condition>, AllocError>
+    ensures { IfOk result (λ tree. tree ≡ tree_of tokens.now) }
+{
+    match parse_expr(alloc, tokens) {
+        Ok(tree) => Ok(Some(tree)),
+        Err(fault) => {
+            if is_memory(fault) {
+                return Err(AllocError);
             }
+            Ok(None)
         }
-        _ => Ok(None),
     }
 }
 
-fn read_command(words: Vec<Text>) -> Option<Items<Text>>
-    ensures { result ≡ command_of words.items }
+// The expression up to the stanza's end, where parentheses are tokens.
+fn read_tree(alloc: Global, lexer: &mut Lexer) -> Result<Option<Condition>, AllocError>
+    ensures { IfOk result (λ tree. IsFound (unswitched (found_by tree_of (row_of (switched true lexer.old)))) tree lexer.new) }
 {
-    if words.is_empty() || !are_command_words(words.as_slice()) {
+    lexer.parens(true);
+    let Some(tokens) = read_row(alloc, lexer)? else {
+        return Ok(None);
+    };
+    lexer.parens(false);
+    parse(alloc, tokens.as_slice())
+}
+
+// The expression behind the token `on`.
+fn read_expression(alloc: Global, lexer: &mut Lexer) -> Result<Option<Condition>, AllocError>
+    ensures { IfOk result (λ tree. IsFound (expression_by (reading lexer.old)) tree lexer.new) }
+{
+    if read_on(alloc, lexer)? {
+        read_tree(alloc, lexer)
+    } else {
+        Ok(None)
+    }
+}
+
+fn as_command(words: Items<Text>) -> Option<Items<Text>>
+    ensures { result ≡ command_of words }
+{
+    if words.as_slice().is_empty() || !are_command_words(words.as_slice()) {
         return None;
     }
-    Some(Items::new(words))
+    Some(words)
 }
 
-fn read_kind(alloc: Global, kind: &Text, words: Vec<Text>) -> Result<Option<Stanza>, AllocError>
-    ensures { IfOk result (λ stanza. stanza ≡ said_by kind.now words.items) }
+// The words of a command, up to the stanza's end.
+fn read_command(alloc: Global, lexer: &mut Lexer) -> Result<Option<Items<Text>>, AllocError>
+    ensures { IfOk result (λ words. IsFound (command_at lexer.old) words lexer.new) }
+{
+    match read_words(alloc, lexer)? {
+        Some(words) => Ok(as_command(words)),
+        None => Ok(None),
+    }
+}
+
+// What the stanza says whose first token is this one; the lexer then stands behind its end.
+fn read_kind(alloc: Global, kind: &Text, lexer: &mut Lexer) -> Result<Option<Stanza>, AllocError>
+    ensures { IfOk result (λ stanza. IsFound (said_by kind.now lexer.old) stanza lexer.new) }
 {
     if kind.is("start") {
-        let event = read_event(alloc, words.as_slice())?;
-        return Ok(event.map(Stanza::StartOn));
+        let tree = read_expression(alloc, lexer)?;
+        return Ok(tree.map(Stanza::StartOn));
     }
     if kind.is("stop") {
-        let event = read_event(alloc, words.as_slice())?;
-        return Ok(event.map(Stanza::StopOn));
+        let tree = read_expression(alloc, lexer)?;
+        return Ok(tree.map(Stanza::StopOn));
     }
     if kind.is("exec") {
-        return Ok(read_command(words).map(Stanza::Exec));
+        let words = read_command(alloc, lexer)?;
+        return Ok(words.map(Stanza::Exec));
     }
     Ok(None)
 }
 
-/// What the words of a stanza say.
-pub(crate) fn stanza_in(alloc: Global, words: Items<Text>) -> Result<Option<Stanza>, AllocError>
-    ensures { IfOk result (λ stanza. stanza ≡ stanza_in words) }
+/// What the stanza in front says; the lexer then stands behind its end.
+pub(crate) fn read_stanza(alloc: Global, lexer: &mut Lexer) -> Result<Option<Stanza>, AllocError>
+    ensures { IfOk result (λ stanza. IsFound (stanza_at lexer.old) stanza lexer.new) }
 {
-    let mut words = words.into_vec();
-    if words.is_empty() {
-        return Ok(None);
+    match next_token(alloc, lexer)? {
+        Next::Token(token) => read_kind(alloc, &token.text, lexer),
+        Next::End => Ok(None),
+        Next::Refused => Ok(None),
     }
-    let kind = words.remove(0);
-    read_kind(alloc, &kind, words)
 }

@@ -1,20 +1,16 @@
 //! Reads the job of a file.
-ghost use Rattle.std.specs.Prelude.{◌≡◌, ◌≤◌, IfOk, IfSome, OnSome, MatchOption, Some, None, true, false, length, option_and_then};
-ghost use Rattle.std.specs.List.{list_all};
+ghost use Rattle.std.specs.Prelude.{◌≡◌, ◌≤◌, IfOk, IfSome, MatchOption, true, false, length};
 ghost use Rattle.std.specs.Option.{option_copied};
 ghost use Rattle.std.specs.Str.{is_utf8};
-ghost use Rattle.up_text.specs.Lexemes.{stanzas, split_ends, lexemes_of};
-ghost use Rattle.up_text.specs.Scripts.{is_filled};
-ghost use Rattle.up_model.specs.Stanzas.{stanza_in};
-ghost use Rattle.up_model.specs.Reading.{front_texts, after_end, applied, job_with};
+ghost use Rattle.up_model.specs.Stanzas.{said_of};
+ghost use Rattle.up_model.specs.Reading.{applied, job_with};
 ghost use Rattle.up_model.specs.Files.{name_in, is_text, job_from, job_in, outcome_of};
 
 use crate::files::fault::{Fault, FaultCode};
 use crate::files::file::File;
 use crate::files::job::JobDef;
-use crate::files::kinds::{make_name, stanza_in};
+use crate::files::kinds::{make_name, read_stanza};
 use crate::files::stanza::Stanza;
-use crate::files::words::read_words;
 use std::alloc::{AllocError, Global};
 use std::str;
 use up_text::{Lexer, Name};
@@ -22,31 +18,19 @@ use up_text::{Lexer, Name};
 /// The longest file that is read, in bytes.
 const MAX_LEN: usize = 1_048_576;
 
-// What the stanza in front says; the lexer then stands behind its end.
-fn read_stanza(alloc: Global, lexer: &mut Lexer) -> Result<Option<Stanza>, AllocError>
-    ensures said { IfOk result (λ stanza. stanza ≡ option_and_then stanza_in (front_texts (lexemes_of lexer.old))) }
-    ensures passed { IfOk result (λ stanza. OnSome stanza (lexemes_of lexer.new ≡ after_end (lexemes_of lexer.old))) }
-{
-    match read_words(alloc, lexer)? {
-        Some(words) => stanza_in(alloc, words),
-        None => Ok(None),
-    }
-}
-
 fn apply(job: &mut JobDef, stanza: Stanza)
     ensures { job.new ≡ applied job.old stanza }
 {
     match stanza {
-        Stanza::StartOn(name) => job.start_on = Some(name),
-        Stanza::StopOn(name) => job.stop_on = Some(name),
+        Stanza::StartOn(tree) => job.start_on = Some(tree),
+        Stanza::StopOn(tree) => job.stop_on = Some(tree),
         Stanza::Exec(words) => job.main = Some(words),
     }
 }
 
 // The job that the stanzas that are left define, or the line of the first unreadable one.
 fn read_stanzas(alloc: Global, lexer: Lexer, job: JobDef) -> Result<Result<JobDef, u32>, AllocError>
-    requires { list_all is_filled (split_ends (lexemes_of lexer)) ≡ true }
-    ensures { IfOk result (λ read. read ≡ job_with job (split_ends (lexemes_of lexer.entry))) }
+    ensures { IfOk result (λ read. read ≡ job_with job (said_of lexer.entry)) }
 {
     let mut lexer = lexer;
     let mut job = job;
@@ -64,7 +48,7 @@ fn read_stanzas(alloc: Global, lexer: Lexer, job: JobDef) -> Result<Result<JobDe
 #[tactic(auto, unfolding(crate::specs::Files::job_from))]
 fn read_text(alloc: Global, name: Name, text: &str) -> Result<Result<JobDef, u32>, AllocError>
     requires { length text.now ≤ 1048576 }
-    ensures { IfOk result (λ read. read ≡ job_from name (stanzas text.now)) }
+    ensures { IfOk result (λ read. read ≡ job_from name text.now) }
 {
     let job = JobDef {
         name,

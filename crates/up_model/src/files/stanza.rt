@@ -1,14 +1,15 @@
 //! A stanza of a job's file.
 
-use up_text::{Items, Name, Text};
+use up_expr::Condition;
+use up_text::{Items, Text};
 
 /// What a stanza says (init(5)).
 #[derive(Debug, Drop)]
 pub enum Stanza {
-    /// `start on NAME`
-    StartOn(Name),
-    /// `stop on NAME`
-    StopOn(Name),
+    /// `start on EXPRESSION`
+    StartOn(Condition),
+    /// `stop on EXPRESSION`
+    StopOn(Condition),
     /// `exec WORDS`
     Exec(Items<Text>),
 }

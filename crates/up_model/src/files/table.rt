@@ -14,8 +14,12 @@ pub struct Table {
 impl Model for Table {
     ghost use Rattle.std.specs.Prelude.{List};
     ghost use Rattle.up_model.specs.declared.files.job.JobDef.{JobDef};
+    ghost use Rattle.up_model.specs.contracts.files.job.JobDef as job;
+    ghost use Rattle.std.specs.Coded.{coded_list};
 
     ghost Value = { List JobDef };
+
+    ghost coded = { coded_list job.the_row.coded };
 
     ghost view = { λ t. t.jobs };
 }

@@ -1,21 +1,28 @@
+//! Folders of job files.
+mod expressions;
+
 use super::*;
 use std::test::Fail;
-use up_text::{Items, Name, Text};
+use up_expr::{Condition, Expr};
+use up_text::{Items, Text};
 
-fn add(alloc: Global, folder: &mut Folder, path: &str, bytes: &[u8]) -> Result<(), AllocError> {
+pub(crate) fn add(alloc: Global, folder: &mut Folder, path: &str, bytes: &[u8]) -> Result<(), AllocError> {
     let path = Text::from_str(alloc, path)?;
     let bytes = Vec::from_slice(alloc, bytes)?;
     folder.add(path, Items::new(bytes))
 }
 
-fn is_event(event: &Option<Name>, name: &str) -> bool {
-    match event {
-        Some(event) => event.as_str() == name,
-        None => false,
+fn is_event(condition: &Option<Condition>, name: &str) -> bool {
+    let Some(condition) = condition else {
+        return false;
+    };
+    match condition.expr() {
+        Expr::Leaf(leaf) => leaf.event.as_str() == name && leaf.values.as_slice().is_empty(),
+        Expr::And(_, _) | Expr::Or(_, _) => false,
     }
 }
 
-fn are_words(words: &Option<Items<Text>>, expected: &[&str]) -> bool {
+pub(crate) fn are_words(words: &Option<Items<Text>>, expected: &[&str]) -> bool {
     match words {
         Some(words) => {
             let words = words.as_slice();
@@ -30,7 +37,7 @@ fn are_words(words: &Option<Items<Text>>, expected: &[&str]) -> bool {
 }
 
 // The line of the fault of a folder with this file alone, where it has no job and one fault.
-fn fault_line(alloc: Global, path: &str, bytes: &[u8]) -> Result<Option<u32>, CompileError> {
+pub(crate) fn fault_line(alloc: Global, path: &str, bytes: &[u8]) -> Result<Option<u32>, CompileError> {
     let mut folder = Folder::new(alloc);
     add(alloc, &mut folder, path, bytes)?;
     let (table, report) = compile(alloc, &folder)?;
@@ -91,15 +98,13 @@ fn the_last_stanza_counts(rt: HostRuntime) -> Result<(), Fail> {
 #[test]
 fn unreadable_files_are_reported(rt: HostRuntime) -> Result<(), Fail> {
     let alloc = rt.alloc();
-    let cases: [(&str, &[u8], u32); 14] = [
+    let cases: [(&str, &[u8], u32); 12] = [
         ("a.conf", b"# c\n\nsetuid root\n", 3),
         ("a.conf", b"exec x\n\n'y' z\n", 3),
         ("a.conf", b"exec x\nexec y \"z\"\n", 2),
         ("a.conf", b"exec \"\"\n", 1),
         ("a.conf", b"exec\n", 1),
         ("a.conf", b"exec a|b\n", 1),
-        ("a.conf", b"exec x\nstart on and\n", 2),
-        ("a.conf", b"start on a b\n", 1),
         ("a.conf", b"start a\n", 1),
         ("a.conf", b"exec x\nstop on a=b\n", 2),
         ("a=b.conf", b"\n\nexec x\n", 1),

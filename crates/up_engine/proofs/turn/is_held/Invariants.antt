@@ -3,4 +3,4 @@ use Rattle.up_model.specs.Held as held
 use Rattle.up_engine.proofs.turn.is_held.Given as goal
 
 abbrev pub invariant-loop-place : goal.invariant-loop-place
-invariant-loop-place l = nat_lt 0 (held.count_from (drop l.place l.jobs) l.place l.event l.book) ≡ held.is_held l.jobs l.event l.book
+invariant-loop-place l = nat_lt 0 (held.count_from l.base (drop l.place l.jobs) l.place l.event l.book) ≡ held.is_held l.base l.jobs l.event l.book

@@ -1,7 +1,8 @@
 use Rattle.std.proofs.Common.{◌≡◌, take}
+use Rattle.up_expr.specs.Truth as truth
 use Rattle.up_model.specs.Seen as seen
 use Rattle.up_engine.specs.Records.{chronicle, expression_of}
 use Rattle.up_engine.proofs.reading.seen.first.Given as goal
 
 abbrev pub invariant-loop-place : goal.invariant-loop-place
-invariant-loop-place l = l.found ≡ seen.first l.leaf (seen.seen (expression_of l.expression) (chronicle (take l.place l.records)))
+invariant-loop-place l = l.found ≡ truth.first l.leaf (seen.seen l.base (expression_of l.expression) (chronicle (take l.place l.records)))

@@ -1,0 +1,180 @@
+//! What an expression says of the events that it has seen.
+ghost use Rattle.std.specs.Prelude.{◌≡◌, ◌++◌, nat_lt, is_some, IfOk};
+ghost use Rattle.std.specs.Option.{option_to_list};
+ghost use Rattle.up_expr.specs.Trees.{tree_of};
+ghost use Rattle.up_expr.specs.Truth as truth;
+ghost use Rattle.up_model.specs.Held as held;
+ghost use Rattle.up_model.specs.Seen as seen;
+ghost use Rattle.up_engine.specs.Records.{expression_of};
+ghost use Rattle.up_engine.specs.Verdicts.{verdict_of_tree, verdict, both, either};
+
+#[cfg(test)]
+mod tests;
+
+use crate::book::Book;
+use crate::record::Expression;
+use std::alloc::{AllocError, Global};
+use up_expr::{Condition, Expr};
+use up_text::{Env, Items};
+
+/// Whether an expression is true, and by which events, from left to right.
+#[derive(Drop)]
+pub struct Verdict {
+    pub holds: bool,
+    pub taken: Items<usize>,
+}
+
+// The verdict of a leaf by the event that it keeps.
+fn leaf_verdict(alloc: Global, found: Option<usize>) -> Result<Verdict, AllocError>
+    ensures { IfOk result (λ said. said ≡ record { holds = is_some found; taken = option_to_list found }) }
+{
+    let mut places = Vec::new(alloc);
+    if let Some(place) = found {
+        places.push(place)?;
+    }
+    let taken = Items::new(places);
+    let holds = found.is_some();
+    Ok(Verdict { holds, taken })
+}
+
+fn joined(left: Items<usize>, right: Items<usize>) -> Result<Items<usize>, AllocError>
+    ensures { IfOk result (λ both. both ≡ left ++ right) }
+{
+    let mut all = left.into_vec();
+    all.extend_from_slice(right.as_slice())?;
+    Ok(Items::new(all))
+}
+
+fn both(alloc: Global, left: Verdict, right: Verdict) -> Result<Verdict, AllocError>
+    ensures { IfOk result (λ said. said ≡ both left right) }
+{
+    let holds = left.holds && right.holds;
+    let taken = if holds {
+        joined(left.taken, right.taken)?
+    } else {
+        Items::new(Vec::new(alloc))
+    };
+    Ok(Verdict { holds, taken })
+}
+
+fn either(left: Verdict, right: Verdict) -> Result<Verdict, AllocError>
+    ensures { IfOk result (λ said. said ≡ either left right) }
+{
+    let holds = left.holds || right.holds;
+    let taken = joined(left.taken, right.taken)?;
+    Ok(Verdict { holds, taken })
+}
+
+fn judge(
+    alloc: Global,
+    base: &Env,
+    book: &Book,
+    expression: Expression,
+    expr: &Expr,
+) -> Result<Verdict, AllocError>
+    ensures { IfOk result (λ said. said ≡ verdict_of_tree (tree_of expr.now) (seen.seen base.now (expression_of expression) book.now)) }
+{
+    match expr {
+        Expr::Leaf(leaf) => {
+            let found = book.first(alloc, base, expression, leaf)?;
+            let verdict = leaf_verdict(alloc, found)?;
+            Ok(verdict)
+        }
+        Expr::And(left, right) => {
+            let left = judge(alloc, base, book, expression, left)?;
+            let right = judge(alloc, base, book, expression, right)?;
+            let verdict = both(alloc, left, right)?;
+            Ok(verdict)
+        }
+        Expr::Or(left, right) => {
+            let left = judge(alloc, base, book, expression, left)?;
+            let right = judge(alloc, base, book, expression, right)?;
+            let verdict = either(left, right)?;
+            Ok(verdict)
+        }
+    }
+}
+
+/// What an expression says of what it has seen, where the job file has it.
+pub(crate) fn verdict_of(
+    alloc: Global,
+    base: &Env,
+    book: &Book,
+    expression: Expression,
+    condition: &Option<Condition>,
+) -> Result<Verdict, AllocError>
+    ensures { IfOk result (λ said. said ≡ verdict condition.now (seen.seen base.now (expression_of expression) book.now)) }
+{
+    match condition {
+        Some(condition) => {
+            let verdict = judge(alloc, base, book, expression, condition.expr())?;
+            Ok(verdict)
+        }
+        None => {
+            let taken = Items::new(Vec::new(alloc));
+            Ok(Verdict {
+                holds: false,
+                taken,
+            })
+        }
+    }
+}
+
+fn is_kept(found: Option<usize>, event: usize) -> bool
+    ensures { result ≡ nat_lt 0 (held.occurs event (option_to_list found)) }
+{
+    match found {
+        Some(place) => place == event,
+        None => false,
+    }
+}
+
+// Whether one of the leaves keeps the event.
+#[tactic(auto, using(crate::proofs::HeldLemmas::positive_append))]
+fn has_leaf_of(
+    alloc: Global,
+    base: &Env,
+    book: &Book,
+    expression: Expression,
+    expr: &Expr,
+    event: usize,
+) -> Result<bool, AllocError>
+    ensures { IfOk result (λ keeps. keeps ≡ nat_lt 0 (held.occurs event (truth.kept (tree_of expr.now) (seen.seen base.now (expression_of expression) book.now)))) }
+{
+    match expr {
+        Expr::Leaf(leaf) => {
+            let found = book.first(alloc, base, expression, leaf)?;
+            Ok(is_kept(found, event))
+        }
+        Expr::And(left, right) => {
+            let left = has_leaf_of(alloc, base, book, expression, left, event)?;
+            let right = has_leaf_of(alloc, base, book, expression, right, event)?;
+            Ok(left || right)
+        }
+        Expr::Or(left, right) => {
+            let left = has_leaf_of(alloc, base, book, expression, left, event)?;
+            let right = has_leaf_of(alloc, base, book, expression, right, event)?;
+            Ok(left || right)
+        }
+    }
+}
+
+/// Whether a leaf of the expression, where the job file has it, keeps the event.
+pub(crate) fn keeps(
+    alloc: Global,
+    base: &Env,
+    book: &Book,
+    expression: Expression,
+    condition: &Option<Condition>,
+    event: usize,
+) -> Result<bool, AllocError>
+    ensures { IfOk result (λ keeps. keeps ≡ nat_lt 0 (held.occurs event (seen.kept condition.now (seen.seen base.now (expression_of expression) book.now)))) }
+{
+    match condition {
+        Some(condition) => {
+            let keeps = has_leaf_of(alloc, base, book, expression, condition.expr(), event)?;
+            Ok(keeps)
+        }
+        None => Ok(false),
+    }
+}

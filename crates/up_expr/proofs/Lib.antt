@@ -1,0 +1,5 @@
+pub mod Complete
+pub mod Counting
+pub mod Going
+pub mod Sound
+pub mod Truths

@@ -1,0 +1,45 @@
+-- How the logic stores a tree: as its nodes, each behind those of its sides.
+use Rattle.std.specs.Prelude.{◌≡◌, ◌⊎◌, Bool, true, false, List, [], ◌∷◌, ◌++◌}
+use Rattle.std.specs.Coded.{Coded, code_by, coded_list, coded_bool, coded⊎}
+use Rattle.std.proofs.Common.{inl, inr, refl, ap, ◌∙◌, sym}
+use Rattle.std.proofs.lemmas.List.{append_assoc, append-nil}
+use Rattle.up_expr.specs.declared.expr.Leaf.{Leaf}
+use Rattle.up_expr.specs.contracts.expr.Leaf as leaf
+use Rattle.up_expr.specs.Trees.{Tree, One, Both, Either}
+
+-- the nodes of a tree, its root last: a leaf, or whether it wants both of its sides
+abbrev pub nodes : Tree → List (Leaf ⊎ Bool)
+nodes (One leaf) = inl leaf ∷ []
+nodes (Both left right) = nodes left ++ (nodes right ++ inr true ∷ [])
+nodes (Either left right) = nodes left ++ (nodes right ++ inr false ∷ [])
+
+abbrev pub joined : Bool → Tree → Tree → Tree
+joined true left right = Both left right
+joined false left right = Either left right
+
+-- the trees that nodes make of those so far, the newest first
+abbrev pub grown : List (Leaf ⊎ Bool) → List Tree → List Tree
+grown [] trees = trees
+grown (inl leaf ∷ later) trees = grown later (One leaf ∷ trees)
+grown (inr both ∷ later) (right ∷ left ∷ trees) = grown later (joined both left right ∷ trees)
+grown (inr both ∷ later) [] = grown later []
+grown (inr both ∷ later) (one ∷ []) = grown later (one ∷ [])
+
+abbrev pub newest : List Tree → Tree
+newest [] = One (record { event = []; values = [] })
+newest (tree ∷ trees) = tree
+
+abbrev pub tree_from : List (Leaf ⊎ Bool) → Tree
+tree_from all = newest (grown all [])
+
+grown-nodes : (tree : Tree) (later : List (Leaf ⊎ Bool)) (trees : List Tree) → grown (nodes tree ++ later) trees ≡ grown later (tree ∷ trees)
+grown-nodes (One leaf) later trees = refl
+grown-nodes (Both left right) later trees = rw (append_assoc (nodes left) (nodes right ++ inr true ∷ []) later, append_assoc (nodes right) (inr true ∷ []) later, grown-nodes left (nodes right ++ inr true ∷ later) trees, grown-nodes right (inr true ∷ later) (left ∷ trees)) refl
+grown-nodes (Either left right) later trees = rw (append_assoc (nodes left) (nodes right ++ inr false ∷ []) later, append_assoc (nodes right) (inr false ∷ []) later, grown-nodes left (nodes right ++ inr false ∷ later) trees, grown-nodes right (inr false ∷ later) (left ∷ trees)) refl
+
+pub tree_from-nodes : (tree : Tree) → tree_from (nodes tree) ≡ tree
+tree_from-nodes tree = ap (λ ns. tree_from ns) (sym (append-nil (nodes tree))) ∙ ap newest (grown-nodes tree [] [])
+
+-- a tree is stored as its nodes
+abbrev pub tree_code : Coded Tree
+tree_code = code_by (List (Leaf ⊎ Bool)) (coded_list (coded⊎ leaf.the_row.coded coded_bool)) nodes tree_from tree_from-nodes

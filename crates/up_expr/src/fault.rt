@@ -1,0 +1,75 @@
+//! Why an expression is refused.
+ghost use Rattle.std.specs.Prelude.{◌≡◌, codes};
+ghost use Rattle.up_expr.specs.Fault.{number_of, name_of};
+
+use std::alloc::AllocError;
+use thiserror::Error;
+
+/// Why an expression is refused.
+#[derive(Clone, Copy, Debug, PartialEq, Eq, Error)]
+pub enum ExprFault {
+    /// A name, an operator or a parenthesis is missing or stands where none may.
+    #[error("BadExpression")]
+    BadExpression,
+    /// A positional value stands behind a keyed one.
+    #[error("ValueBeforeKey")]
+    ValueBeforeKey,
+    /// An event's name has a byte that it may not have.
+    #[error("BadName")]
+    BadName,
+    /// A value isn't a pattern that is supported.
+    #[error("BadPattern")]
+    BadPattern,
+    /// An expansion isn't well formed.
+    #[error("BadExpansion")]
+    BadExpansion,
+    /// The expression has more than 4,095 nodes, more than 256 parentheses open at once, or a leaf of more than 65,535 values.
+    #[error("TooLarge")]
+    TooLarge,
+    /// Memory was refused.
+    #[error("Memory")]
+    Memory,
+}
+
+impl From<AllocError> for ExprFault {
+    ghost use Rattle.std.specs.Prelude.{◌≡◌};
+    ghost use Rattle.up_expr.specs.declared.fault.ExprFault.TheVariants.{Memory};
+
+    ghost from_gives = { λ _ fault. fault ≡ Memory };
+
+    fn from(_: AllocError) -> ExprFault {
+        ExprFault::Memory
+    }
+}
+
+impl ExprFault {
+    /// The number by which a report names this refusal.
+    pub fn number(self) -> u8
+        ensures { result ≡ number_of self }
+    {
+        match self {
+            ExprFault::BadExpression => 8,
+            ExprFault::ValueBeforeKey => 9,
+            ExprFault::BadName => 12,
+            ExprFault::BadPattern => 13,
+            ExprFault::BadExpansion => 14,
+            ExprFault::TooLarge => 16,
+            ExprFault::Memory => 42,
+        }
+    }
+
+    /// The name that a report prints behind the number.
+    pub fn name(self) -> &'static str
+        ensures { result.now ≡ name_of self }
+    {
+        match self {
+            ExprFault::BadExpression => "BadExpression",
+            ExprFault::ValueBeforeKey => "ValueBeforeKey",
+            ExprFault::BadName => "BadName",
+            ExprFault::BadPattern => "BadPattern",
+            ExprFault::BadExpansion => "BadExpansion",
+            ExprFault::TooLarge => "TooLarge",
+            ExprFault::Memory => "Memory",
+        }
+    }
+}

@@ -1,0 +1,127 @@
+//! Whether a leaf matches an event.
+ghost use Rattle.std.specs.Prelude.{◌≡◌, IfOk, OnErr, Err, option_map};
+ghost use Rattle.up_text.specs.Bindings.{value_of};
+ghost use Rattle.up_text.specs.Expansion.{expand};
+ghost use Rattle.up_expr.specs.declared.fault.ExprFault.TheVariants.{Memory};
+ghost use Rattle.up_expr.specs.Matching.{pattern_of, fits, misses, nth_value, test_holds, tests_hold, matches};
+
+use crate::expr::{Leaf, Test};
+use crate::fault::ExprFault;
+use std::alloc::Global;
+use up_text::{Env, Expanded, Name, Text, TextFault, expand, glob, supported};
+
+// The pattern that a value is behind its expansion, where it is one.
+fn pattern_of(alloc: Global, value: &Text, env: &Env) -> Result<Option<Text>, ExprFault>
+    ensures pattern { IfOk result (λ pattern. pattern ≡ pattern_of (expand value.now env.now)) }
+    ensures memory { OnErr result (result ≡ Err Memory) }
+{
+    match expand(alloc, value.as_str(), env) {
+        Ok(Expanded::Text(text)) => {
+            if supported(text.as_str().as_bytes()) {
+                Ok(Some(text))
+            } else {
+                Ok(None)
+            }
+        }
+        Ok(Expanded::Unset(_)) => Ok(None),
+        Err(TextFault::BadExpansion) => Ok(None),
+        Err(_) => Err(ExprFault::Memory),
+    }
+}
+
+// Whether a variable, where there is one, matches the pattern.
+fn fits(pattern: &Option<Text>, found: Option<&str>) -> bool
+    ensures { result ≡ fits pattern.now (option_map (λ value. value.now) found.entry) }
+{
+    match pattern {
+        Some(pattern) => match found {
+            Some(value) => glob(pattern.as_str().as_bytes(), value.as_bytes()),
+            None => false,
+        },
+        None => false,
+    }
+}
+
+// Whether there is a pattern, and no variable that matches it.
+fn misses(pattern: &Option<Text>, found: Option<&str>) -> bool
+    ensures { result ≡ misses pattern.now (option_map (λ value. value.now) found.entry) }
+{
+    match pattern {
+        Some(pattern) => match found {
+            Some(value) => !glob(pattern.as_str().as_bytes(), value.as_bytes()),
+            None => true,
+        },
+        None => false,
+    }
+}
+
+// The value of the variable at a place, where there is one.
+fn nth_value(vars: &Env, k: usize) -> Option<&str>
+    ensures { option_map (λ value. value.now) result ≡ nth_value k vars.now }
+{
+    if k < vars.len() {
+        let (_, value) = vars.at(k);
+        Some(value)
+    } else {
+        None
+    }
+}
+
+// Whether the test at a place holds.
+fn test_holds(
+    alloc: Global,
+    test: &Test,
+    k: usize,
+    vars: &Env,
+    env: &Env,
+) -> Result<bool, ExprFault>
+    ensures holds { IfOk result (λ holds. holds ≡ test_holds vars.now env.now k test.now) }
+    ensures memory { OnErr result (result ≡ Err Memory) }
+{
+    match test {
+        Test::Place(value) => {
+            let pattern = pattern_of(alloc, value, env)?;
+            Ok(fits(&pattern, nth_value(vars, k)))
+        }
+        Test::Same(key, value) => {
+            let pattern = pattern_of(alloc, value, env)?;
+            Ok(fits(&pattern, vars.get(key.as_str())))
+        }
+        Test::Differs(key, value) => {
+            let pattern = pattern_of(alloc, value, env)?;
+            Ok(misses(&pattern, vars.get(key.as_str())))
+        }
+    }
+}
+
+// Whether all tests hold, the first of which stands at the first place.
+fn tests_hold(alloc: Global, tests: &[Test], vars: &Env, env: &Env) -> Result<bool, ExprFault>
+    ensures holds { IfOk result (λ holds. holds ≡ tests_hold vars.now env.now 0 tests.now) }
+    ensures memory { OnErr result (result ≡ Err Memory) }
+{
+    for (k, test) in tests.iter().enumerate() {
+        if !test_holds(alloc, test, k, vars, env)? {
+            return Ok(false);
+        }
+    }
+    Ok(true)
+}
+
+/// Whether the leaf matches an event of this name with these variables, where its values expand by `env` (init(5), "Event
+/// conditions"). The only fault is `Memory`.
+pub fn leaf_matches(
+    alloc: Global,
+    leaf: &Leaf,
+    name: &Name,
+    vars: &Env,
+    env: &Env,
+) -> Result<bool, ExprFault>
+    ensures matches { IfOk result (λ holds. holds ≡ matches leaf.now name.now vars.now env.now) }
+    ensures memory { OnErr result (result ≡ Err Memory) }
+{
+    if name.is(&leaf.event) {
+        tests_hold(alloc, leaf.values.as_slice(), vars, env)
+    } else {
+        Ok(false)
+    }
+}

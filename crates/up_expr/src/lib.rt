@@ -1,0 +1,24 @@
+//! Expressions: which events a job waits for (init(5), `start on` and `stop on`).
+//!
+//! [`parse_expr`] reads an expression from its tokens, and [`leaf_matches`] tells whether one of its leaves matches an event. What an
+//! expression says of the events that it has seen stands in `specs/Truth.antt`.
+#![tactic(auto)]
+
+pub mod condition;
+pub mod expr;
+pub mod fault;
+pub mod laws;
+pub mod leaf;
+mod operand;
+pub mod parse;
+mod symbol;
+mod value;
+
+pub use condition::Condition;
+pub use expr::{Expr, Leaf, Test};
+pub use fault::ExprFault;
+pub use leaf::leaf_matches;
+pub use parse::parse_expr;
+
+#[cfg(test)]
+mod tests;

@@ -1,0 +1,200 @@
+//! Reads an expression from its tokens.
+ghost use Rattle.std.specs.Prelude.{◌≡◌, ◌⊎◌, ◌≤◌, ◌<◌, ◌+◌, ◌∷◌, List, ℕ, Err, Some, None, IfOk, OnErr, MatchOption, true, false, length, drop};
+ghost use Rattle.up_expr.specs.Parsing.{Pending, at, Before, Behind, outcome, operators, begins, begin};
+ghost use Rattle.up_expr.specs.Syntax.{Writes};
+ghost use Rattle.up_expr.specs.Trees.{Tree};
+ghost use Rattle.up_expr.specs.Values as values;
+ghost use Rattle.up_expr.specs.declared.fault.ExprFault.TheVariants.{Memory};
+
+use crate::condition::Condition;
+use crate::expr::Expr;
+use crate::fault::ExprFault;
+use crate::operand::read_leaf;
+use crate::symbol::{is_and, is_close, is_open, is_operator, leaf_len};
+use std::alloc::{AllocError, Global};
+use up_text::Token;
+
+/// How many parentheses may be open at once.
+const MAX_DEPTH: usize = 256;
+
+/// The most operators: one less than the 2,048 leaves of 4,095 nodes.
+const MAX_OPERATORS: usize = 2_047;
+
+// The trees with the operator between them.
+fn joined(
+    alloc: Global,
+    left: Condition,
+    operator: &Token,
+    right: Condition,
+) -> Result<Condition, AllocError>
+    ensures { IfOk result (λ both. both ≡ Rattle.up_expr.specs.Syntax.joined operator.now left right) }
+{
+    let left = Box::new(alloc, left.into_expr())?;
+    let right = Box::new(alloc, right.into_expr())?;
+    if is_and(operator) {
+        Ok(Condition::new(Expr::And(left, right)))
+    } else {
+        Ok(Condition::new(Expr::Or(left, right)))
+    }
+}
+
+// The leaf in front, and what stands behind it.
+fn read_operand(alloc: Global, tokens: &[Token]) -> Result<(Condition, &[Token]), ExprFault>
+    requires { begins values.is_open tokens.now ≡ false }
+    ensures read { IfOk result (λ found. (outer : List Pending) (left : Pending) → outcome tokens.now (at outer left Before) ≡ outcome found.1.now (at outer left (Behind found.0))) }
+    ensures refused { OnErr result ((result ≡ Err Memory) ⊎ ((outer : List Pending) (left : Pending) → outcome tokens.now (at outer left Before) ≡ None)) }
+    ensures shorter { IfOk result (λ found. length found.1.now < length tokens.now) }
+{
+    let (own, behind) = tokens.split_at(leaf_len(tokens));
+    match read_leaf(alloc, own) {
+        Ok(leaf) => Ok((Condition::new(Expr::Leaf(leaf)), behind)),
+        Err(fault) => Err(fault),
+    }
+}
+
+// The opening parenthesis in front, if one comes, and what stands behind it.
+fn behind_open(tokens: &[Token]) -> Option<(&Token, &[Token])>
+    ensures { MatchOption result (begins values.is_open tokens.now ≡ false) (λ found. (tokens.now ≡ found.0.now ∷ found.1.now) × (values.is_open found.0.now ≡ true)) }
+{
+    match tokens.split_first() {
+        Some((token, behind)) => {
+            if is_open(token) {
+                Some((token, behind))
+            } else {
+                None
+            }
+        }
+        None => None,
+    }
+}
+
+// What stands behind a closing parenthesis, which must come.
+fn behind_close(tokens: &[Token]) -> Result<&[Token], ExprFault>
+    ensures ok { IfOk result (λ behind. (begins values.is_close tokens.now ≡ true) × (behind.now ≡ drop 1 tokens.now) × (0 < length tokens.now)) }
+    ensures refused { OnErr result (begins values.is_close tokens.now ≡ false) }
+{
+    match tokens.split_first() {
+        Some((token, behind)) => {
+            if is_close(token) {
+                Ok(behind)
+            } else {
+                Err(ExprFault::BadExpression)
+            }
+        }
+        None => Err(ExprFault::BadExpression),
+    }
+}
+
+// What stands behind the operator in front, if one comes.
+fn behind_operator(tokens: &[Token]) -> Option<(&Token, &[Token])>
+    ensures { MatchOption result (begins values.is_operator tokens.now ≡ false) (λ found. (tokens.now ≡ found.0.now ∷ found.1.now) × (values.is_operator found.0.now ≡ true)) }
+{
+    match tokens.split_first() {
+        Some((token, behind)) => {
+            if is_operator(token) {
+                Some((token, behind))
+            } else {
+                None
+            }
+        }
+        None => None,
+    }
+}
+
+// The leaf or the parentheses in front, within so many open parentheses, and what stands behind.
+#[cycle(parser)]
+fn parse_item(
+    alloc: Global,
+    tokens: &[Token],
+    depth: usize,
+) -> Result<(Condition, &[Token]), ExprFault>
+    ensures read { IfOk result (λ found. (outer : List Pending) (left : Pending) → length outer ≡ depth → outcome tokens.now (at outer left Before) ≡ outcome found.1.now (at outer left (Behind found.0))) }
+    ensures refused { OnErr result ((result ≡ Err Memory) ⊎ ((outer : List Pending) (left : Pending) → length outer ≡ depth → outcome tokens.now (at outer left Before) ≡ None)) }
+    ensures shorter { IfOk result (λ found. length found.1.now < length tokens.now) }
+{
+    let Some((_, inner)) = behind_open(tokens) else {
+        return read_operand(alloc, tokens);
+    };
+    if depth >= MAX_DEPTH {
+        return Err(ExprFault::TooLarge);
+    }
+    match parse_items(alloc, inner, depth + 1) {
+        Ok((tree, rest)) => match behind_close(rest) {
+            Ok(behind) => Ok((tree, behind)),
+            Err(fault) => Err(fault),
+        },
+        Err(fault) => Err(fault),
+    }
+}
+
+// The longest expression in front, within so many open parentheses, and what stands behind it.
+#[cycle(parser)]
+fn parse_items(
+    alloc: Global,
+    tokens: &[Token],
+    depth: usize,
+) -> Result<(Condition, &[Token]), ExprFault>
+    ensures read { IfOk result (λ found. (outer : List Pending) → length outer ≡ depth → outcome tokens.now (at outer None Before) ≡ outcome found.1.now (at outer None (Behind found.0))) }
+    ensures ended { IfOk result (λ found. begins values.is_operator found.1.now ≡ false) }
+    ensures refused { OnErr result ((result ≡ Err Memory) ⊎ ((outer : List Pending) → length outer ≡ depth → outcome tokens.now (at outer None Before) ≡ None)) }
+    ensures shorter { IfOk result (λ found. length found.1.now < length tokens.now) }
+{
+    let (mut tree, mut rest) = match parse_item(alloc, tokens, depth) {
+        Ok(found) => found,
+        Err(fault) => return Err(fault),
+    };
+    'operators: while let Some((operator, behind)) = behind_operator(rest) {
+        match parse_item(alloc, behind, depth) {
+            Ok((right, others)) => {
+                tree = joined(alloc, tree, operator, right)?;
+                rest = others;
+            }
+            Err(fault) => return Err(fault),
+        }
+    }
+    Ok((tree, rest))
+}
+
+// How many operators there are.
+fn operators(tokens: &[Token]) -> usize
+    ensures { result ≡ operators tokens.now }
+{
+    let mut count = 0;
+    for token in tokens {
+        if is_operator(token) {
+            count += 1;
+        }
+    }
+    count
+}
+
+// The expression that all tokens write, however many operators it has.
+fn parse_all(alloc: Global, tokens: &[Token]) -> Result<Condition, ExprFault>
+    ensures tree { IfOk result (λ tree. outcome tokens.now begin ≡ Some tree) }
+    ensures refused { OnErr result ((result ≡ Err Memory) ⊎ (outcome tokens.now begin ≡ None)) }
+{
+    match parse_items(alloc, tokens, 0) {
+        Ok((tree, rest)) => {
+            if rest.is_empty() {
+                Ok(tree)
+            } else {
+                Err(ExprFault::BadExpression)
+            }
+        }
+        Err(fault) => Err(fault),
+    }
+}
+
+/// The expression that the tokens write (init(5), `start on`). Every fault but `Memory` comes only where they write none.
+pub fn parse_expr(alloc: Global, tokens: &[Token]) -> Result<Condition, ExprFault>
+    ensures tree { IfOk result (λ tree. Writes tokens.now tree) }
+    ensures refused { OnErr result ((result ≡ Err Memory) ⊎ ((tree : Tree) → Writes tokens.now tree → ⊥)) }
+{
+    if operators(tokens) > MAX_OPERATORS {
+        return Err(ExprFault::TooLarge);
+    }
+    match parse_all(alloc, tokens) {
+        Ok(tree) => Ok(tree),
+        Err(fault) => Err(fault),
+    }
+}
