@@ -88,7 +88,7 @@ fn input(alloc: Global, given: Given) -> Result<Input, Untried> {
         Given::EmitWith(name, key, value) => {
             let name = Name::new(alloc, name)?;
             let mut vars = Env::new(alloc);
-            vars.set(alloc, key, value)?;
+            vars.set(key, value)?;
             Ok(Input::Emit(Event { name, vars }))
         }
         Given::Turn => Ok(Input::Turn),
@@ -208,7 +208,12 @@ fn table(alloc: Global, file: &str) -> Result<Table, Untried> {
     Ok(table)
 }
 
-pub(crate) fn check_rows(rt: &impl Abort, alloc: Global, file: &str, rows: &[Row]) -> Result<(), Untried> {
+pub(crate) fn check_rows(
+    rt: &impl Abort,
+    alloc: Global,
+    file: &str,
+    rows: &[Row],
+) -> Result<(), Untried> {
     let table = table(alloc, file)?;
     let mut engine = Engine::new(alloc, table, Env::new(alloc));
     for (i, (given, outputs, live, turn)) in rows.iter().enumerate() {

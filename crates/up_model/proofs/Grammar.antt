@@ -1,10 +1,9 @@
 -- A file gives a job where it defines it by the grammar.
-use Rattle.std.proofs.Common.{◌≡◌, ℕ, zero, suc, ◌+◌, ◌<◌, ◌-◌, Bool, true, false, ◌&&◌, List, [], ◌∷◌, ◌++◌, length, take, Option, Some, None, Result, Ok, Err, cond, refl, sym, ◌∙◌, ap, subst, find, option_map, option_and_then, codes, nat_eq, arith, length-append, ◌↔◌}
-use Rattle.std.specs.List.{list_all, AllZip, filter_map, ends_with, Contains, Any}
+use Rattle.std.proofs.Common.{◌≡◌, ℕ, zero, suc, ◌+◌, ◌<◌, ◌-◌, Bool, true, false, ◌&&◌, List, [], ◌∷◌, ◌++◌, length, take, Option, Some, None, Result, Ok, Err, cond, refl, sym, ◌∙◌, ap, subst, option_map, option_and_then, codes, nat_eq, arith, length-append, ◌↔◌}
+use Rattle.std.specs.List.{ends_with, Contains, Any}
 use Rattle.std.specs.Result.{result_ok, result_map_both}
-use Rattle.std.specs.Str.{bytes_eq}
 use Rattle.std.proofs.lemmas.Bool.Decides.{Decides-eqb}
-use Rattle.std.proofs.lemmas.Slice.Eq.{bytes_eq-Decides, ends_is}
+use Rattle.std.proofs.lemmas.Slice.Eq.{ends_is}
 use Rattle.std.proofs.Math.Seq.{take-append_seam}
 use Rattle.up_text.specs.Names.{is_name}
 use Rattle.up_text.specs.declared.token.Token.{Token}
@@ -14,12 +13,11 @@ use Rattle.up_text.proofs.Lexemes.{lexemes_of-is, none_when_finished}
 use Rattle.up_model.specs.declared.files.file.File.{File}
 use Rattle.up_model.specs.declared.files.job.JobDef.{JobDef}
 use Rattle.up_model.specs.declared.files.stanza.Stanza.{Stanza}
-use Rattle.up_model.specs.declared.files.stanza.Stanza.TheVariants.{StartOn, StopOn, Exec}
 use Rattle.up_model.specs.Stanzas.{Found, Said, stanza_at, said_then, said_from, said_of, job_of}
 use Rattle.up_model.specs.Files.{is_text, job_unless, job_from, job_in, fault_at, name_in, outcome_of, job_of_file, jobs_of}
 use Rattle.up_model.specs.Order.{is_below}
 use Rattle.up_model.proofs.Members.{any_from_ordered, ordered_from_any}
-use Rattle.up_model.specs.Grammar.{Written, Stands, Defines}
+use Rattle.up_model.specs.Grammar.{Written, Defines}
 use Rattle.up_model.proofs.Reading.{said_finished, said_more}
 use Rattle.up_model.proofs.Standing.{Stands-stanza_at, stanza_at-Stands, stanza_less, stands_first}
 

@@ -1,9 +1,9 @@
 -- How what is left of a text goes on behind a part of it.
-use Rattle.std.proofs.Common.{◌≡◌, ℕ, zero, suc, ◌+◌, ◌<◌, ◌≤◌, Bool, true, false, List, [], ◌∷◌, ◌++◌, length, Option, None, Some, Ok, Err, cond, refl, sym, ◌∙◌, ap, arith, append_assoc, append-nil, option_map}
+use Rattle.std.proofs.Common.{◌≡◌, ℕ, zero, suc, ◌+◌, ◌<◌, Bool, true, false, List, [], ◌∷◌, ◌++◌, length, Option, None, Some, Ok, Err, cond, refl, sym, ◌∙◌, ap, arith, append_assoc, append-nil, option_map}
 use Rattle.up_text.specs.declared.fault.TextFault.{TextFault}
 use Rattle.up_text.specs.declared.token.Token.{Token}
 use Rattle.up_text.specs.Places.{Place, Got, Ended, Fails, reading, line_at, is_finished}
-use Rattle.up_text.specs.Rows.{with_token, row_by, row_of}
+use Rattle.up_text.specs.Rows.{with_token, row_of}
 use Rattle.up_text.proofs.Rows.{row_of-is}
 use Rattle.up_model.specs.declared.files.job.JobDef.{JobDef}
 use Rattle.up_model.specs.declared.files.stanza.Stanza.{Stanza}

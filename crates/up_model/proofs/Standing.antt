@@ -1,14 +1,12 @@
 -- What the stanza at a place says is what the grammar writes there.
-use Rattle.std.proofs.Common.{◌≡◌, ◌⊎◌, inl, inr, Result, Err, ℕ, ◌+◌, ◌<◌, ◌≤◌, Bool, true, false, ◌&&◌, List, [], ◌∷◌, length, map, Option, None, Some, cond, refl, sym, ◌∙◌, ap, subst, arith, option_map, codes, nat_le}
+use Rattle.std.proofs.Common.{◌≡◌, ◌⊎◌, inl, inr, Result, Err, ℕ, ◌<◌, ◌≤◌, Bool, true, false, List, [], ◌∷◌, length, map, Option, None, Some, cond, refl, sym, ◌∙◌, ap, subst, arith, option_map, codes, nat_le}
 use Rattle.std.proofs.lemmas.Bool.{and_parts, le-leb, leb-true}
-use Rattle.std.proofs.lemmas.Bool.Decides.{Decides-eqb}
 use Rattle.std.proofs.lemmas.Slice.Eq.{bytes_eq-Decides}
 use Rattle.std.specs.List.{list_all}
 use Rattle.std.specs.Str.{bytes_eq}
-use Rattle.up_text.specs.declared.fault.TextFault.{TextFault}
 use Rattle.up_text.specs.declared.token.Token.{Token}
 use Rattle.up_text.specs.Places.{Place, Reading, Got, Ended, Fails, reading, switched}
-use Rattle.up_text.specs.Rows.{Row, row_of}
+use Rattle.up_text.specs.Rows.{row_of}
 use Rattle.up_text.specs.Scripts.{is_filled}
 use Rattle.up_text.proofs.Lexemes.{reading_less}
 use Rattle.up_text.proofs.Rows.{row_of-Row, Row-row_of, Row-leaves}

@@ -1,5 +1,5 @@
 -- The grammar of a job file (init(5)): which stanzas its text writes, and which job they define.
-use Rattle.std.specs.Prelude.{◌≡◌, ℕ, Bool, true, false, List, [], ◌∷◌, ◌++◌, map, codes}
+use Rattle.std.specs.Prelude.{◌≡◌, ℕ, true, false, List, [], ◌∷◌, ◌++◌, map, codes}
 use Rattle.std.specs.List.{list_all}
 use Rattle.up_text.specs.declared.token.Token.{Token}
 use Rattle.up_text.specs.Names.{is_name}

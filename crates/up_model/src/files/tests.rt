@@ -6,7 +6,12 @@ use std::test::Fail;
 use up_expr::{Condition, Expr};
 use up_text::{Items, Text};
 
-pub(crate) fn add(alloc: Global, folder: &mut Folder, path: &str, bytes: &[u8]) -> Result<(), AllocError> {
+pub(crate) fn add(
+    alloc: Global,
+    folder: &mut Folder,
+    path: &str,
+    bytes: &[u8],
+) -> Result<(), AllocError> {
     let path = Text::from_str(alloc, path)?;
     let bytes = Vec::from_slice(alloc, bytes)?;
     folder.add(path, Items::new(bytes))
@@ -37,7 +42,11 @@ pub(crate) fn are_words(words: &Option<Items<Text>>, expected: &[&str]) -> bool 
 }
 
 // The line of the fault of a folder with this file alone, where it has no job and one fault.
-pub(crate) fn fault_line(alloc: Global, path: &str, bytes: &[u8]) -> Result<Option<u32>, CompileError> {
+pub(crate) fn fault_line(
+    alloc: Global,
+    path: &str,
+    bytes: &[u8],
+) -> Result<Option<u32>, CompileError> {
     let mut folder = Folder::new(alloc);
     add(alloc, &mut folder, path, bytes)?;
     let (table, report) = compile(alloc, &folder)?;

@@ -25,23 +25,22 @@ fn show_leaf(text: &mut String, leaf: &Leaf) -> Result<(), AllocError> {
 // Each operator with its sides in brackets.
 fn show(text: &mut String, expr: &Expr) -> Result<(), AllocError> {
     match expr {
-        Expr::Leaf(leaf) => show_leaf(text, leaf),
-        Expr::And(left, right) => show_sides(text, left, " & ", right),
-        Expr::Or(left, right) => show_sides(text, left, " | ", right),
+        Expr::Leaf(leaf) => show_leaf(text, leaf)?,
+        Expr::And(left, right) => {
+            text.push_str("[")?;
+            show(text, left)?;
+            text.push_str(" & ")?;
+            show(text, right)?;
+            text.push_str("]")?;
+        }
+        Expr::Or(left, right) => {
+            text.push_str("[")?;
+            show(text, left)?;
+            text.push_str(" | ")?;
+            show(text, right)?;
+            text.push_str("]")?;
+        }
     }
-}
-
-fn show_sides(
-    text: &mut String,
-    left: &Expr,
-    operator: &str,
-    right: &Expr,
-) -> Result<(), AllocError> {
-    text.push_str("[")?;
-    show(text, left)?;
-    text.push_str(operator)?;
-    show(text, right)?;
-    text.push_str("]")?;
     Ok(())
 }
 

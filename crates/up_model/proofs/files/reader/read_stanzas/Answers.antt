@@ -1,4 +1,4 @@
-use Rattle.std.proofs.Common.{◌≡◌, false, ◌∙◌, sym, ap, Err}
+use Rattle.std.proofs.Common.{◌∙◌, sym}
 use Rattle.up_model.proofs.Reading.{job_with-after, job_with-unreadable, job_with-finished}
 use Rattle.up_model.proofs.Standing.{stanza_less}
 use Rattle.up_model.proofs.files.reader.read_stanzas.Goals as goal
