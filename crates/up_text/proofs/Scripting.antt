@@ -1,6 +1,6 @@
 -- The lines and the words of a script.
-use Rattle.std.proofs.Common.{◌≡◌, ℕ, ◌+◌, ◌-◌, ◌<◌, ◌≤◌, Bool, true, false, cond, ◌&&◌, List, [], ◌∷◌, ◌++◌, None, Some, length, take, drop, refl, sym, ap, ◌∙◌, subst, one-add, arith, append_assoc, length-append, filter, eqb, codes, IsUtf8}
-use Rattle.std.proofs.lemmas.Bool.{and_parts, and_from, not-true, not-false, ne_eqb}
+use Rattle.std.proofs.Common.{◌≡◌, ℕ, ◌+◌, ◌-◌, ◌<◌, ◌≤◌, Bool, true, false, cond, ◌&&◌, List, [], ◌∷◌, ◌++◌, None, Some, length, take, drop, refl, sym, ap, ◌∙◌, subst, one-add, arith, append_assoc, length-append, filter, codes, IsUtf8}
+use Rattle.std.proofs.lemmas.Bool.{and_parts, and_from, not-true, not-false}
 use Rattle.std.proofs.lemmas.List.Sums.{prefix_len_stops}
 use Rattle.std.proofs.lemmas.Str.{IsCharBoundary-after_ascii, IsCharBoundary-at_seam}
 use Rattle.std.specs.Str.{bytes_eq, IsCharBoundary}
@@ -9,9 +9,9 @@ use Rattle.up_text.proofs.Runs.{feeds-none, feeds-append, feeds-length}
 use Rattle.std.proofs.lemmas.List.Splits.{slice_split-cons_no, slice_split-cons_yes}
 use Rattle.std.specs.List.{list_all, prefix_len, slice_split, onto_first, concat}
 use Rattle.up_text.proofs.Cuts.{list_all-take, begins-drop, in_line-ascii}
-use Rattle.up_text.specs.Lexer.{is_in_word, is_in_code, is_in_line, BeginsWord, BeginsLine, EndsScript}
+use Rattle.up_text.specs.Lexer.{is_in_word, is_in_line, BeginsWord, BeginsLine, EndsScript}
 use Rattle.up_text.specs.Places.{feeds}
-use Rattle.up_text.specs.Scripts.{lines_of, is_filled, words_in, are_end_words, is_end_line, script_in}
+use Rattle.up_text.specs.Scripts.{lines_of, is_filled, words_in, are_end_words, may_follow, is_end_line, script_in}
 use Rattle.up_text.specs.Tokens.{is_line_feed, is_blank, begins}
 
 -- blanks in front change no word
@@ -160,25 +160,20 @@ pub and-false : (b : Bool) → (b && false) ≡ false
 and-false true = refl
 and-false false = refl
 
-both-tests : (a b : Bool) → cond a b false ≡ (a && (b && true))
-both-tests true true = refl
-both-tests true false = refl
-both-tests false b = refl
+and-true : (b : Bool) → (b && true) ≡ b
+and-true true = refl
+and-true false = refl
 
 words-test : (text first r1 second r2 third r3 : List ℕ) → BeginsWord text first r1 → BeginsWord r1 second r2 → BeginsWord r2 third r3
-    → are_end_words (words_in text) ≡ (bytes_eq first (codes "end") && (bytes_eq second (codes "script") && eqb (length third) 0))
+    → are_end_words (words_in text) ≡ (bytes_eq first (codes "end") && (bytes_eq second (codes "script") && may_follow third))
 words-test text [] r1 second r2 third r3 a b c = rw a refl
 words-test text (x ∷ first) r1 [] r2 third r3 a b c = rw (a, b) (sym (and-false (bytes_eq (x ∷ first) (codes "end"))))
-words-test text (x ∷ first) r1 (y ∷ second) r2 [] r3 a b c = rw (a, b, c) (both-tests (bytes_eq (x ∷ first) (codes "end")) (bytes_eq (y ∷ second) (codes "script")))
-words-test text (x ∷ first) r1 (y ∷ second) r2 (z ∷ third) r3 a b c =
-    let none : eqb (length (z ∷ third)) 0 ≡ false = ne_eqb (length (z ∷ third)) 0 (λ same. absurd (omega arith)) in
-    rw (a, b, c) (sym (ap (λ t. bytes_eq (x ∷ first) (codes "end") && (bytes_eq (y ∷ second) (codes "script") && t)) none
-    ∙ ap (λ t. bytes_eq (x ∷ first) (codes "end") && t) (and-false (bytes_eq (y ∷ second) (codes "script")))
-    ∙ and-false (bytes_eq (x ∷ first) (codes "end"))))
+words-test text (x ∷ first) r1 (y ∷ second) r2 [] r3 a b c = rw (a, b, c, and-true) refl
+words-test text (x ∷ first) r1 (y ∷ second) r2 (z ∷ third) r3 a b c = rw (a, b, c) refl
 
-pub end-line : (line code first r1 second r2 third r3 : List ℕ) → code ≡ take (prefix_len is_in_code line) line → BeginsWord code first r1 → BeginsWord r1 second r2 → BeginsWord r2 third r3
-    → is_end_line line ≡ (bytes_eq first (codes "end") && (bytes_eq second (codes "script") && eqb (length third) 0))
-unfolding is_end_line is_in_code
+pub end-line : (line code first r1 second r2 third r3 : List ℕ) → code ≡ take (prefix_len is_in_line line) line → BeginsWord code first r1 → BeginsWord r1 second r2 → BeginsWord r2 third r3
+    → is_end_line line ≡ (bytes_eq first (codes "end") && (bytes_eq second (codes "script") && may_follow third))
+unfolding is_end_line is_in_line
 end-line line code first r1 second r2 third r3 is a b c = ap (λ t. are_end_words (words_in t)) (sym is) ∙ words-test code first r1 second r2 third r3 a b c
 
 -- the lines of a script so far

@@ -8,7 +8,7 @@ use Rattle.up_text.specs.declared.lexer.Lexer.TheInside.{Inside}
 use Rattle.up_text.specs.declared.lexer.draft.Draft.TheInside as draft
 use Rattle.up_text.specs.declared.token.Token.{Token}
 use Rattle.up_text.specs.Tokens.{Mark, Part, Quoting, Folded, Alone, Blank, Passed, Stop, Fail, Mode, Outside, marks, is_line_feed, is_blank, is_hash, is_quote, is_backslash, is_paren, begins}
-use Rattle.up_text.specs.Scripts.{lines_of, script_in, ends_code, words_in}
+use Rattle.up_text.specs.Scripts.{lines_of, script_in, words_in}
 use Rattle.up_text.specs.Places.{Place, Reading, Got, Ended, Fails, passing, gap_at, marks_at, read_at, feeds, is_gap, given, written}
 
 -- a place
@@ -180,10 +180,6 @@ GivesFault at fault = IsFaultOf (read_at at (marks_at at)) fault
 -- a byte of a word
 unfoldable pub is_in_word : ℕ → Bool
 is_in_word byte = not (is_blank byte)
-
--- a byte before a line's comment and its line feed
-unfoldable pub is_in_code : ℕ → Bool
-is_in_code byte = not (ends_code byte)
 
 -- the first word of a text, which is empty where there is none, and what stands behind it
 abbrev pub BeginsWord : List ℕ → List ℕ → List ℕ → Type 0

@@ -1,5 +1,5 @@
 -- The lines of a script, up to `end script`.
-use Rattle.std.specs.Prelude.{◌≡◌, ◌⊎◌, ℕ, ◌+◌, Bool, true, false, ◌||◌, if◌then◌else◌, List, [], ◌∷◌, length, Option, None, Some, Result, Ok, Err, codes}
+use Rattle.std.specs.Prelude.{◌≡◌, ◌⊎◌, ℕ, ◌+◌, Bool, true, false, ◌&&◌, if◌then◌else◌, List, [], ◌∷◌, length, Option, None, Some, Result, Ok, Err, codes}
 use Rattle.std.specs.List.{filter, concat, before_first, onto_first, slice_split}
 use Rattle.std.specs.Str.{bytes_eq}
 use Rattle.up_text.specs.declared.fault.TextFault.{TextFault}
@@ -17,24 +17,25 @@ abbrev pub is_filled : {X : Type 0} → List X → Bool
 is_filled [] = false
 is_filled (x ∷ xs) = true
 
--- the # before a comment, or a line feed
-abbrev pub ends_code : ℕ → Bool
-ends_code byte = is_hash byte || is_line_feed byte
-
 -- the words of a text, as blanks separate them
 abbrev pub words_in : List ℕ → List (List ℕ)
 words_in text = filter is_filled (slice_split is_blank text)
 
--- the words of a line before its comment
+-- the words of a line
 abbrev pub line_words : List ℕ → List (List ℕ)
-line_words line = words_in (before_first ends_code line)
+line_words line = words_in (before_first is_line_feed line)
 
--- whether these are the words `end` and `script`
+-- no word, or one that begins a comment
+abbrev pub may_follow : List ℕ → Bool
+may_follow [] = true
+may_follow (byte ∷ word) = is_hash byte
+
+-- whether these are the words `end` and `script`, perhaps with blanks and a comment behind them
 abbrev pub are_end_words : List (List ℕ) → Bool
-are_end_words (first ∷ second ∷ []) = if bytes_eq first (codes "end") then bytes_eq second (codes "script") else false
 are_end_words [] = false
 are_end_words (first ∷ []) = false
-are_end_words (first ∷ second ∷ third ∷ others) = false
+are_end_words (first ∷ second ∷ []) = bytes_eq first (codes "end") && bytes_eq second (codes "script")
+are_end_words (first ∷ second ∷ third ∷ others) = bytes_eq first (codes "end") && (bytes_eq second (codes "script") && may_follow third)
 
 -- the line that ends a script
 unfoldable pub is_end_line : List ℕ → Bool

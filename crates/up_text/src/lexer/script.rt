@@ -3,8 +3,8 @@ ghost use Rattle.std.specs.Prelude.{◌≡◌, ◌+◌, ◌<◌, ◌≤◌, ◌^
 ghost use Rattle.std.specs.List.{prefix_len};
 ghost use Rattle.std.specs.Str.{bytes_eq};
 ghost use Rattle.up_text.specs.Tokens.{is_blank};
-ghost use Rattle.up_text.specs.Scripts.{lines_of, is_end_line, script_in};
-ghost use Rattle.up_text.specs.Lexer.{is_in_word, is_in_code, BeginsWord, BeginsLine, EndsScript};
+ghost use Rattle.up_text.specs.Scripts.{lines_of, is_end_line, may_follow, script_in};
+ghost use Rattle.up_text.specs.Lexer.{is_in_word, BeginsWord, BeginsLine, EndsScript};
 
 use crate::lexer::bytes::{blanks_len, is_blank, line_len};
 
@@ -15,26 +15,11 @@ fn is_in_word(byte: u8) -> bool
     !is_blank(byte)
 }
 
-// Whether the byte stands before a comment and a line feed.
-#[tactic(auto, unfolding(crate::specs::Lexer::is_in_code, crate::specs::Tokens::is_hash, crate::specs::Tokens::is_line_feed))]
-fn is_in_code(byte: u8) -> bool
-    ensures { result ≡ is_in_code byte }
-{
-    !(byte == b'#' || byte == b'\n')
-}
-
 // How many bytes of a word the bytes begin with.
 fn word_len(bytes: &[u8]) -> usize
     ensures { result ≡ prefix_len is_in_word bytes.now }
 {
     bytes.iter().take_while(|byte| is_in_word(**byte)).count()
-}
-
-// How many bytes stand before the comment and the line feed.
-fn code_len(bytes: &[u8]) -> usize
-    ensures { result ≡ prefix_len is_in_code bytes.now }
-{
-    bytes.iter().take_while(|byte| is_in_code(**byte)).count()
 }
 
 // The first word, or nothing where there is none, and what stands behind it.
@@ -57,12 +42,23 @@ fn is_script(word: &[u8]) -> bool
     word == b"script".as_slice()
 }
 
+// Whether this is no word, or one that begins a comment.
+#[tactic(auto, unfolding(crate::specs::Tokens::is_hash))]
+fn may_follow(word: &[u8]) -> bool
+    ensures { result ≡ may_follow word.now }
+{
+    match word.first() {
+        Some(byte) => *byte == b'#',
+        None => true,
+    }
+}
+
 // Whether the line ends a script.
 fn is_end_line(line: &[u8]) -> bool
     ensures { result ≡ is_end_line line.now }
 {
-    let (code, _) = line.split_at(code_len(line));
-    let (first, rest) = next_word(code);
+    let (words, _) = line.split_at(line_len(line));
+    let (first, rest) = next_word(words);
     let (second, rest) = next_word(rest);
     let (third, _) = next_word(rest);
     if !is_end(first) {
@@ -71,7 +67,7 @@ fn is_end_line(line: &[u8]) -> bool
     if !is_script(second) {
         return false;
     }
-    third.is_empty()
+    may_follow(third)
 }
 
 // The first line with its line feed, what stands behind it, and how many line feeds it has.

@@ -166,7 +166,7 @@ const PARENS: [Case; 2] = [
     },
 ];
 
-const SCRIPTS: [Case; 3] = [
+const SCRIPTS: [Case; 4] = [
     Case {
         text: "script\n\n # c\n  a \"\n end  scripts\n end \t script # x\nb\n",
         steps: &[
@@ -180,6 +180,16 @@ const SCRIPTS: [Case; 3] = [
     Case {
         text: "script\nend script",
         steps: &[Step::Plain(1, "script"), Step::End, Step::Script("")],
+    },
+    Case {
+        text: "script\nend script#c\nend script #c\nb",
+        steps: &[
+            Step::Plain(1, "script"),
+            Step::End,
+            Step::Script("end script#c\n"),
+            Step::Plain(4, "b"),
+            Step::End,
+        ],
     },
     Case {
         text: "script\nend scripts\nend",
