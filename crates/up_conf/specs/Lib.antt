@@ -1,0 +1,3 @@
+pub mod FaultCodes
+pub mod Numbers
+pub mod Signals

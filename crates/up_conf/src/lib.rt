@@ -1,0 +1,26 @@
+//! What job files say: their stanzas, and the jobs that these define (init(5)).
+#![tactic(auto)]
+
+pub mod action;
+pub mod exit;
+pub mod fault;
+pub mod folder;
+pub mod job;
+pub mod limit;
+pub mod process;
+pub mod report;
+pub mod setting;
+pub mod signal;
+pub mod stanza;
+
+pub use action::Action;
+pub use exit::Exit;
+pub use fault::{ConfFault, FaultCode};
+pub use folder::{File, Folder};
+pub use job::JobDef;
+pub use limit::Limit;
+pub use process::Process;
+pub use report::{Fault, Report};
+pub use setting::Setting;
+pub use signal::Signal;
+pub use stanza::{Console, Stanza, Stanzas};
