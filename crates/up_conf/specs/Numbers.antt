@@ -1,7 +1,6 @@
 -- Decimal numbers.
-use Rattle.std.specs.Prelude.{ℕ, ◌+◌, ◌-◌, ◌*◌, Bool, nat_le, ◌&&◌, if◌then◌else◌, List, [], ◌∷◌, Option, None, Some}
+use Rattle.std.specs.Prelude.{ℕ, ◌+◌, ◌-◌, ◌*◌, ◌==◌, not, Bool, nat_le, ◌&&◌, if◌then◌else◌, List, [], ◌∷◌, length, Option, None, Some}
 use Rattle.std.specs.List.{list_all}
-use Rattle.up_text.specs.Scripts.{is_filled}
 
 -- a digit, 0 to 9
 unfoldable pub is_digit : ℕ → Bool
@@ -9,7 +8,7 @@ is_digit byte = nat_le 0x30 byte && nat_le byte 0x39
 
 -- one or more digits
 abbrev pub are_digits : List ℕ → Bool
-are_digits text = is_filled text && list_all is_digit text
+are_digits text = not (length text == 0) && list_all is_digit text
 
 -- the number that digits write behind those that write this one
 abbrev pub number_from : ℕ → List ℕ → ℕ

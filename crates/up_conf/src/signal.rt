@@ -1,5 +1,9 @@
 //! Signals.
 ghost use Rattle.std.specs.Prelude.{◌≡◌};
+ghost use Rattle.up_conf.specs.Numbers.{number_in};
+ghost use Rattle.up_conf.specs.Signals.{names, placed, without_sig, signal_named, signal_of};
+
+use crate::number::{are_digits, read_number};
 
 use std::marker::Model;
 
@@ -34,5 +38,87 @@ impl Signal {
         ensures { result ≡ self }
     {
         self.number
+    }
+}
+
+// The signal of this name.
+fn find_signal(name: &[u8]) -> Option<Signal>
+    ensures { result ≡ placed 1 name.now names }
+{
+    match name {
+        b"HUP" => Some(Signal { number: 1 }),
+        b"INT" => Some(Signal { number: 2 }),
+        b"QUIT" => Some(Signal { number: 3 }),
+        b"ILL" => Some(Signal { number: 4 }),
+        b"TRAP" => Some(Signal { number: 5 }),
+        b"ABRT" => Some(Signal { number: 6 }),
+        b"BUS" => Some(Signal { number: 7 }),
+        b"FPE" => Some(Signal { number: 8 }),
+        b"KILL" => Some(Signal { number: 9 }),
+        b"USR1" => Some(Signal { number: 10 }),
+        b"SEGV" => Some(Signal { number: 11 }),
+        b"USR2" => Some(Signal { number: 12 }),
+        b"PIPE" => Some(Signal { number: 13 }),
+        b"ALRM" => Some(Signal { number: 14 }),
+        b"TERM" => Some(Signal { number: 15 }),
+        b"STKFLT" => Some(Signal { number: 16 }),
+        b"CHLD" => Some(Signal { number: 17 }),
+        b"CONT" => Some(Signal { number: 18 }),
+        b"STOP" => Some(Signal { number: 19 }),
+        b"TSTP" => Some(Signal { number: 20 }),
+        b"TTIN" => Some(Signal { number: 21 }),
+        b"TTOU" => Some(Signal { number: 22 }),
+        b"URG" => Some(Signal { number: 23 }),
+        b"XCPU" => Some(Signal { number: 24 }),
+        b"XFSZ" => Some(Signal { number: 25 }),
+        b"VTALRM" => Some(Signal { number: 26 }),
+        b"PROF" => Some(Signal { number: 27 }),
+        b"WINCH" => Some(Signal { number: 28 }),
+        b"IO" => Some(Signal { number: 29 }),
+        b"PWR" => Some(Signal { number: 30 }),
+        b"SYS" => Some(Signal { number: 31 }),
+        _ => None,
+    }
+}
+
+// A name without the SIG in front.
+fn without_sig(text: &[u8]) -> &[u8]
+    ensures { result.now ≡ without_sig text.now }
+{
+    if text.starts_with(b"SIG") {
+        &text[3..]
+    } else {
+        text
+    }
+}
+
+/// The signal of this name, with or without SIG.
+#[tactic(auto, unfolding(crate::specs::Signals::signal_named))]
+pub(crate) fn signal_named(text: &str) -> Option<Signal>
+    ensures { result ≡ signal_named text.now }
+{
+    find_signal(without_sig(text.as_bytes()))
+}
+
+// The signal of this number.
+fn signal_numbered(text: &str) -> Option<Signal>
+    ensures { result ≡ number_in 1 31 text.now }
+{
+    match read_number(text, 1, 31) {
+        Some(number) => Some(Signal {
+            number: number as u8,
+        }),
+        None => None,
+    }
+}
+
+/// The signal that a text says: a name, or a number.
+pub(crate) fn read_signal(text: &str) -> Option<Signal>
+    ensures { result ≡ signal_of text.now }
+{
+    if are_digits(text) {
+        signal_numbered(text)
+    } else {
+        signal_named(text)
     }
 }
