@@ -2,6 +2,7 @@
 #![tactic(auto)]
 
 pub mod action;
+mod argument;
 pub mod exit;
 pub mod fault;
 pub mod folder;

@@ -42,53 +42,52 @@ impl Signal {
 }
 
 // The signal of this name.
-fn find_signal(name: &[u8]) -> Option<Signal>
+fn find_signal(name: &str) -> Option<Signal>
     ensures { result ≡ placed 1 name.now names }
 {
     match name {
-        b"HUP" => Some(Signal { number: 1 }),
-        b"INT" => Some(Signal { number: 2 }),
-        b"QUIT" => Some(Signal { number: 3 }),
-        b"ILL" => Some(Signal { number: 4 }),
-        b"TRAP" => Some(Signal { number: 5 }),
-        b"ABRT" => Some(Signal { number: 6 }),
-        b"BUS" => Some(Signal { number: 7 }),
-        b"FPE" => Some(Signal { number: 8 }),
-        b"KILL" => Some(Signal { number: 9 }),
-        b"USR1" => Some(Signal { number: 10 }),
-        b"SEGV" => Some(Signal { number: 11 }),
-        b"USR2" => Some(Signal { number: 12 }),
-        b"PIPE" => Some(Signal { number: 13 }),
-        b"ALRM" => Some(Signal { number: 14 }),
-        b"TERM" => Some(Signal { number: 15 }),
-        b"STKFLT" => Some(Signal { number: 16 }),
-        b"CHLD" => Some(Signal { number: 17 }),
-        b"CONT" => Some(Signal { number: 18 }),
-        b"STOP" => Some(Signal { number: 19 }),
-        b"TSTP" => Some(Signal { number: 20 }),
-        b"TTIN" => Some(Signal { number: 21 }),
-        b"TTOU" => Some(Signal { number: 22 }),
-        b"URG" => Some(Signal { number: 23 }),
-        b"XCPU" => Some(Signal { number: 24 }),
-        b"XFSZ" => Some(Signal { number: 25 }),
-        b"VTALRM" => Some(Signal { number: 26 }),
-        b"PROF" => Some(Signal { number: 27 }),
-        b"WINCH" => Some(Signal { number: 28 }),
-        b"IO" => Some(Signal { number: 29 }),
-        b"PWR" => Some(Signal { number: 30 }),
-        b"SYS" => Some(Signal { number: 31 }),
+        "HUP" => Some(Signal { number: 1 }),
+        "INT" => Some(Signal { number: 2 }),
+        "QUIT" => Some(Signal { number: 3 }),
+        "ILL" => Some(Signal { number: 4 }),
+        "TRAP" => Some(Signal { number: 5 }),
+        "ABRT" => Some(Signal { number: 6 }),
+        "BUS" => Some(Signal { number: 7 }),
+        "FPE" => Some(Signal { number: 8 }),
+        "KILL" => Some(Signal { number: 9 }),
+        "USR1" => Some(Signal { number: 10 }),
+        "SEGV" => Some(Signal { number: 11 }),
+        "USR2" => Some(Signal { number: 12 }),
+        "PIPE" => Some(Signal { number: 13 }),
+        "ALRM" => Some(Signal { number: 14 }),
+        "TERM" => Some(Signal { number: 15 }),
+        "STKFLT" => Some(Signal { number: 16 }),
+        "CHLD" => Some(Signal { number: 17 }),
+        "CONT" => Some(Signal { number: 18 }),
+        "STOP" => Some(Signal { number: 19 }),
+        "TSTP" => Some(Signal { number: 20 }),
+        "TTIN" => Some(Signal { number: 21 }),
+        "TTOU" => Some(Signal { number: 22 }),
+        "URG" => Some(Signal { number: 23 }),
+        "XCPU" => Some(Signal { number: 24 }),
+        "XFSZ" => Some(Signal { number: 25 }),
+        "VTALRM" => Some(Signal { number: 26 }),
+        "PROF" => Some(Signal { number: 27 }),
+        "WINCH" => Some(Signal { number: 28 }),
+        "IO" => Some(Signal { number: 29 }),
+        "PWR" => Some(Signal { number: 30 }),
+        "SYS" => Some(Signal { number: 31 }),
         _ => None,
     }
 }
 
 // A name without the SIG in front.
-fn without_sig(text: &[u8]) -> &[u8]
+fn without_sig(text: &str) -> &str
     ensures { result.now ≡ without_sig text.now }
 {
-    if text.starts_with(b"SIG") {
-        &text[3..]
-    } else {
-        text
+    match text.strip_prefix("SIG") {
+        Some(name) => name,
+        None => text,
     }
 }
 
@@ -97,7 +96,7 @@ fn without_sig(text: &[u8]) -> &[u8]
 pub(crate) fn signal_named(text: &str) -> Option<Signal>
     ensures { result ≡ signal_named text.now }
 {
-    find_signal(without_sig(text.as_bytes()))
+    find_signal(without_sig(text))
 }
 
 // The signal of this number.
