@@ -3,6 +3,7 @@
 
 pub mod action;
 mod argument;
+mod command;
 pub mod exit;
 pub mod fault;
 pub mod folder;
