@@ -32,10 +32,14 @@ abbrev pub each : {X : Type 0} → (List ℕ → Option X) → List (List ℕ) �
 each f [] = Some []
 each f (text ∷ texts) = both (f text) (each f texts)
 
+-- one or more arguments
+abbrev pub filled : List (List ℕ) → Option (List (List ℕ))
+filled [] = None
+filled (text ∷ texts) = Some (text ∷ texts)
+
 -- what each of one or more arguments says
 abbrev pub some : {X : Type 0} → (List ℕ → Option X) → List (List ℕ) → Option (List X)
-some f [] = None
-some f (text ∷ texts) = each f (text ∷ texts)
+some f texts = option_and_then (each f) (filled texts)
 
 -- the arguments behind this word
 abbrev pub behind : List ℕ → List (List ℕ) → Option (List (List ℕ))
@@ -48,10 +52,14 @@ limit_by None interval = None
 limit_by (Some count) None = None
 limit_by (Some count) (Some interval) = Some (record { count = count; interval = interval })
 
+-- no limit
+abbrev pub unlimited : List ℕ → Option Limit
+unlimited text = if bytes_eq text (codes "unlimited") then Some (record { count = 0; interval = 0 }) else None
+
 -- COUNT INTERVAL, or `unlimited`
 abbrev pub limit_of : List (List ℕ) → Option Limit
 limit_of [] = None
-limit_of (text ∷ []) = if bytes_eq text (codes "unlimited") then Some (record { count = 0; interval = 0 }) else None
+limit_of (text ∷ []) = unlimited text
 limit_of (count ∷ interval ∷ []) = limit_by (number_in 0 65535 count) (number_in 0 2147483647 interval)
 limit_of (count ∷ interval ∷ third ∷ others) = None
 
@@ -68,21 +76,29 @@ kill_of (text ∷ texts) =
     else (if bytes_eq text (codes "signal") then option_map KillSignal (option_and_then signal_of (single texts))
     else None)
 
+-- `reload signal`
+abbrev pub reload_of : List (List ℕ) → Option Stanza
+reload_of texts = option_map ReloadSignal (option_and_then (λ others. option_and_then signal_of (single others)) (behind (codes "signal") texts))
+
+-- `normal exit`
+abbrev pub normal_of : List (List ℕ) → Option Stanza
+normal_of texts = option_map NormalExit (option_and_then (some exit_of) (behind (codes "exit") texts))
+
 -- what a stanza of this kind says with these arguments
 abbrev pub listed_of : Listed → List (List ℕ) → Option Stanza
 listed_of listed.Description texts = option_map About (single texts)
 listed_of listed.Author texts = option_map About (single texts)
 listed_of listed.Version texts = option_map About (single texts)
 listed_of listed.Usage texts = option_map About (single texts)
-listed_of listed.Emits texts = option_map Emits (some Some texts)
+listed_of listed.Emits texts = option_map Emits (filled texts)
 listed_of listed.Env texts = option_map Env (option_and_then setting_of (single texts))
 listed_of listed.Export texts = option_map Export (some key_of texts)
 listed_of listed.Task texts = none Task texts
 listed_of listed.Manual texts = none Manual texts
 listed_of listed.Respawn texts = respawn_of texts
-listed_of listed.Normal texts = option_map NormalExit (option_and_then (some exit_of) (behind (codes "exit") texts))
+listed_of listed.Normal texts = normal_of texts
 listed_of listed.Kill texts = kill_of texts
-listed_of listed.Reload texts = option_map ReloadSignal (option_and_then signal_of (option_and_then single (behind (codes "signal") texts)))
+listed_of listed.Reload texts = reload_of texts
 listed_of listed.Instance texts = option_map Instance (option_and_then instance_of (single texts))
 listed_of listed.Console texts = option_map Console (option_and_then console_of (single texts))
 listed_of listed.Chdir texts = option_map Chdir (single texts)

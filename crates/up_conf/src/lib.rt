@@ -10,6 +10,7 @@ pub mod folder;
 pub mod job;
 mod kind;
 pub mod limit;
+mod listed;
 mod number;
 pub mod process;
 pub mod report;
