@@ -6,3 +6,4 @@ pub mod Numbers
 pub mod Reading
 pub mod Settings
 pub mod Signals
+pub mod Stanzas

@@ -5,7 +5,7 @@ ghost use Rattle.up_conf.specs.Arguments.{single, none, each, filled, some, behi
 ghost use Rattle.up_conf.specs.Numbers.{number_in};
 ghost use Rattle.up_conf.specs.Settings.{key_of, setting_of, exit_of, instance_of, console_of};
 ghost use Rattle.up_conf.specs.Signals.{signal_of};
-ghost use Rattle.up_conf.specs.declared.stanza.Stanza.TheVariants.{About, Env, Instance, Chdir, Console, RespawnLimit, KillTimeout, KillSignal};
+ghost use Rattle.up_conf.specs.declared.stanza.Stanza.TheVariants.{About, Emits, Env, Export, Instance, Chdir, Console, RespawnLimit, KillTimeout, KillSignal};
 
 use crate::argument::{as_number, as_signal, read_console, read_exit, read_instance, read_key, read_setting};
 use crate::exit::Exit;
@@ -275,5 +275,118 @@ fn read_normal(alloc: Global, texts: &[Text]) -> Result<Result<Stanza, FaultCode
             Err(code) => Ok(Err(code)),
         },
         Err(code) => Ok(Err(code)),
+    }
+}
+
+// One text without effect.
+fn read_about(texts: &[Text]) -> Result<Result<Stanza, FaultCode>, AllocError>
+    ensures { IfOk result (λ read. result_ok read ≡ option_map About (single texts.now)) }
+{
+    match single(texts) {
+        Ok(text) => {
+            let text = text.copy()?;
+            Ok(Ok(Stanza::About(text)))
+        }
+        Err(code) => Ok(Err(code)),
+    }
+}
+
+// One setting.
+fn read_env(alloc: Global, texts: &[Text]) -> Result<Result<Stanza, FaultCode>, AllocError>
+    ensures { IfOk result (λ read. result_ok read ≡ option_map Env (option_and_then setting_of (single texts.now))) }
+{
+    match single(texts) {
+        Ok(text) => match read_setting(alloc, text.as_str())? {
+            Ok(setting) => Ok(Ok(Stanza::Env(setting))),
+            Err(code) => Ok(Err(code)),
+        },
+        Err(code) => Ok(Err(code)),
+    }
+}
+
+// Keys that are exported.
+fn read_export(alloc: Global, texts: &[Text]) -> Result<Result<Stanza, FaultCode>, AllocError>
+    ensures { IfOk result (λ read. result_ok read ≡ option_map Export (some key_of texts.now)) }
+{
+    match read_keys(alloc, texts)? {
+        Ok(keys) => Ok(Ok(Stanza::Export(keys))),
+        Err(code) => Ok(Err(code)),
+    }
+}
+
+// The name of an instance.
+fn read_name(alloc: Global, texts: &[Text]) -> Result<Result<Stanza, FaultCode>, AllocError>
+    ensures { IfOk result (λ read. result_ok read ≡ option_map Instance (option_and_then instance_of (single texts.now))) }
+{
+    match single(texts) {
+        Ok(text) => match read_instance(alloc, text.as_str())? {
+            Ok(instance) => Ok(Ok(Stanza::Instance(instance))),
+            Err(code) => Ok(Err(code)),
+        },
+        Err(code) => Ok(Err(code)),
+    }
+}
+
+// Where output goes.
+fn read_output(texts: &[Text]) -> Result<Stanza, FaultCode>
+    ensures { result_ok result ≡ option_map Console (option_and_then console_of (single texts.now)) }
+{
+    match single(texts) {
+        Ok(text) => match read_console(text.as_str()) {
+            Ok(console) => Ok(Stanza::Console(console)),
+            Err(code) => Err(code),
+        },
+        Err(code) => Err(code),
+    }
+}
+
+// A folder.
+fn read_folder_name(texts: &[Text]) -> Result<Result<Stanza, FaultCode>, AllocError>
+    ensures { IfOk result (λ read. result_ok read ≡ option_map Chdir (single texts.now)) }
+{
+    match single(texts) {
+        Ok(text) => {
+            let text = text.copy()?;
+            Ok(Ok(Stanza::Chdir(text)))
+        }
+        Err(code) => Ok(Err(code)),
+    }
+}
+
+// Events that are emitted.
+fn read_emits(texts: Items<Text>) -> Result<Stanza, FaultCode>
+    ensures { result_ok result ≡ option_map Emits (filled texts) }
+{
+    match filled(texts) {
+        Ok(texts) => Ok(Stanza::Emits(texts)),
+        Err(code) => Err(code),
+    }
+}
+
+/// What a stanza of this kind says with these arguments.
+pub(crate) fn read_listed(
+    alloc: Global,
+    kind: Listed,
+    texts: Items<Text>,
+) -> Result<Result<Stanza, FaultCode>, AllocError>
+    ensures { IfOk result (λ read. result_ok read ≡ listed_of kind texts) }
+{
+    match kind {
+        Listed::Description => read_about(texts.as_slice()),
+        Listed::Author => read_about(texts.as_slice()),
+        Listed::Version => read_about(texts.as_slice()),
+        Listed::Usage => read_about(texts.as_slice()),
+        Listed::Emits => Ok(read_emits(texts)),
+        Listed::Env => read_env(alloc, texts.as_slice()),
+        Listed::Export => read_export(alloc, texts.as_slice()),
+        Listed::Task => Ok(alone(Stanza::Task, texts.as_slice())),
+        Listed::Manual => Ok(alone(Stanza::Manual, texts.as_slice())),
+        Listed::Respawn => Ok(read_respawn(texts.as_slice())),
+        Listed::Normal => read_normal(alloc, texts.as_slice()),
+        Listed::Kill => Ok(read_kill(texts.as_slice())),
+        Listed::Reload => Ok(read_reload(texts.as_slice())),
+        Listed::Instance => read_name(alloc, texts.as_slice()),
+        Listed::Console => Ok(read_output(texts.as_slice())),
+        Listed::Chdir => read_folder_name(texts.as_slice()),
     }
 }
