@@ -1,5 +1,5 @@
 -- What the stanzas of a job file say (init(5)).
-use Rattle.std.specs.Prelude.{◌≡◌, ℕ, zero, suc, ◌+◌, Bool, true, false, nat_le, if◌then◌else◌, List, [], ◌∷◌, length, map, Option, None, Some, option_map, codes}
+use Rattle.std.specs.Prelude.{ℕ, zero, suc, ◌+◌, Bool, true, false, nat_le, if◌then◌else◌, List, [], ◌∷◌, length, map, Option, None, Some, option_map, codes}
 use Rattle.std.specs.List.{concat}
 use Rattle.std.specs.Str.{bytes_eq}
 use Rattle.up_text.specs.declared.fault.TextFault.{TextFault}
@@ -57,9 +57,10 @@ texts_at place = made (λ tokens. map (λ token. token.text) tokens) (row_of pla
 
 -- a part with the end of its stanza behind it
 abbrev pub ended : {X : Type 0} → Option X → Reading → Found X
-ended part (Ended behind) = option_map (λ x. (x, behind)) part
-ended part (Got token behind) = None
-ended part (Fails fault) = None
+ended None read = None
+ended (Some x) (Ended behind) = Some (x, behind)
+ended (Some x) (Got token behind) = None
+ended (Some x) (Fails fault) = None
 
 -- the command whose text goes up to the stanza's end, where the text is whole
 abbrev pub command_by : Place → Option TextFault → Found Action
@@ -83,15 +84,12 @@ script_by (Fails fault) = None
 abbrev pub script_at : Place → Found Action
 script_at place = script_by (reading place)
 
--- what a process runs, by the word and what stands behind it
-abbrev pub action_as : Option Kind → Place → Found Action
-action_as None place = None
-action_as (Some kind.Exec) place = command_at place
-action_as (Some kind.Script) place = script_at place
-action_as (Some kind) place = None
-
+-- what a process runs: `exec` or `script`
 abbrev pub action_by : Reading → Found Action
-action_by (Got token behind) = action_as (kind_of token.text) behind
+action_by (Got token behind) =
+    if bytes_eq token.text (codes "exec") then command_at behind
+    else (if bytes_eq token.text (codes "script") then script_at behind
+    else None)
 action_by (Ended behind) = None
 action_by (Fails fault) = None
 

@@ -14,6 +14,7 @@ mod listed;
 mod number;
 pub mod process;
 pub mod report;
+mod row;
 pub mod setting;
 pub mod signal;
 pub mod stanza;
