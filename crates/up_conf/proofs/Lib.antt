@@ -2,3 +2,4 @@ pub mod Numbers
 pub mod Words
 pub mod Telling
 pub mod Parsing
+pub mod Shrinking

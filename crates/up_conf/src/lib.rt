@@ -14,6 +14,7 @@ pub mod limit;
 mod listed;
 mod number;
 pub mod process;
+mod reader;
 pub mod report;
 mod row;
 mod running;
