@@ -3,3 +3,4 @@ pub mod Words
 pub mod Telling
 pub mod Parsing
 pub mod Shrinking
+pub mod Saying

@@ -1,6 +1,7 @@
 -- A stanza leaves less of the text.
 use Rattle.std.proofs.Common.{◌≡◌, ℕ, ◌+◌, ◌-◌, ◌<◌, ◌≤◌, Bool, true, false, List, [], ◌∷◌, length, drop, map, Option, None, Some, cond, refl, sym, ◌∙◌, ap, subst, arith, option_map, codes}
 use Rattle.std.proofs.lemmas.List.{length-drop}
+use Rattle.std.specs.List.{concat}
 use Rattle.std.specs.Str.{bytes_eq}
 use Rattle.up_text.specs.declared.fault.TextFault.{TextFault}
 use Rattle.up_text.specs.declared.token.Token.{Token}
@@ -80,7 +81,7 @@ script_left place = by_reading (reading place) refl
   where
     by_script : (behind : Place) (script : Option (List (List ℕ) × List ℕ)) → length behind.rest ≤ length place.rest → left (script_of behind script) ≤ length place.rest
     by_script behind None less = omega arith
-    by_script behind (Some script) less = let passed = passing_left _ behind in omega (arith, passed, less)
+    by_script behind (Some script) less = let passed = passing_left (length (concat script.0) + length script.1) behind in omega (arith, passed, less)
 
     by_reading : (r : Reading) → reading place ≡ r → left (script_by r) ≤ length place.rest
     by_reading (Got token behind) is = omega arith

@@ -9,8 +9,9 @@ use Rattle.up_text.specs.Places.{Place, Reading, Got, Ended, Fails, reading, pas
 use Rattle.up_conf.specs.declared.fault.FaultCode.{FaultCode}
 use Rattle.up_conf.specs.declared.row.Next.{Next}
 use Rattle.up_conf.specs.declared.row.Next.TheVariants as next
+use Rattle.up_conf.specs.declared.stanza.Stanza.{Stanza}
 use Rattle.up_conf.specs.Numbers.{is_digit, number_from}
-use Rattle.up_conf.specs.Stanzas.{Found, expression_by}
+use Rattle.up_conf.specs.Stanzas.{Found, Said, expression_by}
 
 -- the number that what is left of digits writes behind those that write this one, where it is at most this
 abbrev pub number_left : ℕ → ℕ → List ℕ → Option ℕ
@@ -46,3 +47,7 @@ HasOn read (Err code) new = expression_by read ≡ None
 abbrev pub HasText : Place → Result (List ℕ) FaultCode → Place → Type 0
 HasText old (Ok text) new = (fault_in (row_at old) ≡ None) × (text ≡ command_in (row_at old)) × (new ≡ passing (length (row_at old)) old)
 HasText old (Err code) new = (fault : TextFault) × (fault_in (row_at old) ≡ Some fault)
+
+-- stanzas that were read, and those behind them
+abbrev pub said_behind : List Stanza → Said → Said
+said_behind stanzas said = (stanzas ++ said.0, said.1)
