@@ -4,3 +4,5 @@ pub mod Telling
 pub mod Parsing
 pub mod Shrinking
 pub mod Saying
+pub mod Texts
+pub mod Totals

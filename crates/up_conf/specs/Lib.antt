@@ -1,5 +1,6 @@
 pub mod Actions
 pub mod Arguments
+pub mod Confs
 pub mod FaultCodes
 pub mod Kinds
 pub mod Numbers

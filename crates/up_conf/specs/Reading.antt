@@ -6,6 +6,7 @@ use Rattle.up_text.specs.declared.fault.TextFault.{TextFault}
 use Rattle.up_text.specs.declared.token.Token.{Token}
 use Rattle.up_text.specs.Commands.{row_at, command_in}
 use Rattle.up_text.specs.Places.{Place, Reading, Got, Ended, Fails, reading, passing, fault_in}
+use Rattle.up_conf.specs.declared.fault.ConfFault.{ConfFault}
 use Rattle.up_conf.specs.declared.fault.FaultCode.{FaultCode}
 use Rattle.up_conf.specs.declared.row.Next.{Next}
 use Rattle.up_conf.specs.declared.row.Next.TheVariants as next
@@ -51,3 +52,8 @@ HasText old (Err code) new = (fault : TextFault) × (fault_in (row_at old) ≡ S
 -- stanzas that were read, and those behind them
 abbrev pub said_behind : List Stanza → Said → Said
 said_behind stanzas said = (stanzas ++ said.0, said.1)
+
+-- a file is read as its stanzas, or refused at its line
+abbrev pub IsConf : Result (List Stanza) ℕ → Result (List Stanza) ConfFault → Type 0
+IsConf conf (Ok stanzas) = conf ≡ Ok stanzas
+IsConf conf (Err fault) = conf ≡ Err fault.line

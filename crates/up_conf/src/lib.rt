@@ -4,6 +4,7 @@
 pub mod action;
 mod argument;
 mod command;
+pub mod conf;
 pub mod exit;
 mod expression;
 pub mod fault;
@@ -23,6 +24,7 @@ pub mod signal;
 pub mod stanza;
 
 pub use action::Action;
+pub use conf::read_conf;
 pub use exit::Exit;
 pub use fault::{ConfFault, FaultCode};
 pub use folder::{File, Folder};
