@@ -6,3 +6,6 @@ pub mod Shrinking
 pub mod Saying
 pub mod Texts
 pub mod Totals
+pub mod Meaning
+pub mod Standing
+pub mod Conforming

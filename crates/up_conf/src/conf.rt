@@ -1,9 +1,11 @@
 //! Reads a job file.
-ghost use Rattle.std.specs.Prelude.{◌≡◌, ◌≤◌, ◌⊎◌, IfErr, IfOk, IfSome, MatchOption, MatchResult, Err, Ok, true, false, length, nat_le};
+ghost use Rattle.std.specs.Prelude.{◌≡◌, ◌≤◌, ◌⊎◌, IfErr, IfOk, IfSome, MatchOption, MatchResult, Err, Ok, List, true, false, length, nat_le};
 ghost use Rattle.std.specs.Str.{is_utf8};
 ghost use Rattle.up_text.specs.Places.{start};
 ghost use Rattle.up_conf.specs.declared.fault.FaultCode.TheVariants.{Memory};
 ghost use Rattle.up_conf.specs.Confs.{conf_of, has_few_keys, is_text, keys_exported, keys_set, limited, total};
+ghost use Rattle.up_conf.specs.declared.stanza.Stanza.{Stanza};
+ghost use Rattle.up_conf.specs.Grammar.{Conf};
 ghost use Rattle.up_conf.specs.Reading.{IsConf};
 ghost use Rattle.up_conf.specs.Stanzas.{said_of};
 
@@ -141,9 +143,14 @@ fn read_bytes(alloc: Global, bytes: &[u8]) -> Result<Result<Stanzas, ConfFault>,
 
 /// The stanzas of a file. Every fault but `Memory` comes only where the file isn't well formed, and its line is that of the first
 /// unreadable stanza, or 1 where the whole file is at fault.
+#[tactic(auto, using(crate::proofs::Conforming::conf_is_not))]
 pub fn read_conf(alloc: Global, bytes: &[u8]) -> Result<Stanzas, ConfFault>
     ensures read { IfOk result (λ stanzas. conf_of bytes.now ≡ Ok stanzas) }
     ensures refused { IfErr result (λ fault. (fault.code ≡ Memory) ⊎ (conf_of bytes.now ≡ Err fault.line)) }
+
+    // By the grammar: these stanzas are written, or none are.
+    ensures written { IfOk result (λ stanzas. Conf bytes.now stanzas) }
+    ensures unwritten { IfErr result (λ fault. (fault.code ≡ Memory) ⊎ ((stanzas : List Stanza) → Conf bytes.now stanzas → ⊥)) }
 {
     match read_bytes(alloc, bytes) {
         Ok(Ok(stanzas)) => Ok(stanzas),
