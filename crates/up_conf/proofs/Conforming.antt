@@ -1,12 +1,12 @@
 -- A file's bytes write the stanzas that are read, and no others.
-use Rattle.std.proofs.Common.{◌≡◌, ℕ, zero, suc, ◌+◌, ◌<◌, Bool, true, false, ◌&&◌, List, [], ◌∷◌, length, Option, Some, None, Result, Ok, Err, cond, refl, sym, ◌∙◌, ap, subst, arith}
+use Rattle.std.proofs.Common.{◌≡◌, ℕ, zero, suc, ◌+◌, ◌<◌, Bool, true, false, List, [], ◌∷◌, length, Option, Some, None, Ok, Err, cond, refl, ◌∙◌, ap, subst, arith}
 use Rattle.up_text.specs.declared.token.Token.{Token}
 use Rattle.up_text.specs.Lexemes.{Word, lexeme_by, lexemes_of}
 use Rattle.up_text.specs.Places.{Place, Got, start, reading, line_at, is_finished}
 use Rattle.up_text.proofs.Lexemes.{lexemes_of-is, none_when_finished}
 use Rattle.up_conf.specs.declared.stanza.Stanza.{Stanza}
 use Rattle.up_conf.specs.Confs.{is_text, has_few_keys, stanzas_unless, limited, conf_of}
-use Rattle.up_conf.specs.Grammar.{Stands, Written, Conf}
+use Rattle.up_conf.specs.Grammar.{Written, Conf}
 use Rattle.up_conf.specs.Stanzas.{Found, Said, stanza_at, said_then, said_from, said_of}
 use Rattle.up_conf.proofs.Saying.{said_finished, said_more}
 use Rattle.up_conf.proofs.Shrinking.{stanza_less}

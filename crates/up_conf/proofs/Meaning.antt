@@ -1,12 +1,12 @@
 -- What arguments say, the other way round: from a stanza to the arguments that say it.
-use Rattle.std.proofs.Common.{◌≡◌, ℕ, Bool, true, false, List, [], ◌∷◌, map, Option, None, Some, cond, refl, sym, ◌∙◌, ap, option_map, option_and_then, codes}
+use Rattle.std.proofs.Common.{◌≡◌, ℕ, Bool, true, false, List, [], ◌∷◌, map, Option, None, Some, cond, refl, sym, ◌∙◌, ap, option_map, option_and_then}
 use Rattle.std.proofs.lemmas.Bool.{and_parts}
 use Rattle.std.proofs.lemmas.Slice.Eq.{bytes_eq-Decides}
 use Rattle.std.specs.List.{list_all}
 use Rattle.std.specs.Str.{bytes_eq}
 use Rattle.up_text.specs.Names.{is_key}
 use Rattle.up_text.specs.Scripts.{is_filled}
-use Rattle.up_conf.specs.Arguments.{single, none, both, each, filled, some, behind}
+use Rattle.up_conf.specs.Arguments.{single, none, both, each, filled, behind}
 use Rattle.up_conf.specs.Settings.{key_of}
 
 -- what an option was made of

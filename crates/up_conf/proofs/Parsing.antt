@@ -1,5 +1,5 @@
 -- The tree of tokens is the one that they write.
-use Rattle.std.proofs.Common.{◌≡◌, ◌⊎◌, inl, inr, Result, Err, ℕ, ◌≤◌, Bool, true, false, List, Option, None, Some, cond, refl, sym, arith, nat_le}
+use Rattle.std.proofs.Common.{◌≡◌, ◌⊎◌, inl, inr, Result, Err, ◌≤◌, Bool, true, false, List, Option, None, Some, cond, refl, sym, arith, nat_le}
 use Rattle.std.proofs.lemmas.Bool.{le-leb, leb-true}
 use Rattle.up_text.specs.declared.token.Token.{Token}
 use Rattle.up_expr.specs.declared.fault.ExprFault.{ExprFault}

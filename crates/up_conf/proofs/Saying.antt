@@ -1,5 +1,5 @@
 -- The stanzas of a text, one after another.
-use Rattle.std.proofs.Common.{◌≡◌, ℕ, zero, suc, ◌+◌, ◌<◌, ◌≤◌, Bool, true, false, List, [], ◌∷◌, ◌++◌, length, Option, None, Some, cond, refl, sym, ◌∙◌, ap, arith, append_assoc, append-nil}
+use Rattle.std.proofs.Common.{◌≡◌, ℕ, zero, suc, ◌+◌, ◌<◌, Bool, true, false, List, [], ◌∷◌, ◌++◌, length, None, Some, cond, refl, sym, ◌∙◌, ap, arith, append_assoc, append-nil}
 use Rattle.up_text.specs.Places.{Place, line_at, is_finished}
 use Rattle.up_conf.specs.declared.stanza.Stanza.{Stanza}
 use Rattle.up_conf.specs.Reading.{said_behind}

@@ -1,5 +1,5 @@
 -- A stanza leaves less of the text.
-use Rattle.std.proofs.Common.{◌≡◌, ℕ, ◌+◌, ◌-◌, ◌<◌, ◌≤◌, Bool, true, false, List, [], ◌∷◌, length, drop, map, Option, None, Some, cond, refl, sym, ◌∙◌, ap, subst, arith, option_map, codes}
+use Rattle.std.proofs.Common.{◌≡◌, ℕ, ◌+◌, ◌<◌, ◌≤◌, Bool, true, false, List, length, map, Option, None, Some, cond, refl, ap, arith, option_map, codes}
 use Rattle.std.proofs.lemmas.List.{length-drop}
 use Rattle.std.specs.List.{concat}
 use Rattle.std.specs.Str.{bytes_eq}
@@ -11,7 +11,6 @@ use Rattle.up_text.specs.Rows.{row_of}
 use Rattle.up_text.specs.Scripts.{lines_of, script_in}
 use Rattle.up_text.proofs.Lexemes.{reading_less, reading_ends}
 use Rattle.up_text.proofs.Rows.{Row-row_of, Row-leaves}
-use Rattle.up_conf.specs.declared.action.Action.{Action}
 use Rattle.up_conf.specs.declared.kind.Kind.{Kind}
 use Rattle.up_conf.specs.declared.kind.Kind.TheVariants as kind
 use Rattle.up_conf.specs.declared.process.Process.TheVariants as process

@@ -1,5 +1,5 @@
 -- What the stanza at a place says is what the grammar writes there.
-use Rattle.std.proofs.Common.{◌≡◌, ◌⊎◌, inl, inr, ℕ, ◌+◌, Bool, true, false, List, [], ◌∷◌, length, map, Option, None, Some, cond, refl, sym, ◌∙◌, ap, subst, option_map, option_and_then, codes}
+use Rattle.std.proofs.Common.{◌≡◌, inl, inr, ℕ, ◌+◌, Bool, true, false, List, [], ◌∷◌, length, map, Option, None, Some, cond, refl, sym, ◌∙◌, ap, subst, option_map, option_and_then, codes}
 use Rattle.std.proofs.lemmas.Slice.Eq.{bytes_eq-Decides}
 use Rattle.std.specs.List.{find, concat}
 use Rattle.std.specs.Str.{bytes_eq}
@@ -23,7 +23,7 @@ use Rattle.up_conf.specs.declared.process.Process.TheVariants as process
 use Rattle.up_conf.specs.declared.stanza.Stanza.{Stanza}
 use Rattle.up_conf.specs.declared.stanza.Stanza.TheVariants.{About, Emits, Env, Export, Task, Manual, Respawn, RespawnLimit, NormalExit, KillTimeout, KillSignal, ReloadSignal, Instance, Console, Chdir, Runs, StartOn, StopOn}
 use Rattle.up_conf.specs.Actions.{action_of}
-use Rattle.up_conf.specs.Arguments.{single, none, each, filled, some, behind, limit_of, respawn_of, kill_of, reload_of, normal_of, listed_of}
+use Rattle.up_conf.specs.Arguments.{single, each, filled, some, behind, limit_of, respawn_of, kill_of, listed_of}
 use Rattle.up_conf.specs.Grammar.{Says, IsListed, IsOn, IsExec, IsScript, IsAction, IsAbout, IsDescription, IsAuthor, IsVersion, IsUsage, Stands}
 use Rattle.up_conf.specs.Kinds.{listed_word, word_of, kinds, kind_of}
 use Rattle.up_conf.specs.Numbers.{number_in}

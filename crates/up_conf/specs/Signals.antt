@@ -1,6 +1,6 @@
 -- The signals that a job file may name (signal(7)).
-use Rattle.std.specs.Prelude.{ℕ, ◌+◌, Bool, nat_le, nat_eq, ◌&&◌, if◌then◌else◌, List, [], ◌∷◌, drop, Option, None, Some, option_map, codes}
-use Rattle.std.specs.List.{position, starts_with}
+use Rattle.std.specs.Prelude.{ℕ, ◌+◌, Bool, nat_le, nat_eq, ◌&&◌, if◌then◌else◌, List, [], ◌∷◌, drop, Option, None, Some, codes}
+use Rattle.std.specs.List.{starts_with}
 use Rattle.std.specs.Str.{bytes_eq}
 use Rattle.up_conf.specs.Numbers.{are_digits, number_in}
 

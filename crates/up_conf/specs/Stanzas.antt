@@ -1,5 +1,5 @@
 -- What the stanzas of a job file say (init(5)).
-use Rattle.std.specs.Prelude.{ℕ, zero, suc, ◌+◌, Bool, true, false, nat_le, if◌then◌else◌, List, [], ◌∷◌, length, map, Option, None, Some, option_map, codes}
+use Rattle.std.specs.Prelude.{ℕ, zero, suc, ◌+◌, true, false, nat_le, if◌then◌else◌, List, [], ◌∷◌, length, map, Option, None, Some, option_map, codes}
 use Rattle.std.specs.List.{concat}
 use Rattle.std.specs.Str.{bytes_eq}
 use Rattle.up_text.specs.declared.fault.TextFault.{TextFault}

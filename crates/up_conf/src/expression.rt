@@ -65,10 +65,7 @@ fn parse(alloc: Global, tokens: &[Token]) -> Result<Result<Condition, FaultCode>
 }
 
 // The expression up to the stanza's end, where parentheses are tokens.
-fn read_tree(
-    alloc: Global,
-    lexer: &mut Lexer,
-) -> Result<Result<Condition, FaultCode>, AllocError>
+fn read_tree(alloc: Global, lexer: &mut Lexer) -> Result<Result<Condition, FaultCode>, AllocError>
     ensures { IfOk result (λ tree. IsFound (unswitched (found_by tree_of (row_of (switched true lexer.old)))) tree lexer.new) }
 {
     lexer.parens(true);

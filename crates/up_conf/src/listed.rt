@@ -7,7 +7,9 @@ ghost use Rattle.up_conf.specs.Settings.{key_of, setting_of, exit_of, instance_o
 ghost use Rattle.up_conf.specs.Signals.{signal_of};
 ghost use Rattle.up_conf.specs.declared.stanza.Stanza.TheVariants.{About, Emits, Env, Export, Instance, Chdir, Console, RespawnLimit, KillTimeout, KillSignal};
 
-use crate::argument::{as_number, as_signal, read_console, read_exit, read_instance, read_key, read_setting};
+use crate::argument::{
+    as_number, as_signal, read_console, read_exit, read_instance, read_key, read_setting,
+};
 use crate::exit::Exit;
 use crate::fault::FaultCode;
 use crate::kind::Listed;

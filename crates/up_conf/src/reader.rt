@@ -46,10 +46,7 @@ fn read_arguments(
 }
 
 // `start on`.
-fn read_start(
-    alloc: Global,
-    lexer: &mut Lexer,
-) -> Result<Result<Stanza, FaultCode>, AllocError>
+fn read_start(alloc: Global, lexer: &mut Lexer) -> Result<Result<Stanza, FaultCode>, AllocError>
     ensures { IfOk result (λ stanza. IsFound (said_as kind.Start lexer.old) stanza lexer.new) }
 {
     match read_expression(alloc, lexer)? {
@@ -59,10 +56,7 @@ fn read_start(
 }
 
 // `stop on`.
-fn read_stop(
-    alloc: Global,
-    lexer: &mut Lexer,
-) -> Result<Result<Stanza, FaultCode>, AllocError>
+fn read_stop(alloc: Global, lexer: &mut Lexer) -> Result<Result<Stanza, FaultCode>, AllocError>
     ensures { IfOk result (λ stanza. IsFound (said_as kind.Stop lexer.old) stanza lexer.new) }
 {
     match read_expression(alloc, lexer)? {
@@ -101,8 +95,16 @@ fn read_kind(
 // Why a word begins no stanza.
 fn no_kind(word: &str) -> FaultCode {
     match word {
-        "expect" | "chroot" | "setuid" | "setgid" | "umask" | "nice" | "limit" | "oom"
-        | "apparmor" | "cgroup" => FaultCode::NotInProfile,
+        "expect"
+        | "chroot"
+        | "setuid"
+        | "setgid"
+        | "umask"
+        | "nice"
+        | "limit"
+        | "oom"
+        | "apparmor"
+        | "cgroup" => FaultCode::NotInProfile,
         _ => FaultCode::UnknownStanza,
     }
 }

@@ -47,10 +47,7 @@ pub(crate) fn read_exec(
 }
 
 // The script of the lines up to its end line, behind which the lexer then stands.
-fn read_lines(
-    alloc: Global,
-    lexer: &mut Lexer,
-) -> Result<Result<Action, FaultCode>, AllocError>
+fn read_lines(alloc: Global, lexer: &mut Lexer) -> Result<Result<Action, FaultCode>, AllocError>
     ensures { IfOk result (λ action. IsFound (script_of lexer.old (script_in (lines_of lexer.old.rest))) action lexer.new) }
 {
     match lexer.script_lines(alloc) {
@@ -75,10 +72,7 @@ pub(crate) fn read_script(
 }
 
 // What a process runs: `exec` or `script`.
-fn read_action(
-    alloc: Global,
-    lexer: &mut Lexer,
-) -> Result<Result<Action, FaultCode>, AllocError>
+fn read_action(alloc: Global, lexer: &mut Lexer) -> Result<Result<Action, FaultCode>, AllocError>
     ensures { IfOk result (λ action. IsFound (action_at lexer.old) action lexer.new) }
 {
     match next_token(alloc, lexer)? {

@@ -4,7 +4,6 @@ ghost use Rattle.up_conf.specs.Numbers.{number_in};
 ghost use Rattle.up_conf.specs.Signals.{names, placed, without_sig, signal_named, signal_of};
 
 use crate::number::{are_digits, read_number};
-
 use std::marker::Model;
 
 /// A signal from 1 to 31 (signal(7)), seen by contracts as its number.

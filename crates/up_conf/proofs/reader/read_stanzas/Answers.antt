@@ -1,5 +1,4 @@
-use Rattle.std.proofs.Common.{◌∙◌, sym, ap, Some}
-use Rattle.up_conf.specs.Reading.{said_behind}
+use Rattle.std.proofs.Common.{◌∙◌, sym}
 use Rattle.up_conf.proofs.Saying.{behind_more, behind_unreadable, behind_finished}
 use Rattle.up_conf.proofs.Shrinking.{stanza_less}
 use Rattle.up_conf.proofs.reader.read_stanzas.Goals as goal
