@@ -3,6 +3,7 @@ pub mod Arguments
 pub mod Confs
 pub mod FaultCodes
 pub mod Grammar
+pub mod Jobs
 pub mod Kinds
 pub mod Numbers
 pub mod Reading

@@ -5,6 +5,7 @@ pub mod action;
 mod argument;
 mod command;
 pub mod conf;
+mod copies;
 pub mod exit;
 mod expression;
 pub mod fault;
