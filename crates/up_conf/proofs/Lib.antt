@@ -6,6 +6,8 @@ pub mod Shrinking
 pub mod Saying
 pub mod Texts
 pub mod Totals
-pub mod Meaning
+pub mod Backward
 pub mod Standing
 pub mod Conforming
+pub mod Putting
+pub mod Meanings

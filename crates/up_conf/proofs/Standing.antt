@@ -30,7 +30,7 @@ use Rattle.up_conf.specs.Numbers.{number_in}
 use Rattle.up_conf.specs.Settings.{key_of, setting_of, exit_of, instance_of, console_of}
 use Rattle.up_conf.specs.Signals.{signal_of}
 use Rattle.up_conf.specs.Stanzas.{Found, made, found_by, unswitched, tree_of, expression_by, texts_at, ended, command_by, command_at, script_of, script_by, script_at, action_by, action_at, said_as, said_by, stanza_by, stanza_at}
-use Rattle.up_conf.proofs.Meaning.{mapped, chosen, single-is, none-is, filled-is, filled-from, behind-is, each-is, each-from, keys-is, keys-from}
+use Rattle.up_conf.proofs.Backward.{mapped, chosen, single-is, none-is, filled-is, filled-from, behind-is, each-is, each-from, keys-is, keys-from}
 use Rattle.up_conf.proofs.Parsing.{tree_of-Writes, Writes-tree_of}
 
 -- the words of kinds

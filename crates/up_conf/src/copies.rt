@@ -69,10 +69,7 @@ fn copy_expr(alloc: Global, expr: &Expr) -> Result<Expr, AllocError>
     }
 }
 
-pub(crate) fn copy_condition(
-    alloc: Global,
-    condition: &Condition,
-) -> Result<Condition, AllocError>
+pub(crate) fn copy_condition(alloc: Global, condition: &Condition) -> Result<Condition, AllocError>
     ensures { IfOk result (λ copied. copied ≡ condition.now) }
 {
     let expr = copy_expr(alloc, condition.expr())?;
