@@ -8,7 +8,6 @@ use Rattle.up_conf.specs.declared.exit.Exit.{Exit}
 use Rattle.up_conf.specs.declared.exit.Exit.TheVariants as exit
 use Rattle.up_conf.specs.declared.job.JobDef.{JobDef}
 use Rattle.up_conf.specs.declared.limit.Limit.{Limit}
-use Rattle.up_conf.specs.declared.process.Process.{Process}
 use Rattle.up_conf.specs.declared.process.Process.TheVariants.{Main, PreStart, PostStart, PreStop, PostStop}
 use Rattle.up_conf.specs.declared.setting.Setting.{Setting}
 use Rattle.up_conf.specs.declared.stanza.Console as consoles

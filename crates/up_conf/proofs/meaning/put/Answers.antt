@@ -1,4 +1,4 @@
-use Rattle.std.proofs.Common.{◌∙◌, sym, arith}
+use Rattle.std.proofs.Common.{◌∙◌, arith}
 use Rattle.up_conf.proofs.Putting.{put_old_by, put_new_by}
 use Rattle.up_conf.proofs.meaning.put.Goals as goal
 
