@@ -2,7 +2,7 @@
 use Rattle.std.proofs.Common.{◌≡◌, ℕ, ◌+◌, ◌<◌, ◌≤◌, ◌-◌, ◌^◌, Bool, true, false, if◌then◌else◌, List, [], ◌∷◌, ◌++◌, Option, None, Some, length, refl, sym, ◌∙◌, ap, arith, append_assoc, append-nil}
 use Rattle.std.specs.Option.{option_or}
 use Rattle.std.specs.Str.{is_utf8}
-use Rattle.up_model.specs.declared.files.file.File.{File}
+use Rattle.up_conf.specs.declared.folder.File.{File}
 use Rattle.initd.specs.Bundle.{lines_of, first_line, after_line, is_script, path_of, file_of, lead, files_of, script_text, script_line, bad_path, bad_line, begins_header}
 use Rattle.initd.proofs.Headers.{begins_file, begins_script, bad_line_begins, option_or-first}
 

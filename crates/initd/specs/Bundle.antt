@@ -3,7 +3,7 @@ use Rattle.std.specs.Prelude.{ℕ, ◌+◌, Bool, true, not, ◌&&◌, ◌||◌,
 use Rattle.std.specs.List.{starts_with, flat_map}
 use Rattle.std.specs.Prelude.{nat_eq}
 use Rattle.std.specs.Str.{bytes_eq, is_utf8}
-use Rattle.up_model.specs.declared.files.file.File.{File}
+use Rattle.up_conf.specs.declared.folder.File.{File}
 
 -- a line feed
 unfoldable pub is_feed : ℕ → Bool

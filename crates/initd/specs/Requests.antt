@@ -5,7 +5,7 @@ use Rattle.up_model.specs.declared.input.Input.TheVariants as input
 use Rattle.up_model.specs.declared.request.Command.{Command}
 use Rattle.up_model.specs.declared.request.Command.TheVariants as command
 use Rattle.up_model.specs.declared.request.Request.{Request}
-use Rattle.initd.specs.Numbers.{number_in}
+use Rattle.up_conf.specs.Numbers.{number_in}
 use Rattle.initd.specs.Variables.{vars_of, name_of}
 
 -- a command by its name

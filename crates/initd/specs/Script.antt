@@ -4,15 +4,15 @@ use Rattle.std.specs.Str.{bytes_eq}
 use Rattle.up_text.specs.Names.{is_name}
 use Rattle.up_model.specs.declared.input.Input.{Input}
 use Rattle.up_model.specs.declared.input.Input.TheVariants as input
-use Rattle.up_model.specs.declared.process.Process.{Process}
-use Rattle.up_model.specs.declared.process.Process.TheVariants as process
+use Rattle.up_conf.specs.declared.process.Process.{Process}
+use Rattle.up_conf.specs.declared.process.Process.TheVariants as process
 use Rattle.up_model.specs.declared.process.How.{How}
 use Rattle.up_model.specs.declared.process.How.TheVariants as how
 use Rattle.up_model.specs.declared.who.Who.{Who}
-use Rattle.initd.specs.Numbers.{number_in}
+use Rattle.up_conf.specs.Numbers.{number_in}
 use Rattle.initd.specs.Requests.{request_of}
 use Rattle.initd.specs.Variables.{vars_of, name_of}
-use Rattle.initd.specs.Signals.{signal_of}
+use Rattle.up_conf.specs.Signals.{signal_of}
 
 -- an instance by the name of its job and its own, which may be empty
 abbrev pub who_of : List ℕ → List ℕ → Option Who

@@ -8,7 +8,7 @@ ghost use Rattle.initd.specs.Bundle as bundle;
 use memchr::memchr;
 use std::alloc::{AllocError, Global};
 use std::str;
-use up_model::Folder;
+use up_conf::Folder;
 use up_text::{Items, Text};
 
 /// What a bundle has: a folder of files, and a script.

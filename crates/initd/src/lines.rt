@@ -5,8 +5,8 @@ ghost use Rattle.std.specs.Fmt.{decimal};
 ghost use Rattle.initd.specs.Signals.{signal_text};
 ghost use Rattle.initd.specs.Lines.{escaped, quoted, instance_text, who_text, process_text, word_text, binding_text, variable_text, variable_line, spawn_lines, signal_line, event_line, verdict_text, reply_line, output_lines, step_lines};
 
-use crate::signals::name_of;
 use std::alloc::AllocError;
+use up_conf::signal_name;
 use up_model::{Answer, Event, Order, Output, Process, Step, Who};
 use up_text::{Env, Text};
 
@@ -61,7 +61,7 @@ pub fn push_decimal(text: &mut Vec<u8>, number: u64) -> Result<(), AllocError>
 fn push_signal(text: &mut Vec<u8>, signal: u8) -> Result<(), AllocError>
     ensures { OnOk result (text.new.items ≡ text.old.items ++ signal_text signal) }
 {
-    match name_of(signal) {
+    match signal_name(signal) {
         Some(name) => push(text, name),
         None => push_decimal(text, u64::from(signal)),
     }

@@ -1,31 +1,38 @@
-//! The program `initd`: reads a bundle of job files and a script, and prints what a run over them gives.
+//! The program `initd`: says what the job files of a folder do, and which are faulty.
 #![tactic(auto)]
 
 mod bundle;
+mod check;
+mod command;
+mod disk;
 mod lines;
-mod numbers;
+mod printed;
 mod replay;
 mod requests;
 mod script;
-mod signals;
 #[cfg(test)]
 mod tests;
 mod variables;
+mod walk;
 mod words;
 
-use replay::replay;
-use std::io::{BufWriter, Write};
+use command::{Asked, print_refusal, read_words};
+use disk::{check_dir, replay_dir};
+use printed::Printed;
+use replay::{replay, write_printed};
+use std::alloc::AllocError;
+use std::io::{BufWriter, ErrorKind, Write};
 use std::process::ExitCode;
 use std::rt::Env;
 use std::{env, io};
 
-// Whether the program was given words.
-fn has_words(rt: &(impl Env + Alloc)) -> io::Result<bool> {
-    let mut words = 0usize;
-    for _ in env::args(rt)? {
-        words = words.saturating_add(1);
+// The words of the command line, the program's name first.
+fn words_of(rt: &(impl Env + AllocGlobal)) -> io::Result<Vec<String>> {
+    let mut words: Vec<String> = Vec::new(rt.alloc());
+    for word in env::args(rt)? {
+        words.push(word)?;
     }
-    Ok(words > 1)
+    Ok(words)
 }
 
 // Replays standard input, and gives the status.
@@ -37,16 +44,39 @@ fn replay_input(rt: &(impl Input + Print + AllocGlobal)) -> io::Result<u8> {
     Ok(status)
 }
 
-fn main(rt: HostRuntime) -> ExitCode {
-    match has_words(&rt) {
-        Ok(false) => match replay_input(&rt) {
-            Ok(status) => ExitCode::from(status),
-            Err(_) => ExitCode::from(3),
-        },
-        Ok(true) => {
-            let _ = rt.eprintln("usage: initd < BUNDLE");
-            ExitCode::from(2)
+// Prints on standard output, and gives the status.
+fn print(rt: &(impl Print + AllocGlobal), made: Result<Printed, AllocError>) -> io::Result<u8> {
+    match made {
+        Ok(made) => {
+            let mut writer = BufWriter::new(rt.alloc(), io::writer(rt))?;
+            let status = write_printed(&mut writer, &made);
+            writer.flush()?;
+            Ok(status)
         }
-        Err(_) => ExitCode::from(4),
+        Err(_) => Ok(4),
+    }
+}
+
+// Does what the command line asks for, and gives the status.
+fn run(rt: &HostRuntime) -> io::Result<u8> {
+    let words = words_of(rt)?;
+    match read_words(rt.alloc(), words.as_slice()) {
+        Ok(Asked::Bundle) => replay_input(rt),
+        Ok(Asked::Check { dir }) => print(rt, check_dir(rt, dir)),
+        Ok(Asked::Replay { dir, script }) => print(rt, replay_dir(rt, dir, script)),
+        Err(error) => Ok(print_refusal(rt, &error)),
+    }
+}
+
+fn main(rt: HostRuntime) -> ExitCode {
+    match run(&rt) {
+        Ok(status) => ExitCode::from(status),
+        Err(error) => {
+            if error.kind() == ErrorKind::OutOfMemory {
+                ExitCode::from(4)
+            } else {
+                ExitCode::from(3)
+            }
+        }
     }
 }

@@ -2,9 +2,9 @@
 ghost use Rattle.std.specs.Prelude.{◌≡◌, IfOk};
 ghost use Rattle.initd.specs.Requests.{command_of, may_wait, is_alone, begins_no_wait, alone, about, with_words, asked_by, request_of};
 
-use crate::numbers::number_in;
 use crate::variables::{name_of, vars_of};
 use std::alloc::{AllocError, Global};
+use up_conf::number_in;
 use up_model::{Command, Input, Request};
 use up_text::{Env, Text};
 

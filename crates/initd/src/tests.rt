@@ -1,7 +1,12 @@
 //! What is printed for bundles.
+mod command;
+mod disk;
 mod expressions;
+mod failures;
+mod reader;
 mod rows;
 mod streams;
+mod walk;
 
 use crate::replay::replay;
 use std::process::Abort;
@@ -66,7 +71,7 @@ const BUNDLES: [Case; 19] = [
     },
     Case {
         bundle: b"%file  b.conf\n\nnonsense\n%script\nrequest 1 version\n",
-        printed: " b.conf:1: 1 UnknownStanza\nreply 1 failed \"Not supported: version\"\n",
+        printed: " b.conf:1: 12 BadName\nreply 1 failed \"Not supported: version\"\n",
         status: 1,
     },
     Case {

@@ -3,11 +3,10 @@ ghost use Rattle.std.specs.Prelude.{◌≡◌, IfOk, [], ◌∷◌, replicate, o
 ghost use Rattle.up_model.specs.declared.input.Input.TheVariants as input;
 ghost use Rattle.initd.specs.Script.{who_of, process_of, how_of, emit_of, spawned_of, refused_of, ended_of, clock_of, input_of, turns_of, inputs_of};
 
-use crate::numbers::number_in;
 use crate::requests::request_of;
-use crate::signals::signal_of;
 use crate::variables::{name_of, vars_of};
 use std::alloc::{AllocError, Global};
+use up_conf::{Signal, number_in};
 use up_model::{Event, How, Input, Process, Who};
 use up_text::{Items, Text};
 
@@ -50,7 +49,10 @@ fn how_of(kind: &Text, text: &Text) -> Option<How>
             None => None,
         }
     } else if kind.is("signal") {
-        signal_of(text.as_str()).map(How::Signal)
+        match Signal::read(text.as_str()) {
+            Some(signal) => Some(How::Signal(signal.number())),
+            None => None,
+        }
     } else {
         None
     }

@@ -1,7 +1,7 @@
 -- A search for an instance by its name, one job on.
 use Rattle.std.proofs.Common.{◌≡◌, ℕ, ◌+◌, ◌<◌, if◌then◌else◌, List, ◌∷◌, length, drop, get_or, ap, add-one, drop-cons}
 use Rattle.std.specs.Str.{bytes_eq}
-use Rattle.up_model.specs.declared.files.job.JobDef.{JobDef}
+use Rattle.up_conf.specs.declared.job.JobDef.{JobDef}
 use Rattle.up_model.specs.declared.who.Who.{Who}
 use Rattle.up_model.specs.Chronicle.{Entry}
 use Rattle.up_model.specs.Due.{instance_named}

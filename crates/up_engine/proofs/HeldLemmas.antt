@@ -1,7 +1,7 @@
 -- Whether a count of holds is above zero, part by part.
 use Rattle.std.proofs.Common.{◌≡◌, ℕ, ◌+◌, ◌<◌, ◌==◌, Bool, true, false, not, ◌||◌, if◌then◌else◌, cond, List, [], ◌∷◌, ◌++◌, Some, length, drop, get_or, nat_lt, map, refl, ◌∙◌, ap, add-one, drop-cons, arith}
 use Rattle.std.proofs.lemmas.Bool.{lt-ltb, ltb-true, ltb-false}
-use Rattle.up_model.specs.declared.files.job.JobDef.{JobDef}
+use Rattle.up_conf.specs.declared.job.JobDef.{JobDef}
 use Rattle.up_model.specs.Chronicle.{Entry, StartOn}
 use Rattle.up_model.specs.Due.{turn_event}
 use Rattle.up_model.specs.Held.{occurs, count_of_instances, count_from, is_held}

@@ -1,6 +1,6 @@
 -- A search for a move, one job on.
 use Rattle.std.proofs.Common.{◌≡◌, ℕ, ◌+◌, ◌<◌, false, List, [], ◌∷◌, Option, None, Some, length, drop, get_or, refl, ap, add-one, drop-cons}
-use Rattle.up_model.specs.declared.files.job.JobDef.{JobDef}
+use Rattle.up_conf.specs.declared.job.JobDef.{JobDef}
 use Rattle.up_model.specs.Chronicle.{Entry}
 use Rattle.up_model.specs.Moves.{or_else, move_of, move_in, move_from}
 use Rattle.up_model.specs.Readings.{instance_at, instances_of}

@@ -1,6 +1,6 @@
 -- A search for an expression that an event is still to be offered to, one job on.
 use Rattle.std.proofs.Common.{◌≡◌, ℕ, ◌+◌, ◌<◌, false, not, ◌||◌, List, [], ◌∷◌, Option, None, Some, length, drop, get_or, refl, sym, ◌∙◌, ap, add-one, drop-cons}
-use Rattle.up_model.specs.declared.files.job.JobDef.{JobDef}
+use Rattle.up_conf.specs.declared.job.JobDef.{JobDef}
 use Rattle.up_model.specs.Chronicle.{Entry, StartOn, StopOn}
 use Rattle.up_model.specs.Moves.{or_else, where_true}
 use Rattle.up_model.specs.Offers.{is_newborn, stop_offer, stop_offer_in, start_offer, offer_from}

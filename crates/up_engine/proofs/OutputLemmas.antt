@@ -1,6 +1,6 @@
 -- Where a step begins.
 use Rattle.std.proofs.Common.{◌≡◌, ℕ, ◌+◌, ◌<◌, true, List, [], ◌∷◌, length, take, get_or, refl, sym, ◌∙◌, ap}
-use Rattle.up_model.specs.declared.files.job.JobDef.{JobDef}
+use Rattle.up_conf.specs.declared.job.JobDef.{JobDef}
 use Rattle.up_model.specs.Outputs.{gave}
 use Rattle.up_engine.specs.declared.record.Record.{Record}
 use Rattle.up_engine.specs.declared.record.Record.TheVariants as record_of

@@ -1,6 +1,6 @@
 -- What a search for something due answers.
 use Rattle.std.specs.Prelude.{ℕ, Bool, true, false, not, List, [], ◌∷◌}
-use Rattle.up_model.specs.declared.files.job.JobDef.{JobDef}
+use Rattle.up_conf.specs.declared.job.JobDef.{JobDef}
 use Rattle.up_model.specs.Chronicle.{Entry, StartOn}
 use Rattle.up_model.specs.Moves.{or_else, where_true}
 use Rattle.up_model.specs.Offers.{stop_offer_in, start_offer}

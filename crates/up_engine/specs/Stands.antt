@@ -1,6 +1,6 @@
 -- What an engine stands for: a chronicle of its jobs and its base environment. These are the only definitions that read its fields.
 use Rattle.std.specs.Prelude.{◌≡◌, ◌<◌, ℕ, Bool, true, false, List, length, take, option_map, Option, None, Some, Result, Ok, Err}
-use Rattle.up_model.specs.declared.files.job.JobDef.{JobDef}
+use Rattle.up_conf.specs.declared.job.JobDef.{JobDef}
 use Rattle.up_model.specs.declared.input.Input.{Input}
 use Rattle.up_model.specs.declared.output.Output.{Output}
 use Rattle.up_model.specs.declared.step.Step.{Step}

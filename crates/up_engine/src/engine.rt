@@ -1,6 +1,6 @@
 //! The engine: one step for one input, and a run over a list of them.
 ghost use Rattle.std.specs.Prelude.{◌≡◌, List, ℕ, Ok, Err, [], length, is_some};
-ghost use Rattle.up_model.specs.declared.files.job.JobDef.{JobDef as JobValue};
+ghost use Rattle.up_conf.specs.declared.job.JobDef.{JobDef as JobValue};
 ghost use Rattle.up_model.specs.Chronicle.{Entry};
 ghost use Rattle.up_model.specs.Due as due;
 ghost use Rattle.up_model.specs.Queue as queue;
@@ -14,7 +14,8 @@ use crate::run::Run;
 use crate::settle::run_step;
 use crate::turn::turn_event;
 use std::alloc::Global;
-use up_model::{Input, Output, Step, Table};
+use up_image::Table;
+use up_model::{Input, Output, Step};
 use up_text::{Env, Items};
 
 /// What runs the jobs of a table: it takes one input a step, and answers what is to be done.

@@ -1,7 +1,7 @@
 //! What the entries of a step ask for.
-ghost use Rattle.std.specs.Prelude.{◌≡◌, ◌≤◌, ◌<◌, ◌+◌, ◌-◌, ◌^◌, if◌then◌else◌, List, ◌∷◌, [], length, take, IfOk, OnOk, option_map};
+ghost use Rattle.std.specs.Prelude.{◌≡◌, ◌≤◌, ◌<◌, ◌+◌, ◌-◌, ◌^◌, if◌then◌else◌, List, ◌∷◌, [], length, take, IfOk, OnOk, option_map, codes};
 ghost use Rattle.std.specs.Option.{option_map_or};
-ghost use Rattle.up_model.specs.declared.files.job.JobDef.{JobDef as JobValue};
+ghost use Rattle.up_conf.specs.declared.job.JobDef.{JobDef as JobValue};
 ghost use Rattle.up_model.specs.Outputs as model;
 ghost use Rattle.up_model.specs.Readings as read;
 ghost use Rattle.up_engine.specs.Records.{entry_of, chronicle, outputs_of, gave_more, is_given};
@@ -11,6 +11,7 @@ use crate::reading::place::{id_at, made_at};
 use crate::reading::process::pid_of;
 use crate::record::{Origin, Record};
 use std::alloc::{AllocError, Global};
+use up_conf::Action;
 use up_model::{Answer, JobDef, Order, Output, Process, Who};
 use up_text::{Env, Items, Name, Text};
 
@@ -58,6 +59,38 @@ fn env_or_empty(alloc: Global, found: Option<&Env>) -> Result<Env, AllocError>
     }
 }
 
+// The words with which the shell gets a text.
+fn shell_words(alloc: Global, text: &Text) -> Result<Items<Text>, AllocError>
+    ensures { IfOk result (λ words. words ≡ codes "/bin/sh" ∷ codes "-e" ∷ codes "-c" ∷ text.now ∷ []) }
+{
+    let mut words = Vec::with_capacity(alloc, 4)?;
+    words.push(Text::from_str(alloc, "/bin/sh")?)?;
+    words.push(Text::from_str(alloc, "-e")?)?;
+    words.push(Text::from_str(alloc, "-c")?)?;
+    words.push(text.copy()?)?;
+    Ok(Items::new(words))
+}
+
+// The words that run an action.
+fn words_of(alloc: Global, action: &Action) -> Result<Items<Text>, AllocError>
+    ensures { IfOk result (λ words. words ≡ model.words_of action.now) }
+{
+    match action {
+        Action::Words(words) => copy_of(alloc, words.as_slice()),
+        Action::Shell(text) => shell_words(alloc, text),
+    }
+}
+
+// The folder in which a job's processes run.
+fn folder_of(alloc: Global, dir: &Text) -> Result<Text, AllocError>
+    ensures { IfOk result (λ folder. folder ≡ model.folder_of dir.now) }
+{
+    if dir.as_str().is_empty() {
+        return Text::from_str(alloc, "/");
+    }
+    dir.copy()
+}
+
 // The order for a job's main process, where it has one.
 fn order(
     alloc: Global,
@@ -65,20 +98,21 @@ fn order(
     name: &str,
     found: Option<&Env>,
 ) -> Result<Option<Output>, AllocError>
-    ensures { IfOk result (λ output. outputs_of output ≡ model.order_of_main (record { job = job.now.name; instance = name.now }) job.now.main (option_map_or (λ env. env.now) found.entry [])) }
+    ensures { IfOk result (λ output. outputs_of output ≡ model.order_of_main job.now (record { job = job.now.name; instance = name.now }) job.now.main (option_map_or (λ env. env.now) found.entry [])) }
 {
     match &job.main {
-        Some(words) => {
-            let argv = copy_of(alloc, words.as_slice())?;
+        Some(action) => {
+            let argv = words_of(alloc, action)?;
             let who = who(alloc, &job.name, name)?;
-            let dir = Text::from_str(alloc, "/")?;
+            let dir = folder_of(alloc, &job.dir)?;
             let env = env_or_empty(alloc, found)?;
+            let silent = job.silent;
             Ok(Some(Output::Spawn(Order {
                 who,
                 process: Process::Main,
                 argv,
                 dir,
-                silent: false,
+                silent,
                 env,
             })))
         }

@@ -5,10 +5,9 @@ use crate::{Engine, StepError};
 use std::alloc::{AllocError, Global};
 use std::process::Abort;
 use std::test::Fail;
-use up_model::files::compile;
-use up_model::{
-    Command, CompileError, Event, Folder, How, Input, Output, Process, Request, Step, Table, Who,
-};
+use up_conf::Folder;
+use up_image::{CompileError, Table, compile};
+use up_model::{Command, Event, How, Input, Output, Process, Request, Step, Who};
 use up_text::{Env, Items, Name, Text, TextFault};
 
 /// Why a row couldn't be tried: memory was refused, or its file or a name isn't readable.

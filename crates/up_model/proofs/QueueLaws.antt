@@ -1,7 +1,7 @@
 -- The queue: its events stand by age, and what it says of an event.
 use Rattle.std.proofs.Common.{◌≡◌, ℕ, suc, ◌<◌, ◌==◌, Bool, true, false, ◌||◌, not, List, [], ◌∷◌, ◌++◌, length, Option, None, Some, if◌then◌else◌, refl, ◌∙◌, ap, arith, eqb-true, eq-eqb, ne_eqb, subst}
 use Rattle.std.specs.List.{AllByRecursion}
-use Rattle.up_model.specs.declared.files.job.JobDef.{JobDef}
+use Rattle.up_conf.specs.declared.job.JobDef.{JobDef}
 use Rattle.up_model.specs.Chronicle.{Entry, Queued, Handled, Finished}
 use Rattle.up_model.specs.Queue.{Live, live_at, with_handled, without_event, queue}
 use Rattle.up_model.specs.Held.{is_held}

@@ -1,7 +1,7 @@
 -- Entries about one instance and its job leave the other jobs' instances alone, and their work.
 use Rattle.std.proofs.Common.{◌≡◌, ℕ, ◌+◌, ◌*◌, ◌<◌, ◌==◌, Bool, false, ◌||◌, not, List, [], ◌∷◌, ◌++◌, length, Option, None, Some, is_some, if◌then◌else◌, refl, sym, ◌∙◌, ap, arith, ne_eqb}
 use Rattle.std.proofs.lemmas.Bool.{eqb-false}
-use Rattle.up_model.specs.declared.files.job.JobDef.{JobDef}
+use Rattle.up_conf.specs.declared.job.JobDef.{JobDef}
 use Rattle.std.specs.List.{AllByRecursion}
 use Rattle.up_model.specs.declared.state.State.TheVariants as state
 use Rattle.up_model.specs.Chronicle.{Entry, Given, Queued, Handled, Offered, Fired, Finished, Made, Aimed, Released, Entered, Ordered, Signalled, Entering, StartOn, StopOn}

@@ -2,10 +2,10 @@
 use Rattle.std.proofs.Common.{◌≡◌, ℕ, zero, suc, is_some, append_assoc, le_of_eq, ◌&&◌, ◌+◌, ◌<◌, ◌≤◌, ◌==◌, ◌⊎◌, inl, inr, Bool, true, false, List, [], ◌∷◌, ◌++◌, length, Option, None, Some, if◌then◌else◌, refl, sym, ◌∙◌, ap, subst, arith, eqb-true, eq-eqb}
 use Rattle.std.specs.List.{AllByRecursion}
 use Rattle.up_model.specs.declared.state.Goal.TheVariants.{Stop}
-use Rattle.up_model.specs.declared.process.Process.{Process}
+use Rattle.up_conf.specs.declared.process.Process.{Process}
 use Rattle.up_model.specs.declared.input.Input.{Input}
 use Rattle.up_model.specs.declared.input.Input.TheVariants as input
-use Rattle.up_model.specs.declared.files.job.JobDef.{JobDef}
+use Rattle.up_conf.specs.declared.job.JobDef.{JobDef}
 use Rattle.up_model.specs.Chronicle.{Entry, Given, Aimed, Replied, Queued, Handled, Finished, Outside}
 use Rattle.up_model.specs.Readings.{goal, state_of, holders}
 use Rattle.up_model.specs.Queue.{Live, with_handled, without_event, queue}

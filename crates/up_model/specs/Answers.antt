@@ -1,12 +1,12 @@
 -- A run: what each input is answered, and the chronicle after it.
 use Rattle.std.specs.Prelude.{ℕ, Bool, true, false, List, [], ◌∷◌, ◌++◌, Option, None, Some, if◌then◌else◌}
-use Rattle.up_model.specs.declared.process.Process.{Process}
+use Rattle.up_conf.specs.declared.process.Process.{Process}
 use Rattle.up_model.specs.declared.who.Who.{Who}
 use Rattle.up_model.specs.declared.input.Input.{Input}
 use Rattle.up_model.specs.declared.input.Input.TheVariants as input
 use Rattle.up_model.specs.declared.step.Step.{Step}
 use Rattle.up_model.specs.declared.step.Step.TheVariants as step
-use Rattle.up_model.specs.declared.files.job.JobDef.{JobDef}
+use Rattle.up_conf.specs.declared.job.JobDef.{JobDef}
 use Rattle.up_model.specs.Chronicle.{Entry}
 use Rattle.up_model.specs.Readings.{awaited, lives}
 use Rattle.up_model.specs.Due.{effect, instance_named}

@@ -5,11 +5,11 @@ use Rattle.std.specs.Str.{bytes_eq}
 use Rattle.up_model.specs.declared.state.Goal.TheVariants.{Stop}
 use Rattle.up_model.specs.declared.state.State.{State}
 use Rattle.up_model.specs.declared.state.State.TheVariants as state
-use Rattle.up_model.specs.declared.process.Process.{Process}
+use Rattle.up_conf.specs.declared.process.Process.{Process}
 use Rattle.up_model.specs.declared.who.Who.{Who}
 use Rattle.up_model.specs.declared.input.Input.{Input}
 use Rattle.up_model.specs.declared.input.Input.TheVariants as input
-use Rattle.up_model.specs.declared.files.job.JobDef.{JobDef}
+use Rattle.up_conf.specs.declared.job.JobDef.{JobDef}
 use Rattle.up_model.specs.Chronicle.{Entry, Given, Queued, Handled, Finished, Aimed, Replied, Outside}
 use Rattle.up_model.specs.Readings.{instance_of, goal, state_of, holders}
 use Rattle.up_model.specs.Queue.{Live, queue}

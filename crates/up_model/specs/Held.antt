@@ -1,6 +1,6 @@
 -- Which events may not finish yet (starting(7), the Upstart Cookbook on blocking events).
 use Rattle.std.specs.Prelude.{ℕ, ◌+◌, Bool, ◌==◌, List, [], ◌∷◌, if◌then◌else◌, nat_lt}
-use Rattle.up_model.specs.declared.files.job.JobDef.{JobDef}
+use Rattle.up_conf.specs.declared.job.JobDef.{JobDef}
 use Rattle.up_model.specs.Chronicle.{Entry, StartOn, StopOn}
 use Rattle.up_model.specs.Readings.{Instance, instances_of, holders}
 use Rattle.up_model.specs.Seen.{seen, kept}

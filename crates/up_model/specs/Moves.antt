@@ -3,9 +3,9 @@
 use Rattle.std.specs.Prelude.{ℕ, ◌+◌, Bool, true, false, not, List, [], ◌∷◌, ◌++◌, is_some}
 use Rattle.up_model.specs.declared.state.State.{State}
 use Rattle.up_model.specs.declared.state.State.TheVariants as state
-use Rattle.up_model.specs.declared.process.Process.TheVariants.{Main}
+use Rattle.up_conf.specs.declared.process.Process.TheVariants.{Main}
 use Rattle.up_model.specs.declared.who.Who.{Who}
-use Rattle.up_model.specs.declared.files.job.JobDef.{JobDef}
+use Rattle.up_conf.specs.declared.job.JobDef.{JobDef}
 use Rattle.up_model.specs.Chronicle.{Entry, Queued, Released, Entered, Ordered, Signalled, Entering}
 use Rattle.up_model.specs.Readings.{Instance, instances_of, goal, state_of, blocker, awaited, lives}
 use Rattle.up_model.specs.Life.{next_state, may_leave, is_pre_stop}

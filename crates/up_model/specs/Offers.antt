@@ -2,7 +2,7 @@
 -- Each of these is a list of entries to be put in front of the chronicle, newest first.
 use Rattle.std.specs.Prelude.{ℕ, ◌+◌, Bool, true, false, not, ◌||◌, ◌==◌, List, [], ◌∷◌, ◌++◌, Option, None, Some, if◌then◌else◌, length}
 use Rattle.up_model.specs.declared.state.Goal.TheVariants.{Start, Stop}
-use Rattle.up_model.specs.declared.files.job.JobDef.{JobDef}
+use Rattle.up_conf.specs.declared.job.JobDef.{JobDef}
 use Rattle.up_model.specs.Chronicle.{Entry, Given, Handled, Offered, Fired, Made, Aimed, Released, StartOn, StopOn}
 use Rattle.up_model.specs.Readings.{Instance, instance_of, instances_of, goal}
 use Rattle.up_model.specs.Seen.{seen, holds, taken, was_offered}

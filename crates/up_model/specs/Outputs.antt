@@ -1,19 +1,31 @@
 -- What the entries of a step ask for.
-use Rattle.std.specs.Prelude.{ℕ, false, List, [], ◌∷◌, ◌++◌, Option, None, Some, slice_get, codes}
-use Rattle.up_model.specs.declared.process.Process.TheVariants as process
+use Rattle.std.specs.Prelude.{ℕ, List, [], ◌∷◌, ◌++◌, Option, None, Some, slice_get, codes}
+use Rattle.up_conf.specs.declared.process.Process.TheVariants as process
 use Rattle.up_model.specs.declared.who.Who.{Who}
 use Rattle.up_model.specs.declared.request.Answer.{Answer}
 use Rattle.up_model.specs.declared.output.Output.{Output}
 use Rattle.up_model.specs.declared.output.Output.TheVariants as output
-use Rattle.up_model.specs.declared.files.job.JobDef.{JobDef}
+use Rattle.up_conf.specs.declared.action.Action.{Action}
+use Rattle.up_conf.specs.declared.action.Action.TheVariants.{Words, Shell}
+use Rattle.up_conf.specs.declared.job.JobDef.{JobDef}
 use Rattle.up_model.specs.Chronicle.{Entry, Given, Queued, Ordered, Signalled, Replied, Entering, Spoilt}
 use Rattle.up_model.specs.Readings.{made_at, id_at, env, pid_of}
 
--- the order for a job's main process, where it has one (init(5), "exec")
-abbrev pub order_of_main : Who → Option (List (List ℕ)) → List (List ℕ × List ℕ) → List Output
-order_of_main who None environment = []
-order_of_main who (Some words) environment =
-    output.Spawn (record { who = who; process = process.Main; argv = words; dir = codes "/"; silent = false; env = environment }) ∷ []
+-- the words that run an action (init(5), "exec" and "script")
+abbrev pub words_of : Action → List (List ℕ)
+words_of (Words words) = words
+words_of (Shell text) = codes "/bin/sh" ∷ codes "-e" ∷ codes "-c" ∷ text ∷ []
+
+-- the folder in which a job's processes run: the root where it names none (init(5), "chdir")
+abbrev pub folder_of : List ℕ → List ℕ
+folder_of [] = codes "/"
+folder_of (byte ∷ dir) = byte ∷ dir
+
+-- the order for a job's main process, where it has one (init(5), "exec", "script", "chdir" and "console none")
+abbrev pub order_of_main : JobDef → Who → Option Action → List (List ℕ × List ℕ) → List Output
+order_of_main job who None environment = []
+order_of_main job who (Some action) environment =
+    output.Spawn (record { who = who; process = process.Main; argv = words_of action; dir = folder_of job.dir; silent = job.silent; env = environment }) ∷ []
 
 -- a job, and an instance of it as it is known outside
 abbrev pub named : List ℕ → Option JobDef → Option (JobDef × Who)
@@ -28,7 +40,7 @@ who_made jobs (Some made) = named made.1 (slice_get jobs made.0)
 -- the order that an instance gives
 abbrev pub order_of : Option (JobDef × Who) → List (List ℕ × List ℕ) → List Output
 order_of None environment = []
-order_of (Some known) environment = order_of_main known.1 known.0.main environment
+order_of (Some known) environment = order_of_main known.0 known.1 known.0.main environment
 
 -- a signal to a process, where it lives
 abbrev pub signal_to : Who → ℕ → Option ℕ → List Output

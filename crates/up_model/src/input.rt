@@ -2,10 +2,11 @@
 ghost use Rattle.std.specs.Prelude.{◌≡◌, IfOk};
 
 use crate::event::Event;
-use crate::process::{How, Process};
+use crate::process::How;
 use crate::request::Request;
 use crate::who::Who;
 use std::alloc::AllocError;
+use up_conf::Process;
 
 /// One input: what a client, a child or the clock did, or a turn of the queue of events.
 #[derive(Drop)]

@@ -6,7 +6,7 @@ ghost use Rattle.up_model.specs.Due.{due, effect};
 ghost use Rattle.up_model.specs.Held.{is_held};
 ghost use Rattle.up_model.specs.Laws.{AreByAge, finished_times, handled_times, IsOrderly};
 ghost use Rattle.up_model.specs.Queue.{queue};
-ghost use Rattle.up_model.specs.declared.files.job.JobDef.{JobDef};
+ghost use Rattle.up_conf.specs.declared.job.JobDef.{JobDef};
 ghost use Rattle.up_model.specs.declared.input.Input.{Input};
 
 /// What is due always runs out: after an input nothing is due.

@@ -4,7 +4,6 @@
 #![tactic(auto)]
 
 pub mod event;
-pub mod files;
 pub mod input;
 pub mod laws;
 pub mod output;
@@ -17,11 +16,11 @@ mod tests;
 pub mod who;
 
 pub use event::Event;
-pub use files::{CompileError, Fault, FaultCode, File, Folder, JobDef, Report, Stanza, Table};
 pub use input::Input;
 pub use output::{Order, Output};
-pub use process::{How, Process};
+pub use process::How;
 pub use request::{Answer, Command, Request};
 pub use state::{Goal, State};
 pub use step::Step;
+pub use up_conf::{JobDef, Process};
 pub use who::Who;

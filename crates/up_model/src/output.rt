@@ -1,8 +1,8 @@
 //! What an engine asks for.
 use crate::event::Event;
-use crate::process::Process;
 use crate::request::Answer;
 use crate::who::Who;
+use up_conf::Process;
 use up_text::{Env, Items, Text};
 
 /// The order to start a process.

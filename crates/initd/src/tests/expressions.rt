@@ -41,7 +41,7 @@ const VALUE_BY_DEFAULT: Case = Case {
 
 const BAD_EXPRESSIONS: Case = Case {
     bundle: b"%file a.conf\nstart on x and\n%file b.conf\nexec /bin/b\nstart on x K=v w\n%file c.conf\nstop on x [[:x]\n%file d.conf\nstart on (x\n  or y\n%file e.conf\nstop on x ${Z\n%script\nemit x\nturn\n",
-    printed: "a.conf:1: 1 UnknownStanza\nb.conf:2: 1 UnknownStanza\nc.conf:1: 1 UnknownStanza\nd.conf:1: 1 UnknownStanza\ne.conf:1: 1 UnknownStanza\n",
+    printed: "a.conf:1: 8 BadExpression\nb.conf:2: 9 ValueBeforeKey\nc.conf:1: 13 BadPattern\nd.conf:1: 8 BadExpression\ne.conf:1: 14 BadExpansion\n",
     status: 1,
 };
 

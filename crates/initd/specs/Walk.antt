@@ -1,0 +1,49 @@
+-- What is read of a folder on the disk.
+use Rattle.std.specs.Prelude.{◌≡◌, ℕ, ◌≤◌, Bool, true, nat_eq, ◌||◌, if◌then◌else◌, List, [], ◌∷◌, ◌++◌, length, codes, All, ◌⊎◌}
+use Rattle.std.specs.List.{ends_with}
+use Rattle.up_conf.specs.declared.folder.File.{File}
+use Rattle.initd.specs.declared.walk.WalkError.{WalkError}
+use Rattle.initd.specs.declared.walk.WalkError.TheVariants.{Unusable, Memory}
+
+-- whether a path stands for a job or an override
+abbrev pub is_source : List ℕ → Bool
+is_source path = ends_with nat_eq path (codes ".conf") || ends_with nat_eq path (codes ".override")
+
+-- the path of what lies in a folder
+abbrev pub joined : List ℕ → List ℕ → List ℕ
+joined dir path = (if ends_with nat_eq dir (codes "/") then dir else dir ++ codes "/") ++ path
+
+-- a job file or an override, of no more bytes than show that it is too long
+pub record IsSource (file : File) : Type 0 where
+  pub source : is_source file.path ≡ true
+  pub bounded : length file.bytes ≤ 1048577
+
+-- the same files, or one more
+abbrev pub MayAdd : List File → List File → Type 0
+MayAdd old new = (new ≡ old) ⊎ ((file : File) × IsSource file × (new ≡ old ++ file ∷ []))
+
+-- the files among so many entries
+pub record Keeps (files : List File) (entries : ℕ) : Type 0 where
+  pub few : length files ≤ entries
+  pub within : entries ≤ 65536
+  pub sources : All IsSource files
+
+-- the files of a folder on the disk
+pub record IsWalked (files : List File) : Type 0 where
+  pub few : length files ≤ 65536
+  pub sources : All IsSource files
+
+-- an error that names this path, if it isn't want of memory
+abbrev pub Names : List ℕ → WalkError → Type 0
+Names path (Unusable named) = named ≡ path
+Names path Memory = Unit {0}
+
+-- an error that names this whole path, which ends as a job's or an override's does, if it isn't want of memory
+abbrev pub NamesSource : List ℕ → List ℕ → WalkError → Type 0
+NamesSource whole path (Unusable named) = (named ≡ whole) × (is_source path ≡ true)
+NamesSource whole path Memory = Unit {0}
+
+-- why a folder isn't read: it can't be used, or one of its files can't, or memory is refused
+abbrev pub MayRefuse : List ℕ → WalkError → Type 0
+MayRefuse dir (Unusable named) = (named ≡ dir) ⊎ ((path : List ℕ) × (named ≡ joined dir path) × (is_source path ≡ true))
+MayRefuse dir Memory = Unit {0}

@@ -1,0 +1,165 @@
+//! Folders on the disk.
+use crate::walk::{WalkError, read_file, walk};
+use std::os::unix::fs::symlink;
+use std::test::Fail;
+use std::{env, fs, io, process};
+use up_conf::Folder;
+
+// A new empty folder for a test, by its path.
+pub(crate) fn scratch(rt: &HostRuntime, name: &str) -> io::Result<String> {
+    let temp = env::temp_dir(rt)?;
+    let id = process::id(rt.process());
+    let path = format!(in rt.alloc(); "{}/initd-{name}-{id}", temp.as_str())?;
+    fs::create_dir(rt, path.as_str())?;
+    Ok(path)
+}
+
+// The path of what lies in a folder.
+pub(crate) fn below(rt: &HostRuntime, dir: &str, path: &str) -> io::Result<String> {
+    Ok(format!(in rt.alloc(); "{dir}/{path}")?)
+}
+
+pub(crate) fn make_file(rt: &HostRuntime, dir: &str, path: &str, bytes: &[u8]) -> io::Result<()> {
+    fs::write(rt, below(rt, dir, path)?, bytes)
+}
+
+fn make_folder(rt: &HostRuntime, dir: &str, path: &str) -> io::Result<()> {
+    fs::create_dir(rt, below(rt, dir, path)?)
+}
+
+// Whether a folder has a file of this path and these bytes.
+fn has(folder: &Folder, path: &str, bytes: &[u8]) -> bool {
+    folder.as_slice().iter().any(|file| file.path.is(path) && file.bytes.as_slice() == bytes)
+}
+
+// Whether a walk can't use what has this path.
+fn is_unusable(rt: &HostRuntime, dir: &str, path: &str) -> bool {
+    match walk(rt, dir) {
+        Err(WalkError::Unusable(found)) => found.is(path),
+        Ok(_) | Err(WalkError::Memory) => false,
+    }
+}
+
+#[test]
+fn files_are_read_by_their_paths(rt: HostRuntime) -> Result<(), Fail> {
+    let dir = scratch(&rt, "paths")?;
+    let dir = dir.as_str();
+    make_folder(&rt, dir, "net")?;
+    make_folder(&rt, dir, "net/x.conf")?;
+    make_folder(&rt, dir, "empty")?;
+    make_file(&rt, dir, "a.conf", b"exec x\n")?;
+    make_file(&rt, dir, "a.override", b"manual\n")?;
+    make_file(&rt, dir, "net/apache.conf", b"\xff")?;
+    make_file(&rt, dir, "net/x.conf/y.conf", b"")?;
+    make_file(&rt, dir, "README", b"read me\n")?;
+    make_file(&rt, dir, "a.conf.old", b"exec y\n")?;
+    let Ok(folder) = walk(&rt, dir) else {
+        return Err(Fail::from("the folder is not read"));
+    };
+    assert_eq!(rt; folder.as_slice().len(), 4);
+    assert!(rt; has(&folder, "a.conf", b"exec x\n"));
+    assert!(rt; has(&folder, "a.override", b"manual\n"));
+    assert!(rt; has(&folder, "net/apache.conf", b"\xff"));
+    assert!(rt; has(&folder, "net/x.conf/y.conf", b""));
+    fs::remove_dir_all(&rt, dir)?;
+    Ok(())
+}
+
+#[test]
+fn what_cannot_be_read_is_named(rt: HostRuntime) -> Result<(), Fail> {
+    let dir = scratch(&rt, "unusable")?;
+    let dir = dir.as_str();
+    let missing = below(&rt, dir, "missing")?;
+    assert!(rt; is_unusable(&rt, missing.as_str(), missing.as_str()));
+    make_file(&rt, dir, "a.conf", b"exec x\n")?;
+    let file = below(&rt, dir, "a.conf")?;
+    assert!(rt; is_unusable(&rt, file.as_str(), file.as_str()));
+    let link = below(&rt, dir, "b.conf")?;
+    symlink(&rt, missing.as_str(), link.as_str())?;
+    assert!(rt; is_unusable(&rt, dir, link.as_str()));
+    fs::remove_dir_all(&rt, dir)?;
+    Ok(())
+}
+
+#[test]
+fn links_are_followed(rt: HostRuntime) -> Result<(), Fail> {
+    let dir = scratch(&rt, "links")?;
+    let dir = dir.as_str();
+    make_folder(&rt, dir, "jobs")?;
+    make_file(&rt, dir, "a.txt", b"task\n")?;
+    let jobs = below(&rt, dir, "jobs")?;
+    let jobs = jobs.as_str();
+    let link = below(&rt, jobs, "a.conf")?;
+    symlink(&rt, "../a.txt", link.as_str())?;
+    let Ok(folder) = walk(&rt, jobs) else {
+        return Err(Fail::from("the link is not followed"));
+    };
+    assert_eq!(rt; folder.as_slice().len(), 1);
+    assert!(rt; has(&folder, "a.conf", b"task\n"));
+    // A folder in itself is too deep.
+    let loop_path = below(&rt, jobs, "again")?;
+    symlink(&rt, ".", loop_path.as_str())?;
+    assert!(rt; is_unusable(&rt, jobs, jobs));
+    fs::remove_dir_all(&rt, dir)?;
+    Ok(())
+}
+
+#[test]
+fn folders_lie_64_deep(rt: HostRuntime) -> Result<(), Fail> {
+    let dir = scratch(&rt, "deep")?;
+    let dir = dir.as_str();
+    let mut path = String::from_str(rt.alloc(), dir)?;
+    for _ in 0..64u32 {
+        path.push_str("/d")?;
+        fs::create_dir(&rt, path.as_str())?;
+    }
+    make_file(&rt, path.as_str(), "a.conf", b"")?;
+    let Ok(folder) = walk(&rt, dir) else {
+        return Err(Fail::from("the folder is not read"));
+    };
+    assert_eq!(rt; folder.as_slice().len(), 1);
+    path.push_str("/d")?;
+    fs::create_dir(&rt, path.as_str())?;
+    assert!(rt; is_unusable(&rt, dir, dir));
+    fs::remove_dir_all(&rt, dir)?;
+    Ok(())
+}
+
+#[test]
+fn a_folder_has_65536_entries(rt: HostRuntime) -> Result<(), Fail> {
+    let dir = scratch(&rt, "many")?;
+    let dir = dir.as_str();
+    make_folder(&rt, dir, "d")?;
+    for n in 0..65_534u32 {
+        let path = format!(in rt.alloc(); "{dir}/d/{n}")?;
+        fs::write(&rt, path.as_str(), b"".as_slice())?;
+    }
+    make_file(&rt, dir, "a.conf", b"")?;
+    assert!(rt; walk(&rt, dir).is_ok());
+    make_file(&rt, dir, "d/more", b"")?;
+    assert!(rt; is_unusable(&rt, dir, dir));
+    fs::remove_dir_all(&rt, dir)?;
+    Ok(())
+}
+
+#[test]
+fn a_long_file_is_cut(rt: HostRuntime) -> Result<(), Fail> {
+    let alloc = rt.alloc();
+    let dir = scratch(&rt, "long")?;
+    let dir = dir.as_str();
+    let long = vec![in alloc; b'#'; 1_048_580]?;
+    let cut = vec![in alloc; b'#'; 1_048_577]?;
+    let whole = vec![in alloc; b'#'; 1_048_576]?;
+    make_file(&rt, dir, "a.conf", long.as_slice())?;
+    make_file(&rt, dir, "b.conf", whole.as_slice())?;
+    let Ok(folder) = walk(&rt, dir) else {
+        return Err(Fail::from("the folder is not read"));
+    };
+    assert!(rt; has(&folder, "a.conf", cut.as_slice()));
+    assert!(rt; has(&folder, "b.conf", whole.as_slice()));
+    let path = below(&rt, dir, "a.conf")?;
+    let read = read_file(&rt, path.as_str(), 3)?;
+    assert_eq!(rt; read.as_slice(), b"###".as_slice());
+    fs::remove_dir_all(&rt, dir)?;
+    Ok(())
+}

@@ -1,0 +1,20 @@
+-- What stanzas make of a job, one after another.
+use Rattle.std.proofs.Common.{◌≡◌, ℕ, List, [], ◌∷◌, ◌++◌, refl, ap, append-nil}
+use Rattle.up_conf.specs.declared.job.JobDef.{JobDef}
+use Rattle.up_conf.specs.declared.stanza.Stanza.{Stanza}
+use Rattle.up_conf.specs.Gathering.{others_after}
+use Rattle.up_conf.specs.Jobs.{env_with, export_with, job_of, plain_job, summed}
+
+others_after_both : (job : JobDef) (xs ys : List Stanza) → others_after (others_after job xs) ys ≡ others_after job (xs ++ ys)
+others_after_both job [] ys = refl
+others_after_both job (x ∷ xs) ys = others_after_both (others_after job (x ∷ [])) xs ys
+
+-- the keys apart, and then the others
+pub job_of_both : (name : List ℕ) (xs ys : List Stanza)
+    → others_after (others_after (record (plain_job name) { env = summed env_with [] (xs ++ ys); export = summed export_with [] (xs ++ ys) }) xs) ys ≡ job_of name (xs ++ ys)
+unfolding job_of
+job_of_both name xs ys = others_after_both _ xs ys
+
+-- no stanza behind those of a file
+pub none_behind : (name : List ℕ) (xs : List Stanza) → job_of name (xs ++ []) ≡ job_of name xs
+none_behind name xs = ap (job_of name) (append-nil xs)

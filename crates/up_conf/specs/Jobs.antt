@@ -1,0 +1,177 @@
+-- Which job the stanzas of its files define (init(5)).
+use Rattle.std.specs.Prelude.{ℕ, Bool, true, false, ◌==◌, if◌then◌else◌, List, [], ◌∷◌, ◌++◌, Option, None, Some, unwrap_or}
+use Rattle.std.specs.List.{list_any}
+use Rattle.std.specs.Str.{bytes_eq}
+use Rattle.up_expr.specs.Trees.{Tree}
+use Rattle.up_conf.specs.declared.action.Action.{Action}
+use Rattle.up_conf.specs.declared.exit.Exit.{Exit}
+use Rattle.up_conf.specs.declared.exit.Exit.TheVariants as exit
+use Rattle.up_conf.specs.declared.job.JobDef.{JobDef}
+use Rattle.up_conf.specs.declared.limit.Limit.{Limit}
+use Rattle.up_conf.specs.declared.process.Process.TheVariants.{Main, PreStart, PostStart, PreStop, PostStop}
+use Rattle.up_conf.specs.declared.setting.Setting.{Setting}
+use Rattle.up_conf.specs.declared.stanza.Console as consoles
+use Rattle.up_conf.specs.declared.stanza.Console.TheVariants as console
+use Rattle.up_conf.specs.declared.stanza.Stanza.{Stanza}
+use Rattle.up_conf.specs.declared.stanza.Stanza.TheVariants.{Env, Export, Task, Manual, Respawn, RespawnLimit, NormalExit, KillTimeout, KillSignal, Instance, Console, Chdir, Runs, StartOn, StopOn}
+
+-- the last that stanzas say of something, or else this
+abbrev pub last_or : {X : Type 0} → X → (Stanza → Option X) → List Stanza → X
+last_or x says [] = x
+last_or x says (stanza ∷ stanzas) = last_or (unwrap_or (says stanza) x) says stanzas
+
+-- all that stanzas say of something, behind this
+abbrev pub summed : {X : Type 0} → (X → Stanza → X) → X → List Stanza → X
+summed with x [] = x
+summed with x (stanza ∷ stanzas) = summed with (with x stanza) stanzas
+
+abbrev pub task_in : Stanza → Option Bool
+task_in Task = Some true
+task_in stanza = None
+
+abbrev pub respawn_in : Stanza → Option Bool
+respawn_in Respawn = Some true
+respawn_in stanza = None
+
+abbrev pub is_silent : consoles.Console → Bool
+is_silent console.None = true
+is_silent console.Log = false
+is_silent console.Output = false
+
+abbrev pub silent_in : Stanza → Option Bool
+silent_in (Console kind) = Some (is_silent kind)
+silent_in stanza = None
+
+abbrev pub instance_in : Stanza → Option (List ℕ)
+instance_in (Instance name) = Some name
+instance_in stanza = None
+
+abbrev pub dir_in : Stanza → Option (List ℕ)
+dir_in (Chdir dir) = Some dir
+dir_in stanza = None
+
+abbrev pub limit_in : Stanza → Option Limit
+limit_in (RespawnLimit limit) = Some limit
+limit_in stanza = None
+
+abbrev pub kill_signal_in : Stanza → Option ℕ
+kill_signal_in (KillSignal signal) = Some signal
+kill_signal_in stanza = None
+
+abbrev pub kill_timeout_in : Stanza → Option ℕ
+kill_timeout_in (KillTimeout seconds) = Some seconds
+kill_timeout_in stanza = None
+
+-- what each process runs
+abbrev pub main_in : Stanza → Option (Option Action)
+main_in (Runs Main action) = Some (Some action)
+main_in stanza = None
+
+abbrev pub pre_start_in : Stanza → Option (Option Action)
+pre_start_in (Runs PreStart action) = Some (Some action)
+pre_start_in stanza = None
+
+abbrev pub post_start_in : Stanza → Option (Option Action)
+post_start_in (Runs PostStart action) = Some (Some action)
+post_start_in stanza = None
+
+abbrev pub pre_stop_in : Stanza → Option (Option Action)
+pre_stop_in (Runs PreStop action) = Some (Some action)
+pre_stop_in stanza = None
+
+abbrev pub post_stop_in : Stanza → Option (Option Action)
+post_stop_in (Runs PostStop action) = Some (Some action)
+post_stop_in stanza = None
+
+-- `manual` drops each `start on` before it
+abbrev pub start_in : Stanza → Option (Option Tree)
+start_in (StartOn tree) = Some (Some tree)
+start_in Manual = Some None
+start_in stanza = None
+
+abbrev pub stop_in : Stanza → Option (Option Tree)
+stop_in (StopOn tree) = Some (Some tree)
+stop_in stanza = None
+
+-- a key that is set again keeps its place and takes the new form
+abbrev pub put : Setting → List Setting → List Setting
+put setting [] = setting ∷ []
+put setting (other ∷ others) = if bytes_eq other.key setting.key then setting ∷ others else other ∷ put setting others
+
+abbrev pub env_with : List Setting → Stanza → List Setting
+env_with settings (Env setting) = put setting settings
+env_with settings stanza = settings
+
+-- an item that isn't there yet goes last
+abbrev pub added : {X : Type 0} → (X → X → Bool) → List X → X → List X
+added same xs x = if list_any (same x) xs then xs else xs ++ x ∷ []
+
+abbrev pub all_added : {X : Type 0} → (X → X → Bool) → List X → List X → List X
+all_added same xs [] = xs
+all_added same xs (y ∷ ys) = all_added same (added same xs y) ys
+
+abbrev pub export_with : List (List ℕ) → Stanza → List (List ℕ)
+export_with keys (Export others) = all_added bytes_eq keys others
+export_with keys stanza = keys
+
+abbrev pub same_exit : Exit → Exit → Bool
+same_exit (exit.Status status) (exit.Status other) = status == other
+same_exit (exit.Signal signal) (exit.Signal other) = signal == other
+same_exit (exit.Status status) (exit.Signal other) = false
+same_exit (exit.Signal signal) (exit.Status other) = false
+
+abbrev pub normal_with : List Exit → Stanza → List Exit
+normal_with exits (NormalExit others) = all_added same_exit exits others
+normal_with exits stanza = exits
+
+-- what stanzas make of a job
+abbrev pub job_after : JobDef → List Stanza → JobDef
+job_after job stanzas = record {
+  name = job.name;
+  task = last_or job.task task_in stanzas;
+  respawn = last_or job.respawn respawn_in stanzas;
+  silent = last_or job.silent silent_in stanzas;
+  instance = last_or job.instance instance_in stanzas;
+  dir = last_or job.dir dir_in stanzas;
+  limit = last_or job.limit limit_in stanzas;
+  kill_signal = last_or job.kill_signal kill_signal_in stanzas;
+  kill_timeout = last_or job.kill_timeout kill_timeout_in stanzas;
+  env = summed env_with job.env stanzas;
+  export = summed export_with job.export stanzas;
+  normal = summed normal_with job.normal stanzas;
+  main = last_or job.main main_in stanzas;
+  pre_start = last_or job.pre_start pre_start_in stanzas;
+  post_start = last_or job.post_start post_start_in stanzas;
+  pre_stop = last_or job.pre_stop pre_stop_in stanzas;
+  post_stop = last_or job.post_stop post_stop_in stanzas;
+  start_on = last_or job.start_on start_in stanzas;
+  stop_on = last_or job.stop_on stop_in stanzas;
+}
+
+-- a job without stanzas: TERM, 5 seconds to the kill, 10 respawns in 5 seconds
+abbrev pub plain_job : List ℕ → JobDef
+plain_job name = record {
+  name = name;
+  task = false;
+  respawn = false;
+  silent = false;
+  instance = [];
+  dir = [];
+  limit = record { count = 10; interval = 5 };
+  kill_signal = 15;
+  kill_timeout = 5;
+  env = [];
+  export = [];
+  normal = [];
+  main = None;
+  pre_start = None;
+  post_start = None;
+  pre_stop = None;
+  post_stop = None;
+  start_on = None;
+  stop_on = None;
+}
+
+-- the job of this name that stanzas define
+unfoldable pub job_of : List ℕ → List Stanza → JobDef
+job_of name stanzas = job_after (plain_job name) stanzas

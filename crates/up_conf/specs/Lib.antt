@@ -1,0 +1,17 @@
+pub mod Actions
+pub mod Arguments
+pub mod Confs
+pub mod FaultCodes
+pub mod Folders
+pub mod Gathering
+pub mod Grammar
+pub mod Jobs
+pub mod Kinds
+pub mod Lookups
+pub mod Numbers
+pub mod Outcomes
+pub mod Order
+pub mod Reading
+pub mod Settings
+pub mod Signals
+pub mod Stanzas

@@ -1,0 +1,20 @@
+-- What reading the files of a folder gives.
+use Rattle.std.specs.Prelude.{◌≡◌, nat_le, true, List, map, Option, None, Some, option_map}
+use Rattle.std.specs.List.{list_all}
+use Rattle.up_conf.specs.declared.folder.File.{File}
+use Rattle.up_conf.specs.declared.report.Fault.{Fault}
+use Rattle.up_conf.specs.FaultCodes.{number_of}
+use Rattle.up_conf.specs.Folders.{Spot, line_in, spot_of}
+
+-- where a file is faulty, if it is read
+abbrev pub spot_in : File → Option Spot
+spot_in file = option_map (λ line. record { path = file.path; line = line }) (line_in file.path file.bytes)
+
+-- the fault at this place, with a code from 1 to 16, or none
+abbrev pub IsFault : Option Spot → Option Fault → Type 0
+IsFault spot None = spot ≡ None
+IsFault spot (Some fault) = (spot ≡ Some (spot_of fault)) × (nat_le (number_of fault.code) 16 ≡ true)
+
+-- the faults at these places, with such codes
+abbrev pub AreFaults : List Spot → List Fault → Type 0
+AreFaults spots faults = (map spot_of faults ≡ spots) × (list_all (λ fault. nat_le (number_of fault.code) 16) faults ≡ true)

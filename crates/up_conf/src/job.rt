@@ -1,0 +1,46 @@
+//! What the files of a job say of it.
+
+use crate::action::Action;
+use crate::exit::Exit;
+use crate::limit::Limit;
+use crate::setting::Setting;
+use crate::signal::Signal;
+use up_expr::Condition;
+use up_text::{Items, Name, Text};
+
+/// A job (init(5)).
+#[derive(Debug, Drop)]
+pub struct JobDef {
+    pub name: Name,
+    /// Whether it counts as started only once its main process has ended.
+    pub task: bool,
+    /// Whether its main process is started again when it ends.
+    pub respawn: bool,
+    /// Whether its processes' output is dropped: `console none`.
+    pub silent: bool,
+    /// The name of an instance, before it is expanded. Empty where the job has one instance alone.
+    pub instance: Text,
+    /// The folder in which its processes run, as it is written; where that is empty, `/`.
+    pub dir: Text,
+    /// How often it is respawned.
+    pub limit: Limit,
+    /// The signal that ends its main process.
+    pub kill_signal: Signal,
+    /// How many seconds later the main process is killed.
+    pub kill_timeout: u32,
+    /// What it sets in its environment; the keys are distinct.
+    pub env: Items<Setting>,
+    /// The keys that its events carry; they are distinct.
+    pub export: Items<Text>,
+    /// The ends of its main process that are no failure; they are distinct.
+    pub normal: Items<Exit>,
+    pub main: Option<Action>,
+    pub pre_start: Option<Action>,
+    pub post_start: Option<Action>,
+    pub pre_stop: Option<Action>,
+    pub post_stop: Option<Action>,
+    /// The events that start the job.
+    pub start_on: Option<Condition>,
+    /// The events that stop an instance of it.
+    pub stop_on: Option<Condition>,
+}

@@ -1,0 +1,13 @@
+//! How the jobs of a folder are kept: their table.
+#![tactic(auto)]
+
+pub mod compiling;
+pub mod refusal;
+pub mod table;
+#[cfg(test)]
+mod tests;
+mod twice;
+
+pub use compiling::compile;
+pub use refusal::CompileError;
+pub use table::Table;

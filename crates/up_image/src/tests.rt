@@ -1,0 +1,144 @@
+//! Folders that are compiled, and those that are refused.
+use super::*;
+use std::alloc::{AllocError, Global};
+use std::test::Fail;
+use up_conf::Folder;
+use up_text::{Items, Text};
+
+fn add(alloc: Global, folder: &mut Folder, path: &str, bytes: &[u8]) -> Result<(), AllocError> {
+    let path = Text::from_str(alloc, path)?;
+    let bytes = Vec::from_slice(alloc, bytes)?;
+    folder.add(path, Items::new(bytes))
+}
+
+// Whether a folder of files with these paths, each with an `exec`, is refused for a path that stands twice.
+fn has_same_name(alloc: Global, paths: &[&str]) -> Result<bool, AllocError> {
+    let mut folder = Folder::new(alloc);
+    for path in paths {
+        add(alloc, &mut folder, *path, b"exec x\n")?;
+    }
+    Ok(matches!(compile(alloc, &folder), Err(CompileError::SameName)))
+}
+
+#[test]
+fn a_path_that_is_read_stands_once(rt: HostRuntime) -> Result<(), Fail> {
+    let alloc = rt.alloc();
+    let twice: [&[&str]; 7] = [
+        &["a.conf", "a.conf"],
+        &["a.conf", "b.conf", "a.conf"],
+        &["=.conf", "=.conf"],
+        &["net/a.conf", "net/a.conf"],
+        &["a.override", "a.override", "a.conf"],
+        &["a.override", "a.conf", "b.conf", "a.override"],
+        &[".override", ".override", ".conf"],
+    ];
+    for paths in twice {
+        assert!(rt; has_same_name(alloc, paths)?);
+    }
+    let once: [&[&str]; 7] = [
+        &["a.conf", "a.override", "b.conf"],
+        &["a.override", "a.override"],
+        &["a.override", "a.override", "b.conf"],
+        &["net/a.override", "net/a.override", "a.conf"],
+        &["a.txt", "a.txt", "conf", "conf", "a.CONF", "a.CONF"],
+        &["a.conf", "net/a.conf", "A.conf"],
+        &["override", "override", "conf"],
+    ];
+    for paths in once {
+        assert!(rt; !has_same_name(alloc, paths)?);
+    }
+    Ok(())
+}
+
+#[test]
+fn a_table_lends_its_jobs_by_name(rt: HostRuntime) -> Result<(), Fail> {
+    let alloc = rt.alloc();
+    let mut folder = Folder::new(alloc);
+    for path in ["b.conf", "B.conf", "a-b.conf", "aa.conf", "a.conf"] {
+        add(alloc, &mut folder, path, b"exec x\n")?;
+    }
+    add(alloc, &mut folder, "a.override", b"task\n")?;
+    for path in ["z.conf", "x=.conf", "c.override"] {
+        add(alloc, &mut folder, path, b"setuid root\n")?;
+    }
+    let (table, report) = compile(alloc, &folder)?;
+    let names = ["B", "a", "a-b", "aa", "b"];
+    assert_eq!(rt; table.len(), names.len());
+    assert_eq!(rt; table.as_slice().len(), names.len());
+    for i in 0..names.len() {
+        assert_eq!(rt; table.job(i).name.as_str(), names[i]);
+        assert_eq!(rt; table.job(i).task, i == 1);
+    }
+    assert_eq!(rt; report.len(), 2);
+    assert_eq!(rt; report.as_slice()[0].path.as_str(), "x=.conf");
+    assert_eq!(rt; report.as_slice()[1].path.as_str(), "z.conf");
+    Ok(())
+}
+
+#[test]
+fn an_empty_folder_has_no_job(rt: HostRuntime) -> Result<(), Fail> {
+    let alloc = rt.alloc();
+    let mut folder = Folder::new(alloc);
+    add(alloc, &mut folder, "a.override", b"setuid root\n")?;
+    add(alloc, &mut folder, "a.override", b"setuid root\n")?;
+    let (table, report) = compile(alloc, &folder)?;
+    assert_eq!(rt; table.len(), 0);
+    assert!(rt; report.is_empty());
+    Ok(())
+}
+
+#[test]
+fn a_table_has_1024_jobs(rt: HostRuntime) -> Result<(), Fail> {
+    let alloc = rt.alloc();
+    let mut folder = Folder::new(alloc);
+    for n in 0..1024u32 {
+        let path = format!(in alloc; "{n}.conf")?;
+        add(alloc, &mut folder, path.as_str(), b"exec x\n")?;
+    }
+    let (table, report) = compile(alloc, &folder)?;
+    assert_eq!(rt; table.len(), 1024);
+    assert!(rt; report.is_empty());
+    add(alloc, &mut folder, "faulty.conf", b"setuid root\n")?;
+    let (table, report) = compile(alloc, &folder)?;
+    assert_eq!(rt; table.len(), 1024);
+    assert_eq!(rt; report.len(), 1);
+    add(alloc, &mut folder, "1024.conf", b"exec x\n")?;
+    assert!(rt; matches!(compile(alloc, &folder), Err(CompileError::TooManyJobs)));
+    add(alloc, &mut folder, "7.conf", b"exec x\n")?;
+    assert!(rt; matches!(compile(alloc, &folder), Err(CompileError::SameName)));
+    Ok(())
+}
+
+// So many that a comparison of each two would take minutes.
+#[test]
+fn many_files_are_compared(rt: HostRuntime) -> Result<(), Fail> {
+    let alloc = rt.alloc();
+    let mut folder = Folder::new(alloc);
+    for n in 0..32_767u32 {
+        let conf = format!(in alloc; "{n}.conf")?;
+        add(alloc, &mut folder, conf.as_str(), b"")?;
+        let over = format!(in alloc; "{n}.override")?;
+        add(alloc, &mut folder, over.as_str(), b"")?;
+    }
+    add(alloc, &mut folder, "last.conf", b"")?;
+    add(alloc, &mut folder, "0.override", b"")?;
+    assert!(rt; matches!(compile(alloc, &folder), Err(CompileError::SameName)));
+    Ok(())
+}
+
+#[test]
+fn refusals_have_numbers_and_names(rt: HostRuntime) -> Result<(), Fail> {
+    let alloc = rt.alloc();
+    let cases = [
+        (CompileError::TooManyJobs, 20, "TooManyJobs"),
+        (CompileError::SameName, 21, "SameName"),
+        (CompileError::Memory, 42, "Memory"),
+    ];
+    for (error, number, name) in cases {
+        assert_eq!(rt; error.number(), number);
+        assert_eq!(rt; error.name(), name);
+        let text = format!(in alloc; "{error}")?;
+        assert_eq!(rt; text.as_str(), name);
+    }
+    Ok(())
+}
