@@ -1,6 +1,7 @@
 //! What is printed for bundles.
 mod command;
 mod disk;
+mod distribution;
 mod expressions;
 mod failures;
 mod reader;

@@ -90,13 +90,3 @@ fn a_script_has_64_mebibytes(rt: HostRuntime) -> Result<(), Fail> {
     fs::remove_dir_all(&rt, dir)?;
     Ok(())
 }
-
-// The examples lie beside the crates, in whose folder tests run.
-#[test]
-fn a_distribution_is_checked(rt: HostRuntime) -> Result<(), Fail> {
-    let report = fs::read(&rt, "../../examples/distribution.report")?;
-    let made = check_dir(&rt, "../../examples/distribution")?;
-    assert_eq!(rt; made.text.as_slice(), report.as_slice());
-    assert_eq!(rt; made.status, 1);
-    Ok(())
-}

@@ -1,5 +1,7 @@
 //! Whole job files: what runs, overrides, and checks of folders.
+use crate::bundle::read_bundle;
 use crate::check::check as check_folder;
+use crate::tests::distribution::{BUNDLE, REPORT};
 use crate::tests::{Case, check};
 use std::alloc::Global;
 use std::process::Abort;
@@ -109,4 +111,13 @@ fn checks_of_many_files(rt: HostRuntime) -> Result<(), Fail> {
     add(alloc, &mut folder, "1024.conf", b"exec x\n")?;
     check_prints(&rt, alloc, &folder, "initd: 20 TooManyJobs\n", 3)?;
     Ok(())
+}
+
+#[test]
+fn a_distribution_is_checked(rt: HostRuntime) -> Result<(), Fail> {
+    let alloc = rt.alloc();
+    let text = BUNDLE.as_bytes();
+    assert!(rt; text.len() < 65_536);
+    let bundle = read_bundle(alloc, text)?;
+    check_prints(&rt, alloc, &bundle.folder, REPORT, 1)
 }
