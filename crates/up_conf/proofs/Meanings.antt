@@ -9,11 +9,11 @@ others_after_both : (job : JobDef) (xs ys : List Stanza) → others_after (other
 others_after_both job [] ys = refl
 others_after_both job (x ∷ xs) ys = others_after_both (others_after job (x ∷ [])) xs ys
 
--- the keys apart, and then the others
+-- the keys and the name apart
 pub job_of_both : (name : List ℕ) (xs ys : List Stanza)
-    → others_after (others_after (record (plain_job name) { env = summed env_with [] (xs ++ ys); export = summed export_with [] (xs ++ ys) }) xs) ys ≡ job_of name (xs ++ ys)
+    → record (others_after (others_after (plain_job []) xs) ys) { name = name; env = summed env_with [] (xs ++ ys); export = summed export_with [] (xs ++ ys) } ≡ job_of name (xs ++ ys)
 unfolding job_of
-job_of_both name xs ys = others_after_both _ xs ys
+job_of_both name xs ys = ap {A = JobDef} (λ job. record job { name = name; env = summed env_with [] (xs ++ ys); export = summed export_with [] (xs ++ ys) }) (others_after_both (plain_job []) xs ys)
 
 -- no stanza behind those of a file
 pub none_behind : (name : List ℕ) (xs : List Stanza) → job_of name (xs ++ []) ≡ job_of name xs

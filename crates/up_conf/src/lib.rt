@@ -20,6 +20,7 @@ pub mod meaning;
 pub mod number;
 mod order;
 mod outcome;
+mod outline;
 mod paths;
 pub mod process;
 mod reader;

@@ -1,6 +1,6 @@
 use Rattle.std.proofs.Common.{◌≡◌, drop}
 use Rattle.up_conf.specs.Jobs.{all_added, same_exit}
-use Rattle.up_conf.proofs.meaning.add_exits.Given as goal
+use Rattle.up_conf.proofs.outline.add_exits.Given as goal
 
 -- the others are still to be added
 abbrev pub invariant-loop-other : goal.invariant-loop-other

@@ -1,6 +1,6 @@
 use Rattle.std.proofs.Common.{◌≡◌, drop}
 use Rattle.up_conf.specs.Gathering.{others_after}
-use Rattle.up_conf.proofs.meaning.with_stanzas.Given as goal
+use Rattle.up_conf.proofs.outline.with_stanzas.Given as goal
 
 -- the stanzas that are left go on with the job so far
 abbrev pub invariant-loop-stanza : goal.invariant-loop-stanza

@@ -1,0 +1,305 @@
+//! What stanzas make of a job, while they hold what it says: a text, a command or an expression that a later stanza replaces is never
+//! copied.
+ghost use Rattle.std.specs.Prelude.{◌≡◌, ◌∷◌, [], IfOk, option_copied, unwrap_or};
+ghost use Rattle.std.specs.List.{list_any};
+ghost use Rattle.up_conf.specs.declared.stanza.Stanza.TheVariants.{Manual, NormalExit, Runs};
+ghost use Rattle.up_conf.specs.Jobs.{added, all_added, is_silent, plain_job, same_exit};
+ghost use Rattle.up_conf.specs.Gathering.{others_after};
+
+use crate::action::Action;
+use crate::copies::{copy_action, copy_condition};
+use crate::exit::Exit;
+use crate::job::JobDef;
+use crate::limit::Limit;
+use crate::process::Process;
+use crate::setting::Setting;
+use crate::signal::Signal;
+use crate::stanza::{Console, Stanza};
+use std::alloc::{AllocError, Global};
+use std::marker::Model;
+use up_expr::Condition;
+use up_text::{Items, Name, Text};
+
+/// What stanzas make of a job, seen by contracts as a job without a name and without keys.
+#[derive(Drop)]
+pub(crate) struct Outline<'a> {
+    task: bool,
+    respawn: bool,
+    silent: bool,
+    instance: Option<&'a Text>,
+    dir: Option<&'a Text>,
+    limit: Limit,
+    kill_signal: Signal,
+    kill_timeout: u32,
+    normal: Items<Exit>,
+    main: Option<&'a Action>,
+    pre_start: Option<&'a Action>,
+    post_start: Option<&'a Action>,
+    pre_stop: Option<&'a Action>,
+    post_stop: Option<&'a Action>,
+    start_on: Option<&'a Condition>,
+    stop_on: Option<&'a Condition>,
+}
+
+impl<'a> Model for Outline<'a> {
+    ghost use Rattle.up_conf.specs.declared.job.JobDef.{JobDef};
+    ghost use Rattle.up_conf.specs.Gathering.{outlined};
+    ghost use Rattle.up_conf.specs.contracts.job.JobDef as job;
+
+    ghost Value = { JobDef };
+
+    ghost coded = { job.the_row.coded };
+
+    ghost view = { outlined };
+}
+
+fn is_silent(console: Console) -> bool
+    ensures { result ≡ is_silent console }
+{
+    match console {
+        Console::None => true,
+        Console::Log => false,
+        Console::Output => false,
+    }
+}
+
+fn same_exit(exit: &Exit, other: &Exit) -> bool
+    ensures { result ≡ same_exit exit.now other.now }
+{
+    match exit {
+        Exit::Status(status) => match other {
+            Exit::Status(other) => status == other,
+            Exit::Signal(_) => false,
+        },
+        Exit::Signal(signal) => match other {
+            Exit::Status(_) => false,
+            Exit::Signal(other) => signal.number() == other.number(),
+        },
+    }
+}
+
+fn has_exit(exits: &[Exit], exit: &Exit) -> bool
+    ensures { result ≡ list_any (same_exit exit.now) exits.now }
+{
+    exits.iter().any(|other| same_exit(exit, other))
+}
+
+// Adds an exit, where it isn't there.
+fn add_exit(exits: Items<Exit>, exit: &Exit) -> Result<Items<Exit>, AllocError>
+    ensures { IfOk result (λ new. new ≡ added same_exit exits exit.now) }
+{
+    if has_exit(exits.as_slice(), exit) {
+        return Ok(exits);
+    }
+    let mut exits = exits.into_vec();
+    exits.push(*exit)?;
+    Ok(Items::new(exits))
+}
+
+fn add_exits(exits: Items<Exit>, others: &[Exit]) -> Result<Items<Exit>, AllocError>
+    ensures { IfOk result (λ new. new ≡ all_added same_exit exits others.now) }
+{
+    let mut exits = exits;
+    for other in others {
+        exits = add_exit(exits, other)?;
+    }
+    Ok(exits)
+}
+
+/// No stanza yet.
+pub(crate) fn plain_outline<'a>(alloc: Global) -> Outline<'a>
+    ensures { result ≡ plain_job [] }
+{
+    Outline {
+        task: false,
+        respawn: false,
+        silent: false,
+        instance: None,
+        dir: None,
+        limit: Limit {
+            count: 10,
+            interval: 5,
+        },
+        kill_signal: Signal::term(),
+        kill_timeout: 5,
+        normal: Items::new(Vec::new(alloc)),
+        main: None,
+        pre_start: None,
+        post_start: None,
+        pre_stop: None,
+        post_stop: None,
+        start_on: None,
+        stop_on: None,
+    }
+}
+
+// The job after a process's action.
+fn with_action<'a>(job: Outline<'a>, process: Process, action: &'a Action) -> Outline<'a>
+    ensures { result ≡ others_after job.entry (Runs process action.now ∷ []) }
+{
+    let mut job = job;
+    let action = Some(action);
+    match process {
+        Process::Main => job.main = action,
+        Process::PreStart => job.pre_start = action,
+        Process::PostStart => job.post_start = action,
+        Process::PreStop => job.pre_stop = action,
+        Process::PostStop => job.post_stop = action,
+    }
+    job
+}
+
+// The job after exits are normal.
+fn with_normal<'a>(job: Outline<'a>, exits: &[Exit]) -> Result<Outline<'a>, AllocError>
+    ensures { IfOk result (λ new. new ≡ others_after job.entry (NormalExit exits.now ∷ [])) }
+{
+    let mut job = job;
+    job.normal = add_exits(job.normal, exits)?;
+    Ok(job)
+}
+
+// The job after no event is to start it.
+fn without_start<'a>(job: Outline<'a>) -> Outline<'a>
+    ensures { result ≡ others_after job.entry (Manual ∷ []) }
+{
+    Outline {
+        start_on: None,
+        ..job
+    }
+}
+
+// The job after a stanza, but for the keys that it sets and exports.
+fn with_stanza<'a>(job: Outline<'a>, stanza: &'a Stanza) -> Result<Outline<'a>, AllocError>
+    ensures { IfOk result (λ new. new ≡ others_after job.entry (stanza.now ∷ [])) }
+{
+    match stanza {
+        Stanza::About(_) => Ok(job),
+        Stanza::Emits(_) => Ok(job),
+        Stanza::Env(_) => Ok(job),
+        Stanza::Export(_) => Ok(job),
+        Stanza::Task => Ok(Outline { task: true, ..job }),
+        Stanza::Manual => Ok(without_start(job)),
+        Stanza::Respawn => Ok(Outline {
+            respawn: true,
+            ..job
+        }),
+        Stanza::RespawnLimit(limit) => Ok(Outline {
+            limit: *limit,
+            ..job
+        }),
+        Stanza::NormalExit(exits) => with_normal(job, exits.as_slice()),
+        Stanza::KillTimeout(seconds) => Ok(Outline {
+            kill_timeout: *seconds,
+            ..job
+        }),
+        Stanza::KillSignal(signal) => Ok(Outline {
+            kill_signal: *signal,
+            ..job
+        }),
+        Stanza::ReloadSignal(_) => Ok(job),
+        Stanza::Instance(name) => Ok(Outline {
+            instance: Some(name),
+            ..job
+        }),
+        Stanza::Console(console) => Ok(Outline {
+            silent: is_silent(*console),
+            ..job
+        }),
+        Stanza::Chdir(dir) => Ok(Outline {
+            dir: Some(dir),
+            ..job
+        }),
+        Stanza::Runs(process, action) => Ok(with_action(job, *process, action)),
+        Stanza::StartOn(tree) => Ok(Outline {
+            start_on: Some(tree),
+            ..job
+        }),
+        Stanza::StopOn(tree) => Ok(Outline {
+            stop_on: Some(tree),
+            ..job
+        }),
+    }
+}
+
+/// The job after stanzas, but for the keys that they set and export.
+pub(crate) fn with_stanzas<'a>(
+    job: Outline<'a>,
+    stanzas: &'a [Stanza],
+) -> Result<Outline<'a>, AllocError>
+    ensures { IfOk result (λ new. new ≡ others_after job.entry stanzas.now) }
+{
+    let mut job = job;
+    for stanza in stanzas {
+        job = with_stanza(job, stanza)?;
+    }
+    Ok(job)
+}
+
+// A text of its own, empty where there is none.
+fn copy_text(alloc: Global, text: Option<&Text>) -> Result<Text, AllocError>
+    ensures { IfOk result (λ copied. copied ≡ unwrap_or (option_copied text.entry) []) }
+{
+    match text {
+        Some(text) => text.copy(),
+        None => Ok(Text::new(String::new(alloc))),
+    }
+}
+
+fn copy_run(alloc: Global, action: Option<&Action>) -> Result<Option<Action>, AllocError>
+    ensures { IfOk result (λ copied. copied ≡ option_copied action.entry) }
+{
+    match action {
+        Some(action) => {
+            let action = copy_action(alloc, action)?;
+            Ok(Some(action))
+        }
+        None => Ok(None),
+    }
+}
+
+fn copy_tree(alloc: Global, tree: Option<&Condition>) -> Result<Option<Condition>, AllocError>
+    ensures { IfOk result (λ copied. copied ≡ option_copied tree.entry) }
+{
+    match tree {
+        Some(tree) => {
+            let tree = copy_condition(alloc, tree)?;
+            Ok(Some(tree))
+        }
+        None => Ok(None),
+    }
+}
+
+impl<'a> Outline<'a> {
+    /// The job with this name and these keys, which holds all that it says.
+    pub(crate) fn into_job(
+        self,
+        alloc: Global,
+        name: Name,
+        env: Items<Setting>,
+        export: Items<Text>,
+    ) -> Result<JobDef, AllocError>
+        ensures { IfOk result (λ job. job ≡ record self.entry { name = name; env = env; export = export }) }
+    {
+        Ok(JobDef {
+            name,
+            task: self.task,
+            respawn: self.respawn,
+            silent: self.silent,
+            instance: copy_text(alloc, self.instance)?,
+            dir: copy_text(alloc, self.dir)?,
+            limit: self.limit,
+            kill_signal: self.kill_signal,
+            kill_timeout: self.kill_timeout,
+            env,
+            export,
+            normal: self.normal,
+            main: copy_run(alloc, self.main)?,
+            pre_start: copy_run(alloc, self.pre_start)?,
+            post_start: copy_run(alloc, self.post_start)?,
+            pre_stop: copy_run(alloc, self.pre_stop)?,
+            post_stop: copy_run(alloc, self.post_stop)?,
+            start_on: copy_tree(alloc, self.start_on)?,
+            stop_on: copy_tree(alloc, self.stop_on)?,
+        })
+    }
+}
