@@ -7,7 +7,7 @@ ghost use Rattle.up_conf.specs.Jobs.{added, all_added, is_silent, plain_job, sam
 ghost use Rattle.up_conf.specs.Gathering.{others_after};
 
 use crate::action::Action;
-use crate::copies::{copy_action, copy_condition};
+use crate::copies::copy_action;
 use crate::exit::Exit;
 use crate::job::JobDef;
 use crate::limit::Limit;
@@ -262,7 +262,7 @@ fn copy_tree(alloc: Global, tree: Option<&Condition>) -> Result<Option<Condition
 {
     match tree {
         Some(tree) => {
-            let tree = copy_condition(alloc, tree)?;
+            let tree = tree.copy(alloc)?;
             Ok(Some(tree))
         }
         None => Ok(None),

@@ -1,8 +1,10 @@
 //! An expression that contracts see as its tree.
-ghost use Rattle.std.specs.Prelude.{◌≡◌};
+ghost use Rattle.std.specs.Prelude.{◌≡◌, IfOk};
 ghost use Rattle.up_expr.specs.Trees.{tree_of};
 
+use crate::copies::copy_expr;
 use crate::expr::Expr;
+use std::alloc::{AllocError, Global};
 use std::marker::Model;
 
 /// An expression, seen by contracts as its tree without where its parts lie in memory.
@@ -43,5 +45,13 @@ impl Condition {
     {
         let Condition { expr } = self;
         expr
+    }
+
+    /// An equal condition in memory of its own.
+    pub fn copy(&self, alloc: Global) -> Result<Self, AllocError>
+        ensures { IfOk result (λ copied. copied ≡ self.now) }
+    {
+        let expr = copy_expr(alloc, &self.expr)?;
+        Ok(Condition { expr })
     }
 }

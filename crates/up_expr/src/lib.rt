@@ -5,6 +5,7 @@
 #![tactic(auto)]
 
 pub mod condition;
+mod copies;
 pub mod expr;
 pub mod fault;
 pub mod laws;
