@@ -1,9 +1,15 @@
+//! Names, environments, texts and lists.
 ghost use Rattle.std.specs.Prelude.{◌≡◌, ◌<◌, length};
 
-use crate::env::{is_key, is_value};
-use crate::{Env, Items, Name, Text, TextFault};
+mod expansion;
+mod fnmatch_table;
+mod lexer;
+mod pattern;
+
 use std::process::Abort;
 use std::test::Fail;
+use up_text::env::{is_key, is_value};
+use up_text::{Env, Items, Name, Text, TextFault};
 
 #[test]
 fn names(rt: HostRuntime) -> Result<(), Fail> {

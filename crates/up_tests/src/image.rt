@@ -1,8 +1,8 @@
 //! Folders that are compiled, and those that are refused.
-use super::*;
 use std::alloc::{AllocError, Global};
 use std::test::Fail;
 use up_conf::Folder;
+use up_image::{CompileError, compile};
 use up_text::{Items, Text};
 
 fn add(alloc: Global, folder: &mut Folder, path: &str, bytes: &[u8]) -> Result<(), AllocError> {

@@ -1,5 +1,8 @@
 //! What stanzas make of a job.
-use super::*;
+use crate::conf::{are_texts, is_event, runs};
+use std::alloc::{AllocError, Global};
+use std::test::Fail;
+use up_conf::{ConfFault, Exit, JobDef, Setting, apply_override, job_of, read_conf};
 use up_text::Name;
 
 // The job `a` of a file and its override.
