@@ -347,8 +347,8 @@ fn always_memory(rt: HostRuntime) -> Result<(), Fail> {
     Ok(())
 }
 
-// The same where an allocation fails: `rt try --test --fail-alloc N`. It passes also where the row's inputs, its table or the
-// texts to compare were refused memory.
+// The same where an allocation fails: `rt try --test --fail-alloc N -- engine::memory_refused`. It passes also where the row's
+// inputs, its table or the texts to compare were refused memory.
 #[test]
 fn memory_refused(rt: HostRuntime) -> Result<(), Fail> {
     match check_run(&rt, rt.alloc()) {
