@@ -30,8 +30,6 @@ mod running;
 pub mod setting;
 pub mod signal;
 pub mod stanza;
-#[cfg(test)]
-mod tests;
 
 pub use action::Action;
 pub use conf::read_conf;

@@ -15,8 +15,6 @@ mod reading;
 mod record;
 mod run;
 mod settle;
-#[cfg(test)]
-mod tests;
 mod truth;
 mod turn;
 

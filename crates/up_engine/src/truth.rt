@@ -8,9 +8,6 @@ ghost use Rattle.up_model.specs.Seen as seen;
 ghost use Rattle.up_engine.specs.Records.{expression_of};
 ghost use Rattle.up_engine.specs.Verdicts.{verdict_of_tree, verdict, both, either};
 
-#[cfg(test)]
-mod tests;
-
 use crate::book::Book;
 use crate::record::Expression;
 use std::alloc::{AllocError, Global};

@@ -20,6 +20,3 @@ pub use expr::{Expr, Leaf, Test};
 pub use fault::ExprFault;
 pub use leaf::leaf_matches;
 pub use parse::parse_expr;
-
-#[cfg(test)]
-mod tests;

@@ -4,8 +4,6 @@
 pub mod compiling;
 pub mod refusal;
 pub mod table;
-#[cfg(test)]
-mod tests;
 mod twice;
 
 pub use compiling::compile;

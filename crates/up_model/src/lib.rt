@@ -11,8 +11,6 @@ pub mod process;
 pub mod request;
 pub mod state;
 pub mod step;
-#[cfg(test)]
-mod tests;
 pub mod who;
 
 pub use event::Event;

@@ -285,6 +285,3 @@ pub fn expand(alloc: Global, text: &str, env: &Env) -> Result<Expanded, TextFaul
     }
     write_text(alloc, text, env)
 }
-
-#[cfg(test)]
-mod tests;

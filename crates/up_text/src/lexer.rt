@@ -160,6 +160,3 @@ impl<'a> Lexer<'a> {
         Ok(Some(script))
     }
 }
-
-#[cfg(test)]
-mod tests;

@@ -23,6 +23,3 @@ pub use name::Name;
 pub use pattern::{glob, supported};
 pub use text::Text;
 pub use token::Token;
-
-#[cfg(test)]
-mod tests;

@@ -399,8 +399,3 @@ pub fn glob(pattern: &[u8], bytes: &[u8]) -> bool
         Outcome::Run { rest, ahead, left } => matches_end(rest, ahead, left),
     }
 }
-
-#[cfg(test)]
-mod fnmatch_table;
-#[cfg(test)]
-mod tests;

@@ -1,9 +1,10 @@
+//! Expressions, and the events that their leaves match.
 ghost use Rattle.std.specs.Prelude.{◌≡◌, ◌<◌, length};
 
-use crate::{Condition, Expr, ExprFault, Leaf, Test, leaf_matches, parse_expr};
 use std::alloc::{AllocError, Global};
 use std::process::Abort;
 use std::test::Fail;
+use up_expr::{Condition, Expr, ExprFault, Leaf, Test, leaf_matches, parse_expr};
 use up_text::{Env, Items, Lexer, Name, Text, Token};
 
 // The tokens of a stanza, where parentheses are tokens.

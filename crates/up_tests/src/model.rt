@@ -1,6 +1,7 @@
-use crate::{Command, Event, How, Input, Process, Request, Who};
+//! Copies of values, and the names of commands.
 use std::alloc::Global;
 use std::test::Fail;
+use up_model::{Command, Event, How, Input, Process, Request, Who};
 use up_text::{Env, Name, Text, TextFault};
 
 fn who(alloc: Global) -> Result<Who, TextFault> {

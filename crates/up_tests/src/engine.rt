@@ -1,11 +1,12 @@
 //! The worked rows, step by step.
+mod chain;
 mod expressions;
 
-use crate::{Engine, StepError};
 use std::alloc::{AllocError, Global};
 use std::process::Abort;
 use std::test::Fail;
 use up_conf::Folder;
+use up_engine::{Engine, StepError};
 use up_image::{CompileError, Table, compile};
 use up_model::{Command, Event, How, Input, Output, Process, Request, Step, Who};
 use up_text::{Env, Items, Name, Text, TextFault};
@@ -46,7 +47,7 @@ pub(crate) enum Given {
 }
 
 /// An input, the outputs that it gives, the live events then, and whether a turn would do something.
-pub(crate) type Row = (Given, &'static str, usize, bool);
+pub(crate) type Row<'a> = (Given, &'a str, usize, bool);
 
 pub(crate) const STARTING: &'static str = "starting JOB=a INSTANCE=; ";
 
@@ -346,8 +347,8 @@ fn always_memory(rt: HostRuntime) -> Result<(), Fail> {
     Ok(())
 }
 
-// The same where an allocation fails: `rt try --test --fail-alloc N`. It passes also where the row's inputs, its table or the
-// texts to compare were refused memory.
+// The same where an allocation fails: `rt try --test --fail-alloc N -- engine::memory_refused`. It passes also where the row's
+// inputs, its table or the texts to compare were refused memory.
 #[test]
 fn memory_refused(rt: HostRuntime) -> Result<(), Fail> {
     match check_run(&rt, rt.alloc()) {

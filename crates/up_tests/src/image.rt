@@ -1,8 +1,8 @@
 //! Folders that are compiled, and those that are refused.
-use super::*;
 use std::alloc::{AllocError, Global};
 use std::test::Fail;
 use up_conf::Folder;
+use up_image::{CompileError, compile};
 use up_text::{Items, Text};
 
 fn add(alloc: Global, folder: &mut Folder, path: &str, bytes: &[u8]) -> Result<(), AllocError> {
@@ -87,21 +87,28 @@ fn an_empty_folder_has_no_job(rt: HostRuntime) -> Result<(), Fail> {
     Ok(())
 }
 
-#[test]
-fn a_table_has_1024_jobs(rt: HostRuntime) -> Result<(), Fail> {
-    let alloc = rt.alloc();
+fn folder_of_1024_jobs(alloc: Global) -> Result<Folder, AllocError> {
     let mut folder = Folder::new(alloc);
     for n in 0..1024u32 {
         let path = format!(in alloc; "{n}.conf")?;
         add(alloc, &mut folder, path.as_str(), b"exec x\n")?;
     }
-    let (table, report) = compile(alloc, &folder)?;
-    assert_eq!(rt; table.len(), 1024);
-    assert!(rt; report.is_empty());
+    Ok(folder)
+}
+
+// Whether a folder gives so many jobs and faults.
+fn gives(alloc: Global, folder: &Folder, jobs: usize, faults: usize) -> Result<bool, CompileError> {
+    let (table, report) = compile(alloc, folder)?;
+    Ok(table.len() == jobs && report.len() == faults && report.is_empty() == (faults == 0))
+}
+
+#[test]
+fn a_table_has_1024_jobs(rt: HostRuntime) -> Result<(), Fail> {
+    let alloc = rt.alloc();
+    let mut folder = folder_of_1024_jobs(alloc)?;
+    assert!(rt; gives(alloc, &folder, 1024, 0)?);
     add(alloc, &mut folder, "faulty.conf", b"setuid root\n")?;
-    let (table, report) = compile(alloc, &folder)?;
-    assert_eq!(rt; table.len(), 1024);
-    assert_eq!(rt; report.len(), 1);
+    assert!(rt; gives(alloc, &folder, 1024, 1)?);
     add(alloc, &mut folder, "1024.conf", b"exec x\n")?;
     assert!(rt; matches!(compile(alloc, &folder), Err(CompileError::TooManyJobs)));
     add(alloc, &mut folder, "7.conf", b"exec x\n")?;

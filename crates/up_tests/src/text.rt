@@ -1,9 +1,16 @@
+//! Names, environments, texts and lists.
 ghost use Rattle.std.specs.Prelude.{◌≡◌, ◌<◌, length};
 
-use crate::env::{is_key, is_value};
-use crate::{Env, Items, Name, Text, TextFault};
+mod expansion;
+mod fnmatch_table;
+mod lexer;
+mod pattern;
+
+use std::alloc::Global;
 use std::process::Abort;
 use std::test::Fail;
+use up_text::env::{is_key, is_value};
+use up_text::{Env, Items, Name, Text, TextFault};
 
 #[test]
 fn names(rt: HostRuntime) -> Result<(), Fail> {
@@ -31,29 +38,49 @@ fn check_pairs(rt: &impl Abort, env: &Env, pairs: &[(&str, &str)]) {
     }
 }
 
-#[test]
-fn environments(rt: HostRuntime) -> Result<(), Fail> {
-    let mut env = Env::new(rt.alloc());
+const BOTH: [(&'static str, &'static str); 2] = [("A", "3"), ("B", "2")];
+
+fn check_set(rt: &impl Abort, env: &mut Env) -> Result<(), TextFault> {
     assert!(rt; env.is_empty());
     env.set("A", "0")?;
     env.set("B", "2")?;
     env.set("A", "3")?;
-    let both = [("A", "3"), ("B", "2")];
-    check_pairs(&rt, &env, &both);
+    check_pairs(rt, env, &BOTH);
     assert!(rt; !env.is_empty());
     assert_eq!(rt; env.get("A"), Some("3"));
     assert_eq!(rt; env.get("C"), None);
+    Ok(())
+}
+
+fn check_bad_pairs(rt: &impl Abort, env: &mut Env) {
     let refused = [("", "x"), ("1a", "x"), ("a-b", "x"), ("A", "x\0y")];
     for (key, value) in refused {
         assert_eq!(rt; env.set(key, value), Err(TextFault::BadName));
     }
-    check_pairs(&rt, &env, &both);
+    check_pairs(rt, env, &BOTH);
+}
+
+fn check_copy(rt: &impl Abort, env: &Env) -> Result<(), TextFault> {
     let copied = env.copy()?;
-    check_pairs(&rt, &copied, &both);
-    let mut other = Env::new(rt.alloc());
+    check_pairs(rt, &copied, &BOTH);
+    Ok(())
+}
+
+fn check_append(rt: &impl Abort, alloc: Global, env: &Env) -> Result<(), TextFault> {
+    let mut other = Env::new(alloc);
     other.set("A", "1")?;
-    other.append(&env)?;
-    check_pairs(&rt, &other, &both);
+    other.append(env)?;
+    check_pairs(rt, &other, &BOTH);
+    Ok(())
+}
+
+#[test]
+fn environments(rt: HostRuntime) -> Result<(), Fail> {
+    let mut env = Env::new(rt.alloc());
+    check_set(&rt, &mut env)?;
+    check_bad_pairs(&rt, &mut env);
+    check_copy(&rt, &env)?;
+    check_append(&rt, rt.alloc(), &env)?;
     Ok(())
 }
 

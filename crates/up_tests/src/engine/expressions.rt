@@ -1,5 +1,5 @@
 //! The worked rows on expressions, step by step.
-use crate::tests::{Given, STARTING, check_rows};
+use crate::engine::{Given, STARTING, check_rows};
 use std::test::Fail;
 
 const NAMED_FILE: &'static str = "start on A and B\nexec /bin/d\n";

@@ -1,5 +1,6 @@
 //! What a file may have at most.
-use super::*;
+use crate::conf::{count, has_fault, repeated};
+use std::test::Fail;
 
 #[test]
 fn files_are_not_too_long(rt: HostRuntime) -> Result<(), Fail> {

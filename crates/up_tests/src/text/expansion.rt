@@ -1,6 +1,8 @@
-use super::*;
+//! What texts expand to.
+use std::alloc::Global;
 use std::process::Abort;
 use std::test::Fail;
+use up_text::{Env, Expanded, TextFault, expand, is_expandable};
 
 // What a well formed text gives.
 #[derive(Clone, Copy, Debug)]

@@ -1,7 +1,9 @@
+//! Tokens, the texts of commands and scripts.
 ghost use Rattle.std.specs.Prelude.{◌<◌, length};
 
-use super::*;
+use std::alloc::Global;
 use std::process::Abort;
+use up_text::{Lexer, Text, TextFault, Token};
 
 #[derive(Clone, Copy, Debug)]
 enum Step {

@@ -4,11 +4,11 @@ mod folders;
 mod jobs;
 mod limits;
 
-use super::*;
 use std::alloc::{AllocError, Global};
 use std::test::Fail;
+use up_conf::{Action, Process, Stanza, read_conf};
 use up_expr::{Condition, Expr};
-use up_text::{Items, Text};
+use up_text::Text;
 
 // Whether an expression is an event without values.
 fn is_event(condition: &Option<Condition>, name: &str) -> bool {

@@ -1,13 +1,13 @@
 #!/usr/bin/env python3
-"""Writes src/pattern/fnmatch_table.rt: what fnmatch(3) of this machine's C library says of generated patterns.
+"""Writes src/text/fnmatch_table.rt: what fnmatch(3) of this machine's C library says of generated patterns.
 
 Run in the crate's folder:
 
-    python3 oracle/fnmatch.py > src/pattern/fnmatch_table.rt
+    python3 oracle/fnmatch.py > src/text/fnmatch_table.rt
 
 Patterns and texts are drawn with a fixed seed from the bytes below, some of a pattern's between `[` and `]`. For a pattern
 that matches a text there is a row with it and one with a text that doesn't match and differs in one byte, where there is such
-a text. Left out are the patterns that glibc 2.36 reads by other rules than this crate:
+a text. Left out are the patterns that glibc 2.36 reads by other rules than `up_text`:
 
 - with `[^`, which it reads as `[!`;
 - with a `[` and a `-` at the end: there it lets a `[` whose set isn't closed match nothing.

@@ -1,5 +1,7 @@
 //! Which fault a file has, and at which line.
-use super::*;
+use crate::conf::{count, has_fault, repeated};
+use std::alloc::Global;
+use std::test::Fail;
 
 // The first of these files that hasn't a fault of this number at this line.
 fn first_other(alloc: Global, cases: &[(&[u8], u32, u8)]) -> Option<usize> {

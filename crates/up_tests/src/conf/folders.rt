@@ -1,5 +1,9 @@
 //! What a folder says.
-use super::*;
+use crate::conf::{is_event, runs};
+use std::alloc::{AllocError, Global};
+use std::test::Fail;
+use up_conf::{Folder, JobDef, Report, read_folder};
+use up_text::{Items, Text};
 
 // The folder of these files.
 fn folder_of(alloc: Global, files: &[(&str, &[u8])]) -> Result<Folder, AllocError> {

@@ -1,7 +1,8 @@
-use super::fnmatch_table::ROWS;
-use super::*;
+//! Patterns.
+use crate::text::fnmatch_table::ROWS;
 use std::process::Abort;
 use std::test::Fail;
+use up_text::{glob, supported};
 
 // A pattern, texts that it matches, and texts that it doesn't.
 struct Case {

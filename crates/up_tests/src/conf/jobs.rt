@@ -1,5 +1,9 @@
 //! What stanzas make of a job.
-use super::*;
+use crate::conf::{are_texts, is_event, runs};
+use std::alloc::{AllocError, Global};
+use std::process::Abort;
+use std::test::Fail;
+use up_conf::{ConfFault, Exit, JobDef, Setting, apply_override, job_of, read_conf};
 use up_text::Name;
 
 // The job `a` of a file and its override.
@@ -60,9 +64,7 @@ fn has_processes(job: &JobDef, main: &[&str], pre_start: &[&str]) -> bool {
         && job.post_stop.is_none()
 }
 
-#[test]
-fn the_last_of_each_kind_counts(rt: HostRuntime) -> Result<(), Fail> {
-    let alloc = rt.alloc();
+fn check_settings(rt: &impl Abort, alloc: Global) -> Result<(), ConfFault> {
     let job = job_alone(
         alloc,
         b"task\nrespawn\ninstance a\ninstance $X\nchdir /a\nchdir /b\nconsole none\nconsole output\nkill timeout 7\nkill timeout 0\nkill signal INT\nkill signal 9\nrespawn limit 3 4\nrespawn limit unlimited\n",
@@ -70,6 +72,10 @@ fn the_last_of_each_kind_counts(rt: HostRuntime) -> Result<(), Fail> {
     assert!(rt; has_marks(&job, true, true, false));
     assert!(rt; has_texts(&job, "$X", "/b"));
     assert!(rt; has_numbers(&job, 9, 0, 0, 0));
+    Ok(())
+}
+
+fn check_processes_and_events(rt: &impl Abort, alloc: Global) -> Result<(), ConfFault> {
     let job = job_alone(
         alloc,
         b"script\nb\nend script\nexec /bin/a\npre-start exec p\npre-start exec q\nrespawn limit 3 4\nconsole none\nstart on a\nstart on b\nstop on c\nstop on d\n",
@@ -79,11 +85,23 @@ fn the_last_of_each_kind_counts(rt: HostRuntime) -> Result<(), Fail> {
     assert!(rt; is_event(&job.start_on, "b"));
     assert!(rt; is_event(&job.stop_on, "d"));
     assert!(rt; has_numbers(&job, 15, 5, 3, 4));
+    Ok(())
+}
+
+fn check_empty_file(rt: &impl Abort, alloc: Global) -> Result<(), ConfFault> {
     let job = job_alone(alloc, b"")?;
     assert!(rt; has_marks(&job, false, false, false));
     assert!(rt; has_texts(&job, "", ""));
     assert!(rt; has_numbers(&job, 15, 5, 10, 5));
     assert!(rt; job.main.is_none());
+    Ok(())
+}
+
+#[test]
+fn the_last_of_each_kind_counts(rt: HostRuntime) -> Result<(), Fail> {
+    check_settings(&rt, rt.alloc())?;
+    check_processes_and_events(&rt, rt.alloc())?;
+    check_empty_file(&rt, rt.alloc())?;
     Ok(())
 }
 
@@ -99,9 +117,7 @@ fn are_expected_exits(exits: &[Exit]) -> bool {
     }
 }
 
-#[test]
-fn others_add_up(rt: HostRuntime) -> Result<(), Fail> {
-    let alloc = rt.alloc();
+fn check_sums(rt: &impl Abort, alloc: Global) -> Result<(), ConfFault> {
     let job = job_alone(
         alloc,
         b"env A=1\nenv B\nenv A\nenv C=\nexport A B\nexport B C A\nnormal exit 0 TERM\nnormal exit 15 SIGTERM 0\n",
@@ -114,11 +130,27 @@ fn others_add_up(rt: HostRuntime) -> Result<(), Fail> {
     );
     assert!(rt; are_texts(job.export.as_slice(), &["A", "B", "C"]));
     assert!(rt; are_expected_exits(job.normal.as_slice()));
+    Ok(())
+}
+
+fn check_manual(rt: &impl Abort, alloc: Global) -> Result<(), ConfFault> {
     let job = job_alone(alloc, b"start on a\nmanual\nstop on b\n")?;
     assert!(rt; job.start_on.is_none());
     assert!(rt; is_event(&job.stop_on, "b"));
+    Ok(())
+}
+
+fn check_start_behind_manual(rt: &impl Abort, alloc: Global) -> Result<(), ConfFault> {
     let job = job_alone(alloc, b"start on a\nmanual\nstart on b\n")?;
     assert!(rt; is_event(&job.start_on, "b"));
+    Ok(())
+}
+
+#[test]
+fn others_add_up(rt: HostRuntime) -> Result<(), Fail> {
+    check_sums(&rt, rt.alloc())?;
+    check_manual(&rt, rt.alloc())?;
+    check_start_behind_manual(&rt, rt.alloc())?;
     Ok(())
 }
 
