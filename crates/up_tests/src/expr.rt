@@ -115,6 +115,17 @@ fn leaves_have_values(rt: HostRuntime) -> Result<(), Fail> {
     check_trees(&rt, rt.alloc(), &cases)
 }
 
+#[test]
+fn conditions_are_copied(rt: HostRuntime) -> Result<(), Fail> {
+    let alloc = rt.alloc();
+    let condition = parse(&rt, alloc, "a x K=v and (b or c J!=w)")??;
+    let copied = condition.copy(alloc)?;
+    let mut written = String::new(alloc);
+    write_tree(&mut written, copied.expr())?;
+    assert_eq!(rt; written.as_str(), "(a 'x' K='v' and (b or c J!='w'))");
+    Ok(())
+}
+
 fn check_refused(rt: &impl Abort, alloc: Global, texts: &[&str], number: u8) -> Result<(), Fail> {
     for text in texts {
         match parse(rt, alloc, text)? {
