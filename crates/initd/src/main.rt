@@ -57,13 +57,20 @@ fn print(rt: &(impl Print + AllocGlobal), made: Result<Printed, AllocError>) -> 
     }
 }
 
+// Does what is asked for, and gives the status.
+fn answer(rt: &HostRuntime, asked: Asked) -> io::Result<u8> {
+    match asked {
+        Asked::Bundle => replay_input(rt),
+        Asked::Check { dir } => print(rt, check_dir(rt, dir)),
+        Asked::Replay { dir, script } => print(rt, replay_dir(rt, dir, script)),
+    }
+}
+
 // Does what the command line asks for, and gives the status.
 fn run(rt: &HostRuntime) -> io::Result<u8> {
     let words = words_of(rt)?;
     match read_words(rt.alloc(), words.as_slice()) {
-        Ok(Asked::Bundle) => replay_input(rt),
-        Ok(Asked::Check { dir }) => print(rt, check_dir(rt, dir)),
-        Ok(Asked::Replay { dir, script }) => print(rt, replay_dir(rt, dir, script)),
+        Ok(asked) => answer(rt, asked),
         Err(error) => Ok(print_refusal(rt, &error)),
     }
 }

@@ -1,5 +1,5 @@
 //! Replays a bundle.
-ghost use Rattle.std.specs.Prelude.{◌≡◌, ◌≤◌, ◌<◌, ◌+◌, [], ◌++◌, IfOk, IfSome, OnOk, length, take, codes};
+ghost use Rattle.std.specs.Prelude.{◌≡◌, ◌⊎◌, ◌≤◌, ◌<◌, ◌+◌, [], ◌++◌, IfOk, IfSome, OnOk, length, take, codes};
 ghost use Rattle.std.specs.List.{flat_map};
 ghost use Rattle.std.specs.Io.KnownBytes.{Appends};
 ghost use Rattle.up_model.specs.Answers.{answers};
@@ -151,7 +151,8 @@ fn read_all<R: Read>(alloc: Global, reader: &mut R) -> io::Result<Vec<u8>>
 
 /// Writes what is printed, and gives the status: 3 where it can't be written.
 pub(crate) fn write_printed<W: Write>(writer: &mut W, made: &Printed) -> u8
-    ensures { result < 3 → (result ≡ made.now.status) × Appends (W.contents writer.old) (W.contents writer.new) made.now.text }
+    ensures written { result < 3 → (result ≡ made.now.status) × Appends (W.contents writer.old) (W.contents writer.new) made.now.text }
+    ensures status { (result ≡ made.now.status) ⊎ (result ≡ 3) }
 {
     match writer.write_all(made.text.as_slice()) {
         Ok(()) => made.status,

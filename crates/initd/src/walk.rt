@@ -1,5 +1,5 @@
 //! Reads job files, and a folder of them with its subfolders, from the disk.
-ghost use Rattle.std.specs.Prelude.{◌≡◌, ◌≤◌, true, IfOk, IfErr, IfSome, OnOk, length, string_bytes};
+ghost use Rattle.std.specs.Prelude.{◌≡◌, ◌≤◌, ◌<◌, ◌+◌, if◌then◌else◌, true, is_some, IfOk, IfErr, IfSome, OnOk, length, string_bytes};
 ghost use Rattle.initd.specs.Walk.{joined, is_source, MayAdd, Keeps, IsWalked, Names, NamesSource, MayRefuse};
 
 use std::alloc::{AllocError, Global};
@@ -114,6 +114,7 @@ fn read_source<R: Files + AllocGlobal>(
     is_file: bool,
 ) -> Result<Option<Vec<u8>>, WalkError>
     ensures read { IfOk result (λ read. IfSome read (λ bytes. (is_source path.now ≡ true) × (length bytes.items ≤ 1048577))) }
+    ensures all { IfOk result (λ read. is_some read ≡ is_source path.now) }
     ensures refused { IfErr result (NamesSource whole.now path.now) }
 {
     if !is_source(path) {
@@ -139,6 +140,7 @@ impl Found {
     ) -> Result<(), WalkError>
         ensures refused { IfErr result (NamesSource whole.now (string_bytes path)) }
         ensures added { OnOk result (MayAdd self.old.folder self.new.folder) }
+        ensures taken { OnOk result (length self.new.folder ≡ length self.old.folder + (if is_source (string_bytes path) then 1 else 0)) }
         ensures entries { self.new.entries ≡ self.old.entries }
     {
         if let Some(bytes) = read_source(rt, whole, path.as_str(), is_file)? {
@@ -156,6 +158,8 @@ impl Found {
         depth: u32,
     ) -> Result<(), WalkError>
         ensures refused { IfErr result (Names dir.now) }
+        ensures shallow { OnOk result (depth < 64) }
+        ensures later { OnOk result (length self.new.levels.items ≡ length self.old.levels.items + 1) }
         ensures folder { self.new.folder ≡ self.old.folder }
         ensures entries { self.new.entries ≡ self.old.entries }
     {
@@ -205,6 +209,7 @@ impl Found {
         requires { Keeps self.old.folder self.old.entries }
         ensures refused { IfErr result (MayRefuse dir.now) }
         ensures kept { OnOk result (Keeps self.new.folder self.new.entries) }
+        ensures counted { OnOk result (self.new.entries ≡ self.old.entries + 1) }
     {
         if self.entries >= MAX_ENTRIES {
             return Err(unusable(rt.alloc(), dir));

@@ -1,4 +1,6 @@
 //! Checks and replays of folders on the disk.
+use crate::answer;
+use crate::command::Asked;
 use crate::disk::{check_dir, replay_dir};
 use crate::printed::Printed;
 use crate::tests::walk::{below, make_file, scratch};
@@ -67,6 +69,21 @@ fn a_folder_is_replayed(rt: HostRuntime) -> Result<(), Fail> {
     let made = replay_dir(&rt, dir, script)?;
     let printed = format!(in rt.alloc(); "a.override:2: 1 UnknownStanza\n{script}:2: bad step\n")?;
     assert!(rt; is_printed(&made, printed.as_str(), 2));
+    fs::remove_dir_all(&rt, dir)?;
+    Ok(())
+}
+
+// What is printed goes to the standard output of the tests.
+#[test]
+fn what_is_asked_for_is_done(rt: HostRuntime) -> Result<(), Fail> {
+    let dir = scratch(&rt, "asked")?;
+    let dir = dir.as_str();
+    let script = below(&rt, dir, "up.script")?;
+    let script = script.as_str();
+    make_file(&rt, dir, "a.conf", b"exec x\n")?;
+    make_file(&rt, dir, "up.script", b"turn 0\n")?;
+    assert_eq!(rt; answer(&rt, Asked::Check { dir })?, 0);
+    assert_eq!(rt; answer(&rt, Asked::Replay { dir, script })?, 2);
     fs::remove_dir_all(&rt, dir)?;
     Ok(())
 }

@@ -27,6 +27,12 @@ const JOB_BLOCKS_ITSELF: Case = Case {
     status: 0,
 };
 
+const START_WHILE_STARTING: Case = Case {
+    bundle: b"%file a.conf\nstart on go\nstop on halt\nexec /bin/d\n%file b.conf\nstart on starting a and free\n%script\nemit go X=1\nturn 2\nemit halt\nturn\nemit go X=2\nturn 2\nemit free\nturn 5\n",
+    printed: "event starting JOB=\"a\" INSTANCE=\"\"\nevent starting JOB=\"b\" INSTANCE=\"\"\nevent started JOB=\"b\" INSTANCE=\"\"\nspawn a main \"/bin/d\"\n  X=\"1\"\n  UPSTART_EVENTS=\"go\"\n  UPSTART_JOB=\"a\"\n  UPSTART_INSTANCE=\"\"\n",
+    status: 0,
+};
+
 const SELF_RESTARTING_JOB: Case = Case {
     bundle: b"%file a.conf\nstart on stopped a or startup\nstop on started a\n%script\nemit startup\nturn 50\n",
     printed: "event starting JOB=\"a\" INSTANCE=\"\"\nevent started JOB=\"a\" INSTANCE=\"\"\nevent stopping JOB=\"a\" INSTANCE=\"\" RESULT=\"ok\"\nevent stopped JOB=\"a\" INSTANCE=\"\" RESULT=\"ok\"\nevent starting JOB=\"a\" INSTANCE=\"\"\nevent started JOB=\"a\" INSTANCE=\"\"\nevent stopping JOB=\"a\" INSTANCE=\"\" RESULT=\"ok\"\nevent stopped JOB=\"a\" INSTANCE=\"\" RESULT=\"ok\"\nevent starting JOB=\"a\" INSTANCE=\"\"\nevent started JOB=\"a\" INSTANCE=\"\"\nevent stopping JOB=\"a\" INSTANCE=\"\" RESULT=\"ok\"\nevent stopped JOB=\"a\" INSTANCE=\"\" RESULT=\"ok\"\nevent starting JOB=\"a\" INSTANCE=\"\"\nevent started JOB=\"a\" INSTANCE=\"\"\nevent stopping JOB=\"a\" INSTANCE=\"\" RESULT=\"ok\"\nevent stopped JOB=\"a\" INSTANCE=\"\" RESULT=\"ok\"\nevent starting JOB=\"a\" INSTANCE=\"\"\nevent started JOB=\"a\" INSTANCE=\"\"\nevent stopping JOB=\"a\" INSTANCE=\"\" RESULT=\"ok\"\nevent stopped JOB=\"a\" INSTANCE=\"\" RESULT=\"ok\"\nevent starting JOB=\"a\" INSTANCE=\"\"\nevent started JOB=\"a\" INSTANCE=\"\"\nevent stopping JOB=\"a\" INSTANCE=\"\" RESULT=\"ok\"\nevent stopped JOB=\"a\" INSTANCE=\"\" RESULT=\"ok\"\nevent starting JOB=\"a\" INSTANCE=\"\"\n",
@@ -63,6 +69,11 @@ fn or_after_half_an_and(rt: HostRuntime) -> Result<(), Fail> {
 #[test]
 fn job_blocks_itself(rt: HostRuntime) -> Result<(), Fail> {
     check(&rt, &JOB_BLOCKS_ITSELF)
+}
+
+#[test]
+fn start_while_starting(rt: HostRuntime) -> Result<(), Fail> {
+    check(&rt, &START_WHILE_STARTING)
 }
 
 #[test]

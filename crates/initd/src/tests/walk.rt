@@ -51,12 +51,14 @@ fn files_are_read_by_their_paths(rt: HostRuntime) -> Result<(), Fail> {
     make_file(&rt, dir, "a.override", b"manual\n")?;
     make_file(&rt, dir, "net/apache.conf", b"\xff")?;
     make_file(&rt, dir, "net/x.conf/y.conf", b"")?;
+    make_file(&rt, dir, ".a.conf", b"task\n")?;
     make_file(&rt, dir, "README", b"read me\n")?;
     make_file(&rt, dir, "a.conf.old", b"exec y\n")?;
     let Ok(folder) = walk(&rt, dir) else {
         return Err(Fail::from("the folder is not read"));
     };
-    assert_eq!(rt; folder.as_slice().len(), 4);
+    assert_eq!(rt; folder.as_slice().len(), 5);
+    assert!(rt; has(&folder, ".a.conf", b"task\n"));
     assert!(rt; has(&folder, "a.conf", b"exec x\n"));
     assert!(rt; has(&folder, "a.override", b"manual\n"));
     assert!(rt; has(&folder, "net/apache.conf", b"\xff"));
