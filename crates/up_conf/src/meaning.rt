@@ -135,7 +135,7 @@ fn with_instance(job: JobDef, name: &Text) -> Result<JobDef, AllocError>
     Ok(job)
 }
 
-// The job after a folder is named.
+// The job after `chdir` names a folder.
 fn with_dir(job: JobDef, dir: &Text) -> Result<JobDef, AllocError>
     ensures { IfOk result (λ new. new ≡ others_after job (Chdir dir.now ∷ [])) }
 {
