@@ -1,4 +1,5 @@
 -- What the stanza at a place says is what the grammar writes there.
+-- A kind more owes a line to `kind_of-word` and to `listed_stands`, and a stanza more one to `stanza_at-Stands`.
 use Rattle.std.proofs.Common.{◌≡◌, inl, inr, ℕ, ◌+◌, Bool, true, false, List, [], ◌∷◌, length, map, Option, None, Some, cond, refl, sym, ◌∙◌, ap, subst, option_map, option_and_then, codes}
 use Rattle.std.proofs.lemmas.Slice.Eq.{bytes_eq-Decides}
 use Rattle.std.specs.List.{find, concat}

@@ -38,7 +38,7 @@ word_of PostStop = codes "post-stop"
 word_of Start = codes "start"
 word_of Stop = codes "stop"
 
--- all kinds
+-- all kinds: a word whose kind is not among them begins no stanza
 abbrev pub kinds : List Kind
 kinds =
     Listed listed.Description ∷ Listed listed.Author ∷ Listed listed.Version ∷ Listed listed.Usage ∷ Listed listed.Emits ∷ Listed listed.Env ∷ Listed listed.Export

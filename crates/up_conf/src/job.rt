@@ -20,7 +20,7 @@ pub struct JobDef {
     pub silent: bool,
     /// The name of an instance, before it is expanded. Empty where the job has one instance alone.
     pub instance: Text,
-    /// The folder in which its processes run, as it is written; where that is empty, `/`.
+    /// The folder in which its processes run (`chdir`), as it is written; where that is empty, `/`.
     pub dir: Text,
     /// How often it is respawned.
     pub limit: Limit,

@@ -2,7 +2,7 @@
 ghost use Rattle.std.specs.Prelude.{◌≡◌};
 ghost use Rattle.up_conf.specs.Kinds.{kind_of};
 
-/// A kind of stanza whose arguments are the tokens up to its end.
+/// A first token behind which the arguments are the tokens up to the stanza's end. Several stanzas may begin with it, as with `kill`.
 #[derive(Clone, Copy, Debug)]
 pub(crate) enum Listed {
     Description,

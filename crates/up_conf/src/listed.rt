@@ -356,7 +356,7 @@ fn read_output(texts: &[Text]) -> Result<Stanza, FaultCode>
     }
 }
 
-// A folder.
+// The folder of `chdir`.
 fn read_folder_name(texts: &[Text]) -> Result<Result<Stanza, FaultCode>, AllocError>
     ensures { IfOk result (λ read. result_ok read ≡ option_map Chdir (single texts.now)) }
 {

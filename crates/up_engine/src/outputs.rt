@@ -81,7 +81,7 @@ fn words_of(alloc: Global, action: &Action) -> Result<Items<Text>, AllocError>
     }
 }
 
-// The folder in which a job's processes run.
+// The folder in which a job's processes run (`chdir`).
 fn folder_of(alloc: Global, dir: &Text) -> Result<Text, AllocError>
     ensures { IfOk result (λ folder. folder ≡ model.folder_of dir.now) }
 {
