@@ -12,7 +12,7 @@ use Rattle.up_model.specs.declared.who.Who.{Who}
 use Rattle.up_conf.specs.Numbers.{number_in}
 use Rattle.initd.specs.Requests.{request_of}
 use Rattle.initd.specs.Variables.{vars_of, name_of}
-use Rattle.up_conf.specs.Signals.{signal_of}
+use Rattle.up_conf.specs.Signals.{signal_in}
 
 -- an instance by the name of its job and its own, which may be empty
 abbrev pub who_of : List ℕ → List ℕ → Option Who
@@ -32,7 +32,7 @@ process_of name =
 abbrev pub how_of : List ℕ → List ℕ → Option How
 how_of kind text =
     if bytes_eq kind (codes "exit") then option_map how.Exit (number_in 0 255 text)
-    else (if bytes_eq kind (codes "signal") then option_map how.Signal (signal_of text)
+    else (if bytes_eq kind (codes "signal") then option_map how.Signal (signal_in text)
     else None)
 
 -- NAME [KEY=VALUE]..

@@ -19,7 +19,7 @@ use Rattle.up_conf.specs.declared.stanza.Stanza.TheVariants.{Runs, StartOn, Stop
 use Rattle.up_conf.specs.Actions.{action_of}
 use Rattle.up_conf.specs.Arguments.{listed_of}
 use Rattle.up_conf.specs.Kinds.{kind_of}
-use Rattle.up_conf.specs.Stanzas.{Found, made, found_by, unswitched, tree_of, expression_by, texts_at, ended, command_by, command_at, script_of, script_by, script_at, action_by, action_at, said_as, said_by, stanza_by, stanza_at}
+use Rattle.up_conf.specs.Stanzas.{Found, made, found_by, unswitched, tree_in, expression_by, texts_at, ended, command_by, command_at, script_of, script_by, script_at, action_by, action_at, said_as, said_by, stanza_by, stanza_at}
 
 -- how much of the text is left behind a part, where it is read
 abbrev left : {X : Type 0} → Found X → ℕ
@@ -104,12 +104,12 @@ action_left place = by_reading (reading place) refl
 expression_left : (place : Place) → left (expression_by (reading place)) ≤ length place.rest
 expression_left place = by_reading (reading place) refl
   where
-    by_on : (behind : Place) (on : Bool) → length behind.rest ≤ length place.rest → left (cond on (unswitched (found_by tree_of (row_of (switched true behind)))) None) ≤ length place.rest
+    by_on : (behind : Place) (on : Bool) → length behind.rest ≤ length place.rest → left (cond on (unswitched (found_by tree_in (row_of (switched true behind)))) None) ≤ length place.rest
     by_on behind false less = omega arith
     by_on behind true less =
         let row = row_left (switched true behind) in
-        let tree = found_left tree_of (row_of (switched true behind)) in
-        let whole = switched_left (found_by tree_of (row_of (switched true behind))) in
+        let tree = found_left tree_in (row_of (switched true behind)) in
+        let whole = switched_left (found_by tree_in (row_of (switched true behind))) in
         omega (arith, row, tree, whole, less)
 
     by_reading : (r : Reading) → reading place ≡ r → left (expression_by r) ≤ length place.rest

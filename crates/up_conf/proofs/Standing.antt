@@ -29,10 +29,10 @@ use Rattle.up_conf.specs.Grammar.{Says, IsListed, IsOn, IsExec, IsScript, IsActi
 use Rattle.up_conf.specs.Kinds.{listed_word, word_of, kinds, kind_of}
 use Rattle.up_conf.specs.Numbers.{number_in}
 use Rattle.up_conf.specs.Settings.{key_of, setting_of, exit_of, instance_of, console_of}
-use Rattle.up_conf.specs.Signals.{signal_of}
-use Rattle.up_conf.specs.Stanzas.{Found, made, found_by, unswitched, tree_of, expression_by, texts_at, ended, command_by, command_at, script_of, script_by, script_at, action_by, action_at, said_as, said_by, stanza_by, stanza_at}
+use Rattle.up_conf.specs.Signals.{signal_in}
+use Rattle.up_conf.specs.Stanzas.{Found, made, found_by, unswitched, tree_in, expression_by, texts_at, ended, command_by, command_at, script_of, script_by, script_at, action_by, action_at, said_as, said_by, stanza_by, stanza_at}
 use Rattle.up_conf.proofs.Backward.{mapped, chosen, single-is, none-is, filled-is, filled-from, behind-is, each-is, each-from, keys-is, keys-from}
-use Rattle.up_conf.proofs.Parsing.{tree_of-Writes, Writes-tree_of}
+use Rattle.up_conf.proofs.Parsing.{tree_in-Writes, Writes-tree_in}
 
 -- the words of kinds
 
@@ -124,11 +124,11 @@ IsOn-by : (word : List ℕ) (place next : Place) (tree : Tree) (behind : Place) 
 IsOn-by word place next tree behind first is = by_reading (reading next) refl is
   where
     by_on : (token : Token) (later : Place) (on : Bool) → reading next ≡ Got token later → bytes_eq token.text (codes "on") ≡ on
-        → cond on (unswitched (found_by tree_of (row_of (switched true later)))) None ≡ Some (tree, behind) → IsOn word tree place behind
+        → cond on (unswitched (found_by tree_in (row_of (switched true later)))) None ≡ Some (tree, behind) → IsOn word tree place behind
     by_on token later false got on is = cc
     by_on token later true got on is =
-        let turned = switched_of (found_by tree_of (row_of (switched true later))) tree behind is in
-        let parsed = found_of tree_of (row_of (switched true later)) tree turned.end turned.is in
+        let turned = switched_of (found_by tree_in (row_of (switched true later))) tree behind is in
+        let parsed = found_of tree_in (row_of (switched true later)) tree turned.end turned.is in
         record {
           next = next;
           first = first;
@@ -137,7 +137,7 @@ IsOn-by word place next tree behind first is = by_reading (reading next) refl is
           tokens = parsed.x;
           end = turned.end;
           row = Row-row_of (switched true later) parsed.x turned.end parsed.is;
-          writes = Writes-tree_of parsed.x tree parsed.gives;
+          writes = Writes-tree_in parsed.x tree parsed.gives;
           is_behind = turned.back;
         }
 
@@ -149,7 +149,7 @@ IsOn-by word place next tree behind first is = by_reading (reading next) refl is
 expression_by-On : (word : List ℕ) (place : Place) (tree : Tree) (behind : Place) (is : IsOn word tree place behind) → expression_by (reading is.next) ≡ Some (tree, behind)
 expression_by-On word place tree behind is =
     let on : bytes_eq is.second.token.text (codes "on") ≡ true = (bytes_eq-Decides is.second.token.text (codes "on")).1 is.second.same in
-    rw (is.second.read, on, row_of-Row (switched true is.later) is.tokens is.end is.row, tree_of-Writes is.tokens tree is.writes, is.is_behind) refl
+    rw (is.second.read, on, row_of-Row (switched true is.later) is.tokens is.end is.row, tree_in-Writes is.tokens tree is.writes, is.is_behind) refl
 
 -- commands and scripts
 
@@ -245,14 +245,14 @@ kill_stands place end (text ∷ texts) stanza is l = by_word (bytes_eq text (cod
     arguments word second e same = subst (λ ts. IsListed (codes "kill") ts place end) (ap (λ t. t ∷ texts) ((bytes_eq-Decides text word).0 e) ∙ ap (λ ts. word ∷ ts) same) l
 
     by_word : (timeout signal : Bool) → bytes_eq text (codes "timeout") ≡ timeout → bytes_eq text (codes "signal") ≡ signal
-        → cond timeout (option_map KillTimeout (option_and_then (number_in 0 2147483647) (single texts))) (cond signal (option_map KillSignal (option_and_then signal_of (single texts))) None) ≡ Some stanza → Stands place stanza end
+        → cond timeout (option_map KillTimeout (option_and_then (number_in 0 2147483647) (single texts))) (cond signal (option_map KillSignal (option_and_then signal_in (single texts))) None) ≡ Some stanza → Stands place stanza end
     by_word true signal e f is =
         let m = mapped KillTimeout (option_and_then (number_in 0 2147483647) (single texts)) stanza is in
         let c = chosen (number_in 0 2147483647) (single texts) m.x m.is in
         subst (λ s. Stands place s end) m.gives (c.x, c.gives, arguments (codes "timeout") c.x e (single-is texts c.x c.is))
     by_word false true e f is =
-        let m = mapped KillSignal (option_and_then signal_of (single texts)) stanza is in
-        let c = chosen signal_of (single texts) m.x m.is in
+        let m = mapped KillSignal (option_and_then signal_in (single texts)) stanza is in
+        let c = chosen signal_in (single texts) m.x m.is in
         subst (λ s. Stands place s end) m.gives (c.x, c.gives, arguments (codes "signal") c.x f (single-is texts c.x c.is))
     by_word false false e f is = absurd (cc)
 
@@ -292,9 +292,9 @@ listed_stands place end listed.Normal texts stanza is l =
     (e.x, f.1, each-is exit_of e.x m.x e.gives, subst (λ ts. IsListed (codes "normal") ts place end) (behind-is (codes "exit") texts c.x c.is ∙ ap (λ ts. codes "exit" ∷ ts) f.0) l)
 listed_stands place end listed.Kill texts stanza is l = kill_stands place end texts stanza is l
 listed_stands place end listed.Reload texts stanza is l =
-    let m = mapped ReloadSignal (option_and_then (λ others. option_and_then signal_of (single others)) (behind (codes "signal") texts)) stanza is in
-    let c = chosen (λ others. option_and_then signal_of (single others)) (behind (codes "signal") texts) m.x m.is in
-    let e = chosen signal_of (single c.x) m.x c.gives in
+    let m = mapped ReloadSignal (option_and_then (λ others. option_and_then signal_in (single others)) (behind (codes "signal") texts)) stanza is in
+    let c = chosen (λ others. option_and_then signal_in (single others)) (behind (codes "signal") texts) m.x m.is in
+    let e = chosen signal_in (single c.x) m.x c.gives in
     subst (λ s. Stands place s end) m.gives
     (e.x, e.gives, subst (λ ts. IsListed (codes "reload") ts place end) (behind-is (codes "signal") texts c.x c.is ∙ ap (λ ts. codes "signal" ∷ ts) (single-is c.x e.x e.is)) l)
 listed_stands place end listed.Instance texts stanza is l =

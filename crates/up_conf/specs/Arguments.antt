@@ -8,7 +8,7 @@ use Rattle.up_conf.specs.declared.stanza.Stanza.{Stanza}
 use Rattle.up_conf.specs.declared.stanza.Stanza.TheVariants.{About, Emits, Env, Export, Task, Manual, Respawn, RespawnLimit, NormalExit, KillTimeout, KillSignal, ReloadSignal, Instance, Console, Chdir}
 use Rattle.up_conf.specs.Numbers.{number_in}
 use Rattle.up_conf.specs.Settings.{key_of, setting_of, exit_of, instance_of, console_of}
-use Rattle.up_conf.specs.Signals.{signal_of}
+use Rattle.up_conf.specs.Signals.{signal_in}
 
 -- one argument and no more
 abbrev pub single : List (List ℕ) → Option (List ℕ)
@@ -73,12 +73,12 @@ abbrev pub kill_of : List (List ℕ) → Option Stanza
 kill_of [] = None
 kill_of (text ∷ texts) =
     if bytes_eq text (codes "timeout") then option_map KillTimeout (option_and_then (number_in 0 2147483647) (single texts))
-    else (if bytes_eq text (codes "signal") then option_map KillSignal (option_and_then signal_of (single texts))
+    else (if bytes_eq text (codes "signal") then option_map KillSignal (option_and_then signal_in (single texts))
     else None)
 
 -- `reload signal`
 abbrev pub reload_of : List (List ℕ) → Option Stanza
-reload_of texts = option_map ReloadSignal (option_and_then (λ others. option_and_then signal_of (single others)) (behind (codes "signal") texts))
+reload_of texts = option_map ReloadSignal (option_and_then (λ others. option_and_then signal_in (single others)) (behind (codes "signal") texts))
 
 -- `normal exit`
 abbrev pub normal_of : List (List ℕ) → Option Stanza

@@ -21,7 +21,7 @@ use Rattle.up_conf.specs.Arguments.{limit_of}
 use Rattle.up_conf.specs.Confs.{is_text, has_few_keys}
 use Rattle.up_conf.specs.Numbers.{number_in}
 use Rattle.up_conf.specs.Settings.{setting_of, exit_of, console_of}
-use Rattle.up_conf.specs.Signals.{signal_of}
+use Rattle.up_conf.specs.Signals.{signal_in}
 
 -- a token of this text stands at a place
 pub record Says (place : Place) (text : List ℕ) (behind : Place) : Type 0 where
@@ -100,8 +100,8 @@ Stands place Respawn behind = IsListed (codes "respawn") [] place behind
 Stands place (RespawnLimit limit) behind = (texts : List (List ℕ)) × (limit_of texts ≡ Some limit) × IsListed (codes "respawn") (codes "limit" ∷ texts) place behind
 Stands place (NormalExit exits) behind = (texts : List (List ℕ)) × (is_filled texts ≡ true) × (map exit_of texts ≡ map Some exits) × IsListed (codes "normal") (codes "exit" ∷ texts) place behind
 Stands place (KillTimeout seconds) behind = (text : List ℕ) × (number_in 0 2147483647 text ≡ Some seconds) × IsListed (codes "kill") (codes "timeout" ∷ text ∷ []) place behind
-Stands place (KillSignal signal) behind = (text : List ℕ) × (signal_of text ≡ Some signal) × IsListed (codes "kill") (codes "signal" ∷ text ∷ []) place behind
-Stands place (ReloadSignal signal) behind = (text : List ℕ) × (signal_of text ≡ Some signal) × IsListed (codes "reload") (codes "signal" ∷ text ∷ []) place behind
+Stands place (KillSignal signal) behind = (text : List ℕ) × (signal_in text ≡ Some signal) × IsListed (codes "kill") (codes "signal" ∷ text ∷ []) place behind
+Stands place (ReloadSignal signal) behind = (text : List ℕ) × (signal_in text ≡ Some signal) × IsListed (codes "reload") (codes "signal" ∷ text ∷ []) place behind
 Stands place (Instance text) behind = (is_expandable text ≡ true) × IsListed (codes "instance") (text ∷ []) place behind
 Stands place (Console kind) behind = (text : List ℕ) × (console_of text ≡ Some kind) × IsListed (codes "console") (text ∷ []) place behind
 Stands place (Chdir text) behind = IsListed (codes "chdir") (text ∷ []) place behind

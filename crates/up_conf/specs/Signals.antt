@@ -32,5 +32,5 @@ abbrev pub signal_named : List ℕ → Option ℕ
 signal_named text = number_of (without_sig text)
 
 -- the signal that a text says: a name, or a number
-abbrev pub signal_of : List ℕ → Option ℕ
-signal_of text = if are_digits text then number_in 1 31 text else signal_named text
+abbrev pub signal_in : List ℕ → Option ℕ
+signal_in text = if are_digits text then number_in 1 31 text else signal_named text

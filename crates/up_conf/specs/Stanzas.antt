@@ -41,13 +41,13 @@ unswitched None = None
 unswitched (Some found) = Some (found.0, switched false found.1)
 
 -- the expression that tokens write
-abbrev pub tree_of : List Token → Option Tree
-tree_of tokens = if nat_le (operators tokens) 2047 then outcome tokens begin else None
+abbrev pub tree_in : List Token → Option Tree
+tree_in tokens = if nat_le (operators tokens) 2047 then outcome tokens begin else None
 
 -- the expression behind the token `on`, where parentheses are tokens
 abbrev pub expression_by : Reading → Found Tree
 expression_by (Got token behind) =
-    if bytes_eq token.text (codes "on") then unswitched (found_by tree_of (row_of (switched true behind))) else None
+    if bytes_eq token.text (codes "on") then unswitched (found_by tree_in (row_of (switched true behind))) else None
 expression_by (Ended behind) = None
 expression_by (Fails fault) = None
 

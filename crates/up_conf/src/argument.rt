@@ -6,7 +6,7 @@ ghost use Rattle.up_expr.specs.Values.{is_equals, has_equals};
 ghost use Rattle.up_conf.specs.declared.exit.Exit.TheVariants as exit;
 ghost use Rattle.up_conf.specs.Settings.{key_of, keyed, setting_of, exit_of, instance_of, console_of};
 ghost use Rattle.up_conf.specs.Numbers.{number_in};
-ghost use Rattle.up_conf.specs.Signals.{signal_of};
+ghost use Rattle.up_conf.specs.Signals.{signal_in};
 
 use crate::exit::Exit;
 use crate::fault::FaultCode;
@@ -92,7 +92,7 @@ pub(crate) fn read_exit(text: &str) -> Result<Exit, FaultCode>
 
 /// The signal that a text says.
 pub(crate) fn as_signal(text: &str) -> Result<Signal, FaultCode>
-    ensures { result_ok result ≡ signal_of text.now }
+    ensures { result_ok result ≡ signal_in text.now }
 {
     match Signal::read(text) {
         Some(signal) => Ok(signal),

@@ -4,7 +4,7 @@ ghost use Rattle.std.specs.Result.{result_ok};
 ghost use Rattle.up_conf.specs.Arguments.{single, none, each, filled, some, behind, unlimited, limit_by, limit_of, respawn_of, kill_of, reload_of, normal_of, listed_of};
 ghost use Rattle.up_conf.specs.Numbers.{number_in};
 ghost use Rattle.up_conf.specs.Settings.{key_of, setting_of, exit_of, instance_of, console_of};
-ghost use Rattle.up_conf.specs.Signals.{signal_of};
+ghost use Rattle.up_conf.specs.Signals.{signal_in};
 ghost use Rattle.up_conf.specs.declared.stanza.Stanza.TheVariants.{About, Emits, Env, Export, Instance, Chdir, Console, RespawnLimit, KillTimeout, KillSignal};
 
 use crate::argument::{
@@ -218,7 +218,7 @@ fn read_timeout(texts: &[Text]) -> Result<Stanza, FaultCode>
 
 // One signal.
 fn read_one_signal(texts: &[Text]) -> Result<Signal, FaultCode>
-    ensures { result_ok result ≡ option_and_then signal_of (single texts.now) }
+    ensures { result_ok result ≡ option_and_then signal_in (single texts.now) }
 {
     match single(texts) {
         Ok(text) => as_signal(text.as_str()),
@@ -228,7 +228,7 @@ fn read_one_signal(texts: &[Text]) -> Result<Signal, FaultCode>
 
 // The signal that kills.
 fn read_kill_signal(texts: &[Text]) -> Result<Stanza, FaultCode>
-    ensures { result_ok result ≡ option_map KillSignal (option_and_then signal_of (single texts.now)) }
+    ensures { result_ok result ≡ option_map KillSignal (option_and_then signal_in (single texts.now)) }
 {
     match read_one_signal(texts) {
         Ok(signal) => Ok(Stanza::KillSignal(signal)),
@@ -317,7 +317,7 @@ fn read_export(alloc: Global, texts: &[Text]) -> Result<Result<Stanza, FaultCode
 }
 
 // The name of an instance.
-fn read_name(alloc: Global, texts: &[Text]) -> Result<Result<Stanza, FaultCode>, AllocError>
+fn read_instance_name(alloc: Global, texts: &[Text]) -> Result<Result<Stanza, FaultCode>, AllocError>
     ensures { IfOk result (λ read. result_ok read ≡ option_map Instance (option_and_then instance_of (single texts.now))) }
 {
     match single(texts) {
@@ -344,7 +344,7 @@ fn no_output(texts: &[Text], code: FaultCode) -> FaultCode {
 }
 
 // Where output goes.
-fn read_output(texts: &[Text]) -> Result<Stanza, FaultCode>
+fn read_console_name(texts: &[Text]) -> Result<Stanza, FaultCode>
     ensures { result_ok result ≡ option_map Console (option_and_then console_of (single texts.now)) }
 {
     match single(texts) {
@@ -357,7 +357,7 @@ fn read_output(texts: &[Text]) -> Result<Stanza, FaultCode>
 }
 
 // The folder of `chdir`.
-fn read_folder_name(texts: &[Text]) -> Result<Result<Stanza, FaultCode>, AllocError>
+fn read_chdir(texts: &[Text]) -> Result<Result<Stanza, FaultCode>, AllocError>
     ensures { IfOk result (λ read. result_ok read ≡ option_map Chdir (single texts.now)) }
 {
     match single(texts) {
@@ -401,8 +401,8 @@ pub(crate) fn read_listed(
         Listed::Normal => read_normal(alloc, texts.as_slice()),
         Listed::Kill => Ok(read_kill(texts.as_slice())),
         Listed::Reload => Ok(read_reload(texts.as_slice())),
-        Listed::Instance => read_name(alloc, texts.as_slice()),
-        Listed::Console => Ok(read_output(texts.as_slice())),
-        Listed::Chdir => read_folder_name(texts.as_slice()),
+        Listed::Instance => read_instance_name(alloc, texts.as_slice()),
+        Listed::Console => Ok(read_console_name(texts.as_slice())),
+        Listed::Chdir => read_chdir(texts.as_slice()),
     }
 }

@@ -3,7 +3,7 @@ ghost use Rattle.std.specs.Prelude.{◌≡◌, slice_get, map, position};
 ghost use Rattle.std.specs.Option.{option_copied};
 ghost use Rattle.std.specs.Str.{bytes_eq};
 ghost use Rattle.up_conf.specs.Numbers.{number_in};
-ghost use Rattle.up_conf.specs.Signals.{name_of, number_of, signal_named, signal_of, without_sig};
+ghost use Rattle.up_conf.specs.Signals.{name_of, number_of, signal_named, signal_in, without_sig};
 
 use crate::number::{are_digits, number_in};
 use std::marker::Model;
@@ -53,7 +53,7 @@ impl Signal {
 
     /// The signal that a text says: a name, with or without `SIG`, or a number from 1 to 31.
     pub fn read(text: &str) -> Option<Self>
-        ensures { result ≡ signal_of text.now }
+        ensures { result ≡ signal_in text.now }
     {
         if are_digits(text) {
             signal_numbered(text)

@@ -82,8 +82,8 @@ fn words_of(alloc: Global, action: &Action) -> Result<Items<Text>, AllocError>
 }
 
 // The folder in which a job's processes run (`chdir`).
-fn folder_of(alloc: Global, dir: &Text) -> Result<Text, AllocError>
-    ensures { IfOk result (λ folder. folder ≡ model.folder_of dir.now) }
+fn dir_of(alloc: Global, dir: &Text) -> Result<Text, AllocError>
+    ensures { IfOk result (λ folder. folder ≡ model.dir_of dir.now) }
 {
     if dir.as_str().is_empty() {
         return Text::from_str(alloc, "/");
@@ -104,7 +104,7 @@ fn order(
         Some(action) => {
             let argv = words_of(alloc, action)?;
             let who = who(alloc, &job.name, name)?;
-            let dir = folder_of(alloc, &job.dir)?;
+            let dir = dir_of(alloc, &job.dir)?;
             let env = env_or_empty(alloc, found)?;
             let silent = job.silent;
             Ok(Some(Output::Spawn(Order {

@@ -57,13 +57,13 @@ unfoldable pub test_of : List ℕ → Test
 test_of text = if has_equals text then test_by text (before_first is_equals text) (after_first is_equals text) else Place text
 
 -- a value that may stand in a job file: a good expansion, and a pattern that is supported as it is written
-abbrev pub is_value : List ℕ → Bool
-is_value value = is_expandable value && supported value
+abbrev pub is_good_value : List ℕ → Bool
+is_good_value value = is_expandable value && supported value
 
 abbrev pub is_good : Test → Bool
-is_good (Place value) = is_value value
-is_good (Same key value) = is_value value
-is_good (Differs key value) = is_value value
+is_good (Place value) = is_good_value value
+is_good (Same key value) = is_good_value value
+is_good (Differs key value) = is_good_value value
 
 abbrev pub is_positional : Test → Bool
 is_positional (Place value) = true

@@ -56,8 +56,8 @@ pub(crate) fn is_positional(test: &Test) -> bool
 
 // Refuses a value that is no good expansion or no supported pattern.
 fn check_value(value: &Text) -> Result<(), ExprFault>
-    ensures ok { IfOk result (λ done. values.is_value value.now ≡ true) }
-    ensures refused { OnErr result (values.is_value value.now ≡ false) }
+    ensures ok { IfOk result (λ done. values.is_good_value value.now ≡ true) }
+    ensures refused { OnErr result (values.is_good_value value.now ≡ false) }
 {
     if !is_expandable(value.as_str()) {
         return Err(ExprFault::BadExpansion);

@@ -17,15 +17,15 @@ words_of (Words words) = words
 words_of (Shell text) = codes "/bin/sh" ∷ codes "-e" ∷ codes "-c" ∷ text ∷ []
 
 -- the folder in which a job's processes run: the root where it names none (init(5), "chdir")
-abbrev pub folder_of : List ℕ → List ℕ
-folder_of [] = codes "/"
-folder_of (byte ∷ dir) = byte ∷ dir
+abbrev pub dir_of : List ℕ → List ℕ
+dir_of [] = codes "/"
+dir_of (byte ∷ dir) = byte ∷ dir
 
 -- the order for a job's main process, where it has one (init(5), "exec", "script", "chdir" and "console none")
 abbrev pub order_of_main : JobDef → Who → Option Action → List (List ℕ × List ℕ) → List Output
 order_of_main job who None environment = []
 order_of_main job who (Some action) environment =
-    output.Spawn (record { who = who; process = process.Main; argv = words_of action; dir = folder_of job.dir; silent = job.silent; env = environment }) ∷ []
+    output.Spawn (record { who = who; process = process.Main; argv = words_of action; dir = dir_of job.dir; silent = job.silent; env = environment }) ∷ []
 
 -- a job, and an instance of it as it is known outside
 abbrev pub named : List ℕ → Option JobDef → Option (JobDef × Who)

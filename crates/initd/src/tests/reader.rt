@@ -99,27 +99,6 @@ fn checks(rt: HostRuntime) -> Result<(), Fail> {
     Ok(())
 }
 
-// Tokens that aren't whole, in each place where tokens are read.
-#[test]
-fn faulty_tokens_are_told(rt: HostRuntime) -> Result<(), Fail> {
-    let alloc = rt.alloc();
-    let mut folder = Folder::new(alloc);
-    add(alloc, &mut folder, "a.conf", b"env A='b\n")?;
-    add(alloc, &mut folder, "b.conf", b"task\nstart on a 'b\n")?;
-    add(alloc, &mut folder, "c.conf", b"pre-start 'x\n")?;
-    add(alloc, &mut folder, "d.conf", b"start 'on\n")?;
-    add(alloc, &mut folder, "e.conf", b"\n'x\n")?;
-    add(alloc, &mut folder, "f.conf", b"respawn\nenv A=b\\")?;
-    add(alloc, &mut folder, "g.conf", b"script 'a\n")?;
-    check_prints(
-        &rt,
-        alloc,
-        &folder,
-        "a.conf:1: 5 UnterminatedQuote\nb.conf:2: 5 UnterminatedQuote\nc.conf:1: 5 UnterminatedQuote\nd.conf:1: 5 UnterminatedQuote\ne.conf:2: 5 UnterminatedQuote\nf.conf:2: 7 TrailingBackslash\ng.conf:1: 5 UnterminatedQuote\n0 jobs, 7 faults\n",
-        1,
-    )
-}
-
 #[test]
 fn checks_of_many_files(rt: HostRuntime) -> Result<(), Fail> {
     let alloc = rt.alloc();

@@ -74,6 +74,23 @@ fn one_code_of_several_is_given(rt: HostRuntime) -> Result<(), Fail> {
     Ok(())
 }
 
+// Tokens that aren't whole, in each place where tokens are read.
+#[test]
+fn faulty_tokens_are_told(rt: HostRuntime) -> Result<(), Fail> {
+    let alloc = rt.alloc();
+    let cases: [(&[u8], u32, u8); 7] = [
+        (b"env A='b\n", 1, 5),
+        (b"task\nstart on a 'b\n", 2, 5),
+        (b"pre-start 'x\n", 1, 5),
+        (b"start 'on\n", 1, 5),
+        (b"\n'x\n", 2, 5),
+        (b"respawn\nenv A=b\\", 2, 7),
+        (b"script 'a\n", 1, 5),
+    ];
+    assert_eq!(rt; first_other(alloc, &cases), None);
+    Ok(())
+}
+
 #[test]
 fn numbers_have_limits(rt: HostRuntime) -> Result<(), Fail> {
     let alloc = rt.alloc();
