@@ -317,7 +317,10 @@ fn read_export(alloc: Global, texts: &[Text]) -> Result<Result<Stanza, FaultCode
 }
 
 // The name of an instance.
-fn read_instance_name(alloc: Global, texts: &[Text]) -> Result<Result<Stanza, FaultCode>, AllocError>
+fn read_instance_name(
+    alloc: Global,
+    texts: &[Text],
+) -> Result<Result<Stanza, FaultCode>, AllocError>
     ensures { IfOk result (λ read. result_ok read ≡ option_map Instance (option_and_then instance_of (single texts.now))) }
 {
     match single(texts) {

@@ -47,7 +47,7 @@ may_leave goal Stopping blocked has_main awaited lives = not blocked
 may_leave goal Killed blocked has_main awaited lives = not lives
 may_leave goal PostStop blocked has_main awaited lives = true
 
--- whether an instance enters running without having left it but for pre-stop
+-- whether a state is pre-stop, from which running is entered again without a second `started`
 abbrev pub is_pre_stop : State → Bool
 is_pre_stop PreStop = true
 is_pre_stop other = false
