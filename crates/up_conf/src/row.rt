@@ -8,6 +8,9 @@ use crate::fault::FaultCode;
 use std::alloc::{AllocError, Global};
 use up_text::{Items, Lexer, Text, TextFault, Token};
 
+/// More tokens than most expressions have.
+const MANY: usize = 16;
+
 /// What comes next in a stanza.
 #[derive(Debug, Drop)]
 pub(crate) enum Next {
@@ -49,7 +52,7 @@ pub(crate) fn read_row(
 ) -> Result<Result<Items<Token>, FaultCode>, AllocError>
     ensures { IfOk result (λ row. IsFound (row_of lexer.old) row lexer.new) }
 {
-    let mut tokens: Vec<Token> = Vec::new(alloc);
+    let mut tokens: Vec<Token> = Vec::with_capacity(alloc, MANY)?;
     'tokens: loop {
         match next_token(alloc, lexer)? {
             Next::Token(token) => tokens.push(token)?,

@@ -17,7 +17,7 @@ const MAX_VALUES: usize = 65_535;
 fn read_tests(alloc: Global, tokens: &[Token]) -> Result<Vec<Test>, AllocError>
     ensures { IfOk result (λ tests. tests.items ≡ values.values_of tokens.now) }
 {
-    let mut tests = Vec::new(alloc);
+    let mut tests = Vec::with_capacity(alloc, tokens.len())?;
     for token in tokens {
         tests.push(read_test(alloc, token.text.as_str())?)?;
     }
