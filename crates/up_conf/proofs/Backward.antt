@@ -6,8 +6,8 @@ use Rattle.std.specs.List.{list_all}
 use Rattle.std.specs.Str.{bytes_eq}
 use Rattle.up_text.specs.Names.{is_key}
 use Rattle.up_text.specs.Scripts.{is_filled}
-use Rattle.up_conf.specs.Arguments.{single, none, both, each, filled, behind}
-use Rattle.up_conf.specs.Settings.{key_of}
+use Rattle.up_conf.specs.Arguments.{single, none, with_first, each, filled, behind}
+use Rattle.up_conf.specs.Settings.{key_in}
 
 -- what an option was made of
 pub record Mapped {X Y : Type 0} (f : X → Y) (part : Option X) (y : Y) : Type 0 where
@@ -56,15 +56,15 @@ behind-is word (text ∷ texts) others is = by_word (bytes_eq text word) refl is
         let first : text ≡ word = (bytes_eq-Decides text word).0 e in
         ap (λ t. t ∷ texts) first ∙ ap (λ ts. word ∷ ts) rest
 
-both-is : {X : Type 0} (x : Option X) (xs : Option (List X)) (ys : List X) → both x xs ≡ Some ys → (y : X) × (others : List X) × (x ≡ Some y) × (xs ≡ Some others) × (ys ≡ y ∷ others)
-both-is None xs ys is = absurd (cc)
-both-is (Some x) None ys is = absurd (cc)
-both-is (Some x) (Some xs) ys is = (x, xs, refl, refl, cc)
+with_first-is : {X : Type 0} (x : Option X) (xs : Option (List X)) (ys : List X) → with_first x xs ≡ Some ys → (y : X) × (others : List X) × (x ≡ Some y) × (xs ≡ Some others) × (ys ≡ y ∷ others)
+with_first-is None xs ys is = absurd (cc)
+with_first-is (Some x) None ys is = absurd (cc)
+with_first-is (Some x) (Some xs) ys is = (x, xs, refl, refl, cc)
 
 pub each-is : {X : Type 0} (f : List ℕ → Option X) (texts : List (List ℕ)) (xs : List X) → each f texts ≡ Some xs → map f texts ≡ map Some xs
 each-is f [] xs is = let same : [] ≡ xs = cc in ap (map Some) same
 each-is f (text ∷ texts) xs is =
-    let parts = both-is (f text) (each f texts) xs is in
+    let parts = with_first-is (f text) (each f texts) xs is in
     let others = each-is f texts parts.1 parts.3 in
     ap (λ o. o ∷ map f texts) parts.2 ∙ ap (λ ys. Some parts.0 ∷ ys) others ∙ sym (ap (map Some) parts.4)
 
@@ -77,10 +77,10 @@ each-from {X} f (text ∷ texts) (x ∷ xs) is =
     let others : map f texts ≡ map Some xs = cc in
     rw (first, each-from f texts xs others) refl
 
-pub keys-is : (texts keys : List (List ℕ)) → each key_of texts ≡ Some keys → (texts ≡ keys) × (list_all is_key keys ≡ true)
+pub keys-is : (texts keys : List (List ℕ)) → each key_in texts ≡ Some keys → (texts ≡ keys) × (list_all is_key keys ≡ true)
 keys-is [] keys is = let same : [] ≡ keys = cc in (same, ap (list_all is_key) (sym same))
 keys-is (text ∷ texts) keys is =
-    let parts = both-is (key_of text) (each key_of texts) keys is in
+    let parts = with_first-is (key_in text) (each key_in texts) keys is in
     let others = keys-is texts parts.1 parts.3 in
     by_key (is_key text) refl parts.0 parts.1 parts.2 parts.4 others
   where
@@ -93,7 +93,7 @@ keys-is (text ∷ texts) keys is =
         let good : list_all is_key keys ≡ true = rw (are, ← same, e) others.1 in
         (whole, good)
 
-pub keys-from : (keys : List (List ℕ)) → list_all is_key keys ≡ true → each key_of keys ≡ Some keys
+pub keys-from : (keys : List (List ℕ)) → list_all is_key keys ≡ true → each key_in keys ≡ Some keys
 keys-from [] all = refl
 keys-from (key ∷ keys) all =
     let parts = and_parts (is_key key) (list_all is_key keys) all in

@@ -5,12 +5,12 @@ use Rattle.up_text.specs.Lexemes.{Word, lexeme_by, lexemes_of}
 use Rattle.up_text.specs.Places.{Place, Got, start, reading, line_at, is_finished}
 use Rattle.up_text.proofs.Lexemes.{lexemes_of-is, none_when_finished}
 use Rattle.up_conf.specs.declared.stanza.Stanza.{Stanza}
-use Rattle.up_conf.specs.Confs.{is_text, has_few_keys, stanzas_unless, limited, conf_of}
+use Rattle.up_conf.specs.Confs.{is_readable, has_few_keys, stanzas_unless, limited, conf_of}
 use Rattle.up_conf.specs.Grammar.{Written, Conf}
 use Rattle.up_conf.specs.Stanzas.{Found, Said, stanza_at, said_then, said_from, said_of}
 use Rattle.up_conf.proofs.Saying.{said_finished, said_more}
 use Rattle.up_conf.proofs.Shrinking.{stanza_less}
-use Rattle.up_conf.proofs.Standing.{Stands-stanza_at, stanza_at-Stands, stanza_first}
+use Rattle.up_conf.proofs.Standing.{StandsAt-stanza_at, stanza_at-StandsAt, stanza_first}
 
 -- behind the end of a text nothing is read
 goes_on : (place next : Place) (token : Token) → reading place ≡ Got token next → is_finished place ≡ false
@@ -27,7 +27,7 @@ goes_on place next token got = by_case (is_finished place) refl
 said-Written : (place : Place) (said : List Stanza) → Written place said → said_of place ≡ (said, None)
 said-Written place [] finished = said_finished place finished
 said-Written place (stanza ∷ said) written =
-    let read = stanza_at-Stands place stanza written.0 written.1 in
+    let read = stanza_at-StandsAt place stanza written.0 written.1 in
     let first = stanza_first place stanza written.0 read in
     said_more place (Some (stanza, written.0)) (goes_on place first.1 first.0 first.2) read
     ∙ ap (λ (others : Said). (stanza ∷ others.0, others.1)) (said-Written written.0 said written.2)
@@ -48,7 +48,7 @@ written_from (suc n) place said few is =
         let others = said_from n found.1 in
         let whole = ap (λ (p : Said). p.1) is in
         let same = ap (λ (p : Said). p.0) is in
-        subst (Written place) same (found.1, Stands-stanza_at place found.0 found.1 e, more found.1 others.0 (stanza_less place found.0 found.1 e) (ap (λ none. (others.0, none)) whole))
+        subst (Written place) same (found.1, StandsAt-stanza_at place found.0 found.1 e, more found.1 others.0 (stanza_less place found.0 found.1 e) (ap (λ none. (others.0, none)) whole))
 
     by_finished : (finished : Bool) → is_finished place ≡ finished → cond finished ([], None) (said_then (λ behind. said_from n behind) (line_at place) (stanza_at place)) ≡ (said, None)
         → ((behind : Place) (others : List Stanza) → length behind.rest < length place.rest → said_from n behind ≡ (others, None) → Written behind others) → Written place said
@@ -66,19 +66,19 @@ conf_of-Conf bytes stanzas conf = rw (conf.text, said-Written (start bytes) stan
 
 pub conf_is : (bytes : List ℕ) (stanzas : List Stanza) → conf_of bytes ≡ Ok stanzas → Conf bytes stanzas
 unfolding conf_of
-conf_is bytes stanzas is = by_text (is_text bytes) (said_of (start bytes)).0 (said_of (start bytes)).1 refl refl is
+conf_is bytes stanzas is = by_text (is_readable bytes) (said_of (start bytes)).0 (said_of (start bytes)).1 refl refl is
   where
-    by_line : (said : List Stanza) (line : Option ℕ) → is_text bytes ≡ true → said_of (start bytes) ≡ (said, line) → has_few_keys said ≡ true → stanzas_unless said line ≡ Ok stanzas → Conf bytes stanzas
+    by_line : (said : List Stanza) (line : Option ℕ) → is_readable bytes ≡ true → said_of (start bytes) ≡ (said, line) → has_few_keys said ≡ true → stanzas_unless said line ≡ Ok stanzas → Conf bytes stanzas
     by_line said (Some line) text e few is = absurd (cc)
     by_line said None text e few is =
         let same : said ≡ stanzas = cc in
         subst (Conf bytes) same (record { text = text; written = Written-said (start bytes) said e; few = few })
 
-    by_few : (few : Bool) (said : List Stanza) (line : Option ℕ) → is_text bytes ≡ true → said_of (start bytes) ≡ (said, line) → has_few_keys said ≡ few → cond few (stanzas_unless said line) (Err 1) ≡ Ok stanzas → Conf bytes stanzas
+    by_few : (few : Bool) (said : List Stanza) (line : Option ℕ) → is_readable bytes ≡ true → said_of (start bytes) ≡ (said, line) → has_few_keys said ≡ few → cond few (stanzas_unless said line) (Err 1) ≡ Ok stanzas → Conf bytes stanzas
     by_few false said line text e few is = absurd (cc)
     by_few true said line text e few is = by_line said line text e few is
 
-    by_text : (text : Bool) (said : List Stanza) (line : Option ℕ) → is_text bytes ≡ text → said_of (start bytes) ≡ (said, line) → cond text (limited (said, line)) (Err 1) ≡ Ok stanzas → Conf bytes stanzas
+    by_text : (text : Bool) (said : List Stanza) (line : Option ℕ) → is_readable bytes ≡ text → said_of (start bytes) ≡ (said, line) → cond text (limited (said, line)) (Err 1) ≡ Ok stanzas → Conf bytes stanzas
     by_text false said line text e is = absurd (cc)
     by_text true said line text e is = by_few (has_few_keys said) said line text e refl is
 

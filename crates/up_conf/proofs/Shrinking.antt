@@ -19,7 +19,7 @@ use Rattle.up_conf.specs.declared.stanza.Stanza.TheVariants.{Runs, StartOn, Stop
 use Rattle.up_conf.specs.Actions.{action_of}
 use Rattle.up_conf.specs.Arguments.{listed_of}
 use Rattle.up_conf.specs.Kinds.{kind_of}
-use Rattle.up_conf.specs.Stanzas.{Found, made, found_by, unswitched, tree_in, expression_by, texts_at, ended, command_by, command_at, script_of, script_by, script_at, action_by, action_at, said_as, said_by, stanza_by, stanza_at}
+use Rattle.up_conf.specs.Stanzas.{Found, made, found_by, unswitched, expression_in, expression_by, texts_at, with_end, command_by, command_at, script_of, script_by, script_at, action_by, action_at, said_as, said_by, stanza_by, stanza_at}
 
 -- how much of the text is left behind a part, where it is read
 abbrev left : {X : Type 0} → Found X → ℕ
@@ -55,11 +55,11 @@ texts_left place = let row = row_left place in let texts = made_left (λ (tokens
 passing_left : (n : ℕ) (place : Place) → length (passing n place).rest ≤ length place.rest
 passing_left n place = let is = length-drop n place.rest in omega (arith, is)
 
-ended_left : {X : Type 0} (part : Option X) (place : Place) → left (ended part (reading place)) ≤ length place.rest
-ended_left None place = omega arith
-ended_left (Some x) place = by_reading (reading place) refl
+with_end_left : {X : Type 0} (part : Option X) (place : Place) → left (with_end part (reading place)) ≤ length place.rest
+with_end_left None place = omega arith
+with_end_left (Some x) place = by_reading (reading place) refl
   where
-    by_reading : (r : Reading) → reading place ≡ r → left (ended (Some x) r) ≤ length place.rest
+    by_reading : (r : Reading) → reading place ≡ r → left (with_end (Some x) r) ≤ length place.rest
     by_reading (Got token behind) is = omega arith
     by_reading (Ended behind) is = (reading_ends place behind is).1
     by_reading (Fails fault) is = omega arith
@@ -72,7 +72,7 @@ command_left place = by_fault (fault_in (row_at place))
     by_fault None =
         let n = length (row_at place) in
         let passed = passing_left n place in
-        let end = ended_left (action_of (command_in (row_at place))) (passing n place) in
+        let end = with_end_left (action_of (command_in (row_at place))) (passing n place) in
         omega (arith, passed, end)
 
 script_left : (place : Place) → left (script_at place) ≤ length place.rest
@@ -104,12 +104,12 @@ action_left place = by_reading (reading place) refl
 expression_left : (place : Place) → left (expression_by (reading place)) ≤ length place.rest
 expression_left place = by_reading (reading place) refl
   where
-    by_on : (behind : Place) (on : Bool) → length behind.rest ≤ length place.rest → left (cond on (unswitched (found_by tree_in (row_of (switched true behind)))) None) ≤ length place.rest
+    by_on : (behind : Place) (on : Bool) → length behind.rest ≤ length place.rest → left (cond on (unswitched (found_by expression_in (row_of (switched true behind)))) None) ≤ length place.rest
     by_on behind false less = omega arith
     by_on behind true less =
         let row = row_left (switched true behind) in
-        let tree = found_left tree_in (row_of (switched true behind)) in
-        let whole = switched_left (found_by tree_in (row_of (switched true behind))) in
+        let tree = found_left expression_in (row_of (switched true behind)) in
+        let whole = switched_left (found_by expression_in (row_of (switched true behind))) in
         omega (arith, row, tree, whole, less)
 
     by_reading : (r : Reading) → reading place ≡ r → left (expression_by r) ≤ length place.rest

@@ -1,5 +1,5 @@
 -- What the stanza at a place says is what the grammar writes there.
--- A kind more owes a line to `kind_of-word` and to `listed_stands`, and a stanza more one to `stanza_at-Stands`.
+-- A kind more owes a line to `kind_of-word` and to `listed_stands`, and a stanza more one to `stanza_at-StandsAt`.
 use Rattle.std.proofs.Common.{◌≡◌, inl, inr, ℕ, ◌+◌, Bool, true, false, List, [], ◌∷◌, length, map, Option, None, Some, cond, refl, sym, ◌∙◌, ap, subst, option_map, option_and_then, codes}
 use Rattle.std.proofs.lemmas.Slice.Eq.{bytes_eq-Decides}
 use Rattle.std.specs.List.{find, concat}
@@ -25,14 +25,14 @@ use Rattle.up_conf.specs.declared.stanza.Stanza.{Stanza}
 use Rattle.up_conf.specs.declared.stanza.Stanza.TheVariants.{About, Emits, Env, Export, Task, Manual, Respawn, RespawnLimit, NormalExit, KillTimeout, KillSignal, ReloadSignal, Instance, Console, Chdir, Runs, StartOn, StopOn}
 use Rattle.up_conf.specs.Actions.{action_of}
 use Rattle.up_conf.specs.Arguments.{single, each, filled, some, behind, limit_of, respawn_of, kill_of, listed_of}
-use Rattle.up_conf.specs.Grammar.{Says, IsListed, IsOn, IsExec, IsScript, IsAction, IsAbout, IsDescription, IsAuthor, IsVersion, IsUsage, Stands}
+use Rattle.up_conf.specs.Grammar.{Says, IsListed, IsOn, IsExec, IsScript, IsAction, IsAbout, IsDescription, IsAuthor, IsVersion, IsUsage, StandsAt}
 use Rattle.up_conf.specs.Kinds.{listed_word, word_of, kinds, kind_of}
 use Rattle.up_conf.specs.Numbers.{number_in}
-use Rattle.up_conf.specs.Settings.{key_of, setting_of, exit_of, instance_of, console_of}
+use Rattle.up_conf.specs.Settings.{key_in, setting_in, exit_in, expandable_in, console_in}
 use Rattle.up_conf.specs.Signals.{signal_in}
-use Rattle.up_conf.specs.Stanzas.{Found, made, found_by, unswitched, tree_in, expression_by, texts_at, ended, command_by, command_at, script_of, script_by, script_at, action_by, action_at, said_as, said_by, stanza_by, stanza_at}
+use Rattle.up_conf.specs.Stanzas.{Found, made, found_by, unswitched, expression_in, expression_by, texts_at, with_end, command_by, command_at, script_of, script_by, script_at, action_by, action_at, said_as, said_by, stanza_by, stanza_at}
 use Rattle.up_conf.proofs.Backward.{mapped, chosen, single-is, none-is, filled-is, filled-from, behind-is, each-is, each-from, keys-is, keys-from}
-use Rattle.up_conf.proofs.Parsing.{tree_in-Writes, Writes-tree_in}
+use Rattle.up_conf.proofs.Parsing.{expression_in-Writes, Writes-expression_in}
 
 -- the words of kinds
 
@@ -124,11 +124,11 @@ IsOn-by : (word : List ℕ) (place next : Place) (tree : Tree) (behind : Place) 
 IsOn-by word place next tree behind first is = by_reading (reading next) refl is
   where
     by_on : (token : Token) (later : Place) (on : Bool) → reading next ≡ Got token later → bytes_eq token.text (codes "on") ≡ on
-        → cond on (unswitched (found_by tree_in (row_of (switched true later)))) None ≡ Some (tree, behind) → IsOn word tree place behind
+        → cond on (unswitched (found_by expression_in (row_of (switched true later)))) None ≡ Some (tree, behind) → IsOn word tree place behind
     by_on token later false got on is = cc
     by_on token later true got on is =
-        let turned = switched_of (found_by tree_in (row_of (switched true later))) tree behind is in
-        let parsed = found_of tree_in (row_of (switched true later)) tree turned.end turned.is in
+        let turned = switched_of (found_by expression_in (row_of (switched true later))) tree behind is in
+        let parsed = found_of expression_in (row_of (switched true later)) tree turned.end turned.is in
         record {
           next = next;
           first = first;
@@ -137,7 +137,7 @@ IsOn-by word place next tree behind first is = by_reading (reading next) refl is
           tokens = parsed.x;
           end = turned.end;
           row = Row-row_of (switched true later) parsed.x turned.end parsed.is;
-          writes = Writes-tree_in parsed.x tree parsed.gives;
+          writes = Writes-expression_in parsed.x tree parsed.gives;
           is_behind = turned.back;
         }
 
@@ -149,15 +149,15 @@ IsOn-by word place next tree behind first is = by_reading (reading next) refl is
 expression_by-On : (word : List ℕ) (place : Place) (tree : Tree) (behind : Place) (is : IsOn word tree place behind) → expression_by (reading is.next) ≡ Some (tree, behind)
 expression_by-On word place tree behind is =
     let on : bytes_eq is.second.token.text (codes "on") ≡ true = (bytes_eq-Decides is.second.token.text (codes "on")).1 is.second.same in
-    rw (is.second.read, on, row_of-Row (switched true is.later) is.tokens is.end is.row, tree_in-Writes is.tokens tree is.writes, is.is_behind) refl
+    rw (is.second.read, on, row_of-Row (switched true is.later) is.tokens is.end is.row, expression_in-Writes is.tokens tree is.writes, is.is_behind) refl
 
 -- commands and scripts
 
-ended-is : {X : Type 0} (part : Option X) (r : Reading) (x : X) (behind : Place) → ended part r ≡ Some (x, behind) → (part ≡ Some x) × (r ≡ Ended behind)
-ended-is None r x behind is = absurd (cc)
-ended-is (Some y) (Got token end) x behind is = absurd (cc)
-ended-is (Some y) (Fails fault) x behind is = absurd (cc)
-ended-is {X} (Some y) (Ended end) x behind is =
+with_end-is : {X : Type 0} (part : Option X) (r : Reading) (x : X) (behind : Place) → with_end part r ≡ Some (x, behind) → (part ≡ Some x) × (r ≡ Ended behind)
+with_end-is None r x behind is = absurd (cc)
+with_end-is (Some y) (Got token end) x behind is = absurd (cc)
+with_end-is (Some y) (Fails fault) x behind is = absurd (cc)
+with_end-is {X} (Some y) (Ended end) x behind is =
     let pair : (y, end) ≡ (x, behind) = cc in
     (ap (λ (p : X × Place). Some p.0) pair, ap (λ (p : X × Place). Ended p.1) pair)
 
@@ -167,7 +167,7 @@ IsExec-by place next action behind first is = by_fault (fault_in (row_at next)) 
     by_fault : (fault : Option TextFault) → fault_in (row_at next) ≡ fault → command_by next fault ≡ Some (action, behind) → IsExec action place behind
     by_fault (Some fault) e is = absurd (cc)
     by_fault None e is =
-        let both = ended-is (action_of (command_in (row_at next))) (reading (passing (length (row_at next)) next)) action behind is in
+        let both = with_end-is (action_of (command_in (row_at next))) (reading (passing (length (row_at next)) next)) action behind is in
         record { next = next; first = first; whole = e; says = both.0; ends = both.1 }
 
 command_at-Exec : (place : Place) (action : Action) (behind : Place) (is : IsExec action place behind) → command_at is.next ≡ Some (action, behind)
@@ -225,19 +225,19 @@ IsListed-by word place next texts behind first is =
     let row = made_of (λ (tokens : List Token). map (λ t. t.text) tokens) (row_of next) texts behind is in
     record { next = next; first = first; tokens = row.x; row = Row-row_of next row.x behind row.is; texts = sym row.gives }
 
-about_stands : (place behind : Place) (word : List ℕ) → IsAbout word → (texts : List (List ℕ)) (stanza : Stanza) → option_map About (single texts) ≡ Some stanza → IsListed word texts place behind → Stands place stanza behind
+about_stands : (place behind : Place) (word : List ℕ) → IsAbout word → (texts : List (List ℕ)) (stanza : Stanza) → option_map About (single texts) ≡ Some stanza → IsListed word texts place behind → StandsAt place stanza behind
 about_stands place behind word about texts stanza is l =
     let m = mapped About (single texts) stanza is in
-    subst (λ s. Stands place s behind) m.gives (word, about, subst (λ ts. IsListed word ts place behind) (single-is texts m.x m.is) l)
+    subst (λ s. StandsAt place s behind) m.gives (word, about, subst (λ ts. IsListed word ts place behind) (single-is texts m.x m.is) l)
 
-respawn_stands : (place end : Place) (texts : List (List ℕ)) (stanza : Stanza) → respawn_of texts ≡ Some stanza → IsListed (codes "respawn") texts place end → Stands place stanza end
-respawn_stands place end [] stanza is l = let same : Respawn ≡ stanza = cc in subst (λ s. Stands place s end) same l
+respawn_stands : (place end : Place) (texts : List (List ℕ)) (stanza : Stanza) → respawn_of texts ≡ Some stanza → IsListed (codes "respawn") texts place end → StandsAt place stanza end
+respawn_stands place end [] stanza is l = let same : Respawn ≡ stanza = cc in subst (λ s. StandsAt place s end) same l
 respawn_stands place end (text ∷ texts) stanza is l =
     let m = mapped RespawnLimit (option_and_then limit_of (behind (codes "limit") (text ∷ texts))) stanza is in
     let c = chosen limit_of (behind (codes "limit") (text ∷ texts)) m.x m.is in
-    subst (λ s. Stands place s end) m.gives (c.x, c.gives, subst (λ ts. IsListed (codes "respawn") ts place end) (behind-is (codes "limit") (text ∷ texts) c.x c.is) l)
+    subst (λ s. StandsAt place s end) m.gives (c.x, c.gives, subst (λ ts. IsListed (codes "respawn") ts place end) (behind-is (codes "limit") (text ∷ texts) c.x c.is) l)
 
-kill_stands : (place end : Place) (texts : List (List ℕ)) (stanza : Stanza) → kill_of texts ≡ Some stanza → IsListed (codes "kill") texts place end → Stands place stanza end
+kill_stands : (place end : Place) (texts : List (List ℕ)) (stanza : Stanza) → kill_of texts ≡ Some stanza → IsListed (codes "kill") texts place end → StandsAt place stanza end
 kill_stands place end [] stanza is l = absurd (cc)
 kill_stands place end (text ∷ texts) stanza is l = by_word (bytes_eq text (codes "timeout")) (bytes_eq text (codes "signal")) refl refl is
   where
@@ -245,18 +245,18 @@ kill_stands place end (text ∷ texts) stanza is l = by_word (bytes_eq text (cod
     arguments word second e same = subst (λ ts. IsListed (codes "kill") ts place end) (ap (λ t. t ∷ texts) ((bytes_eq-Decides text word).0 e) ∙ ap (λ ts. word ∷ ts) same) l
 
     by_word : (timeout signal : Bool) → bytes_eq text (codes "timeout") ≡ timeout → bytes_eq text (codes "signal") ≡ signal
-        → cond timeout (option_map KillTimeout (option_and_then (number_in 0 2147483647) (single texts))) (cond signal (option_map KillSignal (option_and_then signal_in (single texts))) None) ≡ Some stanza → Stands place stanza end
+        → cond timeout (option_map KillTimeout (option_and_then (number_in 0 2147483647) (single texts))) (cond signal (option_map KillSignal (option_and_then signal_in (single texts))) None) ≡ Some stanza → StandsAt place stanza end
     by_word true signal e f is =
         let m = mapped KillTimeout (option_and_then (number_in 0 2147483647) (single texts)) stanza is in
         let c = chosen (number_in 0 2147483647) (single texts) m.x m.is in
-        subst (λ s. Stands place s end) m.gives (c.x, c.gives, arguments (codes "timeout") c.x e (single-is texts c.x c.is))
+        subst (λ s. StandsAt place s end) m.gives (c.x, c.gives, arguments (codes "timeout") c.x e (single-is texts c.x c.is))
     by_word false true e f is =
         let m = mapped KillSignal (option_and_then signal_in (single texts)) stanza is in
         let c = chosen signal_in (single texts) m.x m.is in
-        subst (λ s. Stands place s end) m.gives (c.x, c.gives, arguments (codes "signal") c.x f (single-is texts c.x c.is))
+        subst (λ s. StandsAt place s end) m.gives (c.x, c.gives, arguments (codes "signal") c.x f (single-is texts c.x c.is))
     by_word false false e f is = absurd (cc)
 
-listed_stands : (place end : Place) (kind : lists.Listed) (texts : List (List ℕ)) (stanza : Stanza) → listed_of kind texts ≡ Some stanza → IsListed (listed_word kind) texts place end → Stands place stanza end
+listed_stands : (place end : Place) (kind : lists.Listed) (texts : List (List ℕ)) (stanza : Stanza) → listed_of kind texts ≡ Some stanza → IsListed (listed_word kind) texts place end → StandsAt place stanza end
 listed_stands place end listed.Description texts stanza is l = about_stands place end (codes "description") IsDescription texts stanza is l
 listed_stands place end listed.Author texts stanza is l = about_stands place end (codes "author") IsAuthor texts stanza is l
 listed_stands place end listed.Version texts stanza is l = about_stands place end (codes "version") IsVersion texts stanza is l
@@ -264,94 +264,94 @@ listed_stands place end listed.Usage texts stanza is l = about_stands place end 
 listed_stands place end listed.Emits texts stanza is l =
     let m = mapped Emits (filled texts) stanza is in
     let f = filled-is texts m.x m.is in
-    subst (λ s. Stands place s end) m.gives (f.1, subst (λ ts. IsListed (codes "emits") ts place end) f.0 l)
+    subst (λ s. StandsAt place s end) m.gives (f.1, subst (λ ts. IsListed (codes "emits") ts place end) f.0 l)
 listed_stands place end listed.Env texts stanza is l =
-    let m = mapped Env (option_and_then setting_of (single texts)) stanza is in
-    let c = chosen setting_of (single texts) m.x m.is in
-    subst (λ s. Stands place s end) m.gives (c.x, c.gives, subst (λ ts. IsListed (codes "env") ts place end) (single-is texts c.x c.is) l)
+    let m = mapped Env (option_and_then setting_in (single texts)) stanza is in
+    let c = chosen setting_in (single texts) m.x m.is in
+    subst (λ s. StandsAt place s end) m.gives (c.x, c.gives, subst (λ ts. IsListed (codes "env") ts place end) (single-is texts c.x c.is) l)
 listed_stands place end listed.Export texts stanza is l =
-    let m = mapped Export (some key_of texts) stanza is in
-    let c = chosen (each key_of) (filled texts) m.x m.is in
+    let m = mapped Export (some key_in texts) stanza is in
+    let c = chosen (each key_in) (filled texts) m.x m.is in
     let f = filled-is texts c.x c.is in
     let k = keys-is c.x m.x c.gives in
     let filled_keys = subst (λ ts. is_filled ts ≡ true) k.0 f.1 in
-    subst (λ s. Stands place s end) m.gives (filled_keys, k.1, subst (λ ts. IsListed (codes "export") ts place end) (f.0 ∙ k.0) l)
+    subst (λ s. StandsAt place s end) m.gives (filled_keys, k.1, subst (λ ts. IsListed (codes "export") ts place end) (f.0 ∙ k.0) l)
 listed_stands place end listed.Task texts stanza is l =
     let n = none-is Task stanza texts is in
-    subst (λ s. Stands place s end) n.1 (subst (λ ts. IsListed (codes "task") ts place end) n.0 l)
+    subst (λ s. StandsAt place s end) n.1 (subst (λ ts. IsListed (codes "task") ts place end) n.0 l)
 listed_stands place end listed.Manual texts stanza is l =
     let n = none-is Manual stanza texts is in
-    subst (λ s. Stands place s end) n.1 (subst (λ ts. IsListed (codes "manual") ts place end) n.0 l)
+    subst (λ s. StandsAt place s end) n.1 (subst (λ ts. IsListed (codes "manual") ts place end) n.0 l)
 listed_stands place end listed.Respawn texts stanza is l = respawn_stands place end texts stanza is l
 listed_stands place end listed.Normal texts stanza is l =
-    let m = mapped NormalExit (option_and_then (some exit_of) (behind (codes "exit") texts)) stanza is in
-    let c = chosen (some exit_of) (behind (codes "exit") texts) m.x m.is in
-    let e = chosen (each exit_of) (filled c.x) m.x c.gives in
+    let m = mapped NormalExit (option_and_then (some exit_in) (behind (codes "exit") texts)) stanza is in
+    let c = chosen (some exit_in) (behind (codes "exit") texts) m.x m.is in
+    let e = chosen (each exit_in) (filled c.x) m.x c.gives in
     let f = filled-is c.x e.x e.is in
-    subst (λ s. Stands place s end) m.gives
-    (e.x, f.1, each-is exit_of e.x m.x e.gives, subst (λ ts. IsListed (codes "normal") ts place end) (behind-is (codes "exit") texts c.x c.is ∙ ap (λ ts. codes "exit" ∷ ts) f.0) l)
+    subst (λ s. StandsAt place s end) m.gives
+    (e.x, f.1, each-is exit_in e.x m.x e.gives, subst (λ ts. IsListed (codes "normal") ts place end) (behind-is (codes "exit") texts c.x c.is ∙ ap (λ ts. codes "exit" ∷ ts) f.0) l)
 listed_stands place end listed.Kill texts stanza is l = kill_stands place end texts stanza is l
 listed_stands place end listed.Reload texts stanza is l =
     let m = mapped ReloadSignal (option_and_then (λ others. option_and_then signal_in (single others)) (behind (codes "signal") texts)) stanza is in
     let c = chosen (λ others. option_and_then signal_in (single others)) (behind (codes "signal") texts) m.x m.is in
     let e = chosen signal_in (single c.x) m.x c.gives in
-    subst (λ s. Stands place s end) m.gives
+    subst (λ s. StandsAt place s end) m.gives
     (e.x, e.gives, subst (λ ts. IsListed (codes "reload") ts place end) (behind-is (codes "signal") texts c.x c.is ∙ ap (λ ts. codes "signal" ∷ ts) (single-is c.x e.x e.is)) l)
 listed_stands place end listed.Instance texts stanza is l =
-    let m = mapped Instance (option_and_then instance_of (single texts)) stanza is in
-    let c = chosen instance_of (single texts) m.x m.is in
-    subst (λ s. Stands place s end) m.gives (by_good (is_expandable c.x) c.x m.x refl c.gives (subst (λ ts. IsListed (codes "instance") ts place end) (single-is texts c.x c.is) l))
+    let m = mapped Instance (option_and_then expandable_in (single texts)) stanza is in
+    let c = chosen expandable_in (single texts) m.x m.is in
+    subst (λ s. StandsAt place s end) m.gives (by_good (is_expandable c.x) c.x m.x refl c.gives (subst (λ ts. IsListed (codes "instance") ts place end) (single-is texts c.x c.is) l))
   where
-    by_good : (good : Bool) (text name : List ℕ) → is_expandable text ≡ good → cond good (Some text) None ≡ Some name → IsListed (codes "instance") (text ∷ []) place end → Stands place (Instance name) end
+    by_good : (good : Bool) (text name : List ℕ) → is_expandable text ≡ good → cond good (Some text) None ≡ Some name → IsListed (codes "instance") (text ∷ []) place end → StandsAt place (Instance name) end
     by_good false text name e is l = absurd (cc)
-    by_good true text name e is l = let same : text ≡ name = cc in subst (λ n. Stands place (Instance n) end) same (e, l)
+    by_good true text name e is l = let same : text ≡ name = cc in subst (λ n. StandsAt place (Instance n) end) same (e, l)
 listed_stands place end listed.Console texts stanza is l =
-    let m = mapped Console (option_and_then console_of (single texts)) stanza is in
-    let c = chosen console_of (single texts) m.x m.is in
-    subst (λ s. Stands place s end) m.gives (c.x, c.gives, subst (λ ts. IsListed (codes "console") ts place end) (single-is texts c.x c.is) l)
+    let m = mapped Console (option_and_then console_in (single texts)) stanza is in
+    let c = chosen console_in (single texts) m.x m.is in
+    subst (λ s. StandsAt place s end) m.gives (c.x, c.gives, subst (λ ts. IsListed (codes "console") ts place end) (single-is texts c.x c.is) l)
 listed_stands place end listed.Chdir texts stanza is l =
     let m = mapped Chdir (single texts) stanza is in
-    subst (λ s. Stands place s end) m.gives (subst (λ ts. IsListed (codes "chdir") ts place end) (single-is texts m.x m.is) l)
+    subst (λ s. StandsAt place s end) m.gives (subst (λ ts. IsListed (codes "chdir") ts place end) (single-is texts m.x m.is) l)
 
 -- what is read stands there
 
-kind_stands : (kind : Kind) (place next : Place) (stanza : Stanza) (end : Place) → Says place (word_of kind) next → said_as kind next ≡ Some (stanza, end) → Stands place stanza end
+kind_stands : (kind : Kind) (place next : Place) (stanza : Stanza) (end : Place) → Says place (word_of kind) next → said_as kind next ≡ Some (stanza, end) → StandsAt place stanza end
 kind_stands (kind.Listed kind) place next stanza end first is =
     let read = found_of (listed_of kind) (texts_at next) stanza end is in
     listed_stands place end kind read.x stanza read.gives (IsListed-by (listed_word kind) place next read.x end first read.is)
 kind_stands kind.Exec place next stanza end first is =
     let m = made_of (Runs process.Main) (command_at next) stanza end is in
-    subst (λ s. Stands place s end) m.gives (inl (IsExec-by place next m.x end first m.is))
+    subst (λ s. StandsAt place s end) m.gives (inl (IsExec-by place next m.x end first m.is))
 kind_stands kind.Script place next stanza end first is =
     let m = made_of (Runs process.Main) (script_at next) stanza end is in
-    subst (λ s. Stands place s end) m.gives (inr (IsScript-by place next m.x end first m.is))
+    subst (λ s. StandsAt place s end) m.gives (inr (IsScript-by place next m.x end first m.is))
 kind_stands kind.PreStart place next stanza end first is =
     let m = made_of (Runs process.PreStart) (action_at next) stanza end is in
-    subst (λ s. Stands place s end) m.gives (next, first, IsAction-by next m.x end m.is)
+    subst (λ s. StandsAt place s end) m.gives (next, first, IsAction-by next m.x end m.is)
 kind_stands kind.PostStart place next stanza end first is =
     let m = made_of (Runs process.PostStart) (action_at next) stanza end is in
-    subst (λ s. Stands place s end) m.gives (next, first, IsAction-by next m.x end m.is)
+    subst (λ s. StandsAt place s end) m.gives (next, first, IsAction-by next m.x end m.is)
 kind_stands kind.PreStop place next stanza end first is =
     let m = made_of (Runs process.PreStop) (action_at next) stanza end is in
-    subst (λ s. Stands place s end) m.gives (next, first, IsAction-by next m.x end m.is)
+    subst (λ s. StandsAt place s end) m.gives (next, first, IsAction-by next m.x end m.is)
 kind_stands kind.PostStop place next stanza end first is =
     let m = made_of (Runs process.PostStop) (action_at next) stanza end is in
-    subst (λ s. Stands place s end) m.gives (next, first, IsAction-by next m.x end m.is)
+    subst (λ s. StandsAt place s end) m.gives (next, first, IsAction-by next m.x end m.is)
 kind_stands kind.Start place next stanza end first is =
     let m = made_of StartOn (expression_by (reading next)) stanza end is in
-    subst (λ s. Stands place s end) m.gives (IsOn-by (codes "start") place next m.x end first m.is)
+    subst (λ s. StandsAt place s end) m.gives (IsOn-by (codes "start") place next m.x end first m.is)
 kind_stands kind.Stop place next stanza end first is =
     let m = made_of StopOn (expression_by (reading next)) stanza end is in
-    subst (λ s. Stands place s end) m.gives (IsOn-by (codes "stop") place next m.x end first m.is)
+    subst (λ s. StandsAt place s end) m.gives (IsOn-by (codes "stop") place next m.x end first m.is)
 
-pub Stands-stanza_at : (place : Place) (stanza : Stanza) (end : Place) → stanza_at place ≡ Some (stanza, end) → Stands place stanza end
-Stands-stanza_at place stanza end is = by_reading (reading place) refl is
+pub StandsAt-stanza_at : (place : Place) (stanza : Stanza) (end : Place) → stanza_at place ≡ Some (stanza, end) → StandsAt place stanza end
+StandsAt-stanza_at place stanza end is = by_reading (reading place) refl is
   where
-    by_kind : (kind : Option Kind) (token : Token) (next : Place) → reading place ≡ Got token next → kind_of token.text ≡ kind → said_by kind next ≡ Some (stanza, end) → Stands place stanza end
+    by_kind : (kind : Option Kind) (token : Token) (next : Place) → reading place ≡ Got token next → kind_of token.text ≡ kind → said_by kind next ≡ Some (stanza, end) → StandsAt place stanza end
     by_kind None token next got e is = absurd (cc)
     by_kind (Some kind) token next got e is = kind_stands kind place next stanza end (record { token = token; read = got; same = kind_of-is token.text kind e }) is
 
-    by_reading : (r : Reading) → reading place ≡ r → stanza_by r ≡ Some (stanza, end) → Stands place stanza end
+    by_reading : (r : Reading) → reading place ≡ r → stanza_by r ≡ Some (stanza, end) → StandsAt place stanza end
     by_reading (Got token next) got is = by_kind (kind_of token.text) token next got refl is
     by_reading (Ended next) got is = absurd (cc)
     by_reading (Fails fault) got is = absurd (cc)
@@ -376,33 +376,33 @@ run-from : (kind : Kind) (process : processes.Process) (place next : Place) (act
     → IsAction action next end → stanza_at place ≡ Some (Runs process action, end)
 run-from kind process place next action end same first is = said-from kind place next (Runs process action) end first (same next ∙ ap (made (Runs process)) (action_at-Action next action end is))
 
-pub stanza_at-Stands : (place : Place) (stanza : Stanza) (end : Place) → Stands place stanza end → stanza_at place ≡ Some (stanza, end)
-stanza_at-Stands place (About text) end is = about-from is.0 place text end is.1 is.2
-stanza_at-Stands place (Emits texts) end is = listed-from listed.Emits place texts (Emits texts) end is.1 (ap (option_map Emits) (filled-from texts is.0))
-stanza_at-Stands place (Env setting) end is = listed-from listed.Env place (is.0 ∷ []) (Env setting) end is.2 (ap (option_map Env) is.1)
-stanza_at-Stands place (Export keys) end is =
-    listed-from listed.Export place keys (Export keys) end is.2 (ap (option_map Export) (ap (option_and_then (each key_of)) (filled-from keys is.0) ∙ keys-from keys is.1))
-stanza_at-Stands place Task end is = listed-from listed.Task place [] Task end is refl
-stanza_at-Stands place Manual end is = listed-from listed.Manual place [] Manual end is refl
-stanza_at-Stands place Respawn end is = listed-from listed.Respawn place [] Respawn end is refl
-stanza_at-Stands place (RespawnLimit limit) end is = listed-from listed.Respawn place (codes "limit" ∷ is.0) (RespawnLimit limit) end is.2 (ap (option_map RespawnLimit) is.1)
-stanza_at-Stands place (NormalExit exits) end is =
+pub stanza_at-StandsAt : (place : Place) (stanza : Stanza) (end : Place) → StandsAt place stanza end → stanza_at place ≡ Some (stanza, end)
+stanza_at-StandsAt place (About text) end is = about-from is.0 place text end is.1 is.2
+stanza_at-StandsAt place (Emits texts) end is = listed-from listed.Emits place texts (Emits texts) end is.1 (ap (option_map Emits) (filled-from texts is.0))
+stanza_at-StandsAt place (Env setting) end is = listed-from listed.Env place (is.0 ∷ []) (Env setting) end is.2 (ap (option_map Env) is.1)
+stanza_at-StandsAt place (Export keys) end is =
+    listed-from listed.Export place keys (Export keys) end is.2 (ap (option_map Export) (ap (option_and_then (each key_in)) (filled-from keys is.0) ∙ keys-from keys is.1))
+stanza_at-StandsAt place Task end is = listed-from listed.Task place [] Task end is refl
+stanza_at-StandsAt place Manual end is = listed-from listed.Manual place [] Manual end is refl
+stanza_at-StandsAt place Respawn end is = listed-from listed.Respawn place [] Respawn end is refl
+stanza_at-StandsAt place (RespawnLimit limit) end is = listed-from listed.Respawn place (codes "limit" ∷ is.0) (RespawnLimit limit) end is.2 (ap (option_map RespawnLimit) is.1)
+stanza_at-StandsAt place (NormalExit exits) end is =
     listed-from listed.Normal place (codes "exit" ∷ is.0) (NormalExit exits) end is.3
-    (ap (option_map NormalExit) (ap (option_and_then (each exit_of)) (filled-from is.0 is.1) ∙ each-from exit_of is.0 exits is.2))
-stanza_at-Stands place (KillTimeout seconds) end is = listed-from listed.Kill place (codes "timeout" ∷ is.0 ∷ []) (KillTimeout seconds) end is.2 (ap (option_map KillTimeout) is.1)
-stanza_at-Stands place (KillSignal signal) end is = listed-from listed.Kill place (codes "signal" ∷ is.0 ∷ []) (KillSignal signal) end is.2 (ap (option_map KillSignal) is.1)
-stanza_at-Stands place (ReloadSignal signal) end is = listed-from listed.Reload place (codes "signal" ∷ is.0 ∷ []) (ReloadSignal signal) end is.2 (ap (option_map ReloadSignal) is.1)
-stanza_at-Stands place (Instance text) end is = listed-from listed.Instance place (text ∷ []) (Instance text) end is.1 (rw is.0 refl)
-stanza_at-Stands place (Console kind) end is = listed-from listed.Console place (is.0 ∷ []) (Console kind) end is.2 (ap (option_map Console) is.1)
-stanza_at-Stands place (Chdir text) end is = listed-from listed.Chdir place (text ∷ []) (Chdir text) end is refl
-stanza_at-Stands place (Runs process.Main action) end (inl is) = said-from kind.Exec place is.next (Runs process.Main action) end is.first (ap (made (Runs process.Main)) (command_at-Exec place action end is))
-stanza_at-Stands place (Runs process.Main action) end (inr is) = said-from kind.Script place is.next (Runs process.Main action) end is.first (ap (made (Runs process.Main)) (script_at-Script place action end is))
-stanza_at-Stands place (Runs process.PreStart action) end is = run-from kind.PreStart process.PreStart place is.0 action end (λ p. refl) is.1 is.2
-stanza_at-Stands place (Runs process.PostStart action) end is = run-from kind.PostStart process.PostStart place is.0 action end (λ p. refl) is.1 is.2
-stanza_at-Stands place (Runs process.PreStop action) end is = run-from kind.PreStop process.PreStop place is.0 action end (λ p. refl) is.1 is.2
-stanza_at-Stands place (Runs process.PostStop action) end is = run-from kind.PostStop process.PostStop place is.0 action end (λ p. refl) is.1 is.2
-stanza_at-Stands place (StartOn tree) end is = said-from kind.Start place is.next (StartOn tree) end is.first (ap (made StartOn) (expression_by-On (codes "start") place tree end is))
-stanza_at-Stands place (StopOn tree) end is = said-from kind.Stop place is.next (StopOn tree) end is.first (ap (made StopOn) (expression_by-On (codes "stop") place tree end is))
+    (ap (option_map NormalExit) (ap (option_and_then (each exit_in)) (filled-from is.0 is.1) ∙ each-from exit_in is.0 exits is.2))
+stanza_at-StandsAt place (KillTimeout seconds) end is = listed-from listed.Kill place (codes "timeout" ∷ is.0 ∷ []) (KillTimeout seconds) end is.2 (ap (option_map KillTimeout) is.1)
+stanza_at-StandsAt place (KillSignal signal) end is = listed-from listed.Kill place (codes "signal" ∷ is.0 ∷ []) (KillSignal signal) end is.2 (ap (option_map KillSignal) is.1)
+stanza_at-StandsAt place (ReloadSignal signal) end is = listed-from listed.Reload place (codes "signal" ∷ is.0 ∷ []) (ReloadSignal signal) end is.2 (ap (option_map ReloadSignal) is.1)
+stanza_at-StandsAt place (Instance text) end is = listed-from listed.Instance place (text ∷ []) (Instance text) end is.1 (rw is.0 refl)
+stanza_at-StandsAt place (Console kind) end is = listed-from listed.Console place (is.0 ∷ []) (Console kind) end is.2 (ap (option_map Console) is.1)
+stanza_at-StandsAt place (Chdir text) end is = listed-from listed.Chdir place (text ∷ []) (Chdir text) end is refl
+stanza_at-StandsAt place (Runs process.Main action) end (inl is) = said-from kind.Exec place is.next (Runs process.Main action) end is.first (ap (made (Runs process.Main)) (command_at-Exec place action end is))
+stanza_at-StandsAt place (Runs process.Main action) end (inr is) = said-from kind.Script place is.next (Runs process.Main action) end is.first (ap (made (Runs process.Main)) (script_at-Script place action end is))
+stanza_at-StandsAt place (Runs process.PreStart action) end is = run-from kind.PreStart process.PreStart place is.0 action end (λ p. refl) is.1 is.2
+stanza_at-StandsAt place (Runs process.PostStart action) end is = run-from kind.PostStart process.PostStart place is.0 action end (λ p. refl) is.1 is.2
+stanza_at-StandsAt place (Runs process.PreStop action) end is = run-from kind.PreStop process.PreStop place is.0 action end (λ p. refl) is.1 is.2
+stanza_at-StandsAt place (Runs process.PostStop action) end is = run-from kind.PostStop process.PostStop place is.0 action end (λ p. refl) is.1 is.2
+stanza_at-StandsAt place (StartOn tree) end is = said-from kind.Start place is.next (StartOn tree) end is.first (ap (made StartOn) (expression_by-On (codes "start") place tree end is))
+stanza_at-StandsAt place (StopOn tree) end is = said-from kind.Stop place is.next (StopOn tree) end is.first (ap (made StopOn) (expression_by-On (codes "stop") place tree end is))
 
 -- a stanza begins with a token
 

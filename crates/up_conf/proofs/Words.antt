@@ -1,14 +1,7 @@
 -- The words of a text, one after another.
 use Rattle.std.proofs.Common.{◌≡◌, ℕ, ◌<◌, false, List, [], ◌∷◌, ◌++◌, length, sym, ap, ◌∙◌, arith, append_assoc, append-nil}
-use Rattle.std.proofs.lemmas.Bool.Decides.{nat_tests}
-use Rattle.up_text.specs.Lexer.{is_in_word, BeginsWord}
+use Rattle.up_text.specs.Lexer.{BeginsWord}
 use Rattle.up_text.specs.Scripts.{words_in}
-use Rattle.up_text.specs.Tokens.{is_blank}
-
--- behind a word that isn't one, only ASCII stands
-pub word-ascii : (byte : ℕ) → is_in_word byte ≡ false → byte < 128
-unfolding is_in_word is_blank
-word-ascii byte other = grind (arith, nat_tests)
 
 -- a word more
 pub words_more : (words : List (List ℕ)) (text word rest : List ℕ) → BeginsWord text word rest → 0 < length word → (words ++ word ∷ []) ++ words_in rest ≡ words ++ words_in text

@@ -10,12 +10,12 @@ unfoldable pub is_shell : ℕ → Bool
 is_shell byte = list_any (λ special. special == byte) (codes "~`!$^&*()=|\\{}[];\"'<>?")
 
 -- words to run, 65,535 at most
-abbrev pub command_of : List (List ℕ) → Option Action
-command_of words = if nat_le (length words) 65535 then Some (Words words) else None
+abbrev pub words_action : List (List ℕ) → Option Action
+words_action words = if nat_le (length words) 65535 then Some (Words words) else None
 
 -- what the text of a command says: words where it needs no shell
 unfoldable pub action_of : List ℕ → Option Action
 action_of text =
     if length text == 0 then None
     else (if list_any is_shell text then Some (Shell (codes "exec " ++ text))
-    else command_of (words_in text))
+    else words_action (words_in text))

@@ -7,7 +7,7 @@ use Rattle.up_conf.specs.declared.limit.Limit.{Limit}
 use Rattle.up_conf.specs.declared.stanza.Stanza.{Stanza}
 use Rattle.up_conf.specs.declared.stanza.Stanza.TheVariants.{About, Emits, Env, Export, Task, Manual, Respawn, RespawnLimit, NormalExit, KillTimeout, KillSignal, ReloadSignal, Instance, Console, Chdir}
 use Rattle.up_conf.specs.Numbers.{number_in}
-use Rattle.up_conf.specs.Settings.{key_of, setting_of, exit_of, instance_of, console_of}
+use Rattle.up_conf.specs.Settings.{key_in, setting_in, exit_in, expandable_in, console_in}
 use Rattle.up_conf.specs.Signals.{signal_in}
 
 -- one argument and no more
@@ -22,15 +22,15 @@ none x [] = Some x
 none x (text ∷ others) = None
 
 -- an item in front of others, where there are both
-abbrev pub both : {X : Type 0} → Option X → Option (List X) → Option (List X)
-both None others = None
-both (Some x) None = None
-both (Some x) (Some xs) = Some (x ∷ xs)
+abbrev pub with_first : {X : Type 0} → Option X → Option (List X) → Option (List X)
+with_first None others = None
+with_first (Some x) None = None
+with_first (Some x) (Some xs) = Some (x ∷ xs)
 
 -- what each argument says
 abbrev pub each : {X : Type 0} → (List ℕ → Option X) → List (List ℕ) → Option (List X)
 each f [] = Some []
-each f (text ∷ texts) = both (f text) (each f texts)
+each f (text ∷ texts) = with_first (f text) (each f texts)
 
 -- one or more arguments
 abbrev pub filled : List (List ℕ) → Option (List (List ℕ))
@@ -82,7 +82,7 @@ reload_of texts = option_map ReloadSignal (option_and_then (λ others. option_an
 
 -- `normal exit`
 abbrev pub normal_of : List (List ℕ) → Option Stanza
-normal_of texts = option_map NormalExit (option_and_then (some exit_of) (behind (codes "exit") texts))
+normal_of texts = option_map NormalExit (option_and_then (some exit_in) (behind (codes "exit") texts))
 
 -- what a stanza of this kind says with these arguments
 abbrev pub listed_of : Listed → List (List ℕ) → Option Stanza
@@ -91,14 +91,14 @@ listed_of listed.Author texts = option_map About (single texts)
 listed_of listed.Version texts = option_map About (single texts)
 listed_of listed.Usage texts = option_map About (single texts)
 listed_of listed.Emits texts = option_map Emits (filled texts)
-listed_of listed.Env texts = option_map Env (option_and_then setting_of (single texts))
-listed_of listed.Export texts = option_map Export (some key_of texts)
+listed_of listed.Env texts = option_map Env (option_and_then setting_in (single texts))
+listed_of listed.Export texts = option_map Export (some key_in texts)
 listed_of listed.Task texts = none Task texts
 listed_of listed.Manual texts = none Manual texts
 listed_of listed.Respawn texts = respawn_of texts
 listed_of listed.Normal texts = normal_of texts
 listed_of listed.Kill texts = kill_of texts
 listed_of listed.Reload texts = reload_of texts
-listed_of listed.Instance texts = option_map Instance (option_and_then instance_of (single texts))
-listed_of listed.Console texts = option_map Console (option_and_then console_of (single texts))
+listed_of listed.Instance texts = option_map Instance (option_and_then expandable_in (single texts))
+listed_of listed.Console texts = option_map Console (option_and_then console_in (single texts))
 listed_of listed.Chdir texts = option_map Chdir (single texts)

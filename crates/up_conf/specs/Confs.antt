@@ -8,8 +8,8 @@ use Rattle.up_conf.specs.declared.stanza.Stanza.TheVariants.{Env, Export}
 use Rattle.up_conf.specs.Stanzas.{Said, said_of}
 
 -- bytes that may be read: UTF-8 without the byte 0, 1 MiB at most
-unfoldable pub is_text : List ℕ → Bool
-is_text bytes = nat_le (length bytes) 1048576 && not (list_any (λ byte. byte == 0) bytes) && is_utf8 bytes
+unfoldable pub is_readable : List ℕ → Bool
+is_readable bytes = nat_le (length bytes) 1048576 && not (list_any (λ byte. byte == 0) bytes) && is_utf8 bytes
 
 -- how many keys a stanza sets
 abbrev pub keys_set : Stanza → ℕ
@@ -41,4 +41,4 @@ limited said = if has_few_keys said.0 then stanzas_unless said.0 said.1 else Err
 
 -- the stanzas of a file, or the line of the fault
 unfoldable pub conf_of : List ℕ → Result (List Stanza) ℕ
-conf_of bytes = if is_text bytes then limited (said_of (start bytes)) else Err 1
+conf_of bytes = if is_readable bytes then limited (said_of (start bytes)) else Err 1

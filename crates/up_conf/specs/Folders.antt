@@ -68,9 +68,13 @@ pub record Spot : Type 0 where
 unfoldable pub line_in : List ℕ → List ℕ → Option ℕ
 line_in path bytes = if is_misnamed (job_name path) then Some 1 else result_err (conf_of bytes)
 
+-- where a file is faulty, if it is read
+abbrev pub spot_in : File → Option Spot
+spot_in file = option_map (λ line. record { path = file.path; line = line }) (line_in file.path file.bytes)
+
 -- where a file of the folder is faulty
 abbrev pub spot_of_file : List File → File → Option Spot
-spot_of_file files file = if is_read files file.path then option_map (λ line. record { path = file.path; line = line }) (line_in file.path file.bytes) else None
+spot_of_file files file = if is_read files file.path then spot_in file else None
 
 -- where a folder is faulty, in byte order of paths
 unfoldable pub spots_of : List File → List Spot

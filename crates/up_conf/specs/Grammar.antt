@@ -18,9 +18,9 @@ use Rattle.up_conf.specs.declared.stanza.Stanza.{Stanza}
 use Rattle.up_conf.specs.declared.stanza.Stanza.TheVariants.{About, Emits, Env, Export, Task, Manual, Respawn, RespawnLimit, NormalExit, KillTimeout, KillSignal, ReloadSignal, Instance, Console, Chdir, Runs, StartOn, StopOn}
 use Rattle.up_conf.specs.Actions.{action_of}
 use Rattle.up_conf.specs.Arguments.{limit_of}
-use Rattle.up_conf.specs.Confs.{is_text, has_few_keys}
+use Rattle.up_conf.specs.Confs.{is_readable, has_few_keys}
 use Rattle.up_conf.specs.Numbers.{number_in}
-use Rattle.up_conf.specs.Settings.{setting_of, exit_of, console_of}
+use Rattle.up_conf.specs.Settings.{setting_in, exit_in, console_in}
 use Rattle.up_conf.specs.Signals.{signal_in}
 
 -- a token of this text stands at a place
@@ -89,33 +89,33 @@ pub data IsAbout : List ℕ → Type 0 where
   IsUsage : IsAbout (codes "usage")
 
 -- a stanza stands at a place, and this is the place behind it
-abbrev pub Stands : Place → Stanza → Place → Type 0
-Stands place (About text) behind = (word : List ℕ) × IsAbout word × IsListed word (text ∷ []) place behind
-Stands place (Emits texts) behind = (is_filled texts ≡ true) × IsListed (codes "emits") texts place behind
-Stands place (Env setting) behind = (text : List ℕ) × (setting_of text ≡ Some setting) × IsListed (codes "env") (text ∷ []) place behind
-Stands place (Export keys) behind = (is_filled keys ≡ true) × (list_all is_key keys ≡ true) × IsListed (codes "export") keys place behind
-Stands place Task behind = IsListed (codes "task") [] place behind
-Stands place Manual behind = IsListed (codes "manual") [] place behind
-Stands place Respawn behind = IsListed (codes "respawn") [] place behind
-Stands place (RespawnLimit limit) behind = (texts : List (List ℕ)) × (limit_of texts ≡ Some limit) × IsListed (codes "respawn") (codes "limit" ∷ texts) place behind
-Stands place (NormalExit exits) behind = (texts : List (List ℕ)) × (is_filled texts ≡ true) × (map exit_of texts ≡ map Some exits) × IsListed (codes "normal") (codes "exit" ∷ texts) place behind
-Stands place (KillTimeout seconds) behind = (text : List ℕ) × (number_in 0 2147483647 text ≡ Some seconds) × IsListed (codes "kill") (codes "timeout" ∷ text ∷ []) place behind
-Stands place (KillSignal signal) behind = (text : List ℕ) × (signal_in text ≡ Some signal) × IsListed (codes "kill") (codes "signal" ∷ text ∷ []) place behind
-Stands place (ReloadSignal signal) behind = (text : List ℕ) × (signal_in text ≡ Some signal) × IsListed (codes "reload") (codes "signal" ∷ text ∷ []) place behind
-Stands place (Instance text) behind = (is_expandable text ≡ true) × IsListed (codes "instance") (text ∷ []) place behind
-Stands place (Console kind) behind = (text : List ℕ) × (console_of text ≡ Some kind) × IsListed (codes "console") (text ∷ []) place behind
-Stands place (Chdir text) behind = IsListed (codes "chdir") (text ∷ []) place behind
-Stands place (Runs process action) behind = IsRun process action place behind
-Stands place (StartOn tree) behind = IsOn (codes "start") tree place behind
-Stands place (StopOn tree) behind = IsOn (codes "stop") tree place behind
+abbrev pub StandsAt : Place → Stanza → Place → Type 0
+StandsAt place (About text) behind = (word : List ℕ) × IsAbout word × IsListed word (text ∷ []) place behind
+StandsAt place (Emits texts) behind = (is_filled texts ≡ true) × IsListed (codes "emits") texts place behind
+StandsAt place (Env setting) behind = (text : List ℕ) × (setting_in text ≡ Some setting) × IsListed (codes "env") (text ∷ []) place behind
+StandsAt place (Export keys) behind = (is_filled keys ≡ true) × (list_all is_key keys ≡ true) × IsListed (codes "export") keys place behind
+StandsAt place Task behind = IsListed (codes "task") [] place behind
+StandsAt place Manual behind = IsListed (codes "manual") [] place behind
+StandsAt place Respawn behind = IsListed (codes "respawn") [] place behind
+StandsAt place (RespawnLimit limit) behind = (texts : List (List ℕ)) × (limit_of texts ≡ Some limit) × IsListed (codes "respawn") (codes "limit" ∷ texts) place behind
+StandsAt place (NormalExit exits) behind = (texts : List (List ℕ)) × (is_filled texts ≡ true) × (map exit_in texts ≡ map Some exits) × IsListed (codes "normal") (codes "exit" ∷ texts) place behind
+StandsAt place (KillTimeout seconds) behind = (text : List ℕ) × (number_in 0 2147483647 text ≡ Some seconds) × IsListed (codes "kill") (codes "timeout" ∷ text ∷ []) place behind
+StandsAt place (KillSignal signal) behind = (text : List ℕ) × (signal_in text ≡ Some signal) × IsListed (codes "kill") (codes "signal" ∷ text ∷ []) place behind
+StandsAt place (ReloadSignal signal) behind = (text : List ℕ) × (signal_in text ≡ Some signal) × IsListed (codes "reload") (codes "signal" ∷ text ∷ []) place behind
+StandsAt place (Instance text) behind = (is_expandable text ≡ true) × IsListed (codes "instance") (text ∷ []) place behind
+StandsAt place (Console kind) behind = (text : List ℕ) × (console_in text ≡ Some kind) × IsListed (codes "console") (text ∷ []) place behind
+StandsAt place (Chdir text) behind = IsListed (codes "chdir") (text ∷ []) place behind
+StandsAt place (Runs process action) behind = IsRun process action place behind
+StandsAt place (StartOn tree) behind = IsOn (codes "start") tree place behind
+StandsAt place (StopOn tree) behind = IsOn (codes "stop") tree place behind
 
 -- these stanzas, and no more, stand from a place on
 abbrev pub Written : Place → List Stanza → Type 0
 Written place [] = is_finished place ≡ true
-Written place (stanza ∷ stanzas) = (behind : Place) × Stands place stanza behind × Written behind stanzas
+Written place (stanza ∷ stanzas) = (behind : Place) × StandsAt place stanza behind × Written behind stanzas
 
 -- the bytes of a file write these stanzas
 pub record Conf (bytes : List ℕ) (stanzas : List Stanza) : Type 0 where
-  pub text : is_text bytes ≡ true
+  pub text : is_readable bytes ≡ true
   pub written : Written (start bytes) stanzas
   pub few : has_few_keys stanzas ≡ true

@@ -13,6 +13,7 @@ use Rattle.up_conf.specs.declared.setting.Setting.{Setting}
 use Rattle.up_conf.specs.declared.stanza.Console as consoles
 use Rattle.up_conf.specs.declared.stanza.Console.TheVariants as console
 use Rattle.up_conf.specs.declared.stanza.Stanza.{Stanza}
+use Rattle.up_conf.specs.Signals.{term}
 use Rattle.up_conf.specs.declared.stanza.Stanza.TheVariants.{Env, Export, Task, Manual, Respawn, RespawnLimit, NormalExit, KillTimeout, KillSignal, Instance, Console, Chdir, Runs, StartOn, StopOn}
 
 -- the last that stanzas say of something, or else this
@@ -35,8 +36,7 @@ respawn_in stanza = None
 
 abbrev pub is_silent : consoles.Console → Bool
 is_silent console.None = true
-is_silent console.Log = false
-is_silent console.Output = false
+is_silent other = false
 
 abbrev pub silent_in : Stanza → Option Bool
 silent_in (Console kind) = Some (is_silent kind)
@@ -117,8 +117,7 @@ export_with keys stanza = keys
 abbrev pub same_exit : Exit → Exit → Bool
 same_exit (exit.Status status) (exit.Status other) = status == other
 same_exit (exit.Signal signal) (exit.Signal other) = signal == other
-same_exit (exit.Status status) (exit.Signal other) = false
-same_exit (exit.Signal signal) (exit.Status other) = false
+same_exit status signal = false
 
 abbrev pub normal_with : List Exit → Stanza → List Exit
 normal_with exits (NormalExit others) = all_added same_exit exits others
@@ -158,7 +157,7 @@ plain_job name = record {
   instance = [];
   dir = [];
   limit = record { count = 10; interval = 5 };
-  kill_signal = 15;
+  kill_signal = term;
   kill_timeout = 5;
   env = [];
   export = [];

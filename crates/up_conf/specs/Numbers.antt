@@ -12,13 +12,13 @@ abbrev pub are_digits : List ℕ → Bool
 are_digits text = not (length text == 0) && list_all is_digit text
 
 -- the number that digits write, where it has 64 bits
-unfoldable pub value_of : List ℕ → Option ℕ
-value_of text = if are_digits text && nat_lt (digits_value 10 text) (2 ^ 64) then Some (digits_value 10 text) else None
+unfoldable pub decimal_of : List ℕ → Option ℕ
+decimal_of text = if are_digits text && nat_lt (digits_value 10 text) (2 ^ 64) then Some (digits_value 10 text) else None
 
 -- a number from `low` to `high`
-abbrev pub within : ℕ → ℕ → ℕ → Option ℕ
-within low high number = if nat_le low number && nat_le number high then Some number else None
+abbrev pub bounded : ℕ → ℕ → ℕ → Option ℕ
+bounded low high number = if nat_le low number && nat_le number high then Some number else None
 
 -- the number that a text writes, from `low` to `high`
 unfoldable pub number_in : ℕ → ℕ → List ℕ → Option ℕ
-number_in low high text = option_and_then (within low high) (value_of text)
+number_in low high text = option_and_then (bounded low high) (decimal_of text)

@@ -4,11 +4,7 @@ use Rattle.std.specs.List.{list_all}
 use Rattle.up_conf.specs.declared.folder.File.{File}
 use Rattle.up_conf.specs.declared.report.Fault.{Fault}
 use Rattle.up_conf.specs.FaultCodes.{number_of}
-use Rattle.up_conf.specs.Folders.{Spot, line_in, spot_of}
-
--- where a file is faulty, if it is read
-abbrev pub spot_in : File → Option Spot
-spot_in file = option_map (λ line. record { path = file.path; line = line }) (line_in file.path file.bytes)
+use Rattle.up_conf.specs.Folders.{Spot, spot_of}
 
 -- the fault at this place, with a code from 1 to 16, or none
 abbrev pub IsFault : Option Spot → Option Fault → Type 0

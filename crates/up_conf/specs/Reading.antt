@@ -13,9 +13,9 @@ use Rattle.up_conf.specs.declared.stanza.Stanza.{Stanza}
 use Rattle.up_conf.specs.Stanzas.{Found, Said, expression_by}
 
 -- items that were read, and those behind them
-abbrev pub before : {X : Type 0} → List X → Option (List X) → Option (List X)
-before xs None = None
-before xs (Some others) = Some (xs ++ others)
+abbrev pub items_before : {X : Type 0} → List X → Option (List X) → Option (List X)
+items_before xs None = None
+items_before xs (Some others) = Some (xs ++ others)
 
 -- and the place behind them all
 abbrev pub put_before : {X : Type 0} → List X → Found (List X) → Found (List X)

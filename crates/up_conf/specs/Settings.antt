@@ -14,28 +14,28 @@ use Rattle.up_conf.specs.Numbers.{are_digits, number_in}
 use Rattle.up_conf.specs.Signals.{signal_named}
 
 -- a key
-abbrev pub key_of : List ℕ → Option (List ℕ)
-key_of text = if is_key text then Some text else None
+abbrev pub key_in : List ℕ → Option (List ℕ)
+key_in text = if is_key text then Some text else None
 
 -- a key with a value, or without one
 abbrev pub keyed : List ℕ → Option (List ℕ) → Option Setting
 keyed key value = if is_key key then Some (record { key = key; value = value }) else None
 
 -- KEY=VALUE or KEY
-unfoldable pub setting_of : List ℕ → Option Setting
-setting_of text = if has_equals text then keyed (before_first is_equals text) (Some (after_first is_equals text)) else keyed text None
+unfoldable pub setting_in : List ℕ → Option Setting
+setting_in text = if has_equals text then keyed (before_first is_equals text) (Some (after_first is_equals text)) else keyed text None
 
 -- a status from 0 to 255, or the name of a signal
-abbrev pub exit_of : List ℕ → Option Exit
-exit_of text = if are_digits text then option_map exit.Status (number_in 0 255 text) else option_map exit.Signal (signal_named text)
+abbrev pub exit_in : List ℕ → Option Exit
+exit_in text = if are_digits text then option_map exit.Status (number_in 0 255 text) else option_map exit.Signal (signal_named text)
 
 -- the name of an instance: a good expansion
-abbrev pub instance_of : List ℕ → Option (List ℕ)
-instance_of text = if is_expandable text then Some text else None
+abbrev pub expandable_in : List ℕ → Option (List ℕ)
+expandable_in text = if is_expandable text then Some text else None
 
 -- where output goes
-abbrev pub console_of : List ℕ → Option Console
-console_of text =
+abbrev pub console_in : List ℕ → Option Console
+console_in text =
     if bytes_eq text (codes "none") then Some console.None
     else (if bytes_eq text (codes "log") then Some console.Log
     else (if bytes_eq text (codes "output") then Some console.Output

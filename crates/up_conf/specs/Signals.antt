@@ -11,6 +11,10 @@ names =
     ∷ codes "USR2" ∷ codes "PIPE" ∷ codes "ALRM" ∷ codes "TERM" ∷ codes "STKFLT" ∷ codes "CHLD" ∷ codes "CONT" ∷ codes "STOP" ∷ codes "TSTP" ∷ codes "TTIN" ∷ codes "TTOU"
     ∷ codes "URG" ∷ codes "XCPU" ∷ codes "XFSZ" ∷ codes "VTALRM" ∷ codes "PROF" ∷ codes "WINCH" ∷ codes "IO" ∷ codes "PWR" ∷ codes "SYS" ∷ []
 
+-- TERM
+abbrev pub term : ℕ
+term = 15
+
 -- the number of a signal
 abbrev pub is_signal : ℕ → Bool
 is_signal number = nat_le 1 number && nat_le number 31

@@ -41,13 +41,13 @@ unswitched None = None
 unswitched (Some found) = Some (found.0, switched false found.1)
 
 -- the expression that tokens write
-abbrev pub tree_in : List Token → Option Tree
-tree_in tokens = if nat_le (operators tokens) 2047 then outcome tokens begin else None
+abbrev pub expression_in : List Token → Option Tree
+expression_in tokens = if nat_le (operators tokens) 2047 then outcome tokens begin else None
 
 -- the expression behind the token `on`, where parentheses are tokens
 abbrev pub expression_by : Reading → Found Tree
 expression_by (Got token behind) =
-    if bytes_eq token.text (codes "on") then unswitched (found_by tree_in (row_of (switched true behind))) else None
+    if bytes_eq token.text (codes "on") then unswitched (found_by expression_in (row_of (switched true behind))) else None
 expression_by (Ended behind) = None
 expression_by (Fails fault) = None
 
@@ -56,15 +56,15 @@ abbrev pub texts_at : Place → Found (List (List ℕ))
 texts_at place = made (λ tokens. map (λ token. token.text) tokens) (row_of place)
 
 -- a part with the end of its stanza behind it
-abbrev pub ended : {X : Type 0} → Option X → Reading → Found X
-ended None read = None
-ended (Some x) (Ended behind) = Some (x, behind)
-ended (Some x) (Got token behind) = None
-ended (Some x) (Fails fault) = None
+abbrev pub with_end : {X : Type 0} → Option X → Reading → Found X
+with_end None read = None
+with_end (Some x) (Ended behind) = Some (x, behind)
+with_end (Some x) (Got token behind) = None
+with_end (Some x) (Fails fault) = None
 
 -- the command whose text goes up to the stanza's end, where the text is whole
 abbrev pub command_by : Place → Option TextFault → Found Action
-command_by place None = ended (action_of (command_in (row_at place))) (reading (passing (length (row_at place)) place))
+command_by place None = with_end (action_of (command_in (row_at place))) (reading (passing (length (row_at place)) place))
 command_by place (Some fault) = None
 
 abbrev pub command_at : Place → Found Action

@@ -4,7 +4,7 @@ ghost use Rattle.std.specs.List.{before_first, after_first};
 ghost use Rattle.std.specs.Result.{result_ok};
 ghost use Rattle.up_expr.specs.Values.{is_equals, has_equals};
 ghost use Rattle.up_conf.specs.declared.exit.Exit.TheVariants as exit;
-ghost use Rattle.up_conf.specs.Settings.{key_of, keyed, setting_of, exit_of, instance_of, console_of};
+ghost use Rattle.up_conf.specs.Settings.{key_in, keyed, setting_in, exit_in, expandable_in, console_in};
 ghost use Rattle.up_conf.specs.Numbers.{number_in};
 ghost use Rattle.up_conf.specs.Signals.{signal_in};
 
@@ -20,7 +20,7 @@ use up_text::{Text, is_expandable};
 
 /// The key that a text is.
 pub(crate) fn read_key(alloc: Global, text: &str) -> Result<Result<Text, FaultCode>, AllocError>
-    ensures { IfOk result (λ read. result_ok read ≡ key_of text.now) }
+    ensures { IfOk result (λ read. result_ok read ≡ key_in text.now) }
 {
     if !is_key(text) {
         return Ok(Err(FaultCode::BadName));
@@ -51,12 +51,12 @@ fn keyed(
 }
 
 /// The setting KEY=VALUE or KEY that a text says.
-#[tactic(auto, unfolding(crate::specs::Settings::setting_of))]
+#[tactic(auto, unfolding(crate::specs::Settings::setting_in))]
 pub(crate) fn read_setting(
     alloc: Global,
     text: &str,
 ) -> Result<Result<Setting, FaultCode>, AllocError>
-    ensures { IfOk result (λ read. result_ok read ≡ setting_of text.now) }
+    ensures { IfOk result (λ read. result_ok read ≡ setting_in text.now) }
 {
     match split_setting(text) {
         Some((key, value)) => {
@@ -79,7 +79,7 @@ fn read_status(text: &str) -> Result<Exit, FaultCode>
 
 /// The normal exit that a text says: a status, or the name of a signal.
 pub(crate) fn read_exit(text: &str) -> Result<Exit, FaultCode>
-    ensures { result_ok result ≡ exit_of text.now }
+    ensures { result_ok result ≡ exit_in text.now }
 {
     if are_digits(text) {
         return read_status(text);
@@ -115,7 +115,7 @@ pub(crate) fn read_instance(
     alloc: Global,
     text: &str,
 ) -> Result<Result<Text, FaultCode>, AllocError>
-    ensures { IfOk result (λ read. result_ok read ≡ instance_of text.now) }
+    ensures { IfOk result (λ read. result_ok read ≡ expandable_in text.now) }
 {
     if !is_expandable(text) {
         return Ok(Err(FaultCode::BadExpansion));
@@ -135,7 +135,7 @@ fn no_console(text: &str) -> FaultCode {
 
 /// Where a text says that output goes.
 pub(crate) fn read_console(text: &str) -> Result<Console, FaultCode>
-    ensures { result_ok result ≡ console_of text.now }
+    ensures { result_ok result ≡ console_in text.now }
 {
     match text {
         "none" => Ok(Console::None),

@@ -1,17 +1,15 @@
 //! Reads what a command's text says.
 ghost use Rattle.std.specs.Prelude.{◌≡◌, ◌<◌, ◌++◌, IfOk, MatchResult, OnOk, length, codes};
-ghost use Rattle.std.specs.List.{list_any, prefix_len};
+ghost use Rattle.std.specs.List.{list_any};
 ghost use Rattle.std.specs.Result.{result_ok};
-ghost use Rattle.up_text.specs.Lexer.{is_in_word, BeginsWord};
 ghost use Rattle.up_text.specs.Scripts.{words_in};
-ghost use Rattle.up_text.specs.Tokens.{is_blank};
-ghost use Rattle.up_conf.specs.Actions.{is_shell, command_of, action_of};
+ghost use Rattle.up_conf.specs.Actions.{is_shell, words_action, action_of};
 ghost use Rattle.up_conf.specs.declared.action.Action.TheVariants.{Shell};
 
 use crate::action::Action;
 use crate::fault::FaultCode;
 use std::alloc::{AllocError, Global};
-use up_text::{Items, Text};
+use up_text::{Items, Text, next_word};
 
 /// The most words that a command has.
 const MAX_WORDS: usize = 65_535;
@@ -52,43 +50,6 @@ fn has_shell(bytes: &[u8]) -> bool
     bytes.iter().any(|byte| is_shell(*byte))
 }
 
-#[tactic(auto, unfolding(up_text::specs::Tokens::is_blank))]
-fn is_blank(byte: u8) -> bool
-    ensures { result ≡ is_blank byte }
-{
-    byte == b' ' || byte == b'\t'
-}
-
-#[tactic(auto, unfolding(up_text::specs::Lexer::is_in_word))]
-fn is_in_word(byte: u8) -> bool
-    ensures { result ≡ is_in_word byte }
-{
-    !is_blank(byte)
-}
-
-// How many blanks the bytes begin with.
-fn blanks_len(bytes: &[u8]) -> usize
-    ensures { result ≡ prefix_len is_blank bytes.now }
-{
-    bytes.iter().take_while(|byte| is_blank(**byte)).count()
-}
-
-// How many bytes of a word the bytes begin with.
-fn word_len(bytes: &[u8]) -> usize
-    ensures { result ≡ prefix_len is_in_word bytes.now }
-{
-    bytes.iter().take_while(|byte| is_in_word(**byte)).count()
-}
-
-// The first word, or nothing where there is none, and what stands behind it.
-fn next_word(text: &str) -> (&str, &str)
-    ensures begins { BeginsWord text.now result.0.now result.1.now }
-    ensures shorter { 0 < length result.0.now → length result.1.now < length text.now }
-{
-    let (_, words) = text.split_at(blanks_len(text.as_bytes()));
-    words.split_at(word_len(words.as_bytes()))
-}
-
 // The words of a text, as blanks separate them.
 #[tactic(auto, using(crate::proofs::Words::words_more, crate::proofs::Words::words_end))]
 fn split_words(alloc: Global, text: &str) -> Result<Items<Text>, AllocError>
@@ -109,7 +70,7 @@ fn split_words(alloc: Global, text: &str) -> Result<Items<Text>, AllocError>
 
 // A command of these words.
 fn as_command(words: Items<Text>) -> Result<Action, FaultCode>
-    ensures { result_ok result ≡ command_of words }
+    ensures { result_ok result ≡ words_action words }
 {
     if words.as_slice().len() > MAX_WORDS {
         return Err(FaultCode::TooLarge);

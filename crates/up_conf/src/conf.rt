@@ -3,7 +3,7 @@ ghost use Rattle.std.specs.Prelude.{◌≡◌, ◌≤◌, ◌⊎◌, IfErr, IfOk
 ghost use Rattle.std.specs.Str.{is_utf8};
 ghost use Rattle.up_text.specs.Places.{start};
 ghost use Rattle.up_conf.specs.declared.fault.FaultCode.TheVariants.{Memory};
-ghost use Rattle.up_conf.specs.Confs.{conf_of, has_few_keys, is_text, keys_exported, keys_set, limited, total};
+ghost use Rattle.up_conf.specs.Confs.{conf_of, has_few_keys, is_readable, keys_exported, keys_set, limited, total};
 ghost use Rattle.up_conf.specs.declared.stanza.Stanza.{Stanza};
 ghost use Rattle.up_conf.specs.Grammar.{Conf};
 ghost use Rattle.up_conf.specs.Reading.{IsConf};
@@ -112,9 +112,9 @@ fn as_text(bytes: &[u8]) -> Option<&str>
 }
 
 // The text of a file's bytes, where they may be read.
-#[tactic(auto, unfolding(crate::specs::Confs::is_text))]
+#[tactic(auto, unfolding(crate::specs::Confs::is_readable))]
 fn text_of(bytes: &[u8]) -> Result<&str, FaultCode>
-    ensures test { MatchResult result (λ text. is_text bytes.now ≡ true) (λ code. is_text bytes.now ≡ false) }
+    ensures test { MatchResult result (λ text. is_readable bytes.now ≡ true) (λ code. is_readable bytes.now ≡ false) }
     ensures same { IfOk result (λ text. text.now ≡ bytes.now) }
     ensures short { IfOk result (λ text. length text.now ≤ 1048576) }
 {

@@ -5,7 +5,7 @@ ghost use Rattle.up_text.specs.Places.{reading, switched};
 ghost use Rattle.up_text.specs.Rows.{row_of};
 ghost use Rattle.up_expr.specs.declared.fault.ExprFault.TheVariants.{Memory};
 ghost use Rattle.up_conf.specs.Reading.{IsFound, HasOn};
-ghost use Rattle.up_conf.specs.Stanzas.{expression_by, found_by, tree_in, unswitched};
+ghost use Rattle.up_conf.specs.Stanzas.{expression_by, found_by, expression_in, unswitched};
 
 use crate::fault::FaultCode;
 use crate::row::{Next, next_token, read_row};
@@ -51,7 +51,7 @@ fn is_memory(fault: ExprFault) -> bool
 
 // The expression that the tokens write.
 fn parse(alloc: Global, tokens: &[Token]) -> Result<Result<Condition, FaultCode>, AllocError>
-    ensures { IfOk result (λ tree. result_ok tree ≡ tree_in tokens.now) }
+    ensures { IfOk result (λ tree. result_ok tree ≡ expression_in tokens.now) }
 {
     match parse_expr(alloc, tokens) {
         Ok(tree) => Ok(Ok(tree)),
@@ -66,7 +66,7 @@ fn parse(alloc: Global, tokens: &[Token]) -> Result<Result<Condition, FaultCode>
 
 // The expression up to the stanza's end, where parentheses are tokens.
 fn read_tree(alloc: Global, lexer: &mut Lexer) -> Result<Result<Condition, FaultCode>, AllocError>
-    ensures { IfOk result (λ tree. IsFound (unswitched (found_by tree_in (row_of (switched true lexer.old)))) tree lexer.new) }
+    ensures { IfOk result (λ tree. IsFound (unswitched (found_by expression_in (row_of (switched true lexer.old)))) tree lexer.new) }
 {
     lexer.parens(true);
     match read_row(alloc, lexer)? {

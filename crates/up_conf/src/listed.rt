@@ -3,7 +3,7 @@ ghost use Rattle.std.specs.Prelude.{◌≡◌, IfOk, option_map, option_and_then
 ghost use Rattle.std.specs.Result.{result_ok};
 ghost use Rattle.up_conf.specs.Arguments.{single, none, each, filled, some, behind, unlimited, limit_by, limit_of, respawn_of, kill_of, reload_of, normal_of, listed_of};
 ghost use Rattle.up_conf.specs.Numbers.{number_in};
-ghost use Rattle.up_conf.specs.Settings.{key_of, setting_of, exit_of, instance_of, console_of};
+ghost use Rattle.up_conf.specs.Settings.{key_in, setting_in, exit_in, expandable_in, console_in};
 ghost use Rattle.up_conf.specs.Signals.{signal_in};
 ghost use Rattle.up_conf.specs.declared.stanza.Stanza.TheVariants.{About, Emits, Env, Export, Instance, Chdir, Console, RespawnLimit, KillTimeout, KillSignal};
 
@@ -84,7 +84,7 @@ fn read_each_key(
     alloc: Global,
     texts: &[Text],
 ) -> Result<Result<Items<Text>, FaultCode>, AllocError>
-    ensures { IfOk result (λ read. result_ok read ≡ each key_of texts.now) }
+    ensures { IfOk result (λ read. result_ok read ≡ each key_in texts.now) }
 {
     let mut keys: Vec<Text> = Vec::new(alloc);
     for text in texts {
@@ -101,7 +101,7 @@ fn read_each_exit(
     alloc: Global,
     texts: &[Text],
 ) -> Result<Result<Items<Exit>, FaultCode>, AllocError>
-    ensures { IfOk result (λ read. result_ok read ≡ each exit_of texts.now) }
+    ensures { IfOk result (λ read. result_ok read ≡ each exit_in texts.now) }
 {
     let mut exits: Vec<Exit> = Vec::new(alloc);
     for text in texts {
@@ -115,7 +115,7 @@ fn read_each_exit(
 
 // One or more keys.
 fn read_keys(alloc: Global, texts: &[Text]) -> Result<Result<Items<Text>, FaultCode>, AllocError>
-    ensures { IfOk result (λ read. result_ok read ≡ some key_of texts.now) }
+    ensures { IfOk result (λ read. result_ok read ≡ some key_in texts.now) }
 {
     if texts.is_empty() {
         return Ok(Err(FaultCode::ExpectedToken));
@@ -125,7 +125,7 @@ fn read_keys(alloc: Global, texts: &[Text]) -> Result<Result<Items<Text>, FaultC
 
 // One or more normal exits.
 fn read_exits(alloc: Global, texts: &[Text]) -> Result<Result<Items<Exit>, FaultCode>, AllocError>
-    ensures { IfOk result (λ read. result_ok read ≡ some exit_of texts.now) }
+    ensures { IfOk result (λ read. result_ok read ≡ some exit_in texts.now) }
 {
     if texts.is_empty() {
         return Ok(Err(FaultCode::ExpectedToken));
@@ -295,7 +295,7 @@ fn read_about(texts: &[Text]) -> Result<Result<Stanza, FaultCode>, AllocError>
 
 // One setting.
 fn read_env(alloc: Global, texts: &[Text]) -> Result<Result<Stanza, FaultCode>, AllocError>
-    ensures { IfOk result (λ read. result_ok read ≡ option_map Env (option_and_then setting_of (single texts.now))) }
+    ensures { IfOk result (λ read. result_ok read ≡ option_map Env (option_and_then setting_in (single texts.now))) }
 {
     match single(texts) {
         Ok(text) => match read_setting(alloc, text.as_str())? {
@@ -308,7 +308,7 @@ fn read_env(alloc: Global, texts: &[Text]) -> Result<Result<Stanza, FaultCode>, 
 
 // Keys that are exported.
 fn read_export(alloc: Global, texts: &[Text]) -> Result<Result<Stanza, FaultCode>, AllocError>
-    ensures { IfOk result (λ read. result_ok read ≡ option_map Export (some key_of texts.now)) }
+    ensures { IfOk result (λ read. result_ok read ≡ option_map Export (some key_in texts.now)) }
 {
     match read_keys(alloc, texts)? {
         Ok(keys) => Ok(Ok(Stanza::Export(keys))),
@@ -321,7 +321,7 @@ fn read_instance_name(
     alloc: Global,
     texts: &[Text],
 ) -> Result<Result<Stanza, FaultCode>, AllocError>
-    ensures { IfOk result (λ read. result_ok read ≡ option_map Instance (option_and_then instance_of (single texts.now))) }
+    ensures { IfOk result (λ read. result_ok read ≡ option_map Instance (option_and_then expandable_in (single texts.now))) }
 {
     match single(texts) {
         Ok(text) => match read_instance(alloc, text.as_str())? {
@@ -348,7 +348,7 @@ fn no_output(texts: &[Text], code: FaultCode) -> FaultCode {
 
 // Where output goes.
 fn read_console_name(texts: &[Text]) -> Result<Stanza, FaultCode>
-    ensures { result_ok result ≡ option_map Console (option_and_then console_of (single texts.now)) }
+    ensures { result_ok result ≡ option_map Console (option_and_then console_in (single texts.now)) }
 {
     match single(texts) {
         Ok(text) => match read_console(text.as_str()) {

@@ -1,7 +1,7 @@
 //! Decimal numbers.
 ghost use Rattle.std.specs.Prelude.{◌≡◌, ◌≤◌, IfSome};
 ghost use Rattle.std.specs.List.{list_all};
-ghost use Rattle.up_conf.specs.Numbers.{is_digit, are_digits, value_of, number_in};
+ghost use Rattle.up_conf.specs.Numbers.{is_digit, are_digits, decimal_of, number_in};
 
 #[tactic(auto, unfolding(crate::specs::Numbers::is_digit))]
 fn is_digit(byte: u8) -> bool
@@ -25,7 +25,7 @@ pub(crate) fn are_digits(text: &str) -> bool
 
 // The number that digits write, where it has 64 bits.
 fn value_of(text: &str) -> Option<u64>
-    ensures { result ≡ value_of text.now }
+    ensures { result ≡ decimal_of text.now }
 {
     if !are_digits(text) {
         return None;

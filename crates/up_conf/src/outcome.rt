@@ -2,9 +2,9 @@
 ghost use Rattle.std.specs.Prelude.{◌≡◌, ◌++◌, [], IfOk, None, Some, option_map, option_and_then, option_copied, if◌then◌else◌, string_bytes};
 ghost use Rattle.std.specs.Result.{result_ok, result_err};
 ghost use Rattle.up_text.specs.Names.{is_name};
-ghost use Rattle.up_conf.specs.Folders.{bytes_at, has_conf, job_name, overridden_name, override_of, job_in, job_of_file, spot_of_file};
+ghost use Rattle.up_conf.specs.Folders.{bytes_at, has_conf, job_name, overridden_name, override_of, job_in, job_of_file, spot_in, spot_of_file};
 ghost use Rattle.up_conf.specs.Jobs.{job_of};
-ghost use Rattle.up_conf.specs.Outcomes.{IsFault, spot_in};
+ghost use Rattle.up_conf.specs.Outcomes.{IsFault};
 
 use crate::conf::read_bytes;
 use crate::fault::{ConfFault, FaultCode};

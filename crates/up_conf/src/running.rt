@@ -4,7 +4,7 @@ ghost use Rattle.up_text.specs.Places.{reading};
 ghost use Rattle.up_text.specs.Scripts.{lines_of, script_in};
 ghost use Rattle.up_conf.specs.declared.stanza.Stanza.TheVariants.{Runs};
 ghost use Rattle.up_conf.specs.Reading.{IsFound};
-ghost use Rattle.up_conf.specs.Stanzas.{action_at, command_at, ended, made, script_at, script_of};
+ghost use Rattle.up_conf.specs.Stanzas.{action_at, command_at, with_end, made, script_at, script_of};
 
 use crate::action::Action;
 use crate::command::read_command;
@@ -21,7 +21,7 @@ fn read_end(
     action: Action,
     lexer: &mut Lexer,
 ) -> Result<Result<Action, FaultCode>, AllocError>
-    ensures { IfOk result (λ read. IsFound (ended (Some action) (reading lexer.old)) read lexer.new) }
+    ensures { IfOk result (λ read. IsFound (with_end (Some action) (reading lexer.old)) read lexer.new) }
 {
     match next_token(alloc, lexer)? {
         Next::Token(_) => Ok(Err(FaultCode::UnexpectedToken)),

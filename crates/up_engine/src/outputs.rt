@@ -73,7 +73,7 @@ fn shell_words(alloc: Global, text: &Text) -> Result<Items<Text>, AllocError>
 
 // The words that run an action.
 fn words_of(alloc: Global, action: &Action) -> Result<Items<Text>, AllocError>
-    ensures { IfOk result (λ words. words ≡ model.words_of action.now) }
+    ensures { IfOk result (λ words. words ≡ model.argv_of action.now) }
 {
     match action {
         Action::Words(words) => copy_of(alloc, words.as_slice()),

@@ -16,10 +16,10 @@ pattern_of (Lacks key) = None
 pattern_of Malformed = None
 
 -- whether a variable, where there is one, matches a pattern; without a pattern nothing does
-abbrev pub fits : Option (List ℕ) → Option (List ℕ) → Bool
-fits None found = false
-fits (Some pattern) None = false
-fits (Some pattern) (Some value) = glob pattern value
+abbrev pub meets : Option (List ℕ) → Option (List ℕ) → Bool
+meets None found = false
+meets (Some pattern) None = false
+meets (Some pattern) (Some value) = glob pattern value
 
 -- whether there is no variable, or its value doesn't match the pattern; without a pattern this fails too
 abbrev pub misses : Option (List ℕ) → Option (List ℕ) → Bool
@@ -33,8 +33,8 @@ nth_value k vars = option_map (λ pair. pair.1) (slice_get vars k)
 
 -- whether the test at a place holds, by an event's variables and the environment that its value expands by
 abbrev pub test_holds : List (List ℕ × List ℕ) → List (List ℕ × List ℕ) → ℕ → Test → Bool
-test_holds vars env k (Place value) = fits (pattern_of (expand value env)) (nth_value k vars)
-test_holds vars env k (Same key value) = fits (pattern_of (expand value env)) (value_of key vars)
+test_holds vars env k (Place value) = meets (pattern_of (expand value env)) (nth_value k vars)
+test_holds vars env k (Same key value) = meets (pattern_of (expand value env)) (value_of key vars)
 test_holds vars env k (Differs key value) = misses (pattern_of (expand value env)) (value_of key vars)
 
 -- whether all of these tests hold, the first of which stands at this place

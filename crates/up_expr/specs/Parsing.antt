@@ -83,8 +83,3 @@ begin = at [] None Before
 abbrev pub operators : List Token → ℕ
 operators [] = 0
 operators (token ∷ tokens) = if is_operator token then operators tokens + 1 else operators tokens
-
--- tokens whose first one passes
-abbrev pub begins : (Token → Bool) → List Token → Bool
-begins passes [] = false
-begins passes (token ∷ tokens) = passes token

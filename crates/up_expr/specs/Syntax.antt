@@ -22,9 +22,8 @@ tokens_of (Joined left operator right) = tokens_of left ++ operator ∷ tokens_o
 
 -- what may stand behind an operator: a leaf, or an expression in parentheses
 abbrev pub is_item : Syntax → Bool
-is_item (Bare tokens) = true
-is_item (Group opening inner closing) = true
 is_item (Joined left operator right) = false
+is_item other = true
 
 -- each part is what it stands for
 abbrev pub is_right : Syntax → Bool

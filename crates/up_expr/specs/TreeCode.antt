@@ -13,15 +13,16 @@ nodes (One leaf) = inl leaf ∷ []
 nodes (Both left right) = nodes left ++ (nodes right ++ inr true ∷ [])
 nodes (Either left right) = nodes left ++ (nodes right ++ inr false ∷ [])
 
-abbrev pub joined : Bool → Tree → Tree → Tree
-joined true left right = Both left right
-joined false left right = Either left right
+-- both of two, or either of two
+abbrev pub node : Bool → Tree → Tree → Tree
+node true left right = Both left right
+node false left right = Either left right
 
 -- the trees that nodes make of those so far, the newest first
 abbrev pub grown : List (Leaf ⊎ Bool) → List Tree → List Tree
 grown [] trees = trees
 grown (inl leaf ∷ later) trees = grown later (One leaf ∷ trees)
-grown (inr both ∷ later) (right ∷ left ∷ trees) = grown later (joined both left right ∷ trees)
+grown (inr both ∷ later) (right ∷ left ∷ trees) = grown later (node both left right ∷ trees)
 grown (inr both ∷ later) [] = grown later []
 grown (inr both ∷ later) (one ∷ []) = grown later (one ∷ [])
 

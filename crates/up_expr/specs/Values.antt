@@ -67,8 +67,7 @@ is_good (Differs key value) = is_good_value value
 
 abbrev pub is_positional : Test → Bool
 is_positional (Place value) = true
-is_positional (Same key value) = false
-is_positional (Differs key value) = false
+is_positional keyed = false
 
 -- no positional value stands behind a keyed one
 abbrev pub is_ordered : List Test → Bool

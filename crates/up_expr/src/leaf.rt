@@ -3,7 +3,7 @@ ghost use Rattle.std.specs.Prelude.{◌≡◌, IfOk, OnErr, Err, option_map};
 ghost use Rattle.up_text.specs.Bindings.{value_of};
 ghost use Rattle.up_text.specs.Expansion.{expand};
 ghost use Rattle.up_expr.specs.declared.fault.ExprFault.TheVariants.{Memory};
-ghost use Rattle.up_expr.specs.Matching.{pattern_of, fits, misses, nth_value, test_holds, tests_hold, matches};
+ghost use Rattle.up_expr.specs.Matching.{pattern_of, meets, misses, nth_value, test_holds, tests_hold, matches};
 
 use crate::expr::{Leaf, Test};
 use crate::fault::ExprFault;
@@ -30,8 +30,8 @@ fn pattern_of(alloc: Global, value: &Text, env: &Env) -> Result<Option<Text>, Ex
 }
 
 // Whether a variable, where there is one, matches the pattern.
-fn fits(pattern: &Option<Text>, found: Option<&str>) -> bool
-    ensures { result ≡ fits pattern.now (option_map (λ value. value.now) found.entry) }
+fn meets(pattern: &Option<Text>, found: Option<&str>) -> bool
+    ensures { result ≡ meets pattern.now (option_map (λ value. value.now) found.entry) }
 {
     match pattern {
         Some(pattern) => match found {
@@ -81,11 +81,11 @@ fn test_holds(
     match test {
         Test::Place(value) => {
             let pattern = pattern_of(alloc, value, env)?;
-            Ok(fits(&pattern, nth_value(vars, k)))
+            Ok(meets(&pattern, nth_value(vars, k)))
         }
         Test::Same(key, value) => {
             let pattern = pattern_of(alloc, value, env)?;
-            Ok(fits(&pattern, vars.get(key.as_str())))
+            Ok(meets(&pattern, vars.get(key.as_str())))
         }
         Test::Differs(key, value) => {
             let pattern = pattern_of(alloc, value, env)?;

@@ -1,6 +1,7 @@
 //! Reads an expression from its tokens.
 ghost use Rattle.std.specs.Prelude.{◌≡◌, ◌⊎◌, ◌≤◌, ◌<◌, ◌+◌, ◌∷◌, List, ℕ, Err, Some, None, IfOk, OnErr, MatchOption, true, false, length, drop};
-ghost use Rattle.up_expr.specs.Parsing.{Pending, at, Before, Behind, outcome, operators, begins, begin};
+ghost use Rattle.up_expr.specs.Parsing.{Pending, at, Before, Behind, outcome, operators, begin};
+ghost use Rattle.up_text.specs.Tokens.{begins};
 ghost use Rattle.up_expr.specs.Syntax.{Writes};
 ghost use Rattle.up_expr.specs.Trees.{Tree};
 ghost use Rattle.up_expr.specs.Values as values;
@@ -56,16 +57,7 @@ fn read_operand(alloc: Global, tokens: &[Token]) -> Result<(Condition, &[Token])
 fn behind_open(tokens: &[Token]) -> Option<(&Token, &[Token])>
     ensures { MatchOption result (begins values.is_open tokens.now ≡ false) (λ found. (tokens.now ≡ found.0.now ∷ found.1.now) × (values.is_open found.0.now ≡ true)) }
 {
-    match tokens.split_first() {
-        Some((token, behind)) => {
-            if is_open(token) {
-                Some((token, behind))
-            } else {
-                None
-            }
-        }
-        None => None,
-    }
+    tokens.split_first().filter(|(token, _)| is_open(token))
 }
 
 // What stands behind a closing parenthesis, which must come.
@@ -74,14 +66,8 @@ fn behind_close(tokens: &[Token]) -> Result<&[Token], ExprFault>
     ensures refused { OnErr result (begins values.is_close tokens.now ≡ false) }
 {
     match tokens.split_first() {
-        Some((token, behind)) => {
-            if is_close(token) {
-                Ok(behind)
-            } else {
-                Err(ExprFault::BadExpression)
-            }
-        }
-        None => Err(ExprFault::BadExpression),
+        Some((token, behind)) if is_close(token) => Ok(behind),
+        _ => Err(ExprFault::BadExpression),
     }
 }
 
@@ -89,16 +75,7 @@ fn behind_close(tokens: &[Token]) -> Result<&[Token], ExprFault>
 fn behind_operator(tokens: &[Token]) -> Option<(&Token, &[Token])>
     ensures { MatchOption result (begins values.is_operator tokens.now ≡ false) (λ found. (tokens.now ≡ found.0.now ∷ found.1.now) × (values.is_operator found.0.now ≡ true)) }
 {
-    match tokens.split_first() {
-        Some((token, behind)) => {
-            if is_operator(token) {
-                Some((token, behind))
-            } else {
-                None
-            }
-        }
-        None => None,
-    }
+    tokens.split_first().filter(|(token, _)| is_operator(token))
 }
 
 // The leaf or the parentheses in front, within so many open parentheses, and what stands behind.

@@ -12,9 +12,9 @@ use Rattle.up_model.specs.Chronicle.{Entry, Given, Queued, Ordered, Signalled, R
 use Rattle.up_model.specs.Readings.{made_at, id_at, env, pid_of}
 
 -- the words that run an action (init(5), "exec" and "script")
-abbrev pub words_of : Action → List (List ℕ)
-words_of (Words words) = words
-words_of (Shell text) = codes "/bin/sh" ∷ codes "-e" ∷ codes "-c" ∷ text ∷ []
+abbrev pub argv_of : Action → List (List ℕ)
+argv_of (Words words) = words
+argv_of (Shell text) = codes "/bin/sh" ∷ codes "-e" ∷ codes "-c" ∷ text ∷ []
 
 -- the folder in which a job's processes run: the root where it names none (init(5), "chdir")
 abbrev pub dir_of : List ℕ → List ℕ
@@ -25,7 +25,7 @@ dir_of (byte ∷ dir) = byte ∷ dir
 abbrev pub order_of_main : JobDef → Who → Option Action → List (List ℕ × List ℕ) → List Output
 order_of_main job who None environment = []
 order_of_main job who (Some action) environment =
-    output.Spawn (record { who = who; process = process.Main; argv = words_of action; dir = dir_of job.dir; silent = job.silent; env = environment }) ∷ []
+    output.Spawn (record { who = who; process = process.Main; argv = argv_of action; dir = dir_of job.dir; silent = job.silent; env = environment }) ∷ []
 
 -- a job, and an instance of it as it is known outside
 abbrev pub named : List ℕ → Option JobDef → Option (JobDef × Who)

@@ -9,7 +9,8 @@ use Rattle.up_text.specs.declared.pattern.Symbol.{Symbol}
 use Rattle.up_text.specs.declared.pattern.Symbol.TheVariants.{Bare, Escaped, Trailing}
 use Rattle.up_text.specs.declared.pattern.Reading.{Reading}
 use Rattle.up_text.specs.Matching.{IsFlat, MeansItem, item_of_part}
-use Rattle.up_text.specs.Pattern.{symbols, is_open, is_close, is_not, begins, before_close, body, inner, is_closed, has_class, Item, Run, Any, Only, Among, ranges, lone_item, set_item, item_of, more, items_from, all_items}
+use Rattle.up_text.specs.Pattern.{symbols, is_open, is_close, is_not, before_close, body, inner, is_closed, has_class, Item, Run, Any, Only, Among, ranges, lone_item, set_item, item_of, more, items_from, all_items}
+use Rattle.up_text.specs.Tokens.{begins}
 
 -- symbols that belong to an item before are passed
 items_from-drop : (taken : ℕ) (symbols : List Symbol) → items_from taken symbols ≡ items_from 0 (drop taken symbols)

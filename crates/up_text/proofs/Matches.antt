@@ -5,7 +5,7 @@ use Rattle.std.specs.List.{list_any, flat_map}
 use Rattle.std.proofs.lemmas.List.{drop-drop}
 use Rattle.std.proofs.lemmas.List.Folds.{list_any-append}
 use Rattle.std.proofs.lemmas.Bool.{or_cases, or_left, or_right, and_parts, both_ways, false≢true, not-true, ne_eqb}
-use Rattle.up_text.specs.Matching.{star_from, one_from, item_from, is_run, is_nil, matches, Takes, TakesNone, TakesOne, Leads}
+use Rattle.up_text.specs.Matching.{star_from, one_from, item_from, is_run, is_nil, items_match, Takes, TakesNone, TakesOne, Leads}
 use Rattle.up_text.specs.Pattern.{Item, Run, Any, Only, Among, Never, Class, admits_byte, is_byte_of, admits, all_admit, splits, cuts, fits, fits_if, is_class, all_items, items, supported, glob}
 
 -- the cuts
@@ -68,18 +68,18 @@ splits-item Never test bytes = splits-one Never test bytes
 splits-item Class test bytes = splits-one Class test bytes
 
 -- one item at a time is the same as every cut
-pub fits-matches : (items : List Item) (bytes : List ℕ) → fits items bytes ≡ matches items bytes
+pub fits-matches : (items : List Item) (bytes : List ℕ) → fits items bytes ≡ items_match items bytes
 fits-matches [] [] = refl
 fits-matches [] (byte ∷ bytes) = refl
 fits-matches (item ∷ items) bytes =
     any-flat_map (all_admit (item ∷ items)) (λ split. map (λ pieces. split.0 ∷ pieces) (cuts (length items) split.1)) (splits bytes)
-    ∙ any-same _ (λ split. admits item split.0 && matches items split.1)
+    ∙ any-same _ (λ split. admits item split.0 && items_match items split.1)
     (λ split.
     any-map (all_admit (item ∷ items)) (λ pieces. split.0 ∷ pieces) (cuts (length items) split.1)
     ∙ any-and (admits item split.0) (all_admit items) (cuts (length items) split.1)
     ∙ ap (λ b. admits item split.0 && b) (fits-matches items split.1))
     (splits bytes)
-    ∙ splits-item item (matches items) bytes
+    ∙ splits-item item (items_match items) bytes
 
 pub ruleset one_at_a_time = (fits-matches)
 
@@ -104,21 +104,21 @@ star-here test [] passes = passes
 star-here test (byte ∷ bytes) passes = or_left _ _ passes
 
 -- where the items behind a later run fail, a longer run before it doesn't help
-pub absorbs : (items : List Item) (bytes : List ℕ) (later : List Item) (left : List ℕ) → Leads items bytes later left → star_from (matches items) bytes ≡ star_from (matches later) left
+pub absorbs : (items : List Item) (bytes : List ℕ) (later : List Item) (left : List ℕ) → Leads items bytes later left → star_from (items_match items) bytes ≡ star_from (items_match later) left
 absorbs items bytes later left leads =
-    by_case (star_from (matches items) bytes) (star_from (matches later) left) refl refl
+    by_case (star_from (items_match items) bytes) (star_from (items_match later) left) refl refl
   where
-    by_case : (early late : Bool) → star_from (matches items) bytes ≡ early → star_from (matches later) left ≡ late → early ≡ late
+    by_case : (early late : Bool) → star_from (items_match items) bytes ≡ early → star_from (items_match later) left ≡ late → early ≡ late
     by_case true true p q = refl
     by_case false false p q = refl
-    by_case false true p q = absurd (both_ways _ p (star-here (matches items) bytes (leads.same ∙ q)))
+    by_case false true p q = absurd (both_ways _ p (star-here (items_match items) bytes (leads.same ∙ q)))
     by_case true false p q =
-        let found = star-finds (matches items) bytes p in
+        let found = star-finds (items_match items) bytes p in
         let n = length bytes - length left in
         let later_here = leads.needs (drop found.0 bytes) found.1 in
         let order : drop n (drop found.0 bytes) ≡ drop found.0 (drop n bytes) = drop-drop n found.0 bytes ∙ ap (λ k. drop k bytes) (omega arith) ∙ sym (drop-drop found.0 n bytes) in
-        let at_left = subst (λ bs. star_from (matches later) bs ≡ true) (order ∙ ap (drop found.0) (sym leads.behind)) later_here in
-        absurd (both_ways _ q (star-drop (matches later) found.0 left at_left))
+        let at_left = subst (λ bs. star_from (items_match later) bs ≡ true) (order ∙ ap (drop found.0) (sym leads.behind)) later_here in
+        absurd (both_ways _ q (star-drop (items_match later) found.0 left at_left))
 
 -- an item that takes one byte
 one-takes : (item : Item) (test : List ℕ → Bool) (bytes behind : List ℕ) → TakesOne item bytes behind → one_from item test bytes ≡ test behind
@@ -177,13 +177,13 @@ takes-more items bytes now left item later behind takes is other one =
     let n = length bytes - length left in
     let next : length bytes - length behind ≡ n + 1 = omega arith in
     record {
-      same = takes.same ∙ ap (λ read. matches read left) is ∙ no_run item (matches later) left other ∙ one-takes item (matches later) left behind one;
+      same = takes.same ∙ ap (λ read. items_match read left) is ∙ no_run item (items_match later) left other ∙ one-takes item (items_match later) left behind one;
       behind = takes-drop item left behind one ∙ ap (drop 1) takes.behind ∙ drop-drop 1 n bytes ∙ ap (λ k. drop k bytes) (sym next);
       shorter = omega arith;
       needs = λ others passes.
-          let before : matches (item ∷ later) (drop n others) ≡ true = subst (λ read. matches read (drop n others) ≡ true) is (takes.needs others passes) in
-          let one_before = sym (no_run item (matches later) (drop n others) other) ∙ before in
-          subst (λ bs. matches later bs ≡ true) (drop-drop 1 n others ∙ ap (λ k. drop k others) (sym next)) (one-needs item (matches later) (drop n others) one_before);
+          let before : items_match (item ∷ later) (drop n others) ≡ true = subst (λ read. items_match read (drop n others) ≡ true) is (takes.needs others passes) in
+          let one_before = sym (no_run item (items_match later) (drop n others) other) ∙ before in
+          subst (λ bs. items_match later bs ≡ true) (drop-drop 1 n others ∙ ap (λ k. drop k others) (sym next)) (one-needs item (items_match later) (drop n others) one_before);
     }
 
 -- up to a run
@@ -191,27 +191,27 @@ pub takes-run : (items : List Item) (bytes : List ℕ) (now : List Item) (left :
     → Takes items bytes now left → now ≡ item ∷ later → is_run item ≡ true → Leads items bytes later left
 takes-run items bytes now left item later takes is run =
     record {
-      same = takes.same ∙ ap (λ read. matches read left) is ∙ a_run item (matches later) left run;
+      same = takes.same ∙ ap (λ read. items_match read left) is ∙ a_run item (items_match later) left run;
       behind = takes.behind;
       needs = λ others passes.
           let n = length bytes - length left in
-          let before : matches (item ∷ later) (drop n others) ≡ true = subst (λ read. matches read (drop n others) ≡ true) is (takes.needs others passes) in
-          sym (a_run item (matches later) (drop n others) run) ∙ before;
+          let before : items_match (item ∷ later) (drop n others) ≡ true = subst (λ read. items_match read (drop n others) ≡ true) is (takes.needs others passes) in
+          sym (a_run item (items_match later) (drop n others) run) ∙ before;
     }
 
 -- or up to one that fails
 pub takes-fails : (items : List Item) (bytes : List ℕ) (now : List Item) (left : List ℕ) (item : Item) (later : List Item)
-    → Takes items bytes now left → now ≡ item ∷ later → is_run item ≡ false → TakesNone item left → matches items bytes ≡ false
+    → Takes items bytes now left → now ≡ item ∷ later → is_run item ≡ false → TakesNone item left → items_match items bytes ≡ false
 takes-fails items bytes now left item later takes is other none =
-    takes.same ∙ ap (λ read. matches read left) is ∙ no_run item (matches later) left other ∙ one-fails item (matches later) left none
+    takes.same ∙ ap (λ read. items_match read left) is ∙ no_run item (items_match later) left other ∙ one-fails item (items_match later) left none
 
 -- or up to the last
 nil-length : (bytes : List ℕ) → is_nil bytes ≡ (length bytes == 0)
 nil-length [] = refl
 nil-length (byte ∷ bytes) = sym (ne_eqb _ 0 (λ none. omega arith))
 
-pub takes-end : (items : List Item) (bytes : List ℕ) (now : List Item) (left : List ℕ) → Takes items bytes now left → now ≡ [] → matches items bytes ≡ (length left == 0)
-takes-end items bytes now left takes is = takes.same ∙ ap (λ read. matches read left) is ∙ nil-length left
+pub takes-end : (items : List Item) (bytes : List ℕ) (now : List Item) (left : List ℕ) → Takes items bytes now left → now ≡ [] → items_match items bytes ≡ (length left == 0)
+takes-end items bytes now left takes is = takes.same ∙ ap (λ read. items_match read left) is ∙ nil-length left
 
 pub ruleset takings = (takes-start, takes-more, takes-run, takes-fails, takes-end)
 
@@ -232,7 +232,7 @@ glob-unsupported pattern bytes none = by_case (items pattern) none
     by_case None none = refl
     by_case (Some read) none = absurd (false≢true (sym none))
 
-pub glob-supported : (pattern bytes : List ℕ) → supported pattern ≡ true → glob pattern bytes ≡ matches (all_items pattern) bytes
+pub glob-supported : (pattern bytes : List ℕ) → supported pattern ≡ true → glob pattern bytes ≡ items_match (all_items pattern) bytes
 unfolding glob items
 glob-supported pattern bytes is =
     let no_class : list_any is_class (all_items pattern) ≡ false = not-true _ (sym (supported-is pattern) ∙ is) in

@@ -1,6 +1,7 @@
 -- The lines and the words of a script.
 use Rattle.std.proofs.Common.{◌≡◌, ℕ, ◌+◌, ◌-◌, ◌<◌, ◌≤◌, Bool, true, false, cond, ◌&&◌, List, [], ◌∷◌, ◌++◌, None, Some, length, take, drop, refl, sym, ap, ◌∙◌, subst, one-add, arith, append_assoc, length-append, filter, codes, IsUtf8}
 use Rattle.std.proofs.lemmas.Bool.{and_parts, and_from, not-true, not-false}
+use Rattle.std.proofs.lemmas.Bool.Decides.{nat_tests}
 use Rattle.std.proofs.lemmas.List.Sums.{prefix_len_stops}
 use Rattle.std.proofs.lemmas.Str.{IsCharBoundary-after_ascii, IsCharBoundary-at_seam}
 use Rattle.std.specs.Str.{bytes_eq, IsCharBoundary}
@@ -9,19 +10,17 @@ use Rattle.up_text.proofs.Runs.{feeds-none, feeds-append, feeds-length}
 use Rattle.std.proofs.lemmas.List.Splits.{slice_split-cons_no, slice_split-cons_yes}
 use Rattle.std.specs.List.{list_all, prefix_len, slice_split, onto_first, concat}
 use Rattle.up_text.proofs.Cuts.{list_all-take, begins-drop, in_line-ascii}
-use Rattle.up_text.specs.Lexer.{is_in_word, is_in_line, BeginsWord, BeginsLine, EndsScript}
+use Rattle.up_text.specs.Lexer.{is_in_word, is_in_line, BeginsWord, BeginsLine, EndsScript, Splits}
 use Rattle.up_text.specs.Places.{feeds}
 use Rattle.up_text.specs.Scripts.{lines_of, is_filled, words_in, are_end_words, may_follow, is_end_line, script_in}
 use Rattle.up_text.specs.Tokens.{is_line_feed, is_blank, begins}
 
 -- blanks in front change no word
-words-blanks : (text : List ℕ) → words_in text ≡ words_in (drop (prefix_len is_blank text) text)
-words-blanks [] = refl
-words-blanks (byte ∷ text) =
-    elim (is_blank byte) as (λ b. is_blank byte ≡ b → words_in (byte ∷ text) ≡ words_in (drop (cond b (1 + prefix_len is_blank text) 0) (byte ∷ text))) [
-      | true ↦ λ blank. rw one-add (ap (filter is_filled) (slice_split-cons_yes is_blank byte text blank) ∙ words-blanks text)
-      | false ↦ λ _. refl
-    ] refl
+words-blanks : (blanks rest : List ℕ) → list_all is_blank blanks ≡ true → words_in (blanks ++ rest) ≡ words_in rest
+words-blanks [] rest all = refl
+words-blanks (byte ∷ blanks) rest all =
+    let both = and_parts (is_blank byte) (list_all is_blank blanks) all in
+    ap (filter is_filled) (slice_split-cons_yes is_blank byte (blanks ++ rest) both.0) ∙ words-blanks blanks rest both.1
 
 -- there is always a first piece
 pub slice_split-filled : (p : ℕ → Bool) (xs : List ℕ) → (first : List ℕ) × (others : List (List ℕ)) × (slice_split p xs ≡ first ∷ others)
@@ -80,18 +79,15 @@ BeginsWord-filled text byte words same none =
     let whole : words_in (byte ∷ words) ≡ (byte ∷ take n words) ∷ words_in (drop n words) = ap (λ ws. words_in (byte ∷ ws)) (sym (take-append-drop n words)) ∙ split in
     rw (first, one-add) (same ∙ whole)
 
--- the first word of a text behind its blanks
-pub BeginsWord-first : (text : List ℕ) → let words = drop (prefix_len is_blank text) text in BeginsWord text (take (prefix_len is_in_word words) words) (drop (prefix_len is_in_word words) words)
-BeginsWord-first text = by_words (drop (prefix_len is_blank text) text) (words-blanks text) (no_blank text)
-  where
-    no_blank : (text : List ℕ) → begins is_blank (drop (prefix_len is_blank text) text) ≡ false
-    no_blank [] = refl
-    no_blank (byte ∷ text) =
-        elim (is_blank byte) as (λ b. is_blank byte ≡ b → begins is_blank (drop (cond b (1 + prefix_len is_blank text) 0) (byte ∷ text)) ≡ false) [
-          | true ↦ λ _. rw one-add (no_blank text)
-          | false ↦ λ fails. fails
-        ] refl
+-- behind a word that isn't one, only ASCII stands
+pub word-ascii : (byte : ℕ) → is_in_word byte ≡ false → byte < 128
+unfolding is_in_word is_blank
+word-ascii byte other = grind (arith, nat_tests)
 
+-- the first word of a text behind its blanks
+pub BeginsWord-Splits : (text blanks words : List ℕ) → Splits is_blank text blanks words → BeginsWord text (take (prefix_len is_in_word words) words) (drop (prefix_len is_in_word words) words)
+BeginsWord-Splits text blanks words splits = by_words words (ap words_in splits.joined ∙ words-blanks blanks words splits.all) splits.ends
+  where
     by_words : (words : List ℕ) → words_in text ≡ words_in words → begins is_blank words ≡ false → BeginsWord text (take (prefix_len is_in_word words) words) (drop (prefix_len is_in_word words) words)
     by_words [] same none = same
     by_words (byte ∷ words) same none = BeginsWord-filled text byte words same none
@@ -171,10 +167,20 @@ words-test text (x ∷ first) r1 [] r2 third r3 a b c = rw (a, b) (sym (and-fals
 words-test text (x ∷ first) r1 (y ∷ second) r2 [] r3 a b c = rw (a, b, c, and-true) refl
 words-test text (x ∷ first) r1 (y ∷ second) r2 (z ∷ third) r3 a b c = rw (a, b, c) refl
 
-pub end-line : (line code first r1 second r2 third r3 : List ℕ) → code ≡ take (prefix_len is_in_line line) line → BeginsWord code first r1 → BeginsWord r1 second r2 → BeginsWord r2 third r3
+-- the longest run of bytes that pass
+run-front : (p : ℕ → Bool) (front rest : List ℕ) → list_all p front ≡ true → begins p rest ≡ false → take (prefix_len p (front ++ rest)) (front ++ rest) ≡ front
+run-front p [] [] all ends = refl
+run-front p [] (byte ∷ rest) all ends = rw ends refl
+run-front p (byte ∷ front) rest all ends =
+    let both = and_parts (p byte) (list_all p front) all in
+    rw (both.0, one-add) (ap (λ bytes. byte ∷ bytes) (run-front p front rest both.1 ends))
+
+pub end-line : (line code rest first r1 second r2 third r3 : List ℕ) → Splits is_in_line line code rest → BeginsWord code first r1 → BeginsWord r1 second r2 → BeginsWord r2 third r3
     → is_end_line line ≡ (bytes_eq first (codes "end") && (bytes_eq second (codes "script") && may_follow third))
 unfolding is_end_line is_in_line
-end-line line code first r1 second r2 third r3 is a b c = ap (λ t. are_end_words (words_in t)) (sym is) ∙ words-test code first r1 second r2 third r3 a b c
+end-line line code rest first r1 second r2 third r3 splits a b c =
+    let is : take (prefix_len is_in_line line) line ≡ code = ap (λ text. take (prefix_len is_in_line text) text) splits.joined ∙ run-front is_in_line code rest splits.all splits.ends in
+    ap (λ t. are_end_words (words_in t)) is ∙ words-test code first r1 second r2 third r3 a b c
 
 -- the lines of a script so far
 pub record Passed (text : List ℕ) (line : ℕ) (rest : List ℕ) (reached : ℕ) : Type 0 where

@@ -8,7 +8,8 @@ use Rattle.std.proofs.lemmas.Bool.Decides.{nat_tests}
 use Rattle.up_text.specs.declared.pattern.Symbol.{Symbol}
 use Rattle.up_text.specs.declared.pattern.Symbol.TheVariants.{Bare, Escaped, Trailing}
 use Rattle.up_text.specs.Matching.{First, range_end}
-use Rattle.up_text.specs.Pattern.{symbols, symbols_from, is_bare, is_open, is_close, is_dash, is_class_mark, begins, byte_of, before_close, body, is_closed, has_class, ranges, is_among}
+use Rattle.up_text.specs.Pattern.{symbols, symbols_from, is_bare, is_open, is_close, is_dash, is_class_mark, byte_of, before_close, body, is_closed, has_class, ranges, is_among}
+use Rattle.up_text.specs.Tokens.{begins}
 
 symbols-nil : symbols [] ≡ []
 unfolding symbols

@@ -4,7 +4,7 @@ use Rattle.std.proofs.lemmas.Bool.{eqb-true, true≢false}
 use Rattle.std.proofs.lemmas.Bool.Decides.{nat_tests}
 use Rattle.std.proofs.lemmas.Option.{same_Some}
 use Rattle.up_text.specs.Bindings.{value_of}
-use Rattle.up_text.specs.Expanding.{Gives, run_before, piece_before, depth_behind, opened, meanings}
+use Rattle.up_text.specs.Expanding.{Gives, run_before, piece_before, depth_behind, texts_opened, meanings}
 use Rattle.up_text.specs.Expansion.{Sign, Plain, Named, Braced, Opened, Closing, Wrong, Parts, Done, Byte, Key, Default, innermost, outside, before, nested, signs, texts_of, is_expandable, Expansion, Expands, Lacks, Malformed, followed, counted, value_or, meaning, expansion, expand}
 use Rattle.up_text.specs.declared.expansion.Piece.{Piece}
 use Rattle.up_text.specs.declared.expansion.Piece.TheVariants as piece
@@ -84,7 +84,7 @@ behind : (f : List Parts → List Parts) (o : Option (List Parts)) (texts : List
 behind f None texts is = absurd (cc)
 behind f (Some later) texts is = (later, refl, same_Some (f later) texts is)
 
-opened-depth : (depth : ℕ) (p : Piece) → depth_behind depth p - depth ≡ opened p
+opened-depth : (depth : ℕ) (p : Piece) → depth_behind depth p - depth ≡ texts_opened p
 opened-depth depth (piece.Run run) = omega arith
 opened-depth depth (piece.Named key) = omega arith
 opened-depth depth (piece.Braced key) = omega arith
@@ -95,12 +95,12 @@ opened-depth depth piece.Wrong = omega arith
 -- a needed piece gives these bytes
 pub remains-given : (env : List (List ℕ × List ℕ)) (whole : Expansion) (out bytes : List ℕ) (depth kept deeper : ℕ) (p : Piece) (left after : Option (List Parts))
     → Remains env whole out (depth - kept) left → left ≡ option_map (piece_before depth p) after → depth ≤ kept → deeper ≡ depth_behind depth p
-    → ((texts : List Parts) → meanings env (piece_before depth p texts) ≡ followed (Expands bytes) (meanings env (drop (opened p) texts)))
+    → ((texts : List Parts) → meanings env (piece_before depth p texts) ≡ followed (Expands bytes) (meanings env (drop (texts_opened p) texts)))
     → Remains env whole (out ++ bytes) (deeper - depth) after
 remains-given env whole out bytes depth kept deeper p left after h is needed goes gives =
     let later = behind (piece_before depth p) after h.texts (sym is ∙ h.are) in
     let all : depth - kept ≡ 0 = omega arith in
-    let opens : opened p ≡ deeper - depth = sym (ap (λ n. n - depth) goes ∙ opened-depth depth p) in
+    let opens : texts_opened p ≡ deeper - depth = sym (ap (λ n. n - depth) goes ∙ opened-depth depth p) in
     record {
       texts = later.0;
       are = later.1;
@@ -109,7 +109,7 @@ remains-given env whole out bytes depth kept deeper p left after h is needed goe
           ∙ ap (λ n. followed (Expands out) (meanings env (drop n h.texts))) all
           ∙ ap (λ texts. followed (Expands out) (meanings env texts)) (sym later.2)
           ∙ ap (followed (Expands out)) (gives later.0)
-          ∙ sym (followed-assoc (Expands out) (Expands bytes) (meanings env (drop (opened p) later.0)))
+          ∙ sym (followed-assoc (Expands out) (Expands bytes) (meanings env (drop (texts_opened p) later.0)))
           ∙ ap (λ n. followed (Expands (out ++ bytes)) (meanings env (drop n later.0))) opens;
     }
 

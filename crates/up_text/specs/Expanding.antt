@@ -46,21 +46,14 @@ said depth piece later (Some deeper) = option_map (piece_before depth piece) (te
 
 -- how many texts are open behind a piece, by how many were
 abbrev pub depth_behind : ℕ → Piece → ℕ
-depth_behind depth (piece.Run run) = depth
-depth_behind depth (piece.Named key) = depth
-depth_behind depth (piece.Braced key) = depth
 depth_behind depth (piece.Opened key emptied) = depth + 1
 depth_behind depth piece.Closing = depth - 1
-depth_behind depth piece.Wrong = depth
+depth_behind depth other = depth
 
 -- how many texts a piece opens
-abbrev pub opened : Piece → ℕ
-opened (piece.Run run) = 0
-opened (piece.Named key) = 0
-opened (piece.Braced key) = 0
-opened (piece.Opened key emptied) = 1
-opened piece.Closing = 0
-opened piece.Wrong = 0
+abbrev pub texts_opened : Piece → ℕ
+texts_opened (piece.Opened key emptied) = 1
+texts_opened other = 0
 
 -- texts that stand in each other, one behind another
 abbrev pub meanings : List (List ℕ × List ℕ) → List Parts → Expansion
@@ -69,6 +62,6 @@ meanings env (text ∷ outer) = followed (meaning env text) (meanings env outer)
 
 -- what a piece gives before any texts: bytes, and the text that it opens isn't needed; only that text; or a key that is lacking
 abbrev pub IsGiven : List (List ℕ × List ℕ) → ℕ → Piece → Given → Type 0
-IsGiven env depth piece (given.Text text) = (texts : List Parts) → meanings env (piece_before depth piece texts) ≡ followed (Expands text.now) (meanings env (drop (opened piece) texts))
+IsGiven env depth piece (given.Text text) = (texts : List Parts) → meanings env (piece_before depth piece texts) ≡ followed (Expands text.now) (meanings env (drop (texts_opened piece) texts))
 IsGiven env depth piece given.Default = (texts : List Parts) → meanings env (piece_before depth piece texts) ≡ meanings env texts
 IsGiven env depth piece (given.Lacks key) = (texts : List Parts) → meanings env (piece_before depth piece texts) ≡ Lacks key.now

@@ -61,7 +61,6 @@ Reads (Word token ∷ later) result new =
 
 -- the line of the token or of the refused token that is read next; elsewhere any line
 abbrev pub IsLineOf : List Lexeme → ℕ → Type 0
-IsLineOf [] line = Unit {0}
-IsLineOf (End ∷ later) line = Unit {0}
 IsLineOf (Bad first fault ∷ later) line = line ≡ first
 IsLineOf (Word token ∷ later) line = line ≡ token.line
+IsLineOf other line = Unit {0}

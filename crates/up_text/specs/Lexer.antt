@@ -7,7 +7,7 @@ use Rattle.up_text.specs.declared.fault.TextFault.TheVariants.{Memory}
 use Rattle.up_text.specs.declared.lexer.Lexer.TheInside.{Inside}
 use Rattle.up_text.specs.declared.lexer.draft.Draft.TheInside as draft
 use Rattle.up_text.specs.declared.token.Token.{Token}
-use Rattle.up_text.specs.Tokens.{Mark, Part, Quoting, Folded, Alone, Blank, Passed, Stop, Fail, Mode, Outside, marks, is_line_feed, is_blank, is_hash, is_quote, is_backslash, is_paren, begins}
+use Rattle.up_text.specs.Tokens.{Mark, Part, Quoting, Folded, Fail, Mode, Outside, marks, is_line_feed, is_blank, is_hash, is_quote, is_backslash, is_paren, begins}
 use Rattle.up_text.specs.Scripts.{lines_of, script_in, words_in}
 use Rattle.up_text.specs.Places.{Place, Reading, Got, Ended, Fails, passing, gap_at, marks_at, read_at, feeds, is_gap, given, written}
 
@@ -113,11 +113,7 @@ abbrev pub is_spelling : Mark → Bool
 is_spelling (Part byte) = true
 is_spelling (Quoting byte) = true
 is_spelling Folded = true
-is_spelling (Fail fault) = false
-is_spelling (Alone byte) = false
-is_spelling (Blank byte) = false
-is_spelling Passed = false
-is_spelling Stop = false
+is_spelling other = false
 
 -- part of a spelling: its bytes and their marks, the mode and the line behind it, and what is appended for it
 pub record Run (parens keep : Bool) (mode : Mode) (text : List ℕ) (line : ℕ) (behind : Mode) (rest : List ℕ) (reached : ℕ) (old new : Option (List ℕ)) : Type 0 where

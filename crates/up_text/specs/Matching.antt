@@ -28,20 +28,12 @@ one_from item test (byte ∷ bytes) = admits_byte item byte && test bytes
 -- whether an item admits the front of the bytes, and the test passes behind it
 abbrev pub item_from : Item → (List ℕ → Bool) → List ℕ → Bool
 item_from Run test bytes = star_from test bytes
-item_from Any test bytes = one_from Any test bytes
-item_from (Only byte) test bytes = one_from (Only byte) test bytes
-item_from (Among inverted ranges) test bytes = one_from (Among inverted ranges) test bytes
-item_from Never test bytes = one_from Never test bytes
-item_from Class test bytes = one_from Class test bytes
+item_from item test bytes = one_from item test bytes
 
 -- an item of any run of bytes
 abbrev pub is_run : Item → Bool
 is_run Run = true
-is_run Any = false
-is_run (Only byte) = false
-is_run (Among inverted ranges) = false
-is_run Never = false
-is_run Class = false
+is_run other = false
 
 -- the item doesn't admit the first of the bytes
 abbrev pub TakesNone : Item → List ℕ → Type 0
@@ -59,13 +51,13 @@ is_nil [] = true
 is_nil (byte ∷ bytes) = false
 
 -- whether items match the bytes, one item at a time
-abbrev pub matches : List Item → List ℕ → Bool
-matches [] bytes = is_nil bytes
-matches (item ∷ items) bytes = item_from item (matches items) bytes
+abbrev pub items_match : List Item → List ℕ → Bool
+items_match [] bytes = is_nil bytes
+items_match (item ∷ items) bytes = item_from item (items_match items) bytes
 
 -- a byte that means something else in a pattern: a star, a question mark, an opening bracket or a backslash
-abbrev pub is_special : ℕ → Bool
-is_special byte = byte == 42 || (byte == 63 || (byte == 91 || byte == 92))
+abbrev pub is_wild : ℕ → Bool
+is_wild byte = byte == 42 || (byte == 63 || (byte == 91 || byte == 92))
 
 -- symbols in which no set is closed and none has a class
 pub record IsFlat (symbols : List Symbol) : Type 0 where
@@ -104,21 +96,21 @@ pub record MeansItem (item : Item) (text : List ℕ) (reading : Reading) : Type 
 
 -- items take one byte each: these items and these bytes are left
 pub record Takes (items : List Item) (bytes : List ℕ) (later : List Item) (left : List ℕ) : Type 0 where
-  pub same : matches items bytes ≡ matches later left
+  pub same : items_match items bytes ≡ items_match later left
   pub behind : left ≡ drop (length bytes - length left) bytes
   pub shorter : length left ≤ length bytes
-  pub needs : (others : List ℕ) → matches items others ≡ true → matches later (drop (length bytes - length left) others) ≡ true
+  pub needs : (others : List ℕ) → items_match items others ≡ true → items_match later (drop (length bytes - length left) others) ≡ true
 
 -- items take one byte each, up to a run of any bytes: behind it these items and these bytes are left
 pub record Leads (items : List Item) (bytes : List ℕ) (later : List Item) (left : List ℕ) : Type 0 where
-  pub same : matches items bytes ≡ star_from (matches later) left
+  pub same : items_match items bytes ≡ star_from (items_match later) left
   pub behind : left ≡ drop (length bytes - length left) bytes
-  pub needs : (others : List ℕ) → matches items others ≡ true → star_from (matches later) (drop (length bytes - length left) others) ≡ true
+  pub needs : (others : List ℕ) → items_match items others ≡ true → star_from (items_match later) (drop (length bytes - length left) others) ≡ true
 
 -- what the items up to a run of any bytes come to
 abbrev pub RunGives : Outcome → List ℕ → List ℕ → Type 0
-RunGives outcome.Matches text bytes = matches (all_items text) bytes ≡ true
-RunGives outcome.Fails text bytes = matches (all_items text) bytes ≡ false
+RunGives outcome.Matches text bytes = items_match (all_items text) bytes ≡ true
+RunGives outcome.Fails text bytes = items_match (all_items text) bytes ≡ false
 RunGives (outcome.Run rest ahead left) text bytes =
     Leads (all_items text) bytes (all_items rest.now) left.now × (ahead ≡ false → IsFlat (symbols rest.now))
     × (length rest.now < length text) × (length left.now ≤ length bytes)

@@ -1,6 +1,7 @@
 -- What patterns admit, by fnmatch(3), where `/` and a leading dot are bytes like any other.
 use Rattle.std.specs.Prelude.{ℕ, zero, suc, ◌+◌, ◌==◌, nat_le, Bool, true, false, not, ◌&&◌, ◌||◌, if◌then◌else◌, List, [], ◌∷◌, length, drop, map, Option, None, Some, is_some}
 use Rattle.std.specs.List.{list_any, flat_map}
+use Rattle.up_text.specs.Tokens.{begins}
 use Rattle.up_text.specs.declared.pattern.Symbol.{Symbol}
 use Rattle.up_text.specs.declared.pattern.Symbol.TheVariants.{Bare, Escaped, Trailing}
 
@@ -18,8 +19,7 @@ symbols text = symbols_from false text
 -- this byte, bare
 abbrev pub is_bare : ℕ → Symbol → Bool
 is_bare byte (Bare other) = other == byte
-is_bare byte (Escaped other) = false
-is_bare byte Trailing = false
+is_bare byte other = false
 
 -- the [ that begins a set
 abbrev pub is_open : Symbol → Bool
@@ -40,11 +40,6 @@ is_dash symbol = is_bare 45 symbol
 -- the : . or = behind a [ within a set
 abbrev pub is_class_mark : Symbol → Bool
 is_class_mark symbol = is_bare 58 symbol || is_bare 46 symbol || is_bare 61 symbol
-
--- symbols whose first one passes
-abbrev pub begins : (Symbol → Bool) → List Symbol → Bool
-begins passes [] = false
-begins passes (symbol ∷ symbols) = passes symbol
 
 -- the byte that a symbol of a set means; a trailing backslash stands in no closed set
 abbrev pub byte_of : Symbol → ℕ
@@ -114,11 +109,7 @@ item_of symbol symbols = if is_open symbol then set_item symbols else lone_item 
 -- how many more symbols an item takes: a set those up to its ]
 abbrev pub more : Item → List Symbol → ℕ
 more (Among inverted ranges) symbols = (if begins is_not symbols then 1 else 0) + (length (body (inner symbols)) + 1)
-more Run symbols = 0
-more Any symbols = 0
-more (Only byte) symbols = 0
-more Never symbols = 0
-more Class symbols = 0
+more other symbols = 0
 
 -- the items of these symbols, of which the first few belong to an item before
 abbrev pub items_from : ℕ → List Symbol → List Item
@@ -133,11 +124,7 @@ all_items text = items_from 0 (symbols text)
 -- a set with a class
 abbrev pub is_class : Item → Bool
 is_class Class = true
-is_class Run = false
-is_class Any = false
-is_class (Only byte) = false
-is_class (Among inverted ranges) = false
-is_class Never = false
+is_class other = false
 
 -- the items of a pattern, if it is supported
 unfoldable pub items : List ℕ → Option (List Item)
@@ -149,12 +136,10 @@ is_among byte ranges = list_any (λ range. nat_le range.0 byte && nat_le byte ra
 
 -- whether an item of one byte admits this one
 abbrev pub admits_byte : Item → ℕ → Bool
-admits_byte Run byte = false
 admits_byte Any byte = true
 admits_byte (Only other) byte = other == byte
 admits_byte (Among inverted ranges) byte = if inverted then not (is_among byte ranges) else is_among byte ranges
-admits_byte Never byte = false
-admits_byte Class byte = false
+admits_byte other byte = false
 
 -- whether it is one byte that the item admits
 abbrev pub is_byte_of : Item → List ℕ → Bool
@@ -165,11 +150,7 @@ is_byte_of item (byte ∷ next ∷ bytes) = false
 -- whether an item admits a piece of the bytes
 abbrev pub admits : Item → List ℕ → Bool
 admits Run piece = true
-admits Any piece = is_byte_of Any piece
-admits (Only byte) piece = is_byte_of (Only byte) piece
-admits (Among inverted ranges) piece = is_byte_of (Among inverted ranges) piece
-admits Never piece = is_byte_of Never piece
-admits Class piece = is_byte_of Class piece
+admits item piece = is_byte_of item piece
 
 -- whether each item admits its piece
 abbrev pub all_admit : List Item → List (List ℕ) → Bool

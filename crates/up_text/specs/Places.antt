@@ -46,23 +46,12 @@ behind_stanza place = record place { inside = false; depth = 0 }
 abbrev pub is_space : Mark → Bool
 is_space (Blank byte) = true
 is_space Passed = true
-is_space (Part byte) = false
-is_space (Quoting byte) = false
-is_space Folded = false
-is_space (Alone byte) = false
-is_space Stop = false
-is_space (Fail fault) = false
+is_space other = false
 
 -- a mark that ends a stanza
 abbrev pub is_stop : Mark → Bool
 is_stop Stop = true
-is_stop (Part byte) = false
-is_stop (Quoting byte) = false
-is_stop Folded = false
-is_stop (Alone byte) = false
-is_stop (Blank byte) = false
-is_stop Passed = false
-is_stop (Fail fault) = false
+is_stop other = false
 
 -- a mark before the next token: outside a stanza, ends of lines are passed too
 abbrev pub is_gap : Bool → Mark → Bool
@@ -74,55 +63,32 @@ is_spelled (Part byte) = true
 is_spelled (Quoting byte) = true
 is_spelled Folded = true
 is_spelled (Fail fault) = true
-is_spelled (Alone byte) = false
-is_spelled (Blank byte) = false
-is_spelled Passed = false
-is_spelled Stop = false
+is_spelled other = false
 
 -- a byte that stands for itself, without quotes and backslashes
 abbrev pub is_plain : Mark → Bool
 is_plain (Part byte) = true
-is_plain (Quoting byte) = false
-is_plain Folded = false
-is_plain (Alone byte) = false
-is_plain (Blank byte) = false
-is_plain Passed = false
-is_plain Stop = false
-is_plain (Fail fault) = false
+is_plain other = false
 
 -- what a token is given
 abbrev pub given : Mark → List ℕ
 given (Part byte) = byte ∷ []
-given (Quoting byte) = []
-given Folded = []
 given (Alone byte) = byte ∷ []
-given (Blank byte) = []
-given Passed = []
-given Stop = []
-given (Fail fault) = []
+given other = []
 
 -- what is written in a command's text
 abbrev pub written : Mark → List ℕ
 written (Part byte) = byte ∷ []
 written (Quoting byte) = byte ∷ []
-written Folded = []
 written (Alone byte) = byte ∷ []
 written (Blank byte) = byte ∷ []
-written Passed = []
-written Stop = []
-written (Fail fault) = []
+written other = []
 
 -- why these marks are refused, if they are
 abbrev pub fault_in : List Mark → Option TextFault
 fault_in [] = None
 fault_in (Fail fault ∷ ms) = Some fault
-fault_in (Part byte ∷ ms) = fault_in ms
-fault_in (Quoting byte ∷ ms) = fault_in ms
-fault_in (Folded ∷ ms) = fault_in ms
-fault_in (Alone byte ∷ ms) = fault_in ms
-fault_in (Blank byte ∷ ms) = fault_in ms
-fault_in (Passed ∷ ms) = fault_in ms
-fault_in (Stop ∷ ms) = fault_in ms
+fault_in (mark ∷ ms) = fault_in ms
 
 -- the marks of what is left
 unfoldable pub marks_at : Place → List Mark
@@ -148,12 +114,10 @@ read_at place [] = Ended (behind_stanza place)
 read_at place (Stop ∷ ms) = Ended (behind_stanza (passing 1 place))
 read_at place (Alone byte ∷ ms) =
     Got (token_of place.line (byte ∷ []) true) (within (open_after place.depth (Alone byte)) (passing 1 place))
-read_at place (Part byte ∷ ms) = let spelling = take_while is_spelled (Part byte ∷ ms) in spelled place spelling (fault_in spelling)
-read_at place (Quoting byte ∷ ms) = let spelling = take_while is_spelled (Quoting byte ∷ ms) in spelled place spelling (fault_in spelling)
-read_at place (Folded ∷ ms) = let spelling = take_while is_spelled (Folded ∷ ms) in spelled place spelling (fault_in spelling)
 read_at place (Fail fault ∷ ms) = Fails fault
 read_at place (Blank byte ∷ ms) = Ended (behind_stanza place)
 read_at place (Passed ∷ ms) = Ended (behind_stanza place)
+read_at place (mark ∷ ms) = let spelling = take_while is_spelled (mark ∷ ms) in spelled place spelling (fault_in spelling)
 
 -- what the next reading gives: behind the gap, a token or an end
 unfoldable pub reading : Place → Reading

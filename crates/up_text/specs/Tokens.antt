@@ -50,10 +50,10 @@ is_backslash byte = byte == 92
 unfoldable pub is_paren : ℕ → Bool
 is_paren byte = byte == 40 || byte == 41
 
--- a text whose first byte passes
-abbrev pub begins : (ℕ → Bool) → List ℕ → Bool
+-- a list whose first item passes
+abbrev pub begins : {X : Type 0} → (X → Bool) → List X → Bool
 begins passes [] = false
-begins passes (byte ∷ text) = passes byte
+begins passes (x ∷ xs) = passes x
 
 -- a text that goes on to a line end over nothing but blanks, perhaps by a backslash
 abbrev pub reaches_feed : List ℕ → Bool
@@ -123,22 +123,14 @@ mode_after (QuotedEscape quote) byte text = Quoted quote false
 -- how many parentheses are open behind a mark
 abbrev pub open_after : ℕ → Mark → ℕ
 open_after depth (Alone byte) = if byte == 40 then depth + 1 else depth - 1
-open_after depth (Part byte) = depth
-open_after depth (Quoting byte) = depth
-open_after depth Folded = depth
-open_after depth (Blank byte) = depth
-open_after depth Passed = depth
-open_after depth Stop = depth
-open_after depth (Fail fault) = depth
+open_after depth other = depth
 
 -- what stands behind the last byte: nothing, or the fault of a token that isn't whole
 abbrev pub end_marks : Mode → List Mark
-end_marks (Outside joined) = []
-end_marks Comment = []
 end_marks Escaped = Fail TrailingBackslash ∷ []
-end_marks (Continued joined) = []
 end_marks (Quoted quote joined) = Fail UnterminatedQuote ∷ []
 end_marks (QuotedEscape quote) = Fail UnterminatedQuote ∷ []
+end_marks other = []
 
 -- the marks of a text, one for each byte; whether parentheses are tokens, and how many are open
 abbrev pub marks : Bool → ℕ → Mode → List ℕ → List Mark

@@ -13,6 +13,7 @@ pub mod laws;
 mod quoted;
 mod script;
 mod spelling;
+pub mod words;
 
 use crate::fault::TextFault;
 use crate::lexer::bytes::{begins_feed, is_line_end, split_first};

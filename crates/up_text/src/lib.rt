@@ -19,6 +19,7 @@ pub use expansion::{Expanded, expand, is_expandable};
 pub use fault::TextFault;
 pub use items::Items;
 pub use lexer::Lexer;
+pub use lexer::words::next_word;
 pub use name::Name;
 pub use pattern::{glob, supported};
 pub use text::Text;

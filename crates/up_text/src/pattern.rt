@@ -1,8 +1,9 @@
 //! Patterns over bytes, by fnmatch(3).
 ghost use Rattle.std.specs.Prelude.{◌≡◌, ◌<◌, ◌≤◌, ◌≢◌, ◌&&◌, nat_le, [], ◌∷◌, length, false, MatchOption, IfSome};
 ghost use Rattle.up_text.specs.declared.pattern.Symbol.TheVariants.{Bare};
-ghost use Rattle.up_text.specs.Pattern.{symbols, is_bare, is_class_mark, is_not, is_open, begins, byte_of, body, inner, ranges, is_among, lone_item, set_item, more, all_items, admits_byte, is_class, supported, glob};
-ghost use Rattle.up_text.specs.Matching.{First, matches, EndsSo, IsFlat, MeansItem, RunGives, TakesNone, TakesOne, range_end, item_of_part, is_run, star_from};
+ghost use Rattle.up_text.specs.Pattern.{symbols, is_bare, is_class_mark, is_not, is_open, byte_of, body, inner, ranges, is_among, lone_item, set_item, more, all_items, admits_byte, is_class, supported, glob};
+ghost use Rattle.up_text.specs.Tokens.{begins};
+ghost use Rattle.up_text.specs.Matching.{First, items_match, EndsSo, IsFlat, MeansItem, RunGives, TakesNone, TakesOne, range_end, item_of_part, is_run, star_from};
 
 pub mod laws;
 
@@ -344,7 +345,7 @@ fn take_items<'a, 'b>(text: &'a [u8], sets: bool, bytes: &'b [u8]) -> Outcome<'a
 // behind it fail, a longer run before it wouldn't help.
 fn matches_end(text: &[u8], sets: bool, bytes: &[u8]) -> bool
     requires { sets ≡ false → IsFlat (symbols text.now) }
-    ensures { result ≡ star_from (matches (all_items text.now)) bytes.now }
+    ensures { result ≡ star_from (items_match (all_items text.now)) bytes.now }
 {
     let mut ahead = sets;
     let mut rest = text;

@@ -1,63 +1,40 @@
 //! The lines of a script.
 ghost use Rattle.std.specs.Prelude.{◌≡◌, ◌+◌, ◌<◌, ◌≤◌, ◌^◌, codes, length, MatchOption, None};
-ghost use Rattle.std.specs.List.{prefix_len};
 ghost use Rattle.std.specs.Str.{bytes_eq};
-ghost use Rattle.up_text.specs.Tokens.{is_blank};
 ghost use Rattle.up_text.specs.Scripts.{lines_of, is_end_line, may_follow, script_in};
-ghost use Rattle.up_text.specs.Lexer.{is_in_word, BeginsWord, BeginsLine, EndsScript};
+ghost use Rattle.up_text.specs.Lexer.{BeginsLine, EndsScript};
 
-use crate::lexer::bytes::{blanks_len, is_blank, line_len};
+use crate::lexer::bytes::{line_len, split_line as before_feed};
+use crate::lexer::words::next_word;
 
-#[tactic(auto, unfolding(crate::specs::Lexer::is_in_word))]
-fn is_in_word(byte: u8) -> bool
-    ensures { result ≡ is_in_word byte }
-{
-    !is_blank(byte)
-}
-
-// How many bytes of a word the bytes begin with.
-fn word_len(bytes: &[u8]) -> usize
-    ensures { result ≡ prefix_len is_in_word bytes.now }
-{
-    bytes.iter().take_while(|byte| is_in_word(**byte)).count()
-}
-
-// The first word, or nothing where there is none, and what stands behind it.
-fn next_word(bytes: &[u8]) -> (&[u8], &[u8])
-    ensures { BeginsWord bytes.now result.0.now result.1.now }
-{
-    let (_, words) = bytes.split_at(blanks_len(bytes));
-    words.split_at(word_len(words))
-}
-
-fn is_end(word: &[u8]) -> bool
+fn is_end(word: &str) -> bool
     ensures { result ≡ bytes_eq word.now (codes "end") }
 {
-    word == b"end".as_slice()
+    word == "end"
 }
 
-fn is_script(word: &[u8]) -> bool
+fn is_script(word: &str) -> bool
     ensures { result ≡ bytes_eq word.now (codes "script") }
 {
-    word == b"script".as_slice()
+    word == "script"
 }
 
 // Whether this is no word, or one that begins a comment.
 #[tactic(auto, unfolding(crate::specs::Tokens::is_hash))]
-fn may_follow(word: &[u8]) -> bool
+fn may_follow(word: &str) -> bool
     ensures { result ≡ may_follow word.now }
 {
-    match word.first() {
+    match word.as_bytes().first() {
         Some(byte) => *byte == b'#',
         None => true,
     }
 }
 
 // Whether the line ends a script.
-fn is_end_line(line: &[u8]) -> bool
+fn is_end_line(line: &str) -> bool
     ensures { result ≡ is_end_line line.now }
 {
-    let (words, _) = line.split_at(line_len(line));
+    let (words, _) = before_feed(line);
     let (first, rest) = next_word(words);
     let (second, rest) = next_word(rest);
     let (third, _) = next_word(rest);
@@ -93,7 +70,7 @@ pub(crate) fn find_end(text: &str, line: u32) -> Option<(&str, &str, u32)>
     let mut line = line;
     'lines: while !rest.is_empty() {
         let (first, behind, feeds) = split_line(rest);
-        if is_end_line(first.as_bytes()) {
+        if is_end_line(first) {
             let (script, _) = text.split_at(text.len() - rest.len());
             return Some((script, behind, line + feeds));
         }

@@ -1,11 +1,11 @@
 use Rattle.std.proofs.Common.{◌∙◌, sym}
-use Rattle.up_text.specs.Matching.{matches}
+use Rattle.up_text.specs.Matching.{items_match}
 use Rattle.up_text.specs.Pattern.{all_items}
 use Rattle.up_text.proofs.Matches.{absorbs, star-here}
 use Rattle.up_text.proofs.pattern.matches_end.Goals as goal
 
 pub returns-in-Matches : goal.returns-in-Matches
-returns-in-Matches c = sym (star-here (matches (all_items c.places.rest.now)) c.places.left.now c.in-Matches.ensures) ∙ c.places.invariant.same
+returns-in-Matches c = sym (star-here (items_match (all_items c.places.rest.now)) c.places.left.now c.in-Matches.ensures) ∙ c.places.invariant.same
 
 pub places-preserved : goal.places-preserved
 places-preserved c = record {

@@ -14,12 +14,12 @@ split_at-requires c = Passed-boundary _ _ _ _ c.lines.invariant.passed c.lines.i
 
 pub returns-then-is_end_line : goal.returns-then-is_end_line
 returns-then-is_end_line c =
-    let is : is_end_line c.split_line-feeds.result.0.now ≡ true = rw (← c.as_bytes.ensures.value) (sym c.is_end_line.ensures ∙ c.if-is_end_line.true) in
+    let is : is_end_line c.split_line-feeds.result.0.now ≡ true = sym c.is_end_line.ensures ∙ c.if-is_end_line.true in
     rw c.split_at.ensures.front (Passed-end _ _ _ _ _ _ _ c.lines.invariant.passed c.split_line-feeds.ensures is)
 
 pub lines-preserved : goal.lines-preserved
 lines-preserved c =
-    let is : is_end_line c.split_line-feeds.result.0.now ≡ false = rw (← c.as_bytes.ensures.value) (sym c.is_end_line.ensures ∙ c.if-is_end_line.false) in
+    let is : is_end_line c.split_line-feeds.result.0.now ≡ false = sym c.is_end_line.ensures ∙ c.if-is_end_line.false in
     record {
       passed = Passed-more _ _ _ _ _ _ _ c.lines.invariant.passed c.split_line-feeds.ensures is;
       is_text = search rules;

@@ -1,0 +1,30 @@
+//! Words, as blanks separate them.
+ghost use Rattle.std.specs.Prelude.{◌≡◌, ◌<◌, length};
+ghost use Rattle.std.specs.List.{prefix_len};
+ghost use Rattle.up_text.specs.Lexer.{is_in_word, BeginsWord};
+
+use crate::lexer::bytes::{is_blank, split_blanks};
+
+#[tactic(auto, unfolding(crate::specs::Lexer::is_in_word))]
+fn is_in_word(byte: u8) -> bool
+    ensures { result ≡ is_in_word byte }
+{
+    !is_blank(byte)
+}
+
+// How many bytes of a word the bytes begin with.
+fn word_len(bytes: &[u8]) -> usize
+    ensures { result ≡ prefix_len is_in_word bytes.now }
+{
+    bytes.iter().take_while(|byte| is_in_word(**byte)).count()
+}
+
+/// The first word of the text, which is empty where there is none, and what stands behind it. Spaces and tabs separate words; a quote
+/// or a backslash is a byte like any other, as in the line `end script` and in a command that needs no shell (init(5)).
+pub fn next_word(text: &str) -> (&str, &str)
+    ensures begins { BeginsWord text.now result.0.now result.1.now }
+    ensures shorter { 0 < length result.0.now → length result.1.now < length text.now }
+{
+    let (_, words) = split_blanks(text);
+    words.split_at(word_len(words.as_bytes()))
+}
