@@ -4,17 +4,17 @@ use Rattle.up_conf.specs.declared.job.JobDef.{JobDef}
 use Rattle.up_model.specs.Chronicle.{Entry}
 use Rattle.up_model.specs.Moves.{or_else, move_of, move_in, move_from}
 use Rattle.up_model.specs.Readings.{instance_at, instances_of}
-use Rattle.up_engine.specs.Moved.{is_any}
+use Rattle.up_text.specs.Scripts.{is_filled}
 
 pub or_else-nil : (entries : List Entry) → or_else entries [] ≡ entries
 or_else-nil [] = refl
 or_else-nil (entry ∷ entries) = refl
 
-pub or_else-none : (entries others : List Entry) → is_any entries ≡ false → or_else entries others ≡ others
+pub or_else-none : (entries others : List Entry) → is_filled entries ≡ false → or_else entries others ≡ others
 or_else-none [] others none = refl
 or_else-none (entry ∷ entries) others none = cc
 
-pub none_nil : (entries : List Entry) → is_any entries ≡ false → entries ≡ []
+pub none_nil : (entries : List Entry) → is_filled entries ≡ false → entries ≡ []
 none_nil [] none = refl
 none_nil (entry ∷ entries) none = cc
 

@@ -6,7 +6,8 @@ use Rattle.up_model.specs.Moves.{or_else, where_true}
 use Rattle.up_model.specs.Offers.{is_newborn, stop_offer, stop_offer_in, start_offer, offer_from}
 use Rattle.up_model.specs.Readings.{instance_at, instances_of}
 use Rattle.up_model.specs.Seen.{was_offered}
-use Rattle.up_engine.specs.Moved.{is_any, offer_of_job}
+use Rattle.up_text.specs.Scripts.{is_filled}
+use Rattle.up_engine.specs.Moved.{offer_of_job}
 use Rattle.up_engine.proofs.MoveLemmas.{or_else-nil, or_else-none}
 
 abbrev pub stop_found : List (List ℕ × List ℕ) → JobDef → ℕ → List Entry → Option ℕ → List Entry
@@ -32,6 +33,6 @@ offer_left base jobs i event d c within =
 
 -- where a job has nothing to be offered, what is left is with the others
 pub offer_step : (base : List (List ℕ × List ℕ)) (jobs : List JobDef) (i event : ℕ) (job : JobDef) (c : List Entry) → i < length jobs → job ≡ get_or jobs i job
-    → is_any (offer_of_job base job i event c) ≡ false → offer_from base (drop (i + 1) jobs) (i + 1) event c ≡ offer_from base (drop i jobs) i event c
+    → is_filled (offer_of_job base job i event c) ≡ false → offer_from base (drop (i + 1) jobs) (i + 1) event c ≡ offer_from base (drop i jobs) i event c
 offer_step base jobs i event job c within is none =
     sym (offer_left base jobs i event job c within ∙ or_else-none (offer_of_job base (get_or jobs i job) i event c) _ (rw (← is) none))

@@ -6,7 +6,7 @@ ghost use Rattle.up_model.specs.Due as model;
 ghost use Rattle.up_model.specs.Queue.{queue};
 ghost use Rattle.up_model.specs.Tests as test;
 ghost use Rattle.up_model.specs.Requests as request;
-ghost use Rattle.up_engine.specs.Moved.{is_any};
+ghost use Rattle.up_text.specs.Scripts.{is_filled};
 ghost use Rattle.up_engine.specs.Records.{entries_of};
 ghost use Rattle.up_engine.specs.Queues.{live_of};
 
@@ -29,7 +29,7 @@ pub(crate) fn do_next(
     book: &mut Book,
 ) -> Result<bool, AllocError>
     ensures entries { OnOk result (book.new ≡ model.due base.now jobs.now book.old ++ book.old) }
-    ensures any { IfOk result (λ done. done ≡ is_any (model.due base.now jobs.now book.old)) }
+    ensures any { IfOk result (λ done. done ≡ is_filled (model.due base.now jobs.now book.old)) }
 {
     if move_first(alloc, book, jobs)? {
         return Ok(true);

@@ -7,18 +7,16 @@ ghost use Rattle.up_model.specs.Events as event;
 ghost use Rattle.up_model.specs.Life as life;
 ghost use Rattle.up_model.specs.Moves as model;
 ghost use Rattle.up_model.specs.Readings as read;
-ghost use Rattle.up_engine.specs.Moved.{is_any};
+ghost use Rattle.up_text.specs.Scripts.{is_filled};
 
 use crate::book::Book;
 use crate::events::{started, starting, stopped, stopping};
 use crate::goal::is_start;
 use crate::record::{Origin, Record};
 use std::alloc::{AllocError, Global};
+use up_conf::Signal;
 use up_model::{Event, Goal, JobDef, Process, State};
 use up_text::Text;
-
-/// The signal that ends a main process on entering killed: TERM.
-const KILL_SIGNAL: u8 = 15;
 
 fn whole_or_gone(has_main: bool, lives: bool) -> State
     ensures { result ≡ life.if_whole has_main lives }
@@ -168,7 +166,7 @@ fn enter_killed(book: &mut Book, instance: usize, lives: bool) -> Result<(), All
         state: State::Killed,
     })?;
     if lives {
-        let signal = KILL_SIGNAL;
+        let signal = Signal::term().number();
         book.add(Record::Signalled { instance, signal })?;
     }
     Ok(())
@@ -215,7 +213,7 @@ fn move_one(
     instance: usize,
 ) -> Result<bool, AllocError>
     ensures entries { OnOk result (book.new ≡ model.move_of job.now (record { place = instance; name = [] }) book.old ++ book.old) }
-    ensures any { IfOk result (λ moved. moved ≡ is_any (model.move_of job.now (record { place = instance; name = [] }) book.old)) }
+    ensures any { IfOk result (λ moved. moved ≡ is_filled (model.move_of job.now (record { place = instance; name = [] }) book.old)) }
 {
     let goal = book.goal(instance);
     let from = book.state_of(instance);
@@ -235,7 +233,7 @@ fn move_one(
 #[tactic(auto, using(crate::proofs::MoveLemmas::move_in_one))]
 fn move_in(alloc: Global, book: &mut Book, job: &JobDef, place: usize) -> Result<bool, AllocError>
     ensures entries { OnOk result (book.new ≡ model.move_in job.now (read.instances_of place book.old) book.old ++ book.old) }
-    ensures any { IfOk result (λ moved. moved ≡ is_any (model.move_in job.now (read.instances_of place book.old) book.old)) }
+    ensures any { IfOk result (λ moved. moved ≡ is_filled (model.move_in job.now (read.instances_of place book.old) book.old)) }
 {
     match book.instance_of(place, "") {
         Some(instance) => move_one(alloc, book, job, instance),
@@ -251,7 +249,7 @@ pub(crate) fn move_first(
     jobs: &[JobDef],
 ) -> Result<bool, AllocError>
     ensures entries { OnOk result (book.new ≡ model.move_from jobs.now 0 book.old ++ book.old) }
-    ensures any { IfOk result (λ moved. moved ≡ is_any (model.move_from jobs.now 0 book.old)) }
+    ensures any { IfOk result (λ moved. moved ≡ is_filled (model.move_from jobs.now 0 book.old)) }
 {
     for (place, job) in jobs.iter().enumerate() {
         if move_in(alloc, book, job, place)? {

@@ -9,7 +9,7 @@ ghost use Rattle.up_model.specs.Readings as read;
 ghost use Rattle.up_model.specs.declared.state.Goal.TheVariants.{Stop as goal_stop};
 ghost use Rattle.up_engine.specs.Moved.{offer_of_job};
 ghost use Rattle.up_model.specs.Tests as test;
-ghost use Rattle.up_engine.specs.Moved.{is_any};
+ghost use Rattle.up_text.specs.Scripts.{is_filled};
 ghost use Rattle.up_engine.specs.Records.{expression_of};
 
 use crate::book::Book;
@@ -21,7 +21,7 @@ use std::alloc::{AllocError, Global};
 use up_model::{Goal, JobDef};
 use up_text::{Env, Items, Text};
 
-fn copy_of(alloc: Global, places: &Items<usize>) -> Result<Items<usize>, AllocError>
+fn copy_of_places(alloc: Global, places: &Items<usize>) -> Result<Items<usize>, AllocError>
     ensures { IfOk result (λ copy. copy ≡ places.now) }
 {
     Ok(Items::new(Vec::from_slice(alloc, places.as_slice())?))
@@ -67,7 +67,7 @@ fn offer_stop(
     book.add(Record::Offered { expression, event })?;
     let Verdict { holds, taken } = verdict_of(alloc, base, book, expression, &job.stop_on)?;
     if holds {
-        let holders = copy_of(alloc, &taken)?;
+        let holders = copy_of_places(alloc, &taken)?;
         book.add(Record::Fired { expression, taken })?;
         stop_by(alloc, book, instance, holders, goal)?;
     }
@@ -85,7 +85,7 @@ fn offer_stop_in(
     event: usize,
 ) -> Result<bool, AllocError>
     ensures entries { OnOk result (book.new ≡ model.stop_offer_in base.now job.now (read.instances_of place book.old) event book.old ++ book.old) }
-    ensures any { IfOk result (λ offered. offered ≡ is_any (model.stop_offer_in base.now job.now (read.instances_of place book.old) event book.old)) }
+    ensures any { IfOk result (λ offered. offered ≡ is_filled (model.stop_offer_in base.now job.now (read.instances_of place book.old) event book.old)) }
 {
     let Some(instance) = book.instance_of(place, "") else {
         return Ok(false);
@@ -156,7 +156,7 @@ fn offer_start(
     book.add(Record::Offered { expression, event })?;
     let Verdict { holds, taken } = verdict_of(alloc, base, book, expression, &job.start_on)?;
     if holds {
-        let holders = copy_of(alloc, &taken)?;
+        let holders = copy_of_places(alloc, &taken)?;
         book.add(Record::Fired { expression, taken })?;
         start_by(alloc, base, book, job, from, holders, found)?;
     }
@@ -174,7 +174,7 @@ fn offer_in(
     event: usize,
 ) -> Result<bool, AllocError>
     ensures entries { OnOk result (book.new ≡ offer_of_job base.now job.now from event book.old ++ book.old) }
-    ensures any { IfOk result (λ offered. offered ≡ is_any (offer_of_job base.now job.now from event book.old)) }
+    ensures any { IfOk result (λ offered. offered ≡ is_filled (offer_of_job base.now job.now from event book.old)) }
 {
     if offer_stop_in(alloc, base, book, job, from, event)? {
         return Ok(true);
@@ -196,7 +196,7 @@ fn offer_first(
     event: usize,
 ) -> Result<bool, AllocError>
     ensures entries { OnOk result (book.new ≡ model.offer_from base.now jobs.now 0 event book.old ++ book.old) }
-    ensures any { IfOk result (λ offered. offered ≡ is_any (model.offer_from base.now jobs.now 0 event book.old)) }
+    ensures any { IfOk result (λ offered. offered ≡ is_filled (model.offer_from base.now jobs.now 0 event book.old)) }
 {
     for (place, job) in jobs.iter().enumerate() {
         if offer_in(alloc, base, book, job, place, event)? {
@@ -215,7 +215,7 @@ pub(crate) fn offer_next(
     jobs: &[JobDef],
 ) -> Result<bool, AllocError>
     ensures entries { OnOk result (book.new ≡ model.offer_next base.now jobs.now (model.offering book.old) book.old ++ book.old) }
-    ensures any { IfOk result (λ offered. offered ≡ is_any (model.offer_next base.now jobs.now (model.offering book.old) book.old)) }
+    ensures any { IfOk result (λ offered. offered ≡ is_filled (model.offer_next base.now jobs.now (model.offering book.old) book.old)) }
 {
     match book.offering() {
         Some(event) => offer_first(alloc, base, book, jobs, event),

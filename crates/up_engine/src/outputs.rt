@@ -40,7 +40,7 @@ fn who(alloc: Global, job: &Name, name: &str) -> Result<Who, AllocError>
     Ok(Who { job, instance })
 }
 
-fn copy_of(alloc: Global, words: &[Text]) -> Result<Items<Text>, AllocError>
+fn copy_of_words(alloc: Global, words: &[Text]) -> Result<Items<Text>, AllocError>
     ensures { IfOk result (λ copied. copied ≡ words.now) }
 {
     let mut copied = Vec::with_capacity(alloc, words.len())?;
@@ -76,7 +76,7 @@ fn words_of(alloc: Global, action: &Action) -> Result<Items<Text>, AllocError>
     ensures { IfOk result (λ words. words ≡ model.argv_of action.now) }
 {
     match action {
-        Action::Words(words) => copy_of(alloc, words.as_slice()),
+        Action::Words(words) => copy_of_words(alloc, words.as_slice()),
         Action::Shell(text) => shell_words(alloc, text),
     }
 }

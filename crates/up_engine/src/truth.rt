@@ -1,5 +1,5 @@
 //! What an expression says of the events that it has seen.
-ghost use Rattle.std.specs.Prelude.{◌≡◌, ◌++◌, nat_lt, is_some, IfOk};
+ghost use Rattle.std.specs.Prelude.{◌≡◌, ◌++◌, is_some, IfOk};
 ghost use Rattle.std.specs.Option.{option_to_list};
 ghost use Rattle.up_expr.specs.Trees.{tree_of};
 ghost use Rattle.up_expr.specs.Truth as truth;
@@ -118,7 +118,7 @@ pub(crate) fn verdict_of(
 }
 
 fn is_kept(found: Option<usize>, event: usize) -> bool
-    ensures { result ≡ nat_lt 0 (held.occurs event (option_to_list found)) }
+    ensures { result ≡ held.has event (option_to_list found) }
 {
     match found {
         Some(place) => place == event,
@@ -127,7 +127,7 @@ fn is_kept(found: Option<usize>, event: usize) -> bool
 }
 
 // Whether one of the leaves keeps the event.
-#[tactic(auto, using(crate::proofs::HeldLemmas::positive_append))]
+#[tactic(auto, using(crate::proofs::HeldLemmas::has_append))]
 fn has_leaf_of(
     alloc: Global,
     base: &Env,
@@ -136,7 +136,7 @@ fn has_leaf_of(
     expr: &Expr,
     event: usize,
 ) -> Result<bool, AllocError>
-    ensures { IfOk result (λ keeps. keeps ≡ nat_lt 0 (held.occurs event (truth.kept (tree_of expr.now) (seen.seen base.now (expression_of expression) book.now)))) }
+    ensures { IfOk result (λ keeps. keeps ≡ held.has event (truth.kept (tree_of expr.now) (seen.seen base.now (expression_of expression) book.now))) }
 {
     match expr {
         Expr::Leaf(leaf) => {
@@ -165,7 +165,7 @@ pub(crate) fn keeps(
     condition: &Option<Condition>,
     event: usize,
 ) -> Result<bool, AllocError>
-    ensures { IfOk result (λ keeps. keeps ≡ nat_lt 0 (held.occurs event (seen.kept condition.now (seen.seen base.now (expression_of expression) book.now)))) }
+    ensures { IfOk result (λ keeps. keeps ≡ held.has event (seen.kept condition.now (seen.seen base.now (expression_of expression) book.now))) }
 {
     match condition {
         Some(condition) => {

@@ -1,5 +1,5 @@
 //! Which event a turn takes.
-ghost use Rattle.std.specs.Prelude.{◌≡◌, ◌+◌, nat_lt, map, option_map, IfOk};
+ghost use Rattle.std.specs.Prelude.{◌≡◌, ◌++◌, map, option_map, IfOk};
 ghost use Rattle.up_model.specs.Chronicle as entry;
 ghost use Rattle.up_model.specs.Due as model;
 ghost use Rattle.up_model.specs.Held as held;
@@ -16,20 +16,14 @@ use std::alloc::{AllocError, Global};
 use up_model::JobDef;
 use up_text::Env;
 
-#[tactic(auto, using(crate::proofs::HeldLemmas::occurs_left))]
 fn has(places: &[usize], event: usize) -> bool
-    ensures { result ≡ nat_lt 0 (held.occurs event places.now) }
+    ensures { result ≡ held.has event places.now }
 {
-    for place in places {
-        if *place == event {
-            return true;
-        }
-    }
-    false
+    places.iter().any(|place| *place == event)
 }
 
 // Whether the job's instance holds the event: its `stop on` keeps it, or it is among what started or stopped it.
-#[tactic(auto, using(crate::proofs::HeldLemmas::positive_three))]
+#[tactic(auto, using(crate::proofs::HeldLemmas::has_by_instance))]
 fn is_held_by_instance(
     alloc: Global,
     base: &Env,
@@ -38,7 +32,7 @@ fn is_held_by_instance(
     place: usize,
     event: usize,
 ) -> Result<bool, AllocError>
-    ensures { IfOk result (λ holds. holds ≡ nat_lt 0 (held.count_of_instances base.now job.now event (read.instances_of place book.now) book.now)) }
+    ensures { IfOk result (λ holds. holds ≡ held.has event (held.held_by_instances base.now job.now (read.instances_of place book.now) book.now)) }
 {
     let Some(instance) = book.instance_of(place, "") else {
         return Ok(false);
@@ -54,7 +48,7 @@ fn is_held_by_instance(
     Ok(stop || has(book.holders(instance), event))
 }
 
-#[tactic(auto, using(crate::proofs::HeldLemmas::positive_add))]
+#[tactic(auto, using(crate::proofs::HeldLemmas::has_append))]
 fn is_held_by_job(
     alloc: Global,
     base: &Env,
@@ -63,7 +57,7 @@ fn is_held_by_job(
     place: usize,
     event: usize,
 ) -> Result<bool, AllocError>
-    ensures { IfOk result (λ holds. holds ≡ nat_lt 0 (held.occurs event (seen.kept job.now.start_on (seen.seen base.now (entry.StartOn place) book.now)) + held.count_of_instances base.now job.now event (read.instances_of place book.now) book.now)) }
+    ensures { IfOk result (λ holds. holds ≡ held.has event (seen.kept job.now.start_on (seen.seen base.now (entry.StartOn place) book.now) ++ held.held_by_instances base.now job.now (read.instances_of place book.now) book.now)) }
 {
     let start = keeps(
         alloc,
@@ -81,7 +75,7 @@ fn is_held_by_job(
 }
 
 /// Whether an event may not finish yet.
-#[tactic(auto, using(crate::proofs::HeldLemmas::count_left))]
+#[tactic(auto, using(crate::proofs::HeldLemmas::held_left))]
 fn is_held(
     alloc: Global,
     base: &Env,

@@ -6,6 +6,7 @@ use Rattle.up_model.specs.declared.state.State.TheVariants as state
 use Rattle.up_conf.specs.declared.process.Process.TheVariants.{Main}
 use Rattle.up_model.specs.declared.who.Who.{Who}
 use Rattle.up_conf.specs.declared.job.JobDef.{JobDef}
+use Rattle.up_conf.specs.Signals.{term}
 use Rattle.up_model.specs.Chronicle.{Entry, Queued, Released, Entered, Ordered, Signalled, Entering}
 use Rattle.up_model.specs.Readings.{Instance, instances_of, goal, state_of, blocker, awaited, lives}
 use Rattle.up_model.specs.Life.{next_state, may_leave, is_pre_stop}
@@ -27,7 +28,7 @@ who_of job instance = record { job = job.name; instance = instance.name }
 
 -- the signal that ends a process on entering killed: TERM, so far
 abbrev pub kill_signal : ℕ
-kill_signal = 15
+kill_signal = term
 
 -- an instance enters a state, coming from another: what it gives, orders and lets go. `lives` tells of its main process
 abbrev pub entering : JobDef → Who → (instance : ℕ) → (lives : Bool) → (from to : State) → List Entry

@@ -9,9 +9,8 @@ use Rattle.up_model.specs.Readings.{event_at, env}
 
 abbrev pub same_expression : Expression → Expression → Bool
 same_expression (StartOn job) (StartOn other) = job == other
-same_expression (StartOn job) (StopOn instance) = false
-same_expression (StopOn instance) (StartOn job) = false
 same_expression (StopOn instance) (StopOn other) = instance == other
+same_expression expression other = false
 
 -- the environment by which an expression's values expand: for a `start on` the base environment, so far, and for a `stop on` the
 -- environment in force

@@ -13,10 +13,7 @@ is_start Stop = false
 
 abbrev pub is_main : Process → Bool
 is_main Main = true
-is_main PreStart = false
-is_main PostStart = false
-is_main PreStop = false
-is_main PostStop = false
+is_main other = false
 
 -- a number for each process
 abbrev pub process_number : Process → ℕ
