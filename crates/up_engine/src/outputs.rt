@@ -72,7 +72,7 @@ fn shell_words(alloc: Global, text: &Text) -> Result<Items<Text>, AllocError>
 }
 
 // The words that run an action.
-fn words_of(alloc: Global, action: &Action) -> Result<Items<Text>, AllocError>
+fn argv_of(alloc: Global, action: &Action) -> Result<Items<Text>, AllocError>
     ensures { IfOk result (λ words. words ≡ model.argv_of action.now) }
 {
     match action {
@@ -102,7 +102,7 @@ fn order(
 {
     match &job.main {
         Some(action) => {
-            let argv = words_of(alloc, action)?;
+            let argv = argv_of(alloc, action)?;
             let who = who(alloc, &job.name, name)?;
             let dir = dir_of(alloc, &job.dir)?;
             let env = env_or_empty(alloc, found)?;

@@ -3,7 +3,7 @@ ghost use Rattle.std.specs.Prelude.{◌<◌, length};
 
 use std::alloc::Global;
 use std::process::Abort;
-use up_text::{Lexer, Text, TextFault, Token};
+use up_text::{Lexer, Text, TextFault, Token, next_word};
 
 #[derive(Clone, Copy, Debug)]
 enum Step {
@@ -497,5 +497,19 @@ fn joins_lines_of_commands(rt: HostRuntime) {
 fn refuses_commands(rt: HostRuntime) {
     for case in &REFUSED_COMMANDS {
         check_case(&rt, rt.alloc(), case);
+    }
+}
+
+#[test]
+fn words_stand_between_blanks(rt: HostRuntime) {
+    let cases = [
+        (" \ta \"b c", "a", " \"b c"),
+        ("\"b c", "\"b", " c"),
+        ("c\\\t", "c\\", "\t"),
+        (" \t", "", ""),
+        ("", "", ""),
+    ];
+    for (text, word, behind) in cases {
+        assert_eq!(&rt; next_word(text), (word, behind));
     }
 }
