@@ -1,5 +1,4 @@
 use Rattle.up_text.specs.Lexer.{is_in_word}
-use Rattle.up_text.specs.Tokens.{is_blank}
 use Rattle.up_text.proofs.Cuts.{IsCharBoundary-before}
 use Rattle.up_text.proofs.Scripting.{BeginsWord-Splits, word-ascii}
 use Rattle.up_text.proofs.lexer.words.next_word.Goals as goal
