@@ -194,6 +194,8 @@ impl Found {
             Err(error) if is_source(path.as_str()) => {
                 Err(refused(rt.alloc(), error, whole.as_str()))
             }
+            // A link to nothing, or what went since the folder was listed: by its name no job file.
+            Err(error) if error.kind() == ErrorKind::NotFound => Ok(()),
             Err(error) => Err(refused(rt.alloc(), error, dir)),
         }
     }

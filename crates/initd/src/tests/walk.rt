@@ -54,6 +54,8 @@ fn files_are_read_by_their_paths(rt: HostRuntime) -> Result<(), Fail> {
     make_file(&rt, dir, ".a.conf", b"task\n")?;
     make_file(&rt, dir, "README", b"read me\n")?;
     make_file(&rt, dir, "a.conf.old", b"exec y\n")?;
+    let link = below(&rt, dir, "link")?;
+    symlink(&rt, "nowhere", link.as_str())?;
     let Ok(folder) = walk(&rt, dir) else {
         return Err(Fail::from("the folder is not read"));
     };
