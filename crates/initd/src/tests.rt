@@ -6,6 +6,7 @@ mod expressions;
 mod failures;
 mod reader;
 mod rows;
+mod script;
 mod streams;
 mod walk;
 
