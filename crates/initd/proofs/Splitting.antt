@@ -10,7 +10,7 @@ use Rattle.up_text.proofs.Readings.{prefix_len-front}
 use Rattle.initd.specs.Bundle.{lines_of, first_line, after_line}
 use Rattle.up_model.specs.declared.input.Input.{Input}
 use Rattle.up_text.specs.Lexemes.{stanzas}
-use Rattle.initd.specs.Rows.{is_text, begins_text, inputs_from, script_inputs, unless_left, Fronts}
+use Rattle.initd.specs.Rows.{is_text, begins_text, inputs_from, lines_inputs, unless_left, Fronts}
 use Rattle.initd.proofs.BundleLemmas.{lines_of-first}
 use Rattle.initd.proofs.Passing.{first_line-append, shorter}
 
@@ -133,8 +133,8 @@ left_err line (byte ∷ rest) earlier some = (left_lines line (lines_of (byte �
 
 -- a script by its front
 pub by_front : (line : ℕ) (script front rest : List ℕ) (count : ℕ) → Fronts script front rest count
-    → unless_left (line + count) (lines_of rest) (inputs_from line (stanzas front)) ≡ script_inputs line script
-unfolding script_inputs
+    → unless_left (line + count) (lines_of rest) (inputs_from line (stanzas front)) ≡ lines_inputs line (lines_of script)
+unfolding lines_inputs
 by_front line script front rest count is =
     ap (λ lines. unless_left (line + count) lines (inputs_from line (stanzas front))) is.behind
     ∙ ap (λ text. unless_left (line + count) (drop count (lines_of script)) (inputs_from line (stanzas text))) is.lines

@@ -1,24 +1,25 @@
 //! Reads a script.
-ghost use Rattle.std.specs.Prelude.{◌≡◌, ◌≤◌, ◌<◌, ◌+◌, IfOk, IfSome, length};
+ghost use Rattle.std.specs.Prelude.{◌≡◌, ◌≤◌, ◌<◌, ◌+◌, IfOk, IfSome, MatchOption, true, false, length};
 ghost use Rattle.up_text.specs.Lexemes.{lexemes_of, stanzas};
 ghost use Rattle.initd.specs.Bundle.{lines_of};
-ghost use Rattle.initd.specs.Rows.{is_text, begins_text, behind_step, inputs_from, step_inputs, script_inputs, unless_left, words_in, Continues, Fronts, ReachesNoFurther};
+ghost use Rattle.initd.specs.Rows.{is_text, begins_text, behind_step, inputs_from, lines_inputs, step_inputs, script_inputs, unless_left, words_in, Continues, Fronts, ReachesNoFurther};
 
 use crate::bundle::{as_text, split_line};
 use crate::words::inputs_of;
 use std::alloc::{AllocError, Global};
 use up_model::Input;
-use up_text::{Items, Lexer, Text, TextFault};
+use up_text::{Items, Lexer, Text, TextFault, without_comments};
 
-// Whether the bytes may stand in a script.
+// The bytes as a text, where they may stand in a script.
 #[tactic(auto, unfolding(crate::specs::Rows::is_text))]
-fn is_text(bytes: &[u8]) -> bool
-    ensures { result ≡ is_text bytes.now }
+fn text_of(bytes: &[u8]) -> Option<&str>
+    ensures test { MatchOption result (is_text bytes.now ≡ false) (λ text. is_text bytes.now ≡ true) }
+    ensures same { IfSome result (λ text. text.now ≡ bytes.now) }
 {
     if bytes.contains(&0) {
-        return false;
+        return None;
     }
-    as_text(bytes).is_some()
+    as_text(bytes)
 }
 
 // Whether the first line may stand in a script.
@@ -29,7 +30,7 @@ fn begins_text(script: &[u8]) -> bool
     if script.is_empty() {
         return false;
     }
-    is_text(split_line(script).0)
+    text_of(split_line(script).0).is_some()
 }
 
 // The lines up to the first that may not stand in a script, the bytes from it on, and how many lines stand before it.
@@ -133,8 +134,26 @@ fn unless_left(read: Result<Items<Input>, u32>, rest: &[u8], line: u32) -> Resul
     }
 }
 
-/// The inputs of a script that begins on this line, or its first bad line.
+// The inputs of the lines up to the first that is no text, where they begin on this line, or the first bad line.
 #[tactic(auto, using(crate::proofs::Splitting::by_front))]
+fn lines_inputs(
+    alloc: Global,
+    script: &[u8],
+    line: u32,
+) -> Result<Result<Items<Input>, u32>, AllocError>
+    requires { line + length script.now < 4294967295 }
+    ensures { IfOk result (λ read. read ≡ lines_inputs line (lines_of script.now)) }
+{
+    let (front, rest, count) = text_front(script);
+    let Some(text) = as_text(front) else {
+        unreachable!()
+    };
+    let read = text_inputs(alloc, text, line)?;
+    Ok(unless_left(read, rest, line + count))
+}
+
+/// The inputs of a script that begins on this line, or its first bad line.
+#[tactic(auto, unfolding(crate::specs::Rows::script_inputs), using(up_text::proofs::Comments::no_longer))]
 pub fn script_inputs(
     alloc: Global,
     script: &[u8],
@@ -143,10 +162,11 @@ pub fn script_inputs(
     requires { line + length script.now < 4294967295 }
     ensures { IfOk result (λ read. read ≡ script_inputs line script.now) }
 {
-    let (front, rest, count) = text_front(script);
-    let Some(text) = as_text(front) else {
-        unreachable!()
-    };
-    let read = text_inputs(alloc, text, line)?;
-    Ok(unless_left(read, rest, line + count))
+    match text_of(script) {
+        Some(text) => text_inputs(alloc, text, line),
+        None => {
+            let bytes = without_comments(alloc, script)?;
+            lines_inputs(alloc, bytes.as_slice(), line)
+        }
+    }
 }

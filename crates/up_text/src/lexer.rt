@@ -7,6 +7,7 @@ ghost use Rattle.up_text.specs.Commands.{ReadsCommand};
 
 mod bytes;
 mod command;
+mod comments;
 mod draft;
 mod gap;
 pub mod laws;
@@ -17,6 +18,7 @@ mod spelling;
 use crate::fault::TextFault;
 use crate::lexer::bytes::{begins_feed, is_line_end, split_first};
 use crate::lexer::command::push_command;
+pub use crate::lexer::comments::without_comments;
 use crate::lexer::draft::Draft;
 use crate::lexer::gap::after_gap;
 use crate::lexer::script::find_end;

@@ -18,7 +18,7 @@ pub use env::Env;
 pub use expansion::{Expanded, expand, is_expandable};
 pub use fault::TextFault;
 pub use items::Items;
-pub use lexer::Lexer;
+pub use lexer::{Lexer, without_comments};
 pub use name::Name;
 pub use pattern::{glob, supported};
 pub use text::Text;

@@ -162,6 +162,65 @@ const NO_TEXT: [Case; 8] = [
     },
 ];
 
+// A comment has any bytes, also where the script is no text.
+const COMMENTS: [Case; 11] = [
+    Case {
+        bundle: b"%script\n# \xff\x00 \"\nrequest 1 version#\xff",
+        printed: "reply 1 failed \"Not supported: version\"\n",
+        status: 0,
+    },
+    Case {
+        bundle: b"%file a.conf\nstart on A\nexec /bin/d\n%script\nemit A X='b\nc' # '\xff\nturn \\\n3",
+        printed: SPAWNED,
+        status: 0,
+    },
+    Case {
+        bundle: b"%script\nturn # \xff\nnonsense\n",
+        printed: "-:3: bad step\n",
+        status: 2,
+    },
+    Case {
+        bundle: b"%script\nturn # \xff \\\nnonsense\n",
+        printed: "-:3: bad step\n",
+        status: 2,
+    },
+    Case {
+        bundle: b"%script\nturn \\\n# \xff\n2",
+        printed: "-:4: bad step\n",
+        status: 2,
+    },
+    Case {
+        bundle: b"%script\n# \xff\nturn \\#\xff\n",
+        printed: "-:3: bad step\n",
+        status: 2,
+    },
+    Case {
+        bundle: b"%script\n# \xff\nemit A X='#\xff'\n",
+        printed: "-:3: bad step\n",
+        status: 2,
+    },
+    Case {
+        bundle: b"%script\nemit A X=\"b\n#\xff\"\n",
+        printed: "-:2: bad step\n",
+        status: 2,
+    },
+    Case {
+        bundle: b"%script\nemit A X=\"b\\\"#\xff\"\n",
+        printed: "-:2: bad step\n",
+        status: 2,
+    },
+    Case {
+        bundle: b"%script\nturn # \xff\nturn \xff\nnonsense\n",
+        printed: "-:3: bad step\n",
+        status: 2,
+    },
+    Case {
+        bundle: b"%script\nturn # \xff\nnonsense\nturn \xff\n",
+        printed: "-:3: bad step\n",
+        status: 2,
+    },
+];
+
 #[test]
 fn quoted_pieces_span_lines(rt: HostRuntime) -> Result<(), Fail> {
     for case in &QUOTED {
@@ -189,6 +248,14 @@ fn a_bad_step_is_told_where_it_begins(rt: HostRuntime) -> Result<(), Fail> {
 #[test]
 fn lines_that_are_no_text(rt: HostRuntime) -> Result<(), Fail> {
     for case in &NO_TEXT {
+        check(&rt, case)?;
+    }
+    Ok(())
+}
+
+#[test]
+fn comments_have_any_bytes(rt: HostRuntime) -> Result<(), Fail> {
+    for case in &COMMENTS {
         check(&rt, case)?;
     }
     Ok(())
