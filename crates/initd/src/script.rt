@@ -1,25 +1,14 @@
 //! Reads a script.
-ghost use Rattle.std.specs.Prelude.{◌≡◌, ◌≤◌, ◌<◌, ◌+◌, ◌∷◌, IfOk, IfSome, MatchOption, true, false, length};
-ghost use Rattle.up_text.specs.Lexemes.{lexemes, lexemes_of};
+ghost use Rattle.std.specs.Prelude.{◌≡◌, ◌≤◌, ◌<◌, ◌+◌, IfOk, IfSome, MatchOption, true, false, length};
+ghost use Rattle.up_text.specs.Lexemes.{lexemes_of, stanzas};
 ghost use Rattle.initd.specs.Bundle.{lines_of};
-ghost use Rattle.initd.specs.Rows.{is_text, Continues, words_in, line_inputs, script_inputs};
+ghost use Rattle.initd.specs.Rows.{is_text, begins_text, behind_step, inputs_from, lines_inputs, step_inputs, script_inputs, unless_left, words_in, Continues, Fronts, ReachesNoFurther};
 
 use crate::bundle::{as_text, split_line};
 use crate::words::inputs_of;
 use std::alloc::{AllocError, Global};
 use up_model::Input;
-use up_text::{Items, Lexer, Text, TextFault};
-
-// The first line, with its line feed, and the lines behind it.
-#[tactic(auto, using(crate::proofs::Splitting::front, crate::proofs::Splitting::length_first))]
-fn next_line(text: &[u8]) -> (&[u8], &[u8])
-    requires { 0 < length text.now }
-    ensures front { lines_of text.now ≡ result.0.now ∷ lines_of result.1.now }
-    ensures shorter { length result.1.now < length text.now }
-    ensures within { length result.0.now ≤ length text.now }
-{
-    split_line(text)
-}
+use up_text::{Items, Lexer, Text, TextFault, without_comments};
 
 // The bytes as a text, where they may stand in a script.
 #[tactic(auto, unfolding(crate::specs::Rows::is_text))]
@@ -33,7 +22,33 @@ fn text_of(bytes: &[u8]) -> Option<&str>
     as_text(bytes)
 }
 
-/// What comes next in a line.
+// Whether the first line may stand in a script.
+#[tactic(auto, using(crate::proofs::Splitting::begins_none, crate::proofs::Splitting::begins_first))]
+fn begins_text(script: &[u8]) -> bool
+    ensures { result ≡ begins_text (lines_of script.now) }
+{
+    if script.is_empty() {
+        return false;
+    }
+    text_of(split_line(script).0).is_some()
+}
+
+// The lines up to the first that may not stand in a script, the bytes from it on, and how many lines stand before it.
+fn text_front(script: &[u8]) -> (&[u8], &[u8], u32)
+    requires { length script.now < 4294967295 }
+    ensures { Fronts script.now result.0.now result.1.now result.2 }
+{
+    let mut rest = script;
+    let mut count = 0u32;
+    'lines: while begins_text(rest) {
+        rest = split_line(rest).1;
+        count += 1;
+    }
+    let front = &script[..script.len() - rest.len()];
+    (front, rest, count)
+}
+
+/// What comes next in a step.
 #[derive(Debug, Drop)]
 enum Next {
     Word(Text),
@@ -41,9 +56,10 @@ enum Next {
     Bad,
 }
 
-#[tactic(auto, using(up_text::proofs::Lexemes::reads_lexemes))]
+#[tactic(auto, using(up_text::proofs::Lexemes::reads_lexemes, crate::proofs::Stepping::reads_no_further))]
 fn next_word(alloc: Global, lexer: &mut Lexer) -> Result<Next, AllocError>
-    ensures { IfOk result (Continues (lexemes_of lexer.old) (lexemes_of lexer.new)) }
+    ensures next { IfOk result (Continues (lexemes_of lexer.old) (lexemes_of lexer.new)) }
+    ensures within { ReachesNoFurther lexer.new lexer.old }
 {
     match lexer.next(alloc) {
         Ok(Some(token)) => Ok(Next::Word(token.text)),
@@ -53,15 +69,15 @@ fn next_word(alloc: Global, lexer: &mut Lexer) -> Result<Next, AllocError>
     }
 }
 
-// The words of a text of one line, where no spelling is refused.
-fn words_in(alloc: Global, text: &str) -> Result<Option<Items<Text>>, AllocError>
-    requires { length text.now < 4294967295 }
-    ensures { IfOk result (λ words. words ≡ words_in (lexemes text.now)) }
+// The words of the step in front, where each is whole; the lexer then stands behind it.
+fn step_words(alloc: Global, lexer: &mut Lexer) -> Result<Option<Items<Text>>, AllocError>
+    ensures words { IfOk result (λ words. words ≡ words_in (lexemes_of lexer.old)) }
+    ensures behind { IfOk result (λ words. IfSome words (λ _. lexemes_of lexer.new ≡ behind_step (lexemes_of lexer.old))) }
+    ensures within { ReachesNoFurther lexer.new lexer.old }
 {
-    let mut lexer = Lexer::new(text);
     let mut words: Vec<Text> = Vec::new(alloc);
     'words: loop {
-        match next_word(alloc, &mut lexer)? {
+        match next_word(alloc, lexer)? {
             Next::Word(word) => words.push(word)?,
             Next::End => break,
             Next::Bad => return Ok(None),
@@ -70,23 +86,74 @@ fn words_in(alloc: Global, text: &str) -> Result<Option<Items<Text>>, AllocError
     Ok(Some(Items::new(words)))
 }
 
-// The inputs of a line.
-#[tactic(auto, unfolding(crate::specs::Rows::line_inputs))]
-fn line_inputs(alloc: Global, line: &[u8]) -> Result<Option<Items<Input>>, AllocError>
-    requires { length line.now < 4294967295 }
-    ensures { IfOk result (λ inputs. inputs ≡ line_inputs line.now) }
+// The inputs of the step in front, where it is no bad one; the lexer then stands behind it.
+fn step_inputs(alloc: Global, lexer: &mut Lexer) -> Result<Option<Items<Input>>, AllocError>
+    ensures inputs { IfOk result (λ inputs. inputs ≡ step_inputs (lexemes_of lexer.old)) }
+    ensures behind { IfOk result (λ inputs. IfSome inputs (λ _. lexemes_of lexer.new ≡ behind_step (lexemes_of lexer.old))) }
+    ensures within { ReachesNoFurther lexer.new lexer.old }
 {
-    let Some(text) = text_of(line) else {
-        return Ok(None);
-    };
-    match words_in(alloc, text)? {
+    match step_words(alloc, lexer)? {
         Some(words) => inputs_of(alloc, words.as_slice()),
         None => Ok(None),
     }
 }
 
-/// The inputs of a script that begins on this line, or the line of its first bad step.
-#[tactic(auto, unfolding(crate::specs::Rows::script_inputs), using(crate::proofs::Splitting::with_more))]
+// The inputs of a text that begins on this line, or the line on which its first bad step begins.
+#[tactic(auto, using(crate::proofs::Stepping::line_within))]
+fn text_inputs(
+    alloc: Global,
+    text: &str,
+    line: u32,
+) -> Result<Result<Items<Input>, u32>, AllocError>
+    requires { line + length text.now < 4294967295 }
+    ensures { IfOk result (λ read. read ≡ inputs_from line (stanzas text.now)) }
+{
+    let mut inputs: Vec<Input> = Vec::new(alloc);
+    let mut lexer = Lexer::new(text);
+    'steps: while !lexer.at_end() {
+        let lines = lexer.line();
+        match step_inputs(alloc, &mut lexer)? {
+            Some(more) => inputs.append(&mut more.into_vec())?,
+            None => return Ok(Err(line + lines.saturating_sub(1))),
+        }
+    }
+    Ok(Ok(Items::new(inputs)))
+}
+
+// What is read of a script, of which these bytes are left from this line on, where they begin with a line that is no text.
+#[tactic(auto, using(crate::proofs::Splitting::left_none, crate::proofs::Splitting::left_ok, crate::proofs::Splitting::left_err))]
+fn unless_left(read: Result<Items<Input>, u32>, rest: &[u8], line: u32) -> Result<Items<Input>, u32>
+    ensures { result ≡ unless_left line (lines_of rest.now) read }
+{
+    if rest.is_empty() {
+        return read;
+    }
+    match read {
+        Ok(_) => Err(line),
+        Err(earlier) => Err(earlier),
+    }
+}
+
+// The inputs of the lines up to the first that is no text, where they begin on this line, or the first bad line.
+#[tactic(auto, using(crate::proofs::Splitting::by_front))]
+fn lines_inputs(
+    alloc: Global,
+    script: &[u8],
+    line: u32,
+) -> Result<Result<Items<Input>, u32>, AllocError>
+    requires { line + length script.now < 4294967295 }
+    ensures { IfOk result (λ read. read ≡ lines_inputs line (lines_of script.now)) }
+{
+    let (front, rest, count) = text_front(script);
+    let Some(text) = as_text(front) else {
+        unreachable!()
+    };
+    let read = text_inputs(alloc, text, line)?;
+    Ok(unless_left(read, rest, line + count))
+}
+
+/// The inputs of a script that begins on this line, or its first bad line.
+#[tactic(auto, unfolding(crate::specs::Rows::script_inputs), using(up_text::proofs::Comments::no_longer))]
 pub fn script_inputs(
     alloc: Global,
     script: &[u8],
@@ -95,17 +162,11 @@ pub fn script_inputs(
     requires { line + length script.now < 4294967295 }
     ensures { IfOk result (λ read. read ≡ script_inputs line script.now) }
 {
-    let mut inputs: Vec<Input> = Vec::new(alloc);
-    let mut rest = script;
-    let mut line = line;
-    'lines: while !rest.is_empty() {
-        let (first, others) = next_line(rest);
-        let Some(more) = line_inputs(alloc, first)? else {
-            return Ok(Err(line));
-        };
-        inputs.append(&mut more.into_vec())?;
-        rest = others;
-        line += 1;
+    match text_of(script) {
+        Some(text) => text_inputs(alloc, text, line),
+        None => {
+            let bytes = without_comments(alloc, script)?;
+            lines_inputs(alloc, bytes.as_slice(), line)
+        }
     }
-    Ok(Ok(Items::new(inputs)))
 }

@@ -1,6 +1,7 @@
 pub mod Bindings
 pub mod CommandParts
 pub mod Commands
+pub mod Comments
 pub mod Expanding
 pub mod Expansion
 pub mod Fault

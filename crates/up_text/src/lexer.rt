@@ -7,21 +7,24 @@ ghost use Rattle.up_text.specs.Commands.{ReadsCommand};
 
 mod bytes;
 mod command;
+mod comments;
 mod draft;
 mod gap;
 pub mod laws;
 mod quoted;
 mod script;
 mod spelling;
-pub mod words;
+mod words;
 
 use crate::fault::TextFault;
 use crate::lexer::bytes::{begins_feed, is_line_end, split_first};
 use crate::lexer::command::push_command;
+pub use crate::lexer::comments::without_comments;
 use crate::lexer::draft::Draft;
 use crate::lexer::gap::after_gap;
 use crate::lexer::script::find_end;
 use crate::lexer::spelling::read_token;
+pub use crate::lexer::words::next_word;
 use crate::text::Text;
 use crate::token::Token;
 use std::alloc::Global;

@@ -14,7 +14,7 @@ pub(crate) fn is_blank(byte: u8) -> bool
 }
 
 #[tactic(auto, unfolding(crate::specs::Tokens::is_quote))]
-fn is_quote(byte: u8) -> bool
+pub(crate) fn is_quote(byte: u8) -> bool
     ensures { result ≡ is_quote byte }
 {
     byte == b'"' || byte == b'\''
