@@ -15,7 +15,7 @@ use Rattle.initd.specs.Script.{inputs_of}
 unfoldable pub is_text : List ℕ → Bool
 is_text bytes = not (list_any (λ byte. byte == 0) bytes) && is_utf8 bytes
 
--- the texts of a step's tokens, where each is whole
+-- the texts of the tokens up to a step's end, where each is whole
 abbrev pub words_in : List Lexeme → Option (List (List ℕ))
 words_in [] = Some []
 words_in (Word token ∷ lexemes) = option_map (λ words. token.text ∷ words) (words_in lexemes)
@@ -26,7 +26,7 @@ words_in (End ∷ lexemes) = Some []
 abbrev pub step_inputs : List Lexeme → Option (List Input)
 step_inputs step = option_and_then inputs_of (words_in step)
 
--- the line on which a step begins: that of its first token
+-- the line on which a step begins: that of its first token; each step has one
 abbrev pub begins_on : List Lexeme → ℕ
 begins_on [] = 0
 begins_on (Word token ∷ lexemes) = token.line
@@ -72,7 +72,7 @@ abbrev pub begins_text : List (List ℕ) → Bool
 begins_text [] = false
 begins_text (line ∷ lines) = is_text line
 
--- a script begins with bytes that are these many lines, all that are text up to one that isn't, and these are the bytes behind them
+-- a script is these bytes, which are its lines up to the first that is no text, so many, and those that are left behind them
 pub record Fronts (script front rest : List ℕ) (count : ℕ) : Type 0 where
   pub counted : count ≡ prefix_len is_text (lines_of script)
   pub lines : front ≡ concat (take count (lines_of script))

@@ -99,7 +99,7 @@ fn step_inputs(alloc: Global, lexer: &mut Lexer) -> Result<Option<Items<Input>>,
 }
 
 // The inputs of a text that begins on this line, or the line on which its first bad step begins.
-#[tactic(auto, using(crate::proofs::Stepping::line_within))]
+#[tactic(auto, using(crate::proofs::Stepping::bad_step, crate::proofs::Stepping::line_within, crate::proofs::Stepping::no_step, crate::proofs::Stepping::one_step, crate::proofs::Stepping::step_less))]
 fn text_inputs(
     alloc: Global,
     text: &str,

@@ -3,7 +3,8 @@ ghost use Rattle.std.specs.Prelude.{◌<◌, length};
 
 use std::alloc::Global;
 use std::process::Abort;
-use up_text::{Lexer, Text, TextFault, Token, next_word};
+use std::test::Fail;
+use up_text::{Lexer, Text, TextFault, Token, next_word, without_comments};
 
 #[derive(Clone, Copy, Debug)]
 enum Step {
@@ -510,6 +511,30 @@ fn words_stand_between_blanks(rt: HostRuntime) {
         ("", "", ""),
     ];
     for (text, word, behind) in cases {
-        assert_eq!(&rt; next_word(text), (word, behind));
+        assert_eq!(rt; next_word(text), (word, behind));
     }
+}
+
+/// Texts, and what is left of them without their comments.
+const COMMENTED: [(&[u8], &[u8]); 11] = [
+    (b"", b""),
+    (b"a b", b"a b"),
+    (b"a # b\n# c\nd", b"a \n\nd"),
+    (b"a#\xff\x00\\\nb\xff", b"a\nb\xff"),
+    (b"##", b""),
+    (b"'# a' # 'b\n", b"'# a' \n"),
+    (b"\"#\n#'\\\"#\" #", b"\"#\n#'\\\"#\" "),
+    (b"\\#a\\\\#b", b"\\#a\\\\"),
+    (b"a \\\n# b\n'\n#", b"a \\\n\n'\n#"),
+    (b"'\\\n#' # \"\n#", b"'\\\n#' \n"),
+    (b"(# )\n\xc3\xa9#\xa9", b"(\n\xc3\xa9"),
+];
+
+#[test]
+fn comments_are_taken_out(rt: HostRuntime) -> Result<(), Fail> {
+    for (text, left) in &COMMENTED {
+        let bytes = without_comments(rt.alloc(), text)?;
+        assert_eq!(rt; bytes.as_slice(), *left, "of {text:?}");
+    }
+    Ok(())
 }
