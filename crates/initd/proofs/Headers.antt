@@ -3,7 +3,9 @@ use Rattle.std.proofs.Common.{◌≡◌, ℕ, ◌+◌, ◌<◌, Bool, true, fals
 use Rattle.std.specs.List.{flat_map}
 use Rattle.std.specs.Option.{option_or}
 use Rattle.std.specs.Str.{is_utf8}
-use Rattle.initd.specs.Bundle.{is_feed, onto, lines_of, first_line, after_line, is_script, is_file, is_header, path_of, file_of, lead, files_of, script_text, script_line, bad_path, bad_line, begins_header}
+use Rattle.initd.specs.Bundle.{lines_of, first_line, after_line, is_script, is_file, is_header, path_of, file_of, lead, files_of, script_text, script_line, bad_path, bad_line, begins_header}
+use Rattle.up_text.specs.Tokens.{is_line_feed}
+use Rattle.std.specs.List.{onto_first}
 use Rattle.initd.proofs.BundleLemmas.{lines_of-first}
 
 -- what the rest of a bundle says that begins with a file
@@ -38,7 +40,7 @@ begins_file (byte ∷ rest) some header no_script =
     let either : is_header (first_line (byte ∷ rest)) ≡ true = rw first at header in
     begins_by byte rest no_script (file_else (is_script (first_line (byte ∷ rest))) (is_file (first_line (byte ∷ rest))) no_script either)
 
-joined_onto : (byte : ℕ) (lines : List (List ℕ)) → flat_map (λ line. line) (onto byte lines) ≡ byte ∷ flat_map (λ line. line) lines
+joined_onto : (byte : ℕ) (lines : List (List ℕ)) → flat_map (λ line. line) (onto_first byte lines) ≡ byte ∷ flat_map (λ line. line) lines
 joined_onto byte [] = refl
 joined_onto byte (line ∷ lines) = refl
 
@@ -46,9 +48,9 @@ joined_onto byte (line ∷ lines) = refl
 pub joined : (text : List ℕ) → flat_map (λ line. line) (lines_of text) ≡ text
 unfolding lines_of
 joined [] = refl
-joined (byte ∷ text) = by_case (is_feed byte) (joined text)
+joined (byte ∷ text) = by_case (is_line_feed byte) (joined text)
   where
-    by_case : (b : Bool) → flat_map (λ line. line) (lines_of text) ≡ text → flat_map (λ line. line) (cond b ((byte ∷ []) ∷ lines_of text) (onto byte (lines_of text))) ≡ byte ∷ text
+    by_case : (b : Bool) → flat_map (λ line. line) (lines_of text) ≡ text → flat_map (λ line. line) (cond b ((byte ∷ []) ∷ lines_of text) (onto_first byte (lines_of text))) ≡ byte ∷ text
     by_case true h = ap (λ rest. byte ∷ rest) h
     by_case false h = joined_onto byte (lines_of text) ∙ ap (λ rest. byte ∷ rest) h
 

@@ -9,12 +9,12 @@ use Rattle.up_conf.specs.declared.report.Fault.{Fault}
 use Rattle.initd.specs.declared.printed.Printed.{Printed}
 use Rattle.initd.specs.Bundle.{files_of, lines_of}
 use Rattle.initd.specs.Folders.{prints, unusable}
-use Rattle.initd.specs.Replay.{printed, Prints, Replays}
+use Rattle.initd.specs.Replay.{bundle_printed, Prints, Replays}
 use Rattle.initd.proofs.Reports.{any_report}
 
 -- what is printed for a bundle that is too long tells of no report
-other_report : (report other : List Fault) (bytes : List ℕ) → nat_le (length bytes) 67108864 ≡ false → (others : List ℕ) → nat_le (length others) 67108864 ≡ false → printed report bytes ≡ printed other others
-unfolding printed
+other_report : (report other : List Fault) (bytes : List ℕ) → nat_le (length bytes) 67108864 ≡ false → (others : List ℕ) → nat_le (length others) 67108864 ≡ false → bundle_printed report bytes ≡ bundle_printed other others
+unfolding bundle_printed
 other_report report other bytes one others two = rw (one, two) refl
 
 long : (n : ℕ) → 67108864 < n → nat_le n 67108864 ≡ false
@@ -35,7 +35,7 @@ prints_take all made had = ⊎_elim by_long by_short (cases_lt 67108864 (length 
 
 -- what is printed for a bundle that is too long
 pub prints_long : (bytes : List ℕ) (made : Printed) → 67108864 < length bytes → made ≡ prints (unusable (codes "-")) 3 → Prints bytes made
-unfolding printed
+unfolding bundle_printed
 prints_long bytes made more is =
     let any = any_report (files_of (lines_of bytes)) in
     record { report = any.0; is = any.1; same = is ∙ rw (long _ more) refl }

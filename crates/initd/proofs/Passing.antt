@@ -2,7 +2,8 @@
 use Rattle.std.proofs.Common.{◌≡◌, ℕ, suc, Option, Some, None, slice_get, ◌==◌, ◌+◌, ◌<◌, ◌≤◌, Bool, true, false, cond, ◌&&◌, ◌||◌, List, [], ◌∷◌, ◌++◌, length, refl, sym, ◌∙◌, ap, arith, append_assoc}
 use Rattle.std.proofs.lemmas.Bool.{or_parts, ne_eqb}
 use Rattle.std.proofs.lemmas.Bool.Decides.{nat_tests}
-use Rattle.initd.specs.Bundle.{lines_of, first_line, after_line, is_script, is_file, is_header, lead, files_of, script_text, script_line, bad_path, begins_header, is_feed}
+use Rattle.initd.specs.Bundle.{lines_of, first_line, after_line, is_script, is_file, is_header, lead, files_of, script_text, script_line, bad_path, begins_header}
+use Rattle.up_text.specs.Tokens.{is_line_feed}
 use Rattle.initd.proofs.BundleLemmas.{lines_of-first}
 
 -- between a text and what is left of it no line is a header, so that both say the same
@@ -18,19 +19,19 @@ pub record Passed (text front rest : List ℕ) (lines : ℕ) : Type 0 where
 -- a text is its first line and what stands behind it
 pub first_line-append : (text : List ℕ) → text ≡ first_line text ++ after_line text
 first_line-append [] = refl
-first_line-append (byte ∷ text) = by_case (is_feed byte) (first_line-append text)
+first_line-append (byte ∷ text) = by_case (is_line_feed byte) (first_line-append text)
   where
     by_case : (b : Bool) → text ≡ first_line text ++ after_line text → byte ∷ text ≡ cond b (byte ∷ []) (byte ∷ first_line text) ++ cond b text (after_line text)
     by_case true h = refl
     by_case false h = ap (λ rest. byte ∷ rest) h
 
 pub shorter : (byte : ℕ) (text : List ℕ) → length (after_line (byte ∷ text)) + 1 ≤ length (byte ∷ text)
-shorter byte [] = by_case (is_feed byte)
+shorter byte [] = by_case (is_line_feed byte)
   where
     by_case : (b : Bool) → length (cond b [] (after_line [])) + 1 ≤ length (byte ∷ [])
     by_case true = omega arith
     by_case false = omega arith
-shorter byte (next ∷ text) = by_case (is_feed byte) (shorter next text)
+shorter byte (next ∷ text) = by_case (is_line_feed byte) (shorter next text)
   where
     by_case : (b : Bool) → length (after_line (next ∷ text)) + 1 ≤ length (next ∷ text) → length (cond b (next ∷ text) (after_line (next ∷ text))) + 1 ≤ length (byte ∷ next ∷ text)
     by_case true h = omega arith
@@ -75,7 +76,7 @@ not_empty [] none = cc (sym (begins_first []) ∙ none)
 not_empty (byte ∷ text) none = omega arith
 
 -- a line that doesn't begin with % is no header
-plain_script : (byte : ℕ) (line : List ℕ) → (byte == 37) ≡ false → (b : Bool) → is_feed byte ≡ b → is_script (byte ∷ line) ≡ false
+plain_script : (byte : ℕ) (line : List ℕ) → (byte == 37) ≡ false → (b : Bool) → is_line_feed byte ≡ b → is_script (byte ∷ line) ≡ false
 unfolding is_script
 plain_script byte line plain true feed = rw feed refl
 plain_script byte line plain false other = rw (other, plain) refl
@@ -88,9 +89,9 @@ unfolding is_file
 plain_file byte line plain = let other : (37 == byte) ≡ false = ne_eqb 37 byte (λ same. other_byte byte plain (sym same)) in rw other refl
 
 plain_line : (byte : ℕ) (line : List ℕ) → (byte == 37) ≡ false → is_header (byte ∷ line) ≡ false
-plain_line byte line plain = rw (plain_script byte line plain (is_feed byte) refl, plain_file byte line plain) refl
+plain_line byte line plain = rw (plain_script byte line plain (is_line_feed byte) refl, plain_file byte line plain) refl
 
-plain_cases : (byte : ℕ) (text : List ℕ) → (byte == 37) ≡ false → (b : Bool) → is_feed byte ≡ b → is_header (first_line (byte ∷ text)) ≡ false
+plain_cases : (byte : ℕ) (text : List ℕ) → (byte == 37) ≡ false → (b : Bool) → is_line_feed byte ≡ b → is_header (first_line (byte ∷ text)) ≡ false
 plain_cases byte text plain true feed = rw feed (plain_line byte [] plain)
 plain_cases byte text plain false other = rw other (plain_line byte (first_line text) plain)
 
@@ -101,7 +102,7 @@ by_first (Some byte) text = (byte == 37) && is_header (first_line text)
 
 by_percent : (byte : ℕ) (text : List ℕ) (b : Bool) → (byte == 37) ≡ b → is_header (first_line (byte ∷ text)) ≡ ((byte == 37) && is_header (first_line (byte ∷ text)))
 by_percent byte text true percent = rw percent refl
-by_percent byte text false plain = rw plain (plain_cases byte text plain (is_feed byte) refl)
+by_percent byte text false plain = rw plain (plain_cases byte text plain (is_line_feed byte) refl)
 
 pub begins_by_first : (text : List ℕ) → begins_header (lines_of text) ≡ by_first (slice_get text 0) text
 unfolding lines_of

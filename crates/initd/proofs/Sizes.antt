@@ -1,7 +1,9 @@
 -- How large a script is, and how many lines stand before it.
 use Rattle.std.proofs.Common.{◌≡◌, ℕ, ◌+◌, ◌<◌, ◌≤◌, Bool, true, false, cond, List, [], ◌∷◌, length, refl, arith, length-append}
 use Rattle.std.specs.List.{flat_map}
-use Rattle.initd.specs.Bundle.{is_feed, onto, lines_of, is_script, script_text, script_line}
+use Rattle.initd.specs.Bundle.{lines_of, is_script, script_text, script_line}
+use Rattle.up_text.specs.Tokens.{is_line_feed}
+use Rattle.std.specs.List.{onto_first}
 
 -- the bytes of lines
 abbrev weigh : List (List ℕ) → ℕ
@@ -17,31 +19,31 @@ weigh_joined : (lines : List (List ℕ)) → length (flat_map (λ x. x) lines) �
 weigh_joined [] = refl
 weigh_joined (line ∷ lines) = omega (arith, length-append line (flat_map (λ x. x) lines), weigh_joined lines)
 
-weigh_onto : (byte : ℕ) (lines : List (List ℕ)) → weigh (onto byte lines) ≡ 1 + weigh lines
+weigh_onto : (byte : ℕ) (lines : List (List ℕ)) → weigh (onto_first byte lines) ≡ 1 + weigh lines
 weigh_onto byte [] = omega arith
 weigh_onto byte (line ∷ lines) = omega arith
 
-filled_onto : (byte : ℕ) (lines : List (List ℕ)) → Filled lines → Filled (onto byte lines)
+filled_onto : (byte : ℕ) (lines : List (List ℕ)) → Filled lines → Filled (onto_first byte lines)
 filled_onto byte [] filled = (omega arith, tt)
 filled_onto byte (line ∷ lines) filled = (omega arith, filled.1)
 
-weigh_cases : (byte : ℕ) (lines : List (List ℕ)) (b : Bool) → weigh (cond b ((byte ∷ []) ∷ lines) (onto byte lines)) ≡ 1 + weigh lines
+weigh_cases : (byte : ℕ) (lines : List (List ℕ)) (b : Bool) → weigh (cond b ((byte ∷ []) ∷ lines) (onto_first byte lines)) ≡ 1 + weigh lines
 weigh_cases byte lines true = omega arith
 weigh_cases byte lines false = weigh_onto byte lines
 
-filled_cases : (byte : ℕ) (lines : List (List ℕ)) (b : Bool) → Filled lines → Filled (cond b ((byte ∷ []) ∷ lines) (onto byte lines))
+filled_cases : (byte : ℕ) (lines : List (List ℕ)) (b : Bool) → Filled lines → Filled (cond b ((byte ∷ []) ∷ lines) (onto_first byte lines))
 filled_cases byte lines true filled = (omega arith, filled)
 filled_cases byte lines false filled = filled_onto byte lines filled
 
 weigh_lines : (text : List ℕ) → weigh (lines_of text) ≡ length text
 unfolding lines_of
 weigh_lines [] = refl
-weigh_lines (byte ∷ text) = omega (arith, weigh_cases byte (lines_of text) (is_feed byte), weigh_lines text)
+weigh_lines (byte ∷ text) = omega (arith, weigh_cases byte (lines_of text) (is_line_feed byte), weigh_lines text)
 
 filled_lines : (text : List ℕ) → Filled (lines_of text)
 unfolding lines_of
 filled_lines [] = tt
-filled_lines (byte ∷ text) = filled_cases byte (lines_of text) (is_feed byte) (filled_lines text)
+filled_lines (byte ∷ text) = filled_cases byte (lines_of text) (is_line_feed byte) (filled_lines text)
 
 within_cases : (n : ℕ) (line : List ℕ) (lines : List (List ℕ)) (b : Bool) → 0 < length line
     → script_line (n + 1) lines + length (script_text lines) ≤ n + 1 + weigh lines

@@ -11,7 +11,7 @@ use Rattle.up_text.proofs.Lexemes.{line_lexemes, none_when_finished, finished_wh
 use Rattle.up_text.proofs.Runs.{feeds-length}
 use Rattle.up_model.specs.declared.input.Input.{Input}
 use Rattle.initd.specs.Script.{inputs_of}
-use Rattle.initd.specs.Rows.{begins_on, behind_step, inputs_from, joined, step_inputs, with_inputs, words_in, ReachesNoFurther}
+use Rattle.initd.specs.Rows.{begins_on, behind_step, inputs_from, step_then, step_inputs, with_inputs, texts_in, ReachesNoFurther}
 
 -- the line of the next token is one of the text that is left
 pub line_within : (place : Place) → line_at place ≤ place.line + length place.rest
@@ -78,7 +78,7 @@ split_first (Word token) (lexeme ∷ later) = ap (put_front (Word token)) (split
 split_first (Bad line fault) [] = refl
 split_first (Bad line fault) (lexeme ∷ later) = ap (put_front (Bad line fault)) (split_first lexeme later)
 
-first_words : (lexemes : List Lexeme) → words_in (first_step lexemes) ≡ words_in lexemes
+first_words : (lexemes : List Lexeme) → texts_in (first_step lexemes) ≡ texts_in lexemes
 first_words [] = refl
 first_words (Word token ∷ later) = ap (option_map (λ words. token.text ∷ words)) (first_words later)
 first_words (Bad line fault ∷ later) = refl
@@ -96,10 +96,10 @@ with_more inputs more (Ok others) = ap Ok (sym (append_assoc inputs more others)
 with_more inputs more (Err line) = refl
 
 steps_first : (line : ℕ) (lexeme : Lexeme) (later : List Lexeme) → inputs_from line (split_ends (lexeme ∷ later))
-    ≡ joined (line + (begins_on (first_step (lexeme ∷ later)) - 1)) (step_inputs (lexeme ∷ later)) (inputs_from line (split_ends (behind_step (lexeme ∷ later))))
+    ≡ step_then (line + (begins_on (first_step (lexeme ∷ later)) - 1)) (step_inputs (lexeme ∷ later)) (inputs_from line (split_ends (behind_step (lexeme ∷ later))))
 steps_first line lexeme later =
     ap (inputs_from line) (split_first lexeme later)
-    ∙ ap (λ words. joined (line + (begins_on (first_step (lexeme ∷ later)) - 1)) (option_and_then inputs_of words) (inputs_from line (split_ends (behind_step (lexeme ∷ later))))) (first_words (lexeme ∷ later))
+    ∙ ap (λ words. step_then (line + (begins_on (first_step (lexeme ∷ later)) - 1)) (option_and_then inputs_of words) (inputs_from line (split_ends (behind_step (lexeme ∷ later))))) (first_words (lexeme ∷ later))
 
 -- the inputs of one step more
 more_steps : (line : ℕ) (inputs more : List Input) (left : List Lexeme) → (left ≡ [] → ⊥) → step_inputs left ≡ Some more
@@ -108,7 +108,7 @@ more_steps line inputs more [] some is = absurd (some refl)
 more_steps line inputs more (lexeme ∷ later) some is =
     let rest = inputs_from line (split_ends (behind_step (lexeme ∷ later))) in
     sym (with_more inputs more rest)
-    ∙ ap (λ found. with_inputs inputs (joined (line + (begins_on (first_step (lexeme ∷ later)) - 1)) found rest)) (sym is)
+    ∙ ap (λ found. with_inputs inputs (step_then (line + (begins_on (first_step (lexeme ∷ later)) - 1)) found rest)) (sym is)
     ∙ ap (with_inputs inputs) (sym (steps_first line lexeme later))
 
 -- a bad step
@@ -118,7 +118,7 @@ bad_steps line inputs [] at bad is = absurd (cc)
 bad_steps line inputs (lexeme ∷ later) at bad is =
     let rest = inputs_from line (split_ends (behind_step (lexeme ∷ later))) in
     ap (with_inputs inputs) (steps_first line lexeme later)
-    ∙ ap (λ found. with_inputs inputs (joined (line + (begins_on (first_step (lexeme ∷ later)) - 1)) found rest)) bad
+    ∙ ap (λ found. with_inputs inputs (step_then (line + (begins_on (first_step (lexeme ∷ later)) - 1)) found rest)) bad
     ∙ ap (λ n. Err (line + (n - 1))) (first_line (lexeme ∷ later) at bad is)
 
 pub one_step : (line : ℕ) (inputs more : List Input) (place : Place) (next : List Lexeme) → is_finished place ≡ false → step_inputs (lexemes_of place) ≡ Some more

@@ -3,30 +3,22 @@ use Rattle.std.specs.Prelude.{ℕ, ◌+◌, Bool, true, not, ◌&&◌, ◌||◌,
 use Rattle.std.specs.List.{starts_with, flat_map}
 use Rattle.std.specs.Prelude.{nat_eq}
 use Rattle.std.specs.Str.{bytes_eq, is_utf8}
+use Rattle.up_text.specs.Scripts as scripts
+use Rattle.up_text.specs.Tokens.{is_line_feed}
 use Rattle.up_conf.specs.declared.folder.File.{File}
-
--- a line feed
-unfoldable pub is_feed : ℕ → Bool
-is_feed byte = byte == 10
-
--- a byte in front of the first line
-abbrev pub onto : ℕ → List (List ℕ) → List (List ℕ)
-onto byte [] = (byte ∷ []) ∷ []
-onto byte (line ∷ lines) = (byte ∷ line) ∷ lines
 
 -- the lines of a text, each with its line feed, which the last may lack
 unfoldable pub lines_of : List ℕ → List (List ℕ)
-lines_of [] = []
-lines_of (byte ∷ text) = if is_feed byte then (byte ∷ []) ∷ lines_of text else onto byte (lines_of text)
+lines_of text = scripts.lines_of text
 
 -- a line without its line feed
-abbrev pub trimmed : List ℕ → List ℕ
-trimmed [] = []
-trimmed (byte ∷ line) = if is_feed byte then [] else byte ∷ trimmed line
+abbrev pub without_feed : List ℕ → List ℕ
+without_feed [] = []
+without_feed (byte ∷ line) = if is_line_feed byte then [] else byte ∷ without_feed line
 
 -- the line that begins the script
 unfoldable pub is_script : List ℕ → Bool
-is_script line = bytes_eq (trimmed line) (codes "%script")
+is_script line = bytes_eq (without_feed line) (codes "%script")
 
 -- a line that begins a file
 unfoldable pub is_file : List ℕ → Bool
@@ -34,7 +26,7 @@ is_file line = starts_with nat_eq line (codes "%file ")
 
 -- the path of a line that begins a file
 unfoldable pub path_of : List ℕ → List ℕ
-path_of line = drop 6 (trimmed line)
+path_of line = drop 6 (without_feed line)
 
 -- a line that begins a file or the script
 abbrev pub is_header : List ℕ → Bool
@@ -83,12 +75,12 @@ bad_line (line ∷ lines) = if is_header line then bad_path 1 (line ∷ lines) e
 -- the first line of a text, with its line feed
 abbrev pub first_line : List ℕ → List ℕ
 first_line [] = []
-first_line (byte ∷ text) = if is_feed byte then byte ∷ [] else byte ∷ first_line text
+first_line (byte ∷ text) = if is_line_feed byte then byte ∷ [] else byte ∷ first_line text
 
 -- what stands behind it
 abbrev pub after_line : List ℕ → List ℕ
 after_line [] = []
-after_line (byte ∷ text) = if is_feed byte then text else after_line text
+after_line (byte ∷ text) = if is_line_feed byte then text else after_line text
 
 -- whether a text has no line, or begins with a header
 abbrev pub begins_header : List (List ℕ) → Bool

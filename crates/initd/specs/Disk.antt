@@ -6,7 +6,7 @@ use Rattle.initd.specs.declared.walk.WalkError.TheVariants.{Unusable}
 use Rattle.initd.specs.Folders.{Checks, prints, unusable}
 use Rattle.initd.specs.Replay.{Plays}
 use Rattle.initd.specs.Rows.{script_inputs}
-use Rattle.initd.specs.Walk.{IsWalked, MayRefuse}
+use Rattle.initd.specs.Walk.{IsWalked, MayFail}
 
 -- what can't be used is said
 abbrev pub IsUnusable : List ℕ → Printed → Type 0
@@ -15,7 +15,7 @@ IsUnusable path made = made ≡ prints (unusable path) 3
 -- the folder, or a file of it, can't be used
 pub record CannotWalk (dir : List ℕ) (made : Printed) : Type 0 where
   pub path : List ℕ
-  pub may : MayRefuse dir (Unusable path)
+  pub may : MayFail dir (Unusable path)
   pub says : IsUnusable path made
 
 -- a check of the files that the folder has

@@ -46,8 +46,8 @@ pub record Plays (files : List File) (name : List ℕ) (read : Result (List Inpu
   pub same : made ≡ replayed name (compiled report files) read
 
 -- what is printed for the bytes of a bundle, which has 64 MiB at most, with this report of its folder's faults
-unfoldable pub printed : List Fault → List ℕ → Printed
-printed report bytes =
+unfoldable pub bundle_printed : List Fault → List ℕ → Printed
+bundle_printed report bytes =
     if nat_le (length bytes) 67108864 then replayed (codes "-") (compiled report (files_of (lines_of bytes))) (inputs_in (lines_of bytes))
     else prints (unusable (codes "-")) 3
 
@@ -55,14 +55,14 @@ printed report bytes =
 pub record Prints (bytes : List ℕ) (made : Printed) : Type 0 where
   pub report : List Fault
   pub is : IsReport (files_of (lines_of bytes)) report
-  pub same : made ≡ printed report bytes
+  pub same : made ≡ bundle_printed report bytes
 
 -- A status below 3 is the one of the bundle that was read, and what is printed for it was written and nothing else.
 pub record Replayed (bytes : List ℕ) (status : ℕ) (old new : Option (List ℕ)) : Type 0 where
   pub report : List Fault
   pub is : IsReport (files_of (lines_of bytes)) report
-  pub ends : status ≡ (printed report bytes).status
-  pub text : Appends old new (printed report bytes).text
+  pub ends : status ≡ (bundle_printed report bytes).status
+  pub text : Appends old new (bundle_printed report bytes).text
 
 abbrev pub Replays : List ℕ → ℕ → Option (List ℕ) → Option (List ℕ) → Type 0
 Replays bytes status old new = status < 3 → Replayed bytes status old new

@@ -6,7 +6,7 @@ use Rattle.up_model.specs.declared.request.Command.{Command}
 use Rattle.up_model.specs.declared.request.Command.TheVariants as command
 use Rattle.up_model.specs.declared.request.Request.{Request}
 use Rattle.up_conf.specs.Numbers.{number_in}
-use Rattle.initd.specs.Variables.{vars_of, name_of}
+use Rattle.initd.specs.Variables.{vars_of, name_in}
 
 -- a command by its name
 abbrev pub command_of : List ℕ → Option Command
@@ -28,23 +28,14 @@ may_wait command.Start = true
 may_wait command.Stop = true
 may_wait command.Restart = true
 may_wait command.Emit = true
-may_wait command.Status = false
-may_wait command.List = false
-may_wait command.Reload = false
-may_wait command.ReloadConfiguration = false
-may_wait command.Version = false
+may_wait other = false
 
 -- whether the command stands alone, without a name and variables
 abbrev pub is_alone : Command → Bool
 is_alone command.List = true
 is_alone command.ReloadConfiguration = true
 is_alone command.Version = true
-is_alone command.Start = false
-is_alone command.Stop = false
-is_alone command.Restart = false
-is_alone command.Status = false
-is_alone command.Emit = false
-is_alone command.Reload = false
+is_alone other = false
 
 -- whether the words begin with `--no-wait`
 abbrev pub begins_no_wait : List (List ℕ) → Bool
@@ -66,13 +57,13 @@ alone asked wait [] = Some (make asked wait [] [])
 alone asked wait (word ∷ words) = None
 
 -- a command with its NAME [KEY=VALUE]..
-abbrev pub about : Command → Bool → List (List ℕ) → Option Request
-about asked wait [] = None
-about asked wait (word ∷ words) = option_and_then (λ name. option_map (make asked wait name) (vars_of [] words)) (name_of word)
+abbrev pub with_name : Command → Bool → List (List ℕ) → Option Request
+with_name asked wait [] = None
+with_name asked wait (word ∷ words) = option_and_then (λ name. option_map (make asked wait name) (vars_of [] words)) (name_in word)
 
 -- a command with what it takes
 abbrev pub with_words : Command → Bool → List (List ℕ) → Option Request
-with_words asked wait words = if is_alone asked then alone asked wait words else about asked wait words
+with_words asked wait words = if is_alone asked then alone asked wait words else with_name asked wait words
 
 -- a command with the words behind it
 abbrev pub asked_by : List (List ℕ) → Command → Option Request

@@ -16,15 +16,15 @@ unfoldable pub is_text : List ℕ → Bool
 is_text bytes = not (list_any (λ byte. byte == 0) bytes) && is_utf8 bytes
 
 -- the texts of the tokens up to a step's end, where each is whole
-abbrev pub words_in : List Lexeme → Option (List (List ℕ))
-words_in [] = Some []
-words_in (Word token ∷ lexemes) = option_map (λ words. token.text ∷ words) (words_in lexemes)
-words_in (Bad line fault ∷ lexemes) = None
-words_in (End ∷ lexemes) = Some []
+abbrev pub texts_in : List Lexeme → Option (List (List ℕ))
+texts_in [] = Some []
+texts_in (Word token ∷ lexemes) = option_map (λ words. token.text ∷ words) (texts_in lexemes)
+texts_in (Bad line fault ∷ lexemes) = None
+texts_in (End ∷ lexemes) = Some []
 
 -- the inputs of a step, where its words give some
 abbrev pub step_inputs : List Lexeme → Option (List Input)
-step_inputs step = option_and_then inputs_of (words_in step)
+step_inputs step = option_and_then inputs_of (texts_in step)
 
 -- the line on which a step begins: that of its first token; each step has one
 abbrev pub begins_on : List Lexeme → ℕ
@@ -39,14 +39,14 @@ with_inputs inputs (Ok others) = Ok (inputs ++ others)
 with_inputs inputs (Err line) = Err line
 
 -- the inputs of a step and those of the steps behind it; or its line, where it is bad
-abbrev pub joined : ℕ → Option (List Input) → Result (List Input) ℕ → Result (List Input) ℕ
-joined line None others = Err line
-joined line (Some inputs) others = with_inputs inputs others
+abbrev pub step_then : ℕ → Option (List Input) → Result (List Input) ℕ → Result (List Input) ℕ
+step_then line None others = Err line
+step_then line (Some inputs) others = with_inputs inputs others
 
 -- the inputs of the steps of a text whose first line has this number, or the line on which the first bad step begins
 abbrev pub inputs_from : ℕ → List (List Lexeme) → Result (List Input) ℕ
 inputs_from line [] = Ok []
-inputs_from line (step ∷ steps) = joined (line + (begins_on step - 1)) (step_inputs step) (inputs_from line steps)
+inputs_from line (step ∷ steps) = step_then (line + (begins_on step - 1)) (step_inputs step) (inputs_from line steps)
 
 -- what is read where no lines are left; otherwise the first of these has this number, and is bad unless a step before it is
 abbrev pub unless_left : ℕ → List (List ℕ) → Result (List Input) ℕ → Result (List Input) ℕ
@@ -82,11 +82,11 @@ pub record Fronts (script front rest : List ℕ) (count : ℕ) : Type 0 where
   pub count_within : count ≤ length script
 
 -- what a lexer that has these lexemes left gives next, and what it has left then
-abbrev pub Continues : List Lexeme → List Lexeme → Next → Type 0
-Continues [] new step = (step ≡ next.End) × (new ≡ [])
-Continues (Word token ∷ later) new step = (step ≡ next.Word token.text) × (new ≡ later)
-Continues (Bad line fault ∷ later) new step = step ≡ next.Bad
-Continues (End ∷ later) new step = (step ≡ next.End) × (new ≡ later)
+abbrev pub IsNext : List Lexeme → List Lexeme → Next → Type 0
+IsNext [] new step = (step ≡ next.End) × (new ≡ [])
+IsNext (Word token ∷ later) new step = (step ≡ next.Word token.text) × (new ≡ later)
+IsNext (Bad line fault ∷ later) new step = step ≡ next.Bad
+IsNext (End ∷ later) new step = (step ≡ next.End) × (new ≡ later)
 
 -- what stands behind a step
 abbrev pub behind_step : List Lexeme → List Lexeme

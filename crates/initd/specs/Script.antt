@@ -11,12 +11,12 @@ use Rattle.up_model.specs.declared.process.How.TheVariants as how
 use Rattle.up_model.specs.declared.who.Who.{Who}
 use Rattle.up_conf.specs.Numbers.{number_in}
 use Rattle.initd.specs.Requests.{request_of}
-use Rattle.initd.specs.Variables.{vars_of, name_of}
+use Rattle.initd.specs.Variables.{vars_of, name_in}
 use Rattle.up_conf.specs.Signals.{signal_in}
 
 -- an instance by the name of its job and its own, which may be empty
-abbrev pub who_of : List ℕ → List ℕ → Option Who
-who_of job instance = if is_name job then Some (record { job = job; instance = instance }) else None
+abbrev pub who_named : List ℕ → List ℕ → Option Who
+who_named job instance = if is_name job then Some (record { job = job; instance = instance }) else None
 
 -- a process by its name
 abbrev pub process_of : List ℕ → Option Process
@@ -39,23 +39,23 @@ how_of kind text =
 abbrev pub emit_of : List (List ℕ) → Option Input
 emit_of [] = None
 emit_of (name ∷ words) =
-    option_and_then (λ event. option_map (λ vars. input.Emit (record { name = event; vars = vars })) (vars_of [] words)) (name_of name)
+    option_and_then (λ event. option_map (λ vars. input.Emit (record { name = event; vars = vars })) (vars_of [] words)) (name_in name)
 
 -- JOB INSTANCE PROCESS PID
 abbrev pub spawned_of : List (List ℕ) → Option Input
 spawned_of (job ∷ instance ∷ name ∷ pid ∷ []) =
-    option_and_then (λ who. option_and_then (λ its. option_map (input.Spawned who its) (number_in 0 4294967295 pid)) (process_of name)) (who_of job instance)
+    option_and_then (λ who. option_and_then (λ its. option_map (input.Spawned who its) (number_in 0 4294967295 pid)) (process_of name)) (who_named job instance)
 spawned_of words = None
 
 -- JOB INSTANCE PROCESS
 abbrev pub refused_of : List (List ℕ) → Option Input
-refused_of (job ∷ instance ∷ name ∷ []) = option_and_then (λ who. option_map (input.Refused who) (process_of name)) (who_of job instance)
+refused_of (job ∷ instance ∷ name ∷ []) = option_and_then (λ who. option_map (input.Refused who) (process_of name)) (who_named job instance)
 refused_of words = None
 
 -- JOB INSTANCE PROCESS exit CODE, or JOB INSTANCE PROCESS signal SIGNAL
 abbrev pub ended_of : List (List ℕ) → Option Input
 ended_of (job ∷ instance ∷ name ∷ kind ∷ text ∷ []) =
-    option_and_then (λ who. option_and_then (λ its. option_map (input.Ended who its) (how_of kind text)) (process_of name)) (who_of job instance)
+    option_and_then (λ who. option_and_then (λ its. option_map (input.Ended who its) (how_of kind text)) (process_of name)) (who_named job instance)
 ended_of words = None
 
 -- MS

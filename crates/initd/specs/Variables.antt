@@ -4,8 +4,8 @@ use Rattle.up_text.specs.Names.{is_name, is_key, is_value}
 use Rattle.up_text.specs.Bindings.{set_in}
 
 -- a word that is a name
-abbrev pub name_of : List ℕ → Option (List ℕ)
-name_of word = if is_name word then Some word else None
+abbrev pub name_in : List ℕ → Option (List ℕ)
+name_in word = if is_name word then Some word else None
 
 -- the sign between a key and its value
 unfoldable pub is_equals : ℕ → Bool
@@ -26,6 +26,6 @@ vars_of vars [] = Some vars
 vars_of vars (word ∷ words) = option_and_then (λ more. vars_of more words) (with_word word vars)
 
 -- what taking a variable answers and leaves
-abbrev pub Takes : Option (List (List ℕ × List ℕ)) → Bool → List (List ℕ × List ℕ) → Type 0
-Takes None taken vars = taken ≡ false
-Takes (Some more) taken vars = (taken ≡ true) × (vars ≡ more)
+abbrev pub TakesWord : Option (List (List ℕ × List ℕ)) → Bool → List (List ℕ × List ℕ) → Type 0
+TakesWord None taken vars = taken ≡ false
+TakesWord (Some more) taken vars = (taken ≡ true) × (vars ≡ more)

@@ -10,8 +10,8 @@ abbrev pub is_source : List ℕ → Bool
 is_source path = ends_with nat_eq path (codes ".conf") || ends_with nat_eq path (codes ".override")
 
 -- the path of what lies in a folder
-abbrev pub joined : List ℕ → List ℕ → List ℕ
-joined dir path = (if ends_with nat_eq dir (codes "/") then dir else dir ++ codes "/") ++ path
+abbrev pub path_in : List ℕ → List ℕ → List ℕ
+path_in dir path = (if ends_with nat_eq dir (codes "/") then dir else dir ++ codes "/") ++ path
 
 -- a job file or an override, of no more bytes than show that it is too long
 pub record IsSource (file : File) : Type 0 where
@@ -44,6 +44,6 @@ NamesSource whole path (Unusable named) = (named ≡ whole) × (is_source path �
 NamesSource whole path Memory = Unit {0}
 
 -- why a folder isn't read: it can't be used, or one of its files can't, or memory is refused
-abbrev pub MayRefuse : List ℕ → WalkError → Type 0
-MayRefuse dir (Unusable named) = (named ≡ dir) ⊎ ((path : List ℕ) × (named ≡ joined dir path) × (is_source path ≡ true))
-MayRefuse dir Memory = Unit {0}
+abbrev pub MayFail : List ℕ → WalkError → Type 0
+MayFail dir (Unusable named) = (named ≡ dir) ⊎ ((path : List ℕ) × (named ≡ path_in dir path) × (is_source path ≡ true))
+MayFail dir Memory = Unit {0}

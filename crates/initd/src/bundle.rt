@@ -3,6 +3,7 @@ ghost use Rattle.std.specs.Prelude.{◌≡◌, ◌+◌, ◌-◌, ◌<◌, ◌≤
 ghost use Rattle.std.specs.List.{position_or_len};
 ghost use Rattle.std.specs.Option.{option_or};
 ghost use Rattle.std.specs.Str.{is_utf8};
+ghost use Rattle.up_text.specs.Tokens.{is_line_feed};
 ghost use Rattle.initd.specs.Bundle as bundle;
 
 use memchr::memchr;
@@ -23,9 +24,9 @@ pub struct Bundle<'a> {
 }
 
 // The place of the first line feed, or the end.
-#[tactic(auto, unfolding(crate::specs::Bundle::is_feed))]
+#[tactic(auto, unfolding(up_text::specs::Tokens::is_line_feed))]
 fn feed_at(text: &[u8]) -> usize
-    ensures { result ≡ position_or_len bundle.is_feed text.now }
+    ensures { result ≡ position_or_len is_line_feed text.now }
 {
     memchr(b'\n', text).unwrap_or(text.len())
 }
@@ -58,7 +59,7 @@ pub fn split_line(text: &[u8]) -> (&[u8], &[u8])
 // A line without its line feed.
 #[tactic(auto, using(crate::proofs::BundleLemmas::trimmed_take, crate::proofs::BundleLemmas::feed_within))]
 fn trimmed(line: &[u8]) -> &[u8]
-    ensures { result.now ≡ bundle.trimmed line.now }
+    ensures { result.now ≡ bundle.without_feed line.now }
 {
     &line[..feed_at(line)]
 }

@@ -127,7 +127,7 @@ pub fn print_folder(
 }
 
 /// What is printed for the bytes of a bundle.
-#[tactic(auto, unfolding(crate::specs::Replay::printed, crate::specs::Replay::inputs_in), using(crate::proofs::Sizes::script_small, crate::proofs::Limits::prints_long))]
+#[tactic(auto, unfolding(crate::specs::Replay::bundle_printed, crate::specs::Replay::inputs_in), using(crate::proofs::Sizes::script_small, crate::proofs::Limits::prints_long))]
 pub fn print(alloc: Global, bytes: &[u8]) -> Result<Printed, AllocError>
     ensures { IfOk result (Prints bytes.now) }
 {

@@ -1,6 +1,6 @@
 //! Reads the requests of a script.
 ghost use Rattle.std.specs.Prelude.{◌≡◌, IfOk};
-ghost use Rattle.initd.specs.Requests.{command_of, may_wait, is_alone, begins_no_wait, alone, about, with_words, asked_by, request_of};
+ghost use Rattle.initd.specs.Requests.{command_of, may_wait, is_alone, begins_no_wait, alone, with_name, with_words, asked_by, request_of};
 
 use crate::variables::{name_of, vars_of};
 use std::alloc::{AllocError, Global};
@@ -99,7 +99,7 @@ fn about(
     wait: bool,
     words: &[Text],
 ) -> Result<Option<Request>, AllocError>
-    ensures { IfOk result (λ request. request ≡ about command wait words.now) }
+    ensures { IfOk result (λ request. request ≡ with_name command wait words.now) }
 {
     let [word, words @ ..] = words else {
         return Ok(None);

@@ -2,7 +2,7 @@
 ghost use Rattle.std.specs.Prelude.{◌≡◌, ◌≤◌, ◌<◌, ◌+◌, IfOk, IfSome, MatchOption, true, false, length};
 ghost use Rattle.up_text.specs.Lexemes.{lexemes_of, stanzas};
 ghost use Rattle.initd.specs.Bundle.{lines_of};
-ghost use Rattle.initd.specs.Rows.{is_text, begins_text, behind_step, inputs_from, lines_inputs, step_inputs, script_inputs, unless_left, words_in, Continues, Fronts, ReachesNoFurther};
+ghost use Rattle.initd.specs.Rows.{is_text, begins_text, behind_step, inputs_from, lines_inputs, step_inputs, script_inputs, unless_left, texts_in, IsNext, Fronts, ReachesNoFurther};
 
 use crate::bundle::{as_text, split_line};
 use crate::words::inputs_of;
@@ -58,7 +58,7 @@ enum Next {
 
 #[tactic(auto, using(up_text::proofs::Lexemes::reads_lexemes, crate::proofs::Stepping::reads_no_further))]
 fn next_word(alloc: Global, lexer: &mut Lexer) -> Result<Next, AllocError>
-    ensures next { IfOk result (Continues (lexemes_of lexer.old) (lexemes_of lexer.new)) }
+    ensures next { IfOk result (IsNext (lexemes_of lexer.old) (lexemes_of lexer.new)) }
     ensures within { ReachesNoFurther lexer.new lexer.old }
 {
     match lexer.next(alloc) {
@@ -71,7 +71,7 @@ fn next_word(alloc: Global, lexer: &mut Lexer) -> Result<Next, AllocError>
 
 // The words of the step in front, where each is whole; the lexer then stands behind it.
 fn step_words(alloc: Global, lexer: &mut Lexer) -> Result<Option<Items<Text>>, AllocError>
-    ensures words { IfOk result (λ words. words ≡ words_in (lexemes_of lexer.old)) }
+    ensures words { IfOk result (λ words. words ≡ texts_in (lexemes_of lexer.old)) }
     ensures behind { IfOk result (λ words. IfSome words (λ _. lexemes_of lexer.new ≡ behind_step (lexemes_of lexer.old))) }
     ensures within { ReachesNoFurther lexer.new lexer.old }
 {

@@ -1,14 +1,14 @@
 //! Reads names and variables.
 ghost use Rattle.std.specs.Prelude.{◌≡◌, true, false, [], nat_lt, length, IfOk, MatchOption};
 ghost use Rattle.std.specs.List.{position_or_len, before_first, after_first};
-ghost use Rattle.initd.specs.Variables.{name_of, is_equals, with_binding, with_word, vars_of, Takes};
+ghost use Rattle.initd.specs.Variables.{name_in, is_equals, with_binding, with_word, vars_of, TakesWord};
 
 use std::alloc::{AllocError, Global};
 use up_text::{Env, Name, Text, TextFault};
 
 /// The name of these bytes, where they are one.
 pub fn name_of(alloc: Global, text: &str) -> Result<Option<Name>, AllocError>
-    ensures { IfOk result (λ name. name ≡ name_of text.now) }
+    ensures { IfOk result (λ name. name ≡ name_in text.now) }
 {
     match Name::new(alloc, text) {
         Ok(name) => Ok(Some(name)),
@@ -27,7 +27,7 @@ fn cut(word: &str) -> Option<(&str, &str)>
 
 // Sets a key, and answers whether it is one and has a value that it may have.
 fn set(vars: &mut Env, key: &str, value: &str) -> Result<bool, AllocError>
-    ensures { IfOk result (λ taken. Takes (with_binding key.now value.now vars.old) taken vars.new) }
+    ensures { IfOk result (λ taken. TakesWord (with_binding key.now value.now vars.old) taken vars.new) }
 {
     match vars.set(key, value) {
         Ok(()) => Ok(true),
@@ -38,7 +38,7 @@ fn set(vars: &mut Env, key: &str, value: &str) -> Result<bool, AllocError>
 
 // Sets the variable of a word, and answers whether it has one.
 fn set_word(vars: &mut Env, word: &str) -> Result<bool, AllocError>
-    ensures { IfOk result (λ taken. Takes (with_word word.now vars.old) taken vars.new) }
+    ensures { IfOk result (λ taken. TakesWord (with_word word.now vars.old) taken vars.new) }
 {
     match cut(word) {
         Some((key, value)) => set(vars, key, value),

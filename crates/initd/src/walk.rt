@@ -1,6 +1,6 @@
 //! Reads job files, and a folder of them with its subfolders, from the disk.
 ghost use Rattle.std.specs.Prelude.{◌≡◌, ◌≤◌, ◌<◌, ◌+◌, if◌then◌else◌, true, is_some, IfOk, IfErr, IfSome, OnOk, length, string_bytes};
-ghost use Rattle.initd.specs.Walk.{joined, is_source, MayAdd, Keeps, IsWalked, Names, NamesSource, MayRefuse};
+ghost use Rattle.initd.specs.Walk.{path_in, is_source, MayAdd, Keeps, IsWalked, Names, NamesSource, MayFail};
 
 use std::alloc::{AllocError, Global};
 use std::io::{ErrorKind, Read};
@@ -85,7 +85,7 @@ fn is_source(path: &str) -> bool
 
 // The path of what lies in a folder.
 fn joined(alloc: Global, dir: &str, path: &str) -> Result<String, AllocError>
-    ensures { IfOk result (λ whole. string_bytes whole ≡ joined dir.now path.now) }
+    ensures { IfOk result (λ whole. string_bytes whole ≡ path_in dir.now path.now) }
 {
     let mut whole = String::from_str(alloc, dir)?;
     if !dir.as_bytes().ends_with(b"/") {
@@ -183,7 +183,7 @@ impl Found {
         path: String,
         depth: u32,
     ) -> Result<(), WalkError>
-        ensures refused { IfErr result (MayRefuse dir.now) }
+        ensures refused { IfErr result (MayFail dir.now) }
         ensures added { OnOk result (MayAdd self.old.folder self.new.folder) }
         ensures entries { self.new.entries ≡ self.old.entries }
     {
@@ -209,7 +209,7 @@ impl Found {
         name: &str,
     ) -> Result<(), WalkError>
         requires { Keeps self.old.folder self.old.entries }
-        ensures refused { IfErr result (MayRefuse dir.now) }
+        ensures refused { IfErr result (MayFail dir.now) }
         ensures kept { OnOk result (Keeps self.new.folder self.new.entries) }
         ensures counted { OnOk result (self.new.entries ≡ self.old.entries + 1) }
     {
@@ -231,7 +231,7 @@ impl Found {
         level: &Level,
     ) -> Result<(), WalkError>
         requires { Keeps self.old.folder self.old.entries }
-        ensures refused { IfErr result (MayRefuse dir.now) }
+        ensures refused { IfErr result (MayFail dir.now) }
         ensures kept { OnOk result (Keeps self.new.folder self.new.entries) }
     {
         let whole = joined(rt.alloc(), dir, level.path.as_str())?;
@@ -253,7 +253,7 @@ impl Found {
 /// has too many entries or too deep a subfolder, and a name that is no text, make `dir` unusable.
 pub fn walk<R: Files + AllocGlobal + Clone + Drop>(rt: &R, dir: &str) -> Result<Folder, WalkError>
     ensures walked { IfOk result IsWalked }
-    ensures refused { IfErr result (MayRefuse dir.now) }
+    ensures refused { IfErr result (MayFail dir.now) }
 {
     // No path names no folder; joined with a slash it would be the root.
     if dir.is_empty() {

@@ -1,7 +1,7 @@
 //! Reads the words of a script's line.
 ghost use Rattle.std.specs.Prelude.{◌≡◌, IfOk, [], ◌∷◌, replicate, option_map};
 ghost use Rattle.up_model.specs.declared.input.Input.TheVariants as input;
-ghost use Rattle.initd.specs.Script.{who_of, process_of, how_of, emit_of, spawned_of, refused_of, ended_of, clock_of, input_of, turns_of, inputs_of};
+ghost use Rattle.initd.specs.Script.{who_named, process_of, how_of, emit_of, spawned_of, refused_of, ended_of, clock_of, input_of, turns_of, inputs_of};
 
 use crate::requests::request_of;
 use crate::variables::{name_of, vars_of};
@@ -11,7 +11,7 @@ use up_model::{Event, How, Input, Process, Who};
 use up_text::{Items, Text};
 
 fn who_of(alloc: Global, job: &Text, instance: &Text) -> Result<Option<Who>, AllocError>
-    ensures { IfOk result (λ who. who ≡ who_of job.now instance.now) }
+    ensures { IfOk result (λ who. who ≡ who_named job.now instance.now) }
 {
     match name_of(alloc, job.as_str())? {
         Some(job) => {

@@ -4,7 +4,7 @@ use Rattle.std.proofs.lemmas.List.Sums.{position_or_len_is}
 use Rattle.std.specs.List.{position_or_len}
 use Rattle.std.specs.Prelude.{unwrap_or}
 use Rattle.memchr.specs.Find.{IsFirstByte, is_byte}
-use Rattle.initd.specs.Bundle.{is_feed}
+use Rattle.up_text.specs.Tokens.{is_line_feed}
 use Rattle.initd.proofs.bundle.feed_at.Goals as goal
 
 -- the first byte that passes is found at its place, or else the length
@@ -13,5 +13,5 @@ place byte bytes None none = sym (position_or_len_is (is_byte byte) bytes (lengt
 place byte bytes (Some k) found = sym (position_or_len_is (is_byte byte) bytes k 0 (omega arith) (λ i below. false_from_ne_true _ (found.0.before i (omega arith) below)) (λ _. found.1))
 
 pub returns : goal.returns
-unfolding is_feed
+unfolding is_line_feed
 returns c = c.unwrap_or.ensures ∙ place 10 c.args.text.now c.memchr.result c.memchr.ensures
