@@ -110,7 +110,7 @@ fn keep(bytes: &mut Vec<u8>, standing: Standing, byte: u8) -> Result<(), AllocEr
     Ok(())
 }
 
-/// The text without its comments, where no parenthesis is a token. The line ends behind them stay.
+/// The text without its comments. The line ends behind them stay.
 #[tactic(auto, unfolding(crate::specs::Comments::without_comments), using(crate::proofs::Comments::one_byte))]
 pub fn without_comments(alloc: Global, text: &[u8]) -> Result<Vec<u8>, AllocError>
     ensures { IfOk result (λ bytes. bytes.items ≡ without_comments text.now) }
