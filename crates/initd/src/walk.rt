@@ -1,5 +1,6 @@
 //! Reads job files, and a folder of them with its subfolders, from the disk.
 ghost use Rattle.std.specs.Prelude.{◌≡◌, ◌≤◌, ◌<◌, ◌+◌, if◌then◌else◌, true, is_some, IfOk, IfErr, IfSome, OnOk, length, string_bytes};
+ghost use Rattle.std.specs.IoError.{error_kind};
 ghost use Rattle.initd.specs.Walk.{joined, is_source, MayAdd, Keeps, IsWalked, Names, NamesSource, MayRefuse};
 
 use std::alloc::{AllocError, Global};
@@ -66,7 +67,8 @@ fn unusable(alloc: Global, path: &str) -> WalkError
 
 // What an error of the system says of this path.
 fn refused(alloc: Global, error: io::Error, path: &str) -> WalkError
-    ensures { Names path.now result }
+    ensures named { Names path.now result }
+    ensures memory { error_kind error ≡ ErrorKind.OutOfMemory → result ≡ WalkError.Memory }
 {
     if error.kind() == ErrorKind::OutOfMemory {
         WalkError::Memory
