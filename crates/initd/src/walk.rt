@@ -117,6 +117,7 @@ fn read_source<R: Files + AllocGlobal>(
 ) -> Result<Option<Vec<u8>>, WalkError>
     ensures read { IfOk result (λ read. IfSome read (λ bytes. (is_source path.now ≡ true) × (length bytes.items ≤ 1048577))) }
     ensures all { IfOk result (λ read. is_some read ≡ is_source path.now) }
+    ensures file { IfOk result (λ read. is_source path.now ≡ true → is_file ≡ true) }
     ensures refused { IfErr result (NamesSource whole.now path.now) }
 {
     if !is_source(path) {
@@ -142,6 +143,7 @@ impl Found {
     ) -> Result<(), WalkError>
         ensures refused { IfErr result (NamesSource whole.now (string_bytes path)) }
         ensures added { OnOk result (MayAdd self.old.folder self.new.folder) }
+        ensures file { OnOk result (is_source (string_bytes path) ≡ true → is_file ≡ true) }
         ensures taken { OnOk result (length self.new.folder ≡ length self.old.folder + (if is_source (string_bytes path) then 1 else 0)) }
         ensures entries { self.new.entries ≡ self.old.entries }
     {
