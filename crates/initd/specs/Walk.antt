@@ -38,6 +38,11 @@ abbrev pub Names : List ℕ → WalkError → Type 0
 Names path (Unusable named) = named ≡ path
 Names path Memory = Unit {0}
 
+-- the same, where what has this path lies too deep to be listed
+abbrev pub NamesDeep : List ℕ → ℕ → WalkError → Type 0
+NamesDeep path depth (Unusable named) = (named ≡ path) × (64 ≤ depth)
+NamesDeep path depth Memory = Unit {0}
+
 -- an error that names this whole path, which ends as a job's or an override's does, if it isn't want of memory
 abbrev pub NamesSource : List ℕ → List ℕ → WalkError → Type 0
 NamesSource whole path (Unusable named) = (named ≡ whole) × (is_source path ≡ true)

@@ -1,7 +1,7 @@
 //! Reads job files, and a folder of them with its subfolders, from the disk.
 ghost use Rattle.std.specs.Prelude.{◌≡◌, ◌≤◌, ◌<◌, ◌+◌, if◌then◌else◌, true, is_some, IfOk, IfErr, IfSome, OnOk, length, string_bytes};
 ghost use Rattle.std.specs.IoError.{error_kind};
-ghost use Rattle.initd.specs.Walk.{joined, is_source, MayAdd, Keeps, IsWalked, Names, NamesSource, MayRefuse};
+ghost use Rattle.initd.specs.Walk.{joined, is_source, MayAdd, Keeps, IsWalked, Names, NamesDeep, NamesSource, MayRefuse};
 
 use std::alloc::{AllocError, Global};
 use std::io::{ErrorKind, Read};
@@ -161,7 +161,7 @@ impl Found {
         mut path: String,
         depth: u32,
     ) -> Result<(), WalkError>
-        ensures refused { IfErr result (Names dir.now) }
+        ensures refused { IfErr result (NamesDeep dir.now depth) }
         ensures shallow { OnOk result (depth < 64) }
         ensures later { OnOk result (length self.new.levels.items ≡ length self.old.levels.items + 1) }
         ensures folder { self.new.folder ≡ self.old.folder }
