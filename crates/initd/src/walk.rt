@@ -1,7 +1,7 @@
 //! Reads job files, and a folder of them with its subfolders, from the disk.
-ghost use Rattle.std.specs.Prelude.{◌≡◌, ◌≤◌, ◌<◌, ◌+◌, if◌then◌else◌, true, is_some, IfOk, IfErr, IfSome, OnOk, length, string_bytes};
+ghost use Rattle.std.specs.Prelude.{◌≡◌, ◌≤◌, ◌<◌, ◌+◌, ◌++◌, ◌∷◌, [], map, if◌then◌else◌, true, is_some, IfOk, IfErr, IfSome, OnOk, length, string_bytes};
 ghost use Rattle.std.specs.IoError.{error_kind};
-ghost use Rattle.initd.specs.Walk.{joined, is_source, MayAdd, Keeps, IsWalked, Names, NamesDeep, NamesSource, MayRefuse};
+ghost use Rattle.initd.specs.Walk.{joined, is_source, level_of, below, MayAdd, Takes, Keeps, IsWalked, Names, NamesDeep, NamesSource, MayRefuse};
 
 use std::alloc::{AllocError, Global};
 use std::io::{ErrorKind, Read};
@@ -142,7 +142,8 @@ impl Found {
         is_file: bool,
     ) -> Result<(), WalkError>
         ensures refused { IfErr result (NamesSource whole.now (string_bytes path)) }
-        ensures added { OnOk result (MayAdd self.old.folder self.new.folder) }
+        ensures added { OnOk result (MayAdd (string_bytes path) self.old.folder self.new.folder) }
+        ensures levels { self.new.levels ≡ self.old.levels }
         ensures file { OnOk result (is_source (string_bytes path) ≡ true → is_file ≡ true) }
         ensures taken { OnOk result (length self.new.folder ≡ length self.old.folder + (if is_source (string_bytes path) then 1 else 0)) }
         ensures entries { self.new.entries ≡ self.old.entries }
@@ -163,7 +164,7 @@ impl Found {
     ) -> Result<(), WalkError>
         ensures refused { IfErr result (NamesDeep dir.now depth) }
         ensures shallow { OnOk result (depth < 64) }
-        ensures later { OnOk result (length self.new.levels.items ≡ length self.old.levels.items + 1) }
+        ensures later { OnOk result (map level_of self.new.levels.items ≡ map level_of self.old.levels.items ++ below (string_bytes path) depth ∷ []) }
         ensures folder { self.new.folder ≡ self.old.folder }
         ensures entries { self.new.entries ≡ self.old.entries }
     {
@@ -188,7 +189,8 @@ impl Found {
         depth: u32,
     ) -> Result<(), WalkError>
         ensures refused { IfErr result (MayRefuse dir.now) }
-        ensures added { OnOk result (MayAdd self.old.folder self.new.folder) }
+        ensures added { OnOk result (MayAdd (string_bytes path) self.old.folder self.new.folder) }
+        ensures taken { OnOk result (Takes (string_bytes path) depth self.old.folder self.new.folder (map level_of self.old.levels.items) (map level_of self.new.levels.items)) }
         ensures entries { self.new.entries ≡ self.old.entries }
     {
         let whole = joined(rt.alloc(), dir, path.as_str())?;
@@ -213,6 +215,8 @@ impl Found {
         requires { Keeps self.old.folder self.old.entries }
         ensures refused { IfErr result (MayRefuse dir.now) }
         ensures kept { OnOk result (Keeps self.new.folder self.new.entries) }
+        ensures added { OnOk result (MayAdd (string_bytes level.now.path ++ name.now) self.old.folder self.new.folder) }
+        ensures taken { OnOk result (Takes (string_bytes level.now.path ++ name.now) level.now.depth self.old.folder self.new.folder (map level_of self.old.levels.items) (map level_of self.new.levels.items)) }
         ensures counted { OnOk result (self.new.entries ≡ self.old.entries + 1) }
     {
         if self.entries >= MAX_ENTRIES {
