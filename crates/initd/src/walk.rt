@@ -1,6 +1,7 @@
 //! Reads job files, and a folder of them with its subfolders, from the disk.
-ghost use Rattle.std.specs.Prelude.{◌≡◌, ◌≤◌, ◌<◌, ◌+◌, if◌then◌else◌, true, is_some, IfOk, IfErr, IfSome, OnOk, length, string_bytes};
-ghost use Rattle.initd.specs.Walk.{path_in, is_source, MayAdd, Keeps, IsWalked, Names, NamesSource, MayFail};
+ghost use Rattle.std.specs.Prelude.{◌≡◌, ◌≤◌, ◌<◌, ◌+◌, ◌++◌, ◌∷◌, [], map, if◌then◌else◌, true, is_some, IfOk, IfErr, IfSome, OnOk, length, string_bytes};
+ghost use Rattle.std.specs.IoError.{error_kind};
+ghost use Rattle.initd.specs.Walk.{path_in, is_source, level_of, below, MayAdd, TakesPath, Keeps, IsWalked, Names, NamesDeep, NamesSource, MayFail};
 
 use std::alloc::{AllocError, Global};
 use std::io::{ErrorKind, Read};
@@ -66,7 +67,8 @@ fn unusable(alloc: Global, path: &str) -> WalkError
 
 // What an error of the system says of this path.
 fn refused(alloc: Global, error: io::Error, path: &str) -> WalkError
-    ensures { Names path.now result }
+    ensures named { Names path.now result }
+    ensures memory { error_kind error ≡ ErrorKind.OutOfMemory → result ≡ WalkError.Memory }
 {
     if error.kind() == ErrorKind::OutOfMemory {
         WalkError::Memory
@@ -115,6 +117,7 @@ fn read_source<R: Files + AllocGlobal>(
 ) -> Result<Option<Vec<u8>>, WalkError>
     ensures read { IfOk result (λ read. IfSome read (λ bytes. (is_source path.now ≡ true) × (length bytes.items ≤ 1048577))) }
     ensures all { IfOk result (λ read. is_some read ≡ is_source path.now) }
+    ensures file { IfOk result (λ read. is_source path.now ≡ true → is_file ≡ true) }
     ensures refused { IfErr result (NamesSource whole.now path.now) }
 {
     if !is_source(path) {
@@ -139,7 +142,9 @@ impl Found {
         is_file: bool,
     ) -> Result<(), WalkError>
         ensures refused { IfErr result (NamesSource whole.now (string_bytes path)) }
-        ensures added { OnOk result (MayAdd self.old.folder self.new.folder) }
+        ensures added { OnOk result (MayAdd (string_bytes path) self.old.folder self.new.folder) }
+        ensures levels { self.new.levels ≡ self.old.levels }
+        ensures file { OnOk result (is_source (string_bytes path) ≡ true → is_file ≡ true) }
         ensures taken { OnOk result (length self.new.folder ≡ length self.old.folder + (if is_source (string_bytes path) then 1 else 0)) }
         ensures entries { self.new.entries ≡ self.old.entries }
     {
@@ -157,9 +162,9 @@ impl Found {
         mut path: String,
         depth: u32,
     ) -> Result<(), WalkError>
-        ensures refused { IfErr result (Names dir.now) }
+        ensures refused { IfErr result (NamesDeep dir.now depth) }
         ensures shallow { OnOk result (depth < 64) }
-        ensures later { OnOk result (length self.new.levels.items ≡ length self.old.levels.items + 1) }
+        ensures later { OnOk result (map level_of self.new.levels.items ≡ map level_of self.old.levels.items ++ below (string_bytes path) depth ∷ []) }
         ensures folder { self.new.folder ≡ self.old.folder }
         ensures entries { self.new.entries ≡ self.old.entries }
     {
@@ -175,7 +180,7 @@ impl Found {
         Ok(())
     }
 
-    // Takes what has this path below the folder, in a folder that lies so deep.
+    // TakesPath what has this path below the folder, in a folder that lies so deep.
     fn take_path<R: Files + AllocGlobal>(
         &mut self,
         rt: &R,
@@ -184,7 +189,8 @@ impl Found {
         depth: u32,
     ) -> Result<(), WalkError>
         ensures refused { IfErr result (MayFail dir.now) }
-        ensures added { OnOk result (MayAdd self.old.folder self.new.folder) }
+        ensures added { OnOk result (MayAdd (string_bytes path) self.old.folder self.new.folder) }
+        ensures taken { OnOk result (TakesPath (string_bytes path) depth self.old.folder self.new.folder (map level_of self.old.levels.items) (map level_of self.new.levels.items)) }
         ensures entries { self.new.entries ≡ self.old.entries }
     {
         let whole = joined(rt.alloc(), dir, path.as_str())?;
@@ -200,7 +206,7 @@ impl Found {
         }
     }
 
-    // Takes what has this name in a folder.
+    // TakesPath what has this name in a folder.
     fn take_entry<R: Files + AllocGlobal>(
         &mut self,
         rt: &R,
@@ -211,6 +217,8 @@ impl Found {
         requires { Keeps self.old.folder self.old.entries }
         ensures refused { IfErr result (MayFail dir.now) }
         ensures kept { OnOk result (Keeps self.new.folder self.new.entries) }
+        ensures added { OnOk result (MayAdd (string_bytes level.now.path ++ name.now) self.old.folder self.new.folder) }
+        ensures taken { OnOk result (TakesPath (string_bytes level.now.path ++ name.now) level.now.depth self.old.folder self.new.folder (map level_of self.old.levels.items) (map level_of self.new.levels.items)) }
         ensures counted { OnOk result (self.new.entries ≡ self.old.entries + 1) }
     {
         if self.entries >= MAX_ENTRIES {
@@ -223,7 +231,7 @@ impl Found {
         Ok(())
     }
 
-    // Takes all that a folder has.
+    // TakesPath all that a folder has.
     fn list<R: Files + AllocGlobal + Clone + Drop>(
         &mut self,
         rt: &R,

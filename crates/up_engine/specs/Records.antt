@@ -1,5 +1,5 @@
 -- The records as entries of the chronicle.
-use Rattle.std.specs.Prelude.{Bool, true, false, List, [], ◌∷◌, ◌++◌, Option, None, Some}
+use Rattle.std.specs.Prelude.{ℕ, ◌+◌, Bool, true, false, List, [], ◌∷◌, ◌++◌, length, Option, None, Some}
 use Rattle.up_engine.specs.declared.record.Expression.{Expression}
 use Rattle.up_engine.specs.declared.record.Expression.TheVariants as expression
 use Rattle.up_engine.specs.declared.record.Origin.{Origin}
@@ -51,6 +51,12 @@ outputs_of (Some output) = output ∷ []
 abbrev pub gave_more : model.Entry → List Output → List Output → List Output
 gave_more (model.Given given) earlier more = []
 gave_more entry earlier more = earlier ++ more
+
+-- the place behind the last input, where a step begins
+abbrev pub behind_given : List model.Entry → ℕ
+behind_given [] = 0
+behind_given (model.Given given ∷ c) = length c + 1
+behind_given (entry ∷ c) = behind_given c
 
 -- whether a record begins a step
 abbrev pub is_given : Record → Bool

@@ -4,7 +4,7 @@ ghost use Rattle.std.specs.Option.{option_map_or};
 ghost use Rattle.up_conf.specs.declared.job.JobDef.{JobDef as JobValue};
 ghost use Rattle.up_model.specs.Outputs as model;
 ghost use Rattle.up_model.specs.Readings as read;
-ghost use Rattle.up_engine.specs.Records.{entry_of, chronicle, outputs_of, gave_more, is_given};
+ghost use Rattle.up_engine.specs.Records.{entry_of, chronicle, outputs_of, gave_more, behind_given, is_given};
 
 use crate::reading::environment::env;
 use crate::reading::place::{id_at, made_at};
@@ -230,10 +230,11 @@ fn add_output(
 }
 
 // The place behind the last input, sought from the newest record back.
-#[tactic(auto, using(crate::proofs::OutputLemmas::given_more), unfolding(up_model::specs::Outputs::gave))]
+#[tactic(auto, using(crate::proofs::OutputLemmas::given_more, crate::proofs::OutputLemmas::given_last, crate::proofs::OutputLemmas::other_last), unfolding(up_model::specs::Outputs::gave))]
 fn step_start(records: &[Record]) -> usize
     ensures within { result ≤ length records.now }
     ensures start { (jobs : List JobValue) → model.gave jobs (chronicle (take result records.now)) ≡ [] }
+    ensures last { result ≡ behind_given (chronicle records.now) }
 {
     let mut left = records.len();
     'back: while left > 0 {
