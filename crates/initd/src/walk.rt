@@ -180,7 +180,7 @@ impl Found {
         Ok(())
     }
 
-    // TakesPath what has this path below the folder, in a folder that lies so deep.
+    // Takes what has this path below the folder, in a folder that lies so deep.
     fn take_path<R: Files + AllocGlobal>(
         &mut self,
         rt: &R,
@@ -206,7 +206,7 @@ impl Found {
         }
     }
 
-    // TakesPath what has this name in a folder.
+    // Takes what has this name in a folder.
     fn take_entry<R: Files + AllocGlobal>(
         &mut self,
         rt: &R,
@@ -231,7 +231,7 @@ impl Found {
         Ok(())
     }
 
-    // TakesPath all that a folder has.
+    // Takes all that a folder has.
     fn list<R: Files + AllocGlobal + Clone + Drop>(
         &mut self,
         rt: &R,
