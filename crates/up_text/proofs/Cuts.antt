@@ -1,12 +1,12 @@
 -- Where a text may be cut before or behind bytes below 128.
-use Rattle.std.proofs.Common.{◌≡◌, ℕ, ◌+◌, ◌-◌, ◌<◌, Bool, true, false, List, [], ◌∷◌, length, take, drop, cond, IsUtf8, refl, sym, ap, subst, one-add, ⊎_elim, arith}
+use Rattle.std.proofs.Common.{◌≡◌, ℕ, ◌+◌, ◌-◌, ◌<◌, Bool, true, false, List, [], ◌∷◌, ◌++◌, length, take, drop, cond, IsUtf8, refl, sym, ap, ◌∙◌, subst, one-add, ⊎_elim, arith}
 use Rattle.std.proofs.lemmas.Bool.{cases_lt}
 use Rattle.std.proofs.lemmas.Bool.Decides.{nat_tests}
 use Rattle.std.proofs.lemmas.List.Sums.{prefix_len-le-length, prefix_len_passes, prefix_len_stops}
 use Rattle.std.proofs.lemmas.Str.{IsCharBoundary-start, IsCharBoundary-end, IsCharBoundary-before_ascii, IsCharBoundary-after_ascii, IsCharBoundary-from_rest}
 use Rattle.std.specs.List.{prefix_len}
 use Rattle.std.specs.Str.{IsCharBoundary}
-use Rattle.std.proofs.lemmas.Bool.{and_from, not-false}
+use Rattle.std.proofs.lemmas.Bool.{and_from, and_parts, not-false}
 use Rattle.std.proofs.lemmas.List.{take-append-drop}
 use Rattle.std.specs.List.{list_all}
 use Rattle.up_text.specs.Lexer.{is_ordinary, is_literal, is_in_line, is_low, is_high, Splits, SplitsChar}
@@ -101,6 +101,17 @@ list_all-take p (byte ∷ text) =
 -- a text is its longest run of bytes that pass, and what stands behind it
 pub Splits-prefix : (p : ℕ → Bool) (text : List ℕ) → Splits p text (take (prefix_len p text) text) (drop (prefix_len p text) text)
 Splits-prefix p text = record { joined = sym (take-append-drop (prefix_len p text) text); all = list_all-take p text; ends = begins-drop p text }
+
+-- and there is only one such run
+pub Splits-behind : (p : ℕ → Bool) (text front rest : List ℕ) → Splits p text front rest → drop (prefix_len p text) text ≡ rest
+Splits-behind p text front rest splits = ap (λ whole. drop (prefix_len p whole) whole) splits.joined ∙ past front rest splits.all splits.ends
+  where
+    past : (front rest : List ℕ) → list_all p front ≡ true → begins p rest ≡ false → drop (prefix_len p (front ++ rest)) (front ++ rest) ≡ rest
+    past [] [] all ends = refl
+    past [] (byte ∷ rest) all ends = rw ends refl
+    past (byte ∷ front) rest all ends =
+        let both = and_parts (p byte) (list_all p front) all in
+        rw (both.0, one-add) (past front rest both.1 ends)
 
 -- and its first character and what stands behind it
 pub SplitsChar-first : (text : List ℕ) → 0 < length text → SplitsChar text (take (1 + prefix_len is_high (drop 1 text)) text) (drop (1 + prefix_len is_high (drop 1 text)) text)

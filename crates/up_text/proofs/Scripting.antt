@@ -9,7 +9,7 @@ use Rattle.std.proofs.lemmas.List.{take-append-drop, take_all, length-take-le, a
 use Rattle.up_text.proofs.Runs.{feeds-none, feeds-append, feeds-length}
 use Rattle.std.proofs.lemmas.List.Splits.{slice_split-cons_no, slice_split-cons_yes}
 use Rattle.std.specs.List.{list_all, prefix_len, slice_split, onto_first, concat}
-use Rattle.up_text.proofs.Cuts.{list_all-take, begins-drop, in_line-ascii}
+use Rattle.up_text.proofs.Cuts.{Splits-behind, Splits-prefix, list_all-take, begins-drop, in_line-ascii}
 use Rattle.up_text.specs.Lexer.{is_in_word, is_in_line, BeginsWord, BeginsLine, EndsScript, Splits}
 use Rattle.up_text.specs.Places.{feeds}
 use Rattle.up_text.specs.Scripts.{lines_of, is_filled, words_in, are_end_words, may_follow, is_end_line, script_in}
@@ -84,13 +84,20 @@ pub word-ascii : (byte : ℕ) → is_in_word byte ≡ false → byte < 128
 unfolding is_in_word is_blank
 word-ascii byte other = grind (arith, nat_tests)
 
--- the first word of a text behind its blanks
-pub BeginsWord-Splits : (text blanks words : List ℕ) → Splits is_blank text blanks words → BeginsWord text (take (prefix_len is_in_word words) words) (drop (prefix_len is_in_word words) words)
-BeginsWord-Splits text blanks words splits = by_words words (ap words_in splits.joined ∙ words-blanks blanks words splits.all) splits.ends
+-- what is cut off behind the blanks of a text, as far as its first word goes, is that word
+pub word-cut : (text blanks words bytes word rest : List ℕ) (n : ℕ) → Splits is_blank text blanks words → bytes ≡ words → n ≡ prefix_len is_in_word bytes → word ≡ take n words → rest ≡ drop n words → BeginsWord text word rest
+word-cut text blanks words bytes word rest n splits same long front back =
+    rw (front, back, long, same) (by_words words (ap words_in splits.joined ∙ words-blanks blanks words splits.all) splits.ends)
   where
     by_words : (words : List ℕ) → words_in text ≡ words_in words → begins is_blank words ≡ false → BeginsWord text (take (prefix_len is_in_word words) words) (drop (prefix_len is_in_word words) words)
     by_words [] same none = same
     by_words (byte ∷ words) same none = BeginsWord-filled text byte words same none
+
+-- and what stands behind it is the rest
+pub rest-cut : (text blanks words bytes word rest : List ℕ) (n : ℕ) → Splits is_blank text blanks words → bytes ≡ words → n ≡ prefix_len is_in_word bytes → word ≡ take n words → rest ≡ drop n words
+    → Splits is_in_word (drop (prefix_len is_blank text) text) word rest
+rest-cut text blanks words bytes word rest n splits same long front back =
+    rw (front, back, long, same, Splits-behind is_blank text blanks words splits) (Splits-prefix is_in_word words)
 
 -- the first line of a text
 

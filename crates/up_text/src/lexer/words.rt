@@ -1,7 +1,8 @@
 //! Words, as blanks separate them.
-ghost use Rattle.std.specs.Prelude.{◌≡◌, ◌<◌, length};
+ghost use Rattle.std.specs.Prelude.{◌≡◌, ◌<◌, drop, length};
 ghost use Rattle.std.specs.List.{prefix_len};
-ghost use Rattle.up_text.specs.Lexer.{is_in_word, BeginsWord};
+ghost use Rattle.up_text.specs.Lexer.{is_in_word, BeginsWord, Splits};
+ghost use Rattle.up_text.specs.Tokens.{is_blank};
 
 use crate::lexer::bytes::{is_blank, split_blanks};
 
@@ -23,6 +24,7 @@ fn word_len(bytes: &[u8]) -> usize
 /// or a backslash is a byte like any other, as in the line `end script` and in a command that needs no shell (init(5)).
 pub fn next_word(text: &str) -> (&str, &str)
     ensures begins { BeginsWord text.now result.0.now result.1.now }
+    ensures behind { Splits is_in_word (drop (prefix_len is_blank text.now) text.now) result.0.now result.1.now }
     ensures shorter { 0 < length result.0.now → length result.1.now < length text.now }
 {
     let (_, words) = split_blanks(text);
