@@ -1,6 +1,6 @@
 -- The steps of a script, one after another.
 use Rattle.std.proofs.Common.{◌≡◌, inl, inr, ℕ, ◌+◌, ◌-◌, ◌<◌, ◌≤◌, true, false, List, [], ◌∷◌, ◌++◌, length, take, drop, Option, None, Some, option_map, option_and_then, Result, Ok, Err, refl, sym, ap, ◌∙◌, subst, arith, length-drop, length-take, append_assoc, append-nil}
-use Rattle.up_text.specs.declared.fault.TextFault.{TextFault}
+use Rattle.up_value.specs.declared.fault.TextFault.{TextFault}
 use Rattle.up_text.specs.declared.token.Token.{Token}
 use Rattle.up_text.specs.Lexemes.{Lexeme, Word, Bad, End, IsLineOf, put_front, split_ends, lexemes_of}
 use Rattle.up_text.specs.Places.{Place, Reading, Got, Ended, Fails, Answers, passing, reading, read_at, spelled, line_at, is_finished, fault_in, is_spelled, gap_at, marks_at}

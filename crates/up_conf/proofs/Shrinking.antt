@@ -3,7 +3,7 @@ use Rattle.std.proofs.Common.{◌≡◌, ℕ, ◌+◌, ◌<◌, ◌≤◌, Bool,
 use Rattle.std.proofs.lemmas.List.{length-drop}
 use Rattle.std.specs.List.{concat}
 use Rattle.std.specs.Str.{bytes_eq}
-use Rattle.up_text.specs.declared.fault.TextFault.{TextFault}
+use Rattle.up_value.specs.declared.fault.TextFault.{TextFault}
 use Rattle.up_text.specs.declared.token.Token.{Token}
 use Rattle.up_text.specs.Commands.{row_at, command_in}
 use Rattle.up_text.specs.Places.{Place, Reading, Got, Ended, Fails, reading, switched, passing, fault_in}

@@ -1,7 +1,7 @@
 -- What the answers of a lexer say of what is read.
 use Rattle.std.proofs.Common.{◌≡◌, inl, inr, ℕ, List, [], ◌∷◌, ◌++◌, length, map, Option, None, Some, Ok, Err, refl, ap, append_assoc, append-nil}
-use Rattle.up_text.specs.declared.fault.TextFault.{TextFault}
-use Rattle.up_text.specs.declared.fault.TextFault.TheVariants.{Memory}
+use Rattle.up_value.specs.declared.fault.TextFault.{TextFault}
+use Rattle.up_value.specs.declared.fault.TextFault.TheVariants.{Memory}
 use Rattle.up_text.specs.declared.token.Token.{Token}
 use Rattle.up_text.specs.Commands.{row_at, command_in, CommandUnless, ReadsCommand}
 use Rattle.up_text.specs.Places.{Place, Got, Ended, Fails, reading, passing, fault_in}

@@ -2,7 +2,7 @@
 use Rattle.std.specs.Prelude.{ℕ, zero, suc, ◌+◌, true, false, nat_le, if◌then◌else◌, List, [], ◌∷◌, length, map, Option, None, Some, option_map, codes}
 use Rattle.std.specs.List.{concat}
 use Rattle.std.specs.Str.{bytes_eq}
-use Rattle.up_text.specs.declared.fault.TextFault.{TextFault}
+use Rattle.up_value.specs.declared.fault.TextFault.{TextFault}
 use Rattle.up_text.specs.declared.token.Token.{Token}
 use Rattle.up_text.specs.Commands.{row_at, command_in}
 use Rattle.up_text.specs.Places.{Place, Reading, Got, Ended, Fails, reading, switched, passing, behind_stanza, fault_in, line_at, is_finished}

@@ -8,7 +8,7 @@ use Rattle.up_expr.specs.declared.expr.Leaf.{Leaf}
 use Rattle.up_expr.specs.Trees.{Tree, One}
 use Rattle.up_expr.specs.Values.{is_open, is_close, is_operator, is_symbol, leaf_of}
 use Rattle.up_expr.specs.Parsing.{Pending, Position, Before, Within, Behind, at, operand, whole, opened, closed, lengthened, finished, onward, outcome}
-use Rattle.up_text.specs.Tokens.{begins}
+use Rattle.up_text.specs.Lists.{begins}
 use Rattle.up_expr.proofs.Complete.{step_other, gathers, operator_is}
 
 whole_none : (left : Pending) → whole left None ≡ None

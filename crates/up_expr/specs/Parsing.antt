@@ -1,5 +1,5 @@
 -- How a parser goes through the tokens of an expression, one after another.
-use Rattle.std.specs.Prelude.{ℕ, ◌+◌, Bool, false, nat_lt, List, [], ◌∷◌, ◌++◌, Option, None, Some, if◌then◌else◌, length, option_map}
+use Rattle.std.specs.Prelude.{ℕ, ◌+◌, nat_lt, List, [], ◌∷◌, ◌++◌, Option, None, Some, if◌then◌else◌, length, option_map}
 use Rattle.up_text.specs.declared.token.Token.{Token}
 use Rattle.up_expr.specs.Trees.{Tree, One}
 use Rattle.up_expr.specs.Syntax.{joined}

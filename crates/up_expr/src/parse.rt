@@ -1,7 +1,7 @@
 //! Reads an expression from its tokens.
 ghost use Rattle.std.specs.Prelude.{◌≡◌, ◌⊎◌, ◌≤◌, ◌<◌, ◌+◌, ◌∷◌, List, ℕ, Err, Some, None, IfOk, OnErr, MatchOption, true, false, length, drop};
 ghost use Rattle.up_expr.specs.Parsing.{Pending, at, Before, Behind, outcome, operators, begin};
-ghost use Rattle.up_text.specs.Tokens.{begins};
+ghost use Rattle.up_text.specs.Lists.{begins};
 ghost use Rattle.up_expr.specs.Syntax.{Writes};
 ghost use Rattle.up_expr.specs.Trees.{Tree};
 ghost use Rattle.up_expr.specs.Values as values;

@@ -13,8 +13,8 @@ use Rattle.up_text.specs.Commands.{row_at, trimmed, ReadsCommand}
 use Rattle.up_text.specs.Lexer.{place, begins_joint, is_line_end, is_spelling, begins_gap, ends_token, GapRun, Run, Broken, shown}
 use Rattle.up_text.specs.Places.{fault_in, feeds, is_space, is_stop, written}
 use Rattle.up_text.specs.Tokens.{Mark, Part, Quoting, Folded, Alone, Blank, Passed, Stop, Fail, Outside, is_blank, is_hash}
-use Rattle.up_text.specs.declared.fault.TextFault.{TextFault}
-use Rattle.up_text.specs.declared.fault.TextFault.TheVariants.{Memory}
+use Rattle.up_value.specs.declared.fault.TextFault.{TextFault}
+use Rattle.up_value.specs.declared.fault.TextFault.TheVariants.{Memory}
 
 -- a spelling and the gap behind it
 word-tidy : (text rest : List ℕ) (front spaces : List Mark) → marks_in text ≡ (front ++ spaces) ++ marks_in rest → list_all is_spelling front ≡ true → list_all is_space spaces ≡ true → begins_gap false rest ≡ false

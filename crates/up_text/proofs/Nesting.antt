@@ -1,7 +1,7 @@
 -- What the texts that stand in each other say and mean, from one piece to the next.
 use Rattle.std.proofs.Common.{◌≡◌, ℕ, zero, suc, Bool, true, false, cond, ◌==◌, List, [], ◌∷◌, ◌++◌, map, drop, Option, None, Some, option_map, is_some, refl, sym, ap, ◌∙◌}
 use Rattle.std.proofs.lemmas.List.{append_assoc, append-nil}
-use Rattle.up_text.specs.Bindings.{value_of}
+use Rattle.up_value.specs.Bindings.{value_of}
 use Rattle.up_text.specs.Expanding.{run_before, piece_before, said, meanings}
 use Rattle.up_text.specs.Expansion.{Sign, Plain, Parts, Done, Byte, Key, innermost, outside, before, nested, signs, texts_of, is_expandable, Expansion, Expands, Lacks, Malformed, followed, counted, meaning}
 use Rattle.up_text.specs.declared.expansion.Piece.{Piece}

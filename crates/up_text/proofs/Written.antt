@@ -3,14 +3,14 @@ use Rattle.std.proofs.Common.{◌≡◌, inr, ℕ, suc, ◌+◌, ◌-◌, ◌<�
 use Rattle.std.proofs.lemmas.Bool.{eqb-true, true≢false}
 use Rattle.std.proofs.lemmas.Bool.Decides.{nat_tests}
 use Rattle.std.proofs.lemmas.Option.{same_Some}
-use Rattle.up_text.specs.Bindings.{value_of}
+use Rattle.up_value.specs.Bindings.{value_of}
 use Rattle.up_text.specs.Expanding.{Gives, run_before, piece_before, depth_behind, texts_opened, meanings}
 use Rattle.up_text.specs.Expansion.{Sign, Plain, Named, Braced, Opened, Closing, Wrong, Parts, Done, Byte, Key, Default, innermost, outside, before, nested, signs, texts_of, is_expandable, Expansion, Expands, Lacks, Malformed, followed, counted, value_or, meaning, expansion, expand}
 use Rattle.up_text.specs.declared.expansion.Piece.{Piece}
 use Rattle.up_text.specs.declared.expansion.Piece.TheVariants as piece
 use Rattle.up_text.specs.declared.expansion.Expanded.{Expanded}
-use Rattle.up_text.specs.declared.fault.TextFault.{TextFault}
-use Rattle.up_text.specs.declared.fault.TextFault.TheVariants.{BadExpansion, Memory}
+use Rattle.up_value.specs.declared.fault.TextFault.{TextFault}
+use Rattle.up_value.specs.declared.fault.TextFault.TheVariants.{BadExpansion, Memory}
 use Rattle.up_text.proofs.Nesting.{followed-assoc, followed-nothing, nothing-followed, drop-outside}
 
 -- the texts of a list have this length, where there are any

@@ -1,7 +1,7 @@
 -- What the parts of the lexer read of a command's text.
 use Rattle.std.specs.Prelude.{◌≡◌, ℕ, ◌+◌, ◌-◌, Bool, true, false, not, ◌||◌, if◌then◌else◌, List, [], ◌∷◌, ◌++◌, take, length, Option}
 use Rattle.std.specs.List.{flat_map, list_all, suffix_len, take_while}
-use Rattle.up_text.specs.declared.fault.TextFault.{TextFault}
+use Rattle.up_value.specs.declared.fault.TextFault.{TextFault}
 use Rattle.up_text.specs.Tokens.{Mark, Fail, Outside, marks}
 use Rattle.up_text.specs.Places.{feeds, is_space, is_stop, written}
 use Rattle.up_text.specs.Lexer.{Holds, is_line_end, is_spelling, begins_gap}

@@ -1,8 +1,8 @@
 -- The text of a command, which is the rest of its stanza as it is written.
 use Rattle.std.specs.Prelude.{◌≡◌, ◌⊎◌, ℕ, ◌-◌, not, false, List, take, drop, length, Option, None, Some, Result, Ok, Err}
 use Rattle.std.specs.List.{flat_map, prefix_len, suffix_len, take_while}
-use Rattle.up_text.specs.declared.fault.TextFault.{TextFault}
-use Rattle.up_text.specs.declared.fault.TextFault.TheVariants.{Memory}
+use Rattle.up_value.specs.declared.fault.TextFault.{TextFault}
+use Rattle.up_value.specs.declared.fault.TextFault.TheVariants.{Memory}
 use Rattle.up_text.specs.Tokens.{Mark, Outside, marks}
 use Rattle.up_text.specs.Places.{Place, is_space, is_stop, written, fault_in, passing}
 

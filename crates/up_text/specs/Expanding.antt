@@ -7,8 +7,8 @@ use Rattle.up_text.specs.declared.expansion.Given.{Given}
 use Rattle.up_text.specs.declared.expansion.Given.TheVariants as given
 use Rattle.up_text.specs.declared.expansion.Piece.{Piece}
 use Rattle.up_text.specs.declared.expansion.Piece.TheVariants as piece
-use Rattle.up_text.specs.declared.fault.TextFault.{TextFault}
-use Rattle.up_text.specs.declared.fault.TextFault.TheVariants.{BadExpansion, Memory}
+use Rattle.up_value.specs.declared.fault.TextFault.{TextFault}
+use Rattle.up_value.specs.declared.fault.TextFault.TheVariants.{BadExpansion, Memory}
 
 -- what an expansion gives: its text or the key that it lacks, or the fault of memory; a malformed text is refused
 abbrev pub Gives : Expansion → Result Expanded TextFault → Type 0

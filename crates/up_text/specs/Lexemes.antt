@@ -1,7 +1,7 @@
 -- All that a text means, token by token: what reading over and over gives.
 use Rattle.std.specs.Prelude.{◌≡◌, ◌⊎◌, ℕ, zero, suc, ◌+◌, ◌*◌, if◌then◌else◌, List, [], ◌∷◌, length, Option, None, Some, Result, Ok, Err}
-use Rattle.up_text.specs.declared.fault.TextFault.{TextFault}
-use Rattle.up_text.specs.declared.fault.TextFault.TheVariants.{Memory}
+use Rattle.up_value.specs.declared.fault.TextFault.{TextFault}
+use Rattle.up_value.specs.declared.fault.TextFault.TheVariants.{Memory}
 use Rattle.up_text.specs.declared.token.Token.{Token}
 use Rattle.up_text.specs.Places.{Place, start, Reading, Got, Ended, Fails, line_at, reading}
 

@@ -1,8 +1,8 @@
 -- Where a text is read, and what each reading gives and leaves.
 use Rattle.std.specs.Prelude.{◌≡◌, ◌⊎◌, ℕ, ◌+◌, Bool, true, false, not, ◌&&◌, ◌||◌, if◌then◌else◌, List, [], ◌∷◌, length, take, drop, Option, None, Some, Result, Ok, Err}
 use Rattle.std.specs.List.{list_all, flat_map, prefix_len, take_while}
-use Rattle.up_text.specs.declared.fault.TextFault.{TextFault}
-use Rattle.up_text.specs.declared.fault.TextFault.TheVariants.{Memory}
+use Rattle.up_value.specs.declared.fault.TextFault.{TextFault}
+use Rattle.up_value.specs.declared.fault.TextFault.TheVariants.{Memory}
 use Rattle.up_text.specs.declared.token.Token.{Token}
 use Rattle.up_text.specs.Tokens.{Mark, Part, Quoting, Folded, Alone, Blank, Passed, Stop, Fail, Outside, is_line_feed, open_after, marks}
 

@@ -1,7 +1,8 @@
 -- How the text of a job file or a script is read as tokens, by init(5).
 use Rattle.std.specs.Prelude.{ℕ, ◌+◌, ◌-◌, Bool, true, false, ◌||◌, ◌&&◌, ◌==◌, if◌then◌else◌, List, [], ◌∷◌}
-use Rattle.up_text.specs.declared.fault.TextFault.{TextFault}
-use Rattle.up_text.specs.declared.fault.TextFault.TheVariants.{UnterminatedQuote, TrailingBackslash}
+use Rattle.up_value.specs.Lists.{begins}
+use Rattle.up_value.specs.declared.fault.TextFault.{TextFault}
+use Rattle.up_value.specs.declared.fault.TextFault.TheVariants.{UnterminatedQuote, TrailingBackslash}
 
 -- what a byte is: one that a token is given; a quote or a backslash, which belongs to a token and gives it nothing; one of a
 -- quoted piece that is joined with others to one space; a parenthesis that is a token of its own; a blank between tokens; one of a
@@ -49,11 +50,6 @@ is_backslash byte = byte == 92
 -- a parenthesis, ( or )
 unfoldable pub is_paren : ℕ → Bool
 is_paren byte = byte == 40 || byte == 41
-
--- a list whose first item passes
-abbrev pub begins : {X : Type 0} → (X → Bool) → List X → Bool
-begins passes [] = false
-begins passes (x ∷ xs) = passes x
 
 -- a text that goes on to a line end over nothing but blanks, perhaps by a backslash
 abbrev pub reaches_feed : List ℕ → Bool

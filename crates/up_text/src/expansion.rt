@@ -1,17 +1,17 @@
 //! Expands `$KEY` by an environment.
 ghost use Rattle.std.specs.Prelude.{◌≡◌, ◌≤◌, ◌<◌, ◌||◌, ◌==◌, true, false, not, List, ◌∷◌, ◌++◌, length, drop, MatchOption, option_map};
 ghost use Rattle.std.specs.List.{prefix_len};
-ghost use Rattle.up_text.specs.Bindings.{value_of};
+ghost use Rattle.up_value.specs.Bindings.{value_of};
 ghost use Rattle.up_text.specs.Expanding.{Gives, IsGiven, depth_behind, said, signs_of};
 ghost use Rattle.up_text.specs.Expansion.{Sign, Lacks, counted, expand, is_expandable, key_of, signs, texts_of};
-ghost use Rattle.up_text.specs.Tokens.{begins};
-ghost use Rattle.up_text.specs.Names.{is_key_byte, is_key_start};
+ghost use Rattle.up_value.specs.Lists.{begins};
+ghost use Rattle.up_value.specs.Names.{is_key_byte, is_key_start};
 
 pub mod laws;
 
-use crate::env::{Env, is_key_byte, is_key_start};
-use crate::fault::TextFault;
-use crate::text::Text;
+use up_value::env::{Env, is_key_byte, is_key_start};
+use up_value::TextFault;
+use up_value::Text;
 use memchr::memchr2;
 use std::alloc::Global;
 

@@ -16,7 +16,7 @@ mod script;
 mod spelling;
 mod words;
 
-use crate::fault::TextFault;
+use up_value::TextFault;
 use crate::lexer::bytes::{begins_feed, is_line_end, split_first};
 use crate::lexer::command::push_command;
 pub use crate::lexer::comments::without_comments;
@@ -25,7 +25,7 @@ use crate::lexer::gap::after_gap;
 use crate::lexer::script::find_end;
 use crate::lexer::spelling::read_token;
 pub use crate::lexer::words::next_word;
-use crate::text::Text;
+use up_value::Text;
 use crate::token::Token;
 use std::alloc::Global;
 use std::marker::Model;

@@ -1,6 +1,6 @@
 //! A token of a job file or a script.
 
-use crate::text::Text;
+use up_value::Text;
 
 /// A token of init(5), as it is meant.
 #[derive(Debug, Drop)]

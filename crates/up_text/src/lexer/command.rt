@@ -4,7 +4,7 @@ ghost use Rattle.up_text.specs.Tokens.{Outside};
 ghost use Rattle.up_text.specs.Lexer.{begins_gap, ends_token, is_line_end, Broken};
 ghost use Rattle.up_text.specs.CommandParts.{Between, Told, Refused};
 
-use crate::fault::TextFault;
+use up_value::TextFault;
 use crate::lexer::bytes::{begins_joint, is_line_end, split_blanks};
 use crate::lexer::draft::Draft;
 use crate::lexer::gap::after_gap;

@@ -2,8 +2,8 @@
 ghost use Rattle.std.specs.Prelude.{◌≡◌, ◌++◌, ◌⊎◌, ℕ, List, [], Some, None, Ok, Err, if◌then◌else◌, string_bytes};
 ghost use Rattle.up_text.specs.Lexer.{Holds, Finished};
 
-use crate::fault::TextFault;
-use crate::text::Text;
+use up_value::TextFault;
+use up_value::Text;
 use std::alloc::Global;
 use std::marker::Model;
 

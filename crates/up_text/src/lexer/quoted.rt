@@ -1,9 +1,10 @@
 //! A quoted piece of a token or a command.
 ghost use Rattle.std.specs.Prelude.{◌≡◌, ◌+◌, ◌<◌, ◌≤◌, ◌^◌, ◌==◌, ◌++◌, ◌∷◌, ℕ, Bool, true, false, if◌then◌else◌, List, [], length, IfOk, MatchResult};
-ghost use Rattle.up_text.specs.Tokens.{Outside, Quoted, is_quote, is_backslash, is_blank, begins};
+ghost use Rattle.up_text.specs.Tokens.{Outside, Quoted, is_quote, is_backslash, is_blank};
+ghost use Rattle.up_value.specs.Lists.{begins};
 ghost use Rattle.up_text.specs.Lexer.{is_byte, begins_fold, Holds, IsEscape, Run, Broken};
 
-use crate::fault::TextFault;
+use up_value::TextFault;
 use crate::lexer::bytes::{
     begins_backslash, begins_blank, begins_feed, begins_joint, split_blanks, split_char,
     split_first, split_literal,

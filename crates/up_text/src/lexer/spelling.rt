@@ -1,18 +1,19 @@
 //! The spelling of a token, and of what is written between the blanks of a command.
 ghost use Rattle.std.specs.Prelude.{◌≡◌, ◌+◌, ◌<◌, ◌≤◌, ◌^◌, ◌++◌, ℕ, Bool, true, false, length, IfOk, MatchOption, MatchResult};
 ghost use Rattle.std.specs.List.{list_all};
-ghost use Rattle.up_text.specs.declared.fault.TextFault.TheVariants.{Memory};
-ghost use Rattle.up_text.specs.Tokens.{Outside, is_quote, begins};
+ghost use Rattle.up_value.specs.declared.fault.TextFault.TheVariants.{Memory};
+ghost use Rattle.up_text.specs.Tokens.{Outside, is_quote};
+ghost use Rattle.up_value.specs.Lists.{begins};
 ghost use Rattle.up_text.specs.Places.{token_of};
 ghost use Rattle.up_text.specs.Lexer.{is_byte, is_ordinary, is_line_end, ends_token, begins_gap, place, Run, Broken, GivesToken, GivesFault, open_at};
 
-use crate::fault::TextFault;
+use up_value::TextFault;
 use crate::lexer::bytes::{
     begins_backslash, begins_paren, begins_quote, ends_token, split_first, split_ordinary,
 };
 use crate::lexer::draft::{Draft, push_quoting};
 use crate::lexer::quoted::{push_escape, push_quoted};
-use crate::text::Text;
+use up_value::Text;
 use crate::token::Token;
 use std::alloc::Global;
 

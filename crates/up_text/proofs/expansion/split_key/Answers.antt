@@ -1,6 +1,6 @@
 use Rattle.up_text.proofs.Cuts.{IsCharBoundary-behind}
 use Rattle.up_text.proofs.Signs.{key-ascii}
-use Rattle.up_text.specs.Names.{is_key_byte}
+use Rattle.up_value.specs.Names.{is_key_byte}
 use Rattle.up_text.proofs.expansion.split_key.Goals as goal
 
 pub split_at-requires : goal.split_at-requires

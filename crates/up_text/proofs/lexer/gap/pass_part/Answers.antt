@@ -2,7 +2,8 @@ use Rattle.std.proofs.Common.{◌≡◌, true, ◌∙◌, sym}
 use Rattle.up_text.proofs.Gaps.{GapRun-blanks, GapRun-comment, GapRun-feed, GapRun-joint, gap-feed_passes, gap-joint, comment-shorter}
 use Rattle.up_text.proofs.Runs.{begins-low, feed-low, joint-low, joint-feed}
 use Rattle.up_text.specs.Lexer.{begins_joint}
-use Rattle.up_text.specs.Tokens.{begins, is_line_feed}
+use Rattle.up_text.specs.Tokens.{is_line_feed}
+use Rattle.up_value.specs.Lists.{begins}
 use Rattle.up_text.proofs.lexer.gap.pass_part.Goals as goal
 
 pub returns-then-begins_blank-clause-run : goal.returns-then-begins_blank-clause-run

@@ -1,0 +1,4 @@
+pub mod ItemReading
+pub mod Matches
+pub mod PatternLaws
+pub mod SetReading

@@ -1,0 +1,116 @@
+-- What the parts of the matching give.
+use Rattle.std.specs.Prelude.{◌≡◌, ℕ, ◌+◌, ◌-◌, ◌<◌, ◌≤◌, ◌==◌, Bool, true, false, ◌&&◌, ◌||◌, not, if◌then◌else◌, List, [], ◌∷◌, length, drop}
+use Rattle.std.specs.List.{list_any}
+use Rattle.up_pattern.specs.declared.pattern.Symbol.{Symbol}
+use Rattle.up_pattern.specs.declared.pattern.Part.{Part}
+use Rattle.up_pattern.specs.declared.pattern.Part.TheVariants as part
+use Rattle.up_pattern.specs.declared.pattern.SetEnd.{SetEnd}
+use Rattle.up_pattern.specs.declared.pattern.SetEnd.TheVariants as ending
+use Rattle.up_pattern.specs.declared.pattern.Reading.{Reading}
+use Rattle.up_pattern.specs.declared.pattern.Outcome.{Outcome}
+use Rattle.up_pattern.specs.declared.pattern.Outcome.TheVariants as outcome
+use Rattle.up_pattern.specs.Pattern.{symbols, is_close, is_dash, byte_of, body, is_closed, has_class, ranges, Item, Run, Any, Only, Among, Never, Class, more, all_items, admits_byte}
+
+-- the first symbol of a text, and what it leaves
+abbrev pub First : List ℕ → Symbol → List ℕ → Type 0
+First text symbol rest = (symbols text ≡ symbol ∷ symbols rest) × (length rest < length text)
+
+-- whether a test passes at the bytes or at one of their ends
+abbrev pub star_from : (List ℕ → Bool) → List ℕ → Bool
+star_from test [] = test []
+star_from test (byte ∷ bytes) = test (byte ∷ bytes) || star_from test bytes
+
+-- whether the bytes begin with one that the item admits, and the test passes behind it
+abbrev pub one_from : Item → (List ℕ → Bool) → List ℕ → Bool
+one_from item test [] = false
+one_from item test (byte ∷ bytes) = admits_byte item byte && test bytes
+
+-- whether an item admits the front of the bytes, and the test passes behind it
+abbrev pub item_from : Item → (List ℕ → Bool) → List ℕ → Bool
+item_from Run test bytes = star_from test bytes
+item_from item test bytes = one_from item test bytes
+
+-- an item of any run of bytes
+abbrev pub is_run : Item → Bool
+is_run Run = true
+is_run other = false
+
+-- the item doesn't admit the first of the bytes
+abbrev pub TakesNone : Item → List ℕ → Type 0
+TakesNone item [] = Unit {0}
+TakesNone item (byte ∷ bytes) = admits_byte item byte ≡ false
+
+-- it does, and these stand behind it
+abbrev pub TakesOne : Item → List ℕ → List ℕ → Type 0
+TakesOne item [] behind = ⊥
+TakesOne item (byte ∷ bytes) behind = (admits_byte item byte ≡ true) × (behind ≡ bytes)
+
+-- whether there are no bytes
+abbrev pub is_nil : List ℕ → Bool
+is_nil [] = true
+is_nil (byte ∷ bytes) = false
+
+-- whether items match the bytes, one item at a time
+abbrev pub items_match : List Item → List ℕ → Bool
+items_match [] bytes = is_nil bytes
+items_match (item ∷ items) bytes = item_from item (items_match items) bytes
+
+-- a byte that means something else in a pattern: a star, a question mark, an opening bracket or a backslash
+abbrev pub is_wild : ℕ → Bool
+is_wild byte = byte == 42 || (byte == 63 || (byte == 91 || byte == 92))
+
+-- symbols in which no set is closed and none has a class
+pub record IsFlat (symbols : List Symbol) : Type 0 where
+  pub unclosed : list_any is_close (drop 2 symbols) ≡ false
+  pub classless : has_class symbols ≡ false
+
+-- the last byte of the range that begins with this item, and what stands behind it
+abbrev pub range_end : ℕ → List Symbol → ℕ × List Symbol
+range_end low [] = (low, [])
+range_end low (dash ∷ []) = (low, dash ∷ [])
+range_end low (dash ∷ high ∷ symbols) = if is_dash dash && not (is_close high) then (byte_of high, symbols) else (low, dash ∷ high ∷ symbols)
+
+-- how a set ends
+abbrev pub EndsSo : SetEnd → List ℕ → Type 0
+EndsSo ending.Class set = has_class (body (symbols set)) ≡ true
+EndsSo ending.Open set = (has_class (body (symbols set)) ≡ false) × (is_closed (symbols set) ≡ false)
+EndsSo (ending.Closed rest) set =
+    (has_class (body (symbols set)) ≡ false) × (is_closed (symbols set) ≡ true)
+    × (symbols rest.now ≡ drop (length (body (symbols set)) + 1) (symbols set)) × (length rest.now ≤ length set)
+
+-- the item of a part
+abbrev pub item_of_part : Part → Item
+item_of_part part.Run = Run
+item_of_part part.Any = Any
+item_of_part (part.Only byte) = Only byte
+item_of_part (part.Among inverted set) = Among inverted (ranges (body (symbols set.now)))
+item_of_part part.Never = Never
+item_of_part part.Class = Class
+
+-- an item of which this text may be a part was read
+pub record MeansItem (item : Item) (text : List ℕ) (reading : Reading) : Type 0 where
+  pub part : item_of_part reading.part ≡ item
+  pub rest : symbols reading.rest.now ≡ drop (more item (symbols text)) (symbols text)
+  pub flat : reading.ahead ≡ false → IsFlat (symbols reading.rest.now)
+  pub shorter : length reading.rest.now ≤ length text
+
+-- items take one byte each: these items and these bytes are left
+pub record Takes (items : List Item) (bytes : List ℕ) (later : List Item) (left : List ℕ) : Type 0 where
+  pub same : items_match items bytes ≡ items_match later left
+  pub behind : left ≡ drop (length bytes - length left) bytes
+  pub shorter : length left ≤ length bytes
+  pub needs : (others : List ℕ) → items_match items others ≡ true → items_match later (drop (length bytes - length left) others) ≡ true
+
+-- items take one byte each, up to a run of any bytes: behind it these items and these bytes are left
+pub record Leads (items : List Item) (bytes : List ℕ) (later : List Item) (left : List ℕ) : Type 0 where
+  pub same : items_match items bytes ≡ star_from (items_match later) left
+  pub behind : left ≡ drop (length bytes - length left) bytes
+  pub needs : (others : List ℕ) → items_match items others ≡ true → star_from (items_match later) (drop (length bytes - length left) others) ≡ true
+
+-- what the items up to a run of any bytes come to
+abbrev pub RunGives : Outcome → List ℕ → List ℕ → Type 0
+RunGives outcome.Matches text bytes = items_match (all_items text) bytes ≡ true
+RunGives outcome.Fails text bytes = items_match (all_items text) bytes ≡ false
+RunGives (outcome.Run rest ahead left) text bytes =
+    Leads (all_items text) bytes (all_items rest.now) left.now × (ahead ≡ false → IsFlat (symbols rest.now))
+    × (length rest.now < length text) × (length left.now ≤ length bytes)

@@ -1,0 +1,402 @@
+//! Patterns over bytes, by fnmatch(3).
+ghost use Rattle.std.specs.Prelude.{◌≡◌, ◌<◌, ◌≤◌, ◌≢◌, ◌&&◌, nat_le, [], ◌∷◌, length, false, MatchOption, IfSome};
+ghost use Rattle.up_pattern.specs.declared.pattern.Symbol.TheVariants.{Bare};
+ghost use Rattle.up_pattern.specs.Pattern.{symbols, is_bare, is_class_mark, is_not, is_open, byte_of, body, inner, ranges, is_among, lone_item, set_item, more, all_items, admits_byte, is_class, supported, glob};
+ghost use Rattle.up_value.specs.Lists.{begins};
+ghost use Rattle.up_pattern.specs.Matching.{First, items_match, EndsSo, IsFlat, MeansItem, RunGives, TakesNone, TakesOne, range_end, item_of_part, is_run, star_from};
+
+pub mod laws;
+
+/// A byte of a pattern that stands bare or behind a backslash, or the backslash at the pattern's end.
+#[derive(Clone, Copy)]
+enum Symbol {
+    Bare(u8),
+    Escaped(u8),
+    Trailing,
+}
+
+/// An item of a pattern. A set is its bytes from the first item on.
+#[derive(Clone, Copy)]
+enum Part<'a> {
+    Run,
+    Any,
+    Only(u8),
+    Among { inverted: bool, set: &'a [u8] },
+    Never,
+    Class,
+}
+
+/// How a set ends: it has a class, it isn't closed, or this stands behind its `]`.
+#[derive(Clone, Copy)]
+enum SetEnd<'a> {
+    Class,
+    Open,
+    Closed(&'a [u8]),
+}
+
+/// An item, what stands behind it, and whether a set may be ahead: behind one that isn't closed, none is.
+#[derive(Clone, Copy)]
+struct Reading<'a> {
+    part: Part<'a>,
+    rest: &'a [u8],
+    ahead: bool,
+}
+
+/// What the items up to the next run of any bytes come to: they are the last and match, they fail, or this is left behind the run.
+#[derive(Clone, Copy)]
+enum Outcome<'a, 'b> {
+    Matches,
+    Fails,
+    Run {
+        rest: &'a [u8],
+        ahead: bool,
+        left: &'b [u8],
+    },
+}
+
+#[tactic(auto, using(crate::proofs::SetReading::firsts))]
+fn next_symbol(text: &[u8]) -> Option<(Symbol, &[u8])>
+    ensures { MatchOption result (symbols text.now ≡ []) (λ next. First text.now next.0 next.1.now) }
+{
+    let Some((byte, rest)) = text.split_first() else {
+        return None;
+    };
+    if *byte != b'\\' {
+        return Some((Symbol::Bare(*byte), rest));
+    }
+    match rest.split_first() {
+        Some((escaped, behind)) => Some((Symbol::Escaped(*escaped), behind)),
+        None => Some((Symbol::Trailing, rest)),
+    }
+}
+
+// What stands behind this byte, which is no backslash, where the text begins with it.
+#[tactic(auto, using(crate::proofs::SetReading::firsts))]
+fn strip(text: &[u8], byte: u8) -> Option<&[u8]>
+    requires { byte ≢ 92 }
+    ensures { MatchOption result (begins (is_bare byte) (symbols text.now) ≡ false) (λ rest. First text.now (Bare byte) rest.now) }
+{
+    let Some((first, rest)) = text.split_first() else {
+        return None;
+    };
+    if *first == byte {
+        return Some(rest);
+    }
+    None
+}
+
+fn begins(text: &[u8], byte: u8) -> bool
+    requires { byte ≢ 92 }
+    ensures { result ≡ begins (is_bare byte) (symbols text.now) }
+{
+    match strip(text, byte) {
+        Some(_) => true,
+        None => false,
+    }
+}
+
+#[tactic(auto, using(crate::proofs::SetReading::marks))]
+fn begins_class_mark(text: &[u8]) -> bool
+    ensures { result ≡ begins is_class_mark (symbols text.now) }
+{
+    begins(text, b':') || begins(text, b'.') || begins(text, b'=')
+}
+
+fn is_open(symbol: Symbol) -> bool
+    ensures { result ≡ is_open symbol }
+{
+    match symbol {
+        Symbol::Bare(byte) => byte == b'[',
+        Symbol::Escaped(_) => false,
+        Symbol::Trailing => false,
+    }
+}
+
+fn byte_of(symbol: Symbol) -> u8
+    ensures { result ≡ byte_of symbol }
+{
+    match symbol {
+        Symbol::Bare(byte) => byte,
+        Symbol::Escaped(byte) => byte,
+        Symbol::Trailing => b'\\',
+    }
+}
+
+// Whether this symbol of a set begins a class, with what stands behind it.
+fn begins_class(symbol: Symbol, behind: &[u8]) -> bool
+    ensures { result ≡ (is_open symbol && begins is_class_mark (symbols behind.now)) }
+{
+    is_open(symbol) && begins_class_mark(behind)
+}
+
+// How the set ends that begins with these bytes.
+#[tactic(auto, using(crate::proofs::SetReading::set_ends))]
+fn set_end(set: &[u8]) -> SetEnd<'_>
+    ensures { EndsSo result set.now }
+{
+    let mut rest = set;
+    'items: while let Some((symbol, behind)) = next_symbol(rest) {
+        if begins_class(symbol, behind) {
+            return SetEnd::Class;
+        }
+        if let Some(end) = strip(behind, b']') {
+            return SetEnd::Closed(end);
+        }
+        rest = behind;
+    }
+    SetEnd::Open
+}
+
+// The last byte of the range that begins with this item, and what stands behind it.
+#[tactic(auto, using(crate::proofs::SetReading::range_ends))]
+fn range_end(low: u8, behind: &[u8]) -> (u8, &[u8])
+    ensures shorter { length result.1.now ≤ length behind.now }
+    ensures end { (result.0, symbols result.1.now) ≡ range_end low (symbols behind.now) }
+{
+    let Some(end) = strip(behind, b'-') else {
+        return (low, behind);
+    };
+    if begins(end, b']') {
+        return (low, behind);
+    }
+    match next_symbol(end) {
+        Some((high, rest)) => (byte_of(high), rest),
+        None => (low, behind),
+    }
+}
+
+fn is_between(low: u8, byte: u8, high: u8) -> bool
+    ensures { result ≡ (nat_le low byte && nat_le byte high) }
+{
+    low <= byte && byte <= high
+}
+
+// Whether an item of the set that begins with these bytes has this one.
+#[tactic(auto, using(crate::proofs::SetReading::amongs))]
+fn is_among(set: &[u8], byte: u8) -> bool
+    ensures { result ≡ is_among byte (ranges (body (symbols set.now))) }
+{
+    let mut rest = set;
+    'items: while let Some((symbol, behind)) = next_symbol(rest) {
+        let low = byte_of(symbol);
+        let (high, behind) = range_end(low, behind);
+        if is_between(low, byte, high) {
+            return true;
+        }
+        if begins(behind, b']') {
+            return false;
+        }
+        rest = behind;
+    }
+    false
+}
+
+fn lone_part(symbol: Symbol) -> Part<'static>
+    ensures { item_of_part result ≡ lone_item symbol }
+{
+    match symbol {
+        Symbol::Bare(b'*') => Part::Run,
+        Symbol::Bare(b'?') => Part::Any,
+        Symbol::Bare(byte) => Part::Only(byte),
+        Symbol::Escaped(byte) => Part::Only(byte),
+        Symbol::Trailing => Part::Never,
+    }
+}
+
+// The item that a `[` before this text begins, whose first item of the set this is.
+fn read_inner<'a>(text: &'a [u8], inverted: bool, set: &'a [u8]) -> Reading<'a>
+    requires inverted { inverted ≡ begins is_not (symbols text.now) }
+    requires inner { symbols set.now ≡ inner (symbols text.now) }
+    requires shorter { length set.now ≤ length text.now }
+    ensures { MeansItem (set_item (symbols text.now)) text.now result }
+{
+    match set_end(set) {
+        SetEnd::Class => Reading {
+            part: Part::Class,
+            rest: text,
+            ahead: true,
+        },
+        SetEnd::Open => Reading {
+            part: Part::Only(b'['),
+            rest: text,
+            ahead: false,
+        },
+        SetEnd::Closed(rest) => Reading {
+            part: Part::Among { inverted, set },
+            rest,
+            ahead: true,
+        },
+    }
+}
+
+// The item that a `[` before this text begins.
+#[tactic(auto, using(crate::proofs::ItemReading::inners))]
+fn read_set(text: &[u8]) -> Reading<'_>
+    ensures { MeansItem (set_item (symbols text.now)) text.now result }
+{
+    match strip(text, b'!') {
+        Some(set) => read_inner(text, true, set),
+        None => read_inner(text, false, text),
+    }
+}
+
+// The first item of a text. Where no sets are ahead, each `[` stands for itself.
+#[tactic(auto, using(crate::proofs::ItemReading::readings))]
+fn read(text: &[u8], ahead: bool) -> Option<Reading<'_>>
+    requires { ahead ≡ false → IsFlat (symbols text.now) }
+    ensures none { MatchOption result (all_items text.now ≡ []) (λ reading. all_items text.now ≡ item_of_part reading.part ∷ all_items reading.rest.now) }
+    ensures flat { IfSome result (λ reading. reading.ahead ≡ false → IsFlat (symbols reading.rest.now)) }
+    ensures shorter { IfSome result (λ reading. length reading.rest.now < length text.now) }
+{
+    let (symbol, rest) = next_symbol(text)?;
+    if ahead && is_open(symbol) {
+        return Some(read_set(rest));
+    }
+    Some(Reading {
+        part: lone_part(symbol),
+        rest,
+        ahead,
+    })
+}
+
+fn admits(part: &Part, byte: u8) -> bool
+    ensures { result ≡ admits_byte (item_of_part part.now) byte }
+{
+    match part {
+        Part::Run => false,
+        Part::Any => true,
+        Part::Only(other) => *other == byte,
+        Part::Among { inverted, set } => is_among(set, byte) != *inverted,
+        Part::Never => false,
+        Part::Class => false,
+    }
+}
+
+fn is_run(part: &Part) -> bool
+    ensures { result ≡ is_run (item_of_part part.now) }
+{
+    match part {
+        Part::Run => true,
+        Part::Any => false,
+        Part::Only(_) => false,
+        Part::Among { .. } => false,
+        Part::Never => false,
+        Part::Class => false,
+    }
+}
+
+fn is_class(part: &Part) -> bool
+    ensures { result ≡ is_class (item_of_part part.now) }
+{
+    match part {
+        Part::Run => false,
+        Part::Any => false,
+        Part::Only(_) => false,
+        Part::Among { .. } => false,
+        Part::Never => false,
+        Part::Class => true,
+    }
+}
+
+// What stands behind the first byte, where the item admits it.
+fn take_byte<'b>(part: &Part, bytes: &'b [u8]) -> Option<&'b [u8]>
+    ensures { MatchOption result (TakesNone (item_of_part part.now) bytes.now) (λ behind. TakesOne (item_of_part part.now) bytes.now behind.now) }
+{
+    match bytes.split_first() {
+        Some((byte, behind)) => {
+            if admits(part, *byte) {
+                Some(behind)
+            } else {
+                None
+            }
+        }
+        None => None,
+    }
+}
+
+// Takes one byte for each item up to a run of any bytes.
+#[tactic(auto, using(crate::proofs::Matches::takings))]
+fn take_items<'a, 'b>(text: &'a [u8], sets: bool, bytes: &'b [u8]) -> Outcome<'a, 'b>
+    requires { sets ≡ false → IsFlat (symbols text.now) }
+    ensures { RunGives result text.now bytes.now }
+{
+    let mut ahead = sets;
+    let mut rest = text;
+    let mut left = bytes;
+    'items: while let Some(reading) = read(rest, ahead) {
+        rest = reading.rest;
+        ahead = reading.ahead;
+        if is_run(&reading.part) {
+            return Outcome::Run { rest, ahead, left };
+        }
+        match take_byte(&reading.part, left) {
+            Some(behind) => left = behind,
+            None => return Outcome::Fails,
+        }
+    }
+    if left.is_empty() {
+        Outcome::Matches
+    } else {
+        Outcome::Fails
+    }
+}
+
+// Whether the text's items match some end of the bytes. Only the last run of any bytes is ever made longer: where the items
+// behind it fail, a longer run before it wouldn't help.
+fn matches_end(text: &[u8], sets: bool, bytes: &[u8]) -> bool
+    requires { sets ≡ false → IsFlat (symbols text.now) }
+    ensures { result ≡ star_from (items_match (all_items text.now)) bytes.now }
+{
+    let mut ahead = sets;
+    let mut rest = text;
+    let mut left = bytes;
+    'places: loop {
+        match take_items(rest, ahead, left) {
+            Outcome::Matches => return true,
+            Outcome::Fails => match left.split_first() {
+                Some((_, behind)) => left = behind,
+                None => return false,
+            },
+            Outcome::Run {
+                rest: later,
+                ahead: further,
+                left: behind,
+            } => {
+                rest = later;
+                ahead = further;
+                left = behind;
+            }
+        }
+    }
+}
+
+/// Whether no set of the pattern, closed or not, has a class: a `[` before `:`, `.` or `=`.
+pub fn supported(pattern: &[u8]) -> bool
+    ensures { result ≡ supported pattern.now }
+{
+    let mut ahead = true;
+    let mut rest = pattern;
+    'items: while let Some(reading) = read(rest, ahead) {
+        if is_class(&reading.part) {
+            return false;
+        }
+        rest = reading.rest;
+        ahead = reading.ahead;
+    }
+    true
+}
+
+/// Whether the pattern matches all of the bytes, as fnmatch(3) says, with `/` and a leading dot as bytes like any other. Of its
+/// sets only those without classes are read: a pattern that isn't `supported` matches nothing.
+pub fn glob(pattern: &[u8], bytes: &[u8]) -> bool
+    ensures { result ≡ glob pattern.now bytes.now }
+{
+    if !supported(pattern) {
+        return false;
+    }
+    match take_items(pattern, true, bytes) {
+        Outcome::Matches => true,
+        Outcome::Fails => false,
+        Outcome::Run { rest, ahead, left } => matches_end(rest, ahead, left),
+    }
+}

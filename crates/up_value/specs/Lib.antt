@@ -1,0 +1,4 @@
+pub mod Bindings
+pub mod Fault
+pub mod Lists
+pub mod Names

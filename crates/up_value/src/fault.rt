@@ -1,0 +1,65 @@
+//! Why a text is refused.
+ghost use Rattle.std.specs.Prelude.{◌≡◌, codes};
+ghost use Rattle.up_value.specs.Fault.{number_of, name_of};
+
+use std::alloc::AllocError;
+use thiserror::Error;
+
+/// Why a text, a name, an environment or a token is refused.
+#[derive(Clone, Copy, Debug, PartialEq, Eq, Error)]
+pub enum TextFault {
+    /// A quote is still open at the end of the text.
+    #[error("UnterminatedQuote")]
+    UnterminatedQuote,
+    /// A backslash stands at the end of the text.
+    #[error("TrailingBackslash")]
+    TrailingBackslash,
+    /// A name, a key or a value has a byte that it may not have.
+    #[error("BadName")]
+    BadName,
+    /// An expansion isn't well formed.
+    #[error("BadExpansion")]
+    BadExpansion,
+    /// Memory was refused.
+    #[error("Memory")]
+    Memory,
+}
+
+impl From<AllocError> for TextFault {
+    ghost use Rattle.std.specs.Prelude.{◌≡◌};
+    ghost use Rattle.up_value.specs.declared.fault.TextFault.TheVariants.{Memory};
+
+    ghost from_gives = { λ _ fault. fault ≡ Memory };
+
+    fn from(_: AllocError) -> TextFault {
+        TextFault::Memory
+    }
+}
+
+impl TextFault {
+    /// The number by which a report names this refusal.
+    pub fn number(self) -> u8
+        ensures { result ≡ number_of self }
+    {
+        match self {
+            TextFault::UnterminatedQuote => 5,
+            TextFault::TrailingBackslash => 7,
+            TextFault::BadName => 12,
+            TextFault::BadExpansion => 14,
+            TextFault::Memory => 42,
+        }
+    }
+
+    /// The name that a report prints behind the number.
+    pub fn name(self) -> &'static str
+        ensures { result.now ≡ name_of self }
+    {
+        match self {
+            TextFault::UnterminatedQuote => "UnterminatedQuote",
+            TextFault::TrailingBackslash => "TrailingBackslash",
+            TextFault::BadName => "BadName",
+            TextFault::BadExpansion => "BadExpansion",
+            TextFault::Memory => "Memory",
+        }
+    }
+}

@@ -1,0 +1,17 @@
+//! Texts, names, environments and lists: the values that everything above holds.
+//!
+//! A text is held as [`Text`], a name as [`Name`] and a list as [`Items`], which contracts see as the list of their bytes or items,
+//! without where they lie in memory.
+#![tactic(auto)]
+
+pub mod env;
+pub mod fault;
+pub mod items;
+pub mod name;
+pub mod text;
+
+pub use env::Env;
+pub use fault::TextFault;
+pub use items::Items;
+pub use name::Name;
+pub use text::Text;
