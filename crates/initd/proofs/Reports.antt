@@ -2,7 +2,7 @@
 use Rattle.std.proofs.Common.{◌≡◌, true, false, List, [], ◌∷◌, map, refl, ap, length, Err}
 use Rattle.std.specs.Prelude.{nat_le}
 use Rattle.std.specs.List.{list_all}
-use Rattle.up_conf.specs.declared.fault.FaultCode.TheVariants.{UnknownStanza}
+use Rattle.up_stanza.specs.declared.fault.FaultCode.TheVariants.{UnknownStanza}
 use Rattle.up_conf.specs.declared.folder.File.{File}
 use Rattle.up_conf.specs.declared.report.Fault.{Fault}
 use Rattle.up_conf.specs.FaultCodes.{number_of}

@@ -6,8 +6,8 @@ use Rattle.up_model.specs.declared.event.Event.{Event}
 use Rattle.up_model.specs.declared.output.Order.{Order}
 use Rattle.up_model.specs.declared.output.Output.{Output}
 use Rattle.up_model.specs.declared.output.Output.TheVariants as output
-use Rattle.up_conf.specs.declared.process.Process.{Process}
-use Rattle.up_conf.specs.declared.process.Process.TheVariants as process
+use Rattle.up_stanza.specs.declared.process.Process.{Process}
+use Rattle.up_stanza.specs.declared.process.Process.TheVariants as process
 use Rattle.up_model.specs.declared.request.Answer.{Answer}
 use Rattle.up_model.specs.declared.step.Step.{Step}
 use Rattle.up_model.specs.declared.step.Step.TheVariants as step

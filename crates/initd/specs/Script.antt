@@ -4,8 +4,8 @@ use Rattle.std.specs.Str.{bytes_eq}
 use Rattle.up_text.specs.Names.{is_name}
 use Rattle.up_model.specs.declared.input.Input.{Input}
 use Rattle.up_model.specs.declared.input.Input.TheVariants as input
-use Rattle.up_conf.specs.declared.process.Process.{Process}
-use Rattle.up_conf.specs.declared.process.Process.TheVariants as process
+use Rattle.up_stanza.specs.declared.process.Process.{Process}
+use Rattle.up_stanza.specs.declared.process.Process.TheVariants as process
 use Rattle.up_model.specs.declared.process.How.{How}
 use Rattle.up_model.specs.declared.process.How.TheVariants as how
 use Rattle.up_model.specs.declared.who.Who.{Who}

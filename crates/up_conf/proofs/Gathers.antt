@@ -8,8 +8,8 @@ use Rattle.std.proofs.lemmas.Slice.Eq.{bytes_eq-Decides}
 use Rattle.indexmap.specs.IndexMap.{insert_entry}
 use Rattle.indexmap.specs.IndexSet.{insert_key}
 use denote.Ref.{Bor}
-use Rattle.up_conf.specs.declared.setting.Setting.{Setting}
-use Rattle.up_conf.specs.declared.stanza.Stanza.{Stanza}
+use Rattle.up_stanza.specs.declared.setting.Setting.{Setting}
+use Rattle.up_stanza.specs.declared.stanza.Stanza.{Stanza}
 use Rattle.up_conf.specs.Gathering.{settings_in}
 use Rattle.up_conf.specs.Jobs.{added, put, summed}
 

@@ -1,7 +1,7 @@
 -- What stanzas make of a job, one after another.
 use Rattle.std.proofs.Common.{◌≡◌, ℕ, List, [], ◌∷◌, ◌++◌, refl, ap, append-nil}
 use Rattle.up_conf.specs.declared.job.JobDef.{JobDef}
-use Rattle.up_conf.specs.declared.stanza.Stanza.{Stanza}
+use Rattle.up_stanza.specs.declared.stanza.Stanza.{Stanza}
 use Rattle.up_conf.specs.Gathering.{others_after}
 use Rattle.up_conf.specs.Jobs.{env_with, export_with, job_of, plain_job, summed}
 

@@ -5,7 +5,7 @@ use Rattle.std.proofs.lemmas.List.{map-append}
 use Rattle.std.proofs.lemmas.Bool.{and_parts}
 use Rattle.up_conf.specs.declared.folder.File.{File}
 use Rattle.up_conf.specs.declared.report.Fault.{Fault}
-use Rattle.up_conf.specs.FaultCodes.{number_of}
+use Rattle.up_stanza.specs.FaultCodes.{number_of}
 use Rattle.up_conf.specs.Folders.{Spot, spot_of, spot_of_file, spots_of, IsReport}
 use Rattle.up_conf.specs.Order.{put_by, in_order, is_below}
 use Rattle.up_conf.specs.Outcomes.{IsFault, AreFaults}

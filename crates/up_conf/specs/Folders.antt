@@ -7,9 +7,9 @@ use Rattle.up_text.specs.Names.{is_name}
 use Rattle.up_conf.specs.declared.folder.File.{File}
 use Rattle.up_conf.specs.declared.job.JobDef.{JobDef}
 use Rattle.up_conf.specs.declared.report.Fault.{Fault}
-use Rattle.up_conf.specs.declared.stanza.Stanza.{Stanza}
-use Rattle.up_conf.specs.Confs.{conf_of}
-use Rattle.up_conf.specs.FaultCodes.{number_of}
+use Rattle.up_stanza.specs.declared.stanza.Stanza.{Stanza}
+use Rattle.up_stanza.specs.Confs.{conf_of}
+use Rattle.up_stanza.specs.FaultCodes.{number_of}
 use Rattle.up_conf.specs.Jobs.{job_of}
 use Rattle.up_conf.specs.Order.{in_order}
 

@@ -3,8 +3,8 @@ use Rattle.std.specs.Prelude.{ℕ, List, [], map, Option, option_copied, unwrap_
 use denote.Ref.{Bor}
 use Rattle.up_conf.specs.declared.job.JobDef.{JobDef}
 use Rattle.up_conf.specs.declared.outline.Outline.TheInside.{Inside}
-use Rattle.up_conf.specs.declared.setting.Setting.{Setting}
-use Rattle.up_conf.specs.declared.stanza.Stanza.{Stanza}
+use Rattle.up_stanza.specs.declared.setting.Setting.{Setting}
+use Rattle.up_stanza.specs.declared.stanza.Stanza.{Stanza}
 use Rattle.up_conf.specs.Jobs.{job_after}
 
 -- the settings that the entries of a map stand for

@@ -3,18 +3,18 @@ use Rattle.std.specs.Prelude.{ℕ, Bool, true, false, ◌==◌, if◌then◌else
 use Rattle.std.specs.List.{list_any}
 use Rattle.std.specs.Str.{bytes_eq}
 use Rattle.up_expr.specs.Trees.{Tree}
-use Rattle.up_conf.specs.declared.action.Action.{Action}
-use Rattle.up_conf.specs.declared.exit.Exit.{Exit}
-use Rattle.up_conf.specs.declared.exit.Exit.TheVariants as exit
+use Rattle.up_stanza.specs.declared.action.Action.{Action}
+use Rattle.up_stanza.specs.declared.exit.Exit.{Exit}
+use Rattle.up_stanza.specs.declared.exit.Exit.TheVariants as exit
 use Rattle.up_conf.specs.declared.job.JobDef.{JobDef}
-use Rattle.up_conf.specs.declared.limit.Limit.{Limit}
-use Rattle.up_conf.specs.declared.process.Process.TheVariants.{Main, PreStart, PostStart, PreStop, PostStop}
-use Rattle.up_conf.specs.declared.setting.Setting.{Setting}
-use Rattle.up_conf.specs.declared.stanza.Console as consoles
-use Rattle.up_conf.specs.declared.stanza.Console.TheVariants as console
-use Rattle.up_conf.specs.declared.stanza.Stanza.{Stanza}
-use Rattle.up_conf.specs.Signals.{term}
-use Rattle.up_conf.specs.declared.stanza.Stanza.TheVariants.{Env, Export, Task, Manual, Respawn, RespawnLimit, NormalExit, KillTimeout, KillSignal, Instance, Console, Chdir, Runs, StartOn, StopOn}
+use Rattle.up_stanza.specs.declared.limit.Limit.{Limit}
+use Rattle.up_stanza.specs.declared.process.Process.TheVariants.{Main, PreStart, PostStart, PreStop, PostStop}
+use Rattle.up_stanza.specs.declared.setting.Setting.{Setting}
+use Rattle.up_stanza.specs.declared.stanza.Console as consoles
+use Rattle.up_stanza.specs.declared.stanza.Console.TheVariants as console
+use Rattle.up_stanza.specs.declared.stanza.Stanza.{Stanza}
+use Rattle.up_stanza.specs.Signals.{term}
+use Rattle.up_stanza.specs.declared.stanza.Stanza.TheVariants.{Env, Export, Task, Manual, Respawn, RespawnLimit, NormalExit, KillTimeout, KillSignal, Instance, Console, Chdir, Runs, StartOn, StopOn}
 
 -- the last that stanzas say of something, or else this
 abbrev pub last_or : {X : Type 0} → X → (Stanza → Option X) → List Stanza → X

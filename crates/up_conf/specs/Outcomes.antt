@@ -3,7 +3,7 @@ use Rattle.std.specs.Prelude.{◌≡◌, nat_le, true, List, map, Option, None, 
 use Rattle.std.specs.List.{list_all}
 use Rattle.up_conf.specs.declared.folder.File.{File}
 use Rattle.up_conf.specs.declared.report.Fault.{Fault}
-use Rattle.up_conf.specs.FaultCodes.{number_of}
+use Rattle.up_stanza.specs.FaultCodes.{number_of}
 use Rattle.up_conf.specs.Folders.{Spot, spot_of}
 
 -- the fault at this place, with a code from 1 to 16, or none

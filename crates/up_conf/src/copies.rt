@@ -1,9 +1,8 @@
 //! Equal copies of what stanzas say.
 ghost use Rattle.std.specs.Prelude.{◌≡◌, IfOk, map};
 
-use crate::action::Action;
-use crate::setting::Setting;
 use std::alloc::{AllocError, Global};
+use up_stanza::{Action, Setting};
 use up_text::{Items, Text};
 
 fn copy_texts(alloc: Global, texts: &[Text]) -> Result<Items<Text>, AllocError>

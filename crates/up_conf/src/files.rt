@@ -1,11 +1,10 @@
 //! Reads a folder of job files.
 ghost use Rattle.std.specs.Prelude.{◌≡◌, ◌++◌, IfOk, IfErr, OnOk, filter_map, option_to_list, option_and_then};
 ghost use Rattle.std.specs.Result.{result_ok, result_err};
-ghost use Rattle.up_conf.specs.declared.fault.FaultCode.TheVariants.{Memory};
+ghost use Rattle.up_stanza.specs.declared.fault.FaultCode.TheVariants.{Memory};
 ghost use Rattle.up_conf.specs.Folders.{job_of_file, jobs_of, spot_of_file, IsReport};
 ghost use Rattle.up_conf.specs.Outcomes.{AreFaults};
 
-use crate::fault::ConfFault;
 use crate::folder::{File, Folder};
 use crate::job::JobDef;
 use crate::order::{sort_faults, sort_jobs};
@@ -13,6 +12,7 @@ use crate::outcome::read_file;
 use crate::paths::Paths;
 use crate::report::{Fault, Report};
 use std::alloc::{AllocError, Global};
+use up_stanza::ConfFault;
 use up_text::Items;
 
 // Keeps what a file says, if anything.

@@ -5,10 +5,9 @@ ghost use Rattle.up_conf.specs.Gathering.{settings_in};
 ghost use Rattle.up_conf.specs.Jobs.{all_added, added, env_with, export_with, put, summed};
 
 use crate::copies::{copy_keys, copy_setting};
-use crate::setting::Setting;
-use crate::stanza::Stanza;
 use indexmap::{IndexMap, IndexSet};
 use std::alloc::{AllocError, Global};
+use up_stanza::{Setting, Stanza};
 use up_text::{Items, Text};
 
 // Sets a key.

@@ -1,11 +1,7 @@
 //! What the files of a job say of it.
 
-use crate::action::Action;
-use crate::exit::Exit;
-use crate::limit::Limit;
-use crate::setting::Setting;
-use crate::signal::Signal;
 use up_expr::Condition;
+use up_stanza::{Action, Exit, Limit, Setting, Signal};
 use up_text::{Items, Name, Text};
 
 /// A job (init(5)).

@@ -5,8 +5,8 @@ ghost use Rattle.up_conf.specs.Jobs.{job_of};
 use crate::gathered::{gather_env, gather_export};
 use crate::job::JobDef;
 use crate::outline::{plain_outline, with_stanzas};
-use crate::stanza::{Stanza, Stanzas};
 use std::alloc::{AllocError, Global};
+use up_stanza::{Stanza, Stanzas};
 use up_text::Name;
 
 // The job of this name that the stanzas of two files define.

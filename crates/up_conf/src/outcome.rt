@@ -6,15 +6,13 @@ ghost use Rattle.up_conf.specs.Folders.{bytes_at, has_conf, job_name, overridden
 ghost use Rattle.up_conf.specs.Jobs.{job_of};
 ghost use Rattle.up_conf.specs.Outcomes.{IsFault};
 
-use crate::conf::read_bytes;
-use crate::fault::{ConfFault, FaultCode};
 use crate::folder::File;
 use crate::job::JobDef;
 use crate::meaning::apply_override;
 use crate::paths::Paths;
 use crate::report::Fault;
-use crate::stanza::Stanzas;
 use std::alloc::{AllocError, Global};
+use up_stanza::{ConfFault, FaultCode, Stanzas, read_bytes};
 use up_text::{Items, Name, Text, TextFault};
 
 /// The greatest number of a fault that a file has; that of want of memory is greater.

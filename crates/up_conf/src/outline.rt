@@ -2,22 +2,16 @@
 //! copied.
 ghost use Rattle.std.specs.Prelude.{◌≡◌, ◌∷◌, [], IfOk, option_copied, unwrap_or};
 ghost use Rattle.std.specs.List.{list_any};
-ghost use Rattle.up_conf.specs.declared.stanza.Stanza.TheVariants.{Manual, NormalExit, Runs};
+ghost use Rattle.up_stanza.specs.declared.stanza.Stanza.TheVariants.{Manual, NormalExit, Runs};
 ghost use Rattle.up_conf.specs.Jobs.{added, all_added, is_silent, plain_job, same_exit};
 ghost use Rattle.up_conf.specs.Gathering.{others_after};
 
-use crate::action::Action;
 use crate::copies::copy_action;
-use crate::exit::Exit;
 use crate::job::JobDef;
-use crate::limit::Limit;
-use crate::process::Process;
-use crate::setting::Setting;
-use crate::signal::Signal;
-use crate::stanza::{Console, Stanza};
 use std::alloc::{AllocError, Global};
 use std::marker::Model;
 use up_expr::Condition;
+use up_stanza::{Action, Console, Exit, Limit, Process, Setting, Signal, Stanza};
 use up_text::{Items, Name, Text};
 
 /// What stanzas make of a job, seen by contracts as a job without a name and without keys.

@@ -1,8 +1,8 @@
 //! The faults of a folder.
 ghost use Rattle.std.specs.Prelude.{◌≡◌, [], ◌↔◌, IsTrue, length};
 
-use crate::fault::FaultCode;
 use std::marker::Model;
+use up_stanza::FaultCode;
 use up_text::Text;
 
 /// A fault of a file, at one of its lines.

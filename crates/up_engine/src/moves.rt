@@ -2,7 +2,7 @@
 ghost use Rattle.std.specs.Prelude.{◌≡◌, ◌++◌, ◌∷◌, [], not, false, is_some, IfOk, OnOk};
 ghost use Rattle.up_model.specs.declared.state.State.TheVariants as state;
 ghost use Rattle.up_model.specs.Chronicle as entry;
-ghost use Rattle.up_conf.specs.declared.process.Process.TheVariants as process;
+ghost use Rattle.up_stanza.specs.declared.process.Process.TheVariants as process;
 ghost use Rattle.up_model.specs.Events as event;
 ghost use Rattle.up_model.specs.Life as life;
 ghost use Rattle.up_model.specs.Moves as model;

@@ -5,7 +5,7 @@ use Rattle.up_model.specs.declared.state.Goal.{Goal}
 use Rattle.up_model.specs.declared.state.Goal.TheVariants.{Start, Stop}
 use Rattle.up_model.specs.declared.state.State.{State}
 use Rattle.up_model.specs.declared.state.State.TheVariants.{Waiting, Starting, Spawned, PostStart, Running, PreStop, Stopping, Killed}
-use Rattle.up_conf.specs.declared.process.Process.TheVariants.{Main}
+use Rattle.up_stanza.specs.declared.process.Process.TheVariants.{Main}
 use Rattle.up_model.specs.declared.who.Who.{Who}
 use Rattle.up_conf.specs.declared.job.JobDef.{JobDef}
 use Rattle.up_model.specs.Chronicle.{Entry, Given, Queued, Offered, Made, Aimed, Released, Entered, Ordered, Signalled, Entering, Expression, StartOn, StopOn}

@@ -1,12 +1,12 @@
 -- What the entries of a step ask for.
 use Rattle.std.specs.Prelude.{ℕ, List, [], ◌∷◌, ◌++◌, Option, None, Some, slice_get, codes}
-use Rattle.up_conf.specs.declared.process.Process.TheVariants as process
+use Rattle.up_stanza.specs.declared.process.Process.TheVariants as process
 use Rattle.up_model.specs.declared.who.Who.{Who}
 use Rattle.up_model.specs.declared.request.Answer.{Answer}
 use Rattle.up_model.specs.declared.output.Output.{Output}
 use Rattle.up_model.specs.declared.output.Output.TheVariants as output
-use Rattle.up_conf.specs.declared.action.Action.{Action}
-use Rattle.up_conf.specs.declared.action.Action.TheVariants.{Words, Shell}
+use Rattle.up_stanza.specs.declared.action.Action.{Action}
+use Rattle.up_stanza.specs.declared.action.Action.TheVariants.{Words, Shell}
 use Rattle.up_conf.specs.declared.job.JobDef.{JobDef}
 use Rattle.up_model.specs.Chronicle.{Entry, Given, Queued, Ordered, Signalled, Replied, Entering, Spoilt}
 use Rattle.up_model.specs.Readings.{made_at, id_at, env, pid_of}

@@ -5,7 +5,7 @@ use Rattle.up_model.specs.declared.state.Goal.{Goal}
 use Rattle.up_model.specs.declared.state.Goal.TheVariants.{Start, Stop}
 use Rattle.up_model.specs.declared.state.State.{State}
 use Rattle.up_model.specs.declared.state.State.TheVariants as state
-use Rattle.up_conf.specs.declared.process.Process.{Process}
+use Rattle.up_stanza.specs.declared.process.Process.{Process}
 use Rattle.up_model.specs.declared.event.Event.{Event}
 use Rattle.up_model.specs.declared.who.Who.{Who}
 use Rattle.up_model.specs.declared.input.Input.TheVariants as input

@@ -3,8 +3,8 @@ use Rattle.std.specs.Prelude.{ℕ, Bool, true, false, ◌&&◌, ◌==◌}
 use Rattle.std.specs.Str.{bytes_eq}
 use Rattle.up_model.specs.declared.state.Goal.{Goal}
 use Rattle.up_model.specs.declared.state.Goal.TheVariants.{Start, Stop}
-use Rattle.up_conf.specs.declared.process.Process.{Process}
-use Rattle.up_conf.specs.declared.process.Process.TheVariants.{Main, PreStart, PostStart, PreStop, PostStop}
+use Rattle.up_stanza.specs.declared.process.Process.{Process}
+use Rattle.up_stanza.specs.declared.process.Process.TheVariants.{Main, PreStart, PostStart, PreStop, PostStop}
 use Rattle.up_model.specs.declared.who.Who.{Who}
 
 abbrev pub is_start : Goal → Bool

@@ -8,6 +8,7 @@ use std::alloc::{AllocError, Global};
 use std::test::Fail;
 use up_conf::{Action, Process, Stanza, read_conf};
 use up_expr::{Condition, Expr};
+use up_stanza::read_bytes;
 use up_text::Text;
 
 // Whether an expression is an event without values.
@@ -87,6 +88,19 @@ fn runs_shell(alloc: Global, bytes: &[u8], process: Process, expected: &str) -> 
         },
         Err(_) => false,
     }
+}
+
+#[test]
+fn bytes_give_stanzas_or_their_fault(rt: HostRuntime) -> Result<(), Fail> {
+    let Ok(stanzas) = read_bytes(rt.alloc(), b"task\nmanual\n")? else {
+        return Err(Fail::from("the file isn't read"));
+    };
+    assert_eq!(rt; stanzas.as_slice().len(), 2);
+    let Err(fault) = read_bytes(rt.alloc(), b"task\nbogus x\n")? else {
+        return Err(Fail::from("the file is read"));
+    };
+    assert_eq!(rt; (fault.line, fault.code.number()), (2, 1));
+    Ok(())
 }
 
 #[test]

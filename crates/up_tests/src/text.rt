@@ -9,7 +9,7 @@ mod pattern;
 use std::alloc::Global;
 use std::process::Abort;
 use std::test::Fail;
-use up_text::env::{is_key, is_value};
+use up_text::env::{is_key, is_key_byte, is_key_start, is_value};
 use up_text::{Env, Items, Name, Text, TextFault};
 
 #[test]
@@ -92,6 +92,8 @@ fn keys_and_values(rt: HostRuntime) {
     for text in ["", "1a", "a-b", "A=", "a ", "\u{e9}"] {
         assert!(rt; !is_key(text), "{text:?}");
     }
+    assert!(rt; is_key_start(b'_') && is_key_start(b'z') && !is_key_start(b'0'));
+    assert!(rt; is_key_byte(b'A') && is_key_byte(b'9') && !is_key_byte(b'-'));
     assert!(rt; is_value(""));
     assert!(rt; is_value("a = \"\u{e9}\"\n"));
     assert!(rt; !is_value("a\0"));

@@ -9,11 +9,10 @@ ghost use Rattle.up_value.specs.Names.{is_key_byte, is_key_start};
 
 pub mod laws;
 
-use up_value::env::{Env, is_key_byte, is_key_start};
-use up_value::TextFault;
-use up_value::Text;
 use memchr::memchr2;
 use std::alloc::Global;
+use up_value::env::{Env, is_key_byte, is_key_start};
+use up_value::{Text, TextFault};
 
 /// What a text expands to.
 #[derive(Debug, Drop)]

@@ -16,7 +16,6 @@ mod script;
 mod spelling;
 mod words;
 
-use up_value::TextFault;
 use crate::lexer::bytes::{begins_feed, is_line_end, split_first};
 use crate::lexer::command::push_command;
 pub use crate::lexer::comments::without_comments;
@@ -25,10 +24,10 @@ use crate::lexer::gap::after_gap;
 use crate::lexer::script::find_end;
 use crate::lexer::spelling::read_token;
 pub use crate::lexer::words::next_word;
-use up_value::Text;
 use crate::token::Token;
 use std::alloc::Global;
 use std::marker::Model;
+use up_value::{Text, TextFault};
 
 /// Reads a text token by token, as init(5) says. It stands right behind what it read.
 #[derive(Debug, Drop)]

@@ -4,11 +4,11 @@ ghost use Rattle.up_text.specs.Tokens.{Outside};
 ghost use Rattle.up_text.specs.Lexer.{begins_gap, ends_token, is_line_end, Broken};
 ghost use Rattle.up_text.specs.CommandParts.{Between, Told, Refused};
 
-use up_value::TextFault;
 use crate::lexer::bytes::{begins_joint, is_line_end, split_blanks};
 use crate::lexer::draft::Draft;
 use crate::lexer::gap::after_gap;
 use crate::lexer::spelling::push_spelling;
+use up_value::TextFault;
 
 // Passes a gap, and appends what it is written as: its blanks as they stand, or one space where lines are joined. A gap before the
 // stanza's end isn't written.

@@ -2,10 +2,9 @@
 ghost use Rattle.std.specs.Prelude.{◌≡◌, ◌++◌, ◌⊎◌, ℕ, List, [], Some, None, Ok, Err, if◌then◌else◌, string_bytes};
 ghost use Rattle.up_text.specs.Lexer.{Holds, Finished};
 
-use up_value::TextFault;
-use up_value::Text;
 use std::alloc::Global;
 use std::marker::Model;
+use up_value::{Text, TextFault};
 
 /// A text under way. Where memory is refused it only keeps that in mind, so that what stands behind is still read, and a fault
 /// there comes before the want of memory.

@@ -4,12 +4,12 @@ ghost use Rattle.up_text.specs.Tokens.{Outside, Quoted, is_quote, is_backslash, 
 ghost use Rattle.up_value.specs.Lists.{begins};
 ghost use Rattle.up_text.specs.Lexer.{is_byte, begins_fold, Holds, IsEscape, Run, Broken};
 
-use up_value::TextFault;
 use crate::lexer::bytes::{
     begins_backslash, begins_blank, begins_feed, begins_joint, split_blanks, split_char,
     split_first, split_literal,
 };
 use crate::lexer::draft::{Draft, push_quoting};
+use up_value::TextFault;
 
 fn begins_byte(text: &str, byte: u8) -> bool
     ensures { result ≡ begins (is_byte byte) text.now }

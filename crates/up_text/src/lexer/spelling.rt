@@ -7,15 +7,14 @@ ghost use Rattle.up_value.specs.Lists.{begins};
 ghost use Rattle.up_text.specs.Places.{token_of};
 ghost use Rattle.up_text.specs.Lexer.{is_byte, is_ordinary, is_line_end, ends_token, begins_gap, place, Run, Broken, GivesToken, GivesFault, open_at};
 
-use up_value::TextFault;
 use crate::lexer::bytes::{
     begins_backslash, begins_paren, begins_quote, ends_token, split_first, split_ordinary,
 };
 use crate::lexer::draft::{Draft, push_quoting};
 use crate::lexer::quoted::{push_escape, push_quoted};
-use up_value::Text;
 use crate::token::Token;
 use std::alloc::Global;
+use up_value::{Text, TextFault};
 
 // The quote that the text begins with.
 fn first_quote(text: &str) -> Option<u8>

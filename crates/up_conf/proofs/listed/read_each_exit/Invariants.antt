@@ -1,9 +1,0 @@
-use Rattle.std.proofs.Common.{◌≡◌, drop}
-use Rattle.up_conf.specs.Arguments.{each}
-use Rattle.up_conf.specs.Reading.{items_before}
-use Rattle.up_conf.specs.Settings.{exit_in}
-use Rattle.up_conf.proofs.listed.read_each_exit.Given as goal
-
--- those so far stand before those that are left
-abbrev pub invariant-loop-text : goal.invariant-loop-text
-invariant-loop-text l = items_before l.exits.items (each exit_in (drop l.text-index l.texts)) ≡ each exit_in l.texts

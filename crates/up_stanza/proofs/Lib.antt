@@ -1,0 +1,12 @@
+pub mod Backward
+pub mod Conforming
+pub mod Numbers
+pub mod Parsing
+pub mod Saying
+pub mod Shrinking
+pub mod Signals
+pub mod Standing
+pub mod Telling
+pub mod Texts
+pub mod Totals
+pub mod Words

@@ -1,0 +1,58 @@
+-- What the answers of a lexer say of what is read.
+use Rattle.std.proofs.Common.{◌≡◌, inl, inr, ℕ, List, [], ◌∷◌, ◌++◌, length, map, Option, None, Some, Ok, Err, refl, ap, append_assoc, append-nil}
+use Rattle.up_value.specs.declared.fault.TextFault.{TextFault}
+use Rattle.up_value.specs.declared.fault.TextFault.TheVariants.{Memory}
+use Rattle.up_text.specs.declared.token.Token.{Token}
+use Rattle.up_text.specs.Commands.{row_at, command_in, CommandUnless, ReadsCommand}
+use Rattle.up_text.specs.Places.{Place, Got, Ended, Fails, reading, passing, fault_in}
+use Rattle.up_text.specs.Rows.{with_token, row_of}
+use Rattle.up_text.proofs.Rows.{row_of-is}
+use Rattle.up_stanza.specs.Reading.{put_before}
+use Rattle.up_stanza.specs.Stanzas.{Found, made, texts_at}
+
+-- a token more of a row
+pub tokens_more : (tokens : List Token) (place next : Place) (token : Token) → reading place ≡ Got token next → put_before (tokens ++ token ∷ []) (row_of next) ≡ put_before tokens (row_of place)
+tokens_more tokens place next token got = rw (row_of-is place, got) (by_row (row_of next))
+  where
+    by_row : (row : Found (List Token)) → put_before (tokens ++ token ∷ []) row ≡ put_before tokens (with_token token row)
+    by_row None = refl
+    by_row (Some row) = ap (λ ts. Some (ts, row.1)) (append_assoc tokens (token ∷ []) row.0)
+
+-- the end of one
+pub tokens_end : (tokens : List Token) (place next : Place) → reading place ≡ Ended next → put_before tokens (row_of place) ≡ Some (tokens, next)
+tokens_end tokens place next ended = rw (row_of-is place, ended) (ap (λ ts. Some (ts, next)) (append-nil tokens))
+
+pub row_refused : (place : Place) (fault : TextFault) → reading place ≡ Fails fault → row_of place ≡ None
+row_refused place fault fails = rw (row_of-is place, fails) refl
+
+-- a text more
+pub texts_more : (texts : List (List ℕ)) (place next : Place) (token : Token) → reading place ≡ Got token next → put_before (texts ++ token.text ∷ []) (texts_at next) ≡ put_before texts (texts_at place)
+texts_more texts place next token got = rw (row_of-is place, got) (by_row (row_of next))
+  where
+    by_row : (row : Found (List Token)) → put_before (texts ++ token.text ∷ []) (made (λ ts. map (λ t. t.text) ts) row) ≡ put_before texts (made (λ ts. map (λ t. t.text) ts) (with_token token row))
+    by_row None = refl
+    by_row (Some row) = ap (λ ts. Some (ts, row.1)) (append_assoc texts (token.text ∷ []) (map (λ t. t.text) row.0))
+
+pub texts_end : (texts : List (List ℕ)) (place next : Place) → reading place ≡ Ended next → put_before texts (texts_at place) ≡ Some (texts, next)
+texts_end texts place next ended = rw (row_of-is place, ended) (ap (λ ts. Some (ts, next)) (append-nil texts))
+
+pub texts_refused : (place : Place) (fault : TextFault) → reading place ≡ Fails fault → texts_at place ≡ None
+texts_refused place fault fails = rw (row_refused place fault fails) refl
+
+-- the text of a command
+
+pub text_read : (old new : Place) (text : List ℕ) → ReadsCommand old (Ok text) new → (fault_in (row_at old) ≡ None) × (text ≡ command_in (row_at old)) × (new ≡ passing (length (row_at old)) old)
+text_read old new text reads = by_fault (fault_in (row_at old)) reads
+  where
+    by_fault : (fault : Option TextFault) → CommandUnless old fault (Ok text) new → (fault ≡ None) × (text ≡ command_in (row_at old)) × (new ≡ passing (length (row_at old)) old)
+    by_fault None (inl is) = (refl, cc, is.1)
+    by_fault None (inr is) = absurd (cc)
+    by_fault (Some fault) is = absurd (cc)
+
+pub text_refused : (old new : Place) (fault : TextFault) → (fault ≡ Memory → ⊥) → ReadsCommand old (Err fault) new → (why : TextFault) × (fault_in (row_at old) ≡ Some why)
+text_refused old new fault other reads = by_fault (fault_in (row_at old)) reads
+  where
+    by_fault : (why : Option TextFault) → CommandUnless old why (Err fault) new → (found : TextFault) × (why ≡ Some found)
+    by_fault None (inl is) = absurd (cc)
+    by_fault None (inr is) = let memory : fault ≡ Memory = cc in absurd (other memory)
+    by_fault (Some why) is = (why, refl)

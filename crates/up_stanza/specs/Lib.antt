@@ -1,0 +1,11 @@
+pub mod Actions
+pub mod Arguments
+pub mod Confs
+pub mod FaultCodes
+pub mod Grammar
+pub mod Kinds
+pub mod Numbers
+pub mod Reading
+pub mod Settings
+pub mod Signals
+pub mod Stanzas

@@ -1,0 +1,53 @@
+-- How a reader goes on in a text.
+use Rattle.std.specs.Prelude.{◌≡◌, ℕ, true, List, ◌++◌, length, Option, None, Some, Result, Ok, Err, codes}
+use Rattle.std.specs.Str.{bytes_eq}
+use Rattle.up_value.specs.declared.fault.TextFault.{TextFault}
+use Rattle.up_text.specs.declared.token.Token.{Token}
+use Rattle.up_text.specs.Commands.{row_at, command_in}
+use Rattle.up_text.specs.Places.{Place, Reading, Got, Ended, Fails, reading, passing, fault_in}
+use Rattle.up_stanza.specs.declared.fault.ConfFault.{ConfFault}
+use Rattle.up_stanza.specs.declared.fault.FaultCode.{FaultCode}
+use Rattle.up_stanza.specs.declared.row.Next.{Next}
+use Rattle.up_stanza.specs.declared.row.Next.TheVariants as next
+use Rattle.up_stanza.specs.declared.stanza.Stanza.{Stanza}
+use Rattle.up_stanza.specs.Stanzas.{Found, Said, expression_by}
+
+-- items that were read, and those behind them
+abbrev pub items_before : {X : Type 0} → List X → Option (List X) → Option (List X)
+items_before xs None = None
+items_before xs (Some others) = Some (xs ++ others)
+
+-- and the place behind them all
+abbrev pub put_before : {X : Type 0} → List X → Found (List X) → Found (List X)
+put_before xs None = None
+put_before xs (Some row) = Some (xs ++ row.0, row.1)
+
+-- what the next call of a lexer gives, and where it stands then
+abbrev pub Continues : Place → Place → Next → Type 0
+Continues old new (next.Token token) = reading old ≡ Got token new
+Continues old new next.End = reading old ≡ Ended new
+Continues old new (next.Refused code) = (fault : TextFault) × (reading old ≡ Fails fault)
+
+-- a part of a stanza is read as it is found
+abbrev pub IsFound : {X : Type 0} → Found X → Result X FaultCode → Place → Type 0
+IsFound found (Ok x) new = found ≡ Some (x, new)
+IsFound found (Err code) new = found ≡ None
+
+-- whether the token `on` is read, and the place behind it
+abbrev pub HasOn : Reading → Result (Unit {0}) FaultCode → Place → Type 0
+HasOn read (Ok done) new = (token : Token) × (read ≡ Got token new) × (bytes_eq token.text (codes "on") ≡ true)
+HasOn read (Err code) new = expression_by read ≡ None
+
+-- the text of a command is read, or it isn't whole
+abbrev pub HasText : Place → Result (List ℕ) FaultCode → Place → Type 0
+HasText old (Ok text) new = (fault_in (row_at old) ≡ None) × (text ≡ command_in (row_at old)) × (new ≡ passing (length (row_at old)) old)
+HasText old (Err code) new = (fault : TextFault) × (fault_in (row_at old) ≡ Some fault)
+
+-- stanzas that were read, and those behind them
+abbrev pub said_behind : List Stanza → Said → Said
+said_behind stanzas said = (stanzas ++ said.0, said.1)
+
+-- a file is read as its stanzas, or refused at its line
+abbrev pub IsConf : Result (List Stanza) ℕ → Result (List Stanza) ConfFault → Type 0
+IsConf conf (Ok stanzas) = conf ≡ Ok stanzas
+IsConf conf (Err fault) = conf ≡ Err fault.line

@@ -1,0 +1,146 @@
+//! Reads what a token says that is one of a list of arguments.
+ghost use Rattle.std.specs.Prelude.{◌≡◌, IfOk, MatchOption, false, true, option_map};
+ghost use Rattle.std.specs.List.{before_first, after_first};
+ghost use Rattle.std.specs.Result.{result_ok};
+ghost use Rattle.up_expr.specs.Values.{is_equals, has_equals};
+ghost use Rattle.up_stanza.specs.declared.exit.Exit.TheVariants as exit;
+ghost use Rattle.up_stanza.specs.Settings.{key_in, keyed, setting_in, exit_in, expandable_in, console_in};
+ghost use Rattle.up_stanza.specs.Numbers.{number_in};
+ghost use Rattle.up_stanza.specs.Signals.{signal_in};
+
+use crate::exit::Exit;
+use crate::fault::FaultCode;
+use crate::number::{are_digits, number_in};
+use crate::setting::Setting;
+use crate::signal::{Signal, signal_named};
+use crate::stanza::Console;
+use std::alloc::{AllocError, Global};
+use up_text::env::is_key;
+use up_text::{Text, is_expandable};
+
+/// The key that a text is.
+pub(crate) fn read_key(alloc: Global, text: &str) -> Result<Result<Text, FaultCode>, AllocError>
+    ensures { IfOk result (λ read. result_ok read ≡ key_in text.now) }
+{
+    if !is_key(text) {
+        return Ok(Err(FaultCode::BadName));
+    }
+    let key = Text::from_str(alloc, text)?;
+    Ok(Ok(key))
+}
+
+// The parts of a text before and behind its first =, where it has one.
+fn split_setting(text: &str) -> Option<(&str, &str)>
+    ensures { MatchOption result (has_equals text.now ≡ false) (λ parts. (has_equals text.now ≡ true) × (parts.0.now ≡ before_first is_equals text.now) × (parts.1.now ≡ after_first is_equals text.now)) }
+{
+    text.split_once('=')
+}
+
+// The key with this value, where it is one.
+fn keyed(
+    alloc: Global,
+    key: &str,
+    value: Option<Text>,
+) -> Result<Result<Setting, FaultCode>, AllocError>
+    ensures { IfOk result (λ read. result_ok read ≡ keyed key.now value) }
+{
+    match read_key(alloc, key)? {
+        Ok(key) => Ok(Ok(Setting { key, value })),
+        Err(code) => Ok(Err(code)),
+    }
+}
+
+/// The setting KEY=VALUE or KEY that a text says.
+#[tactic(auto, unfolding(crate::specs::Settings::setting_in))]
+pub(crate) fn read_setting(
+    alloc: Global,
+    text: &str,
+) -> Result<Result<Setting, FaultCode>, AllocError>
+    ensures { IfOk result (λ read. result_ok read ≡ setting_in text.now) }
+{
+    match split_setting(text) {
+        Some((key, value)) => {
+            let value = Text::from_str(alloc, value)?;
+            keyed(alloc, key, Some(value))
+        }
+        None => keyed(alloc, text, None),
+    }
+}
+
+// The status of this number.
+fn read_status(text: &str) -> Result<Exit, FaultCode>
+    ensures { result_ok result ≡ option_map exit.Status (number_in 0 255 text.now) }
+{
+    match number_in(0, 255, text) {
+        Some(number) => Ok(Exit::Status(number as u8)),
+        None => Err(FaultCode::BadNumber),
+    }
+}
+
+/// The normal exit that a text says: a status, or the name of a signal.
+pub(crate) fn read_exit(text: &str) -> Result<Exit, FaultCode>
+    ensures { result_ok result ≡ exit_in text.now }
+{
+    if are_digits(text) {
+        return read_status(text);
+    }
+    match signal_named(text) {
+        Some(signal) => Ok(Exit::Signal(signal)),
+        None => Err(FaultCode::BadSignal),
+    }
+}
+
+/// The signal that a text says.
+pub(crate) fn as_signal(text: &str) -> Result<Signal, FaultCode>
+    ensures { result_ok result ≡ signal_in text.now }
+{
+    match Signal::read(text) {
+        Some(signal) => Ok(signal),
+        None => Err(FaultCode::BadSignal),
+    }
+}
+
+/// The number up to this one that a text says.
+pub(crate) fn as_number(text: &str, most: u32) -> Result<u32, FaultCode>
+    ensures { result_ok result ≡ number_in 0 most text.now }
+{
+    match number_in(0, u64::from(most), text) {
+        Some(number) => Ok(number as u32),
+        None => Err(FaultCode::BadNumber),
+    }
+}
+
+/// The name of an instance that a text says.
+pub(crate) fn read_instance(
+    alloc: Global,
+    text: &str,
+) -> Result<Result<Text, FaultCode>, AllocError>
+    ensures { IfOk result (λ read. result_ok read ≡ expandable_in text.now) }
+{
+    if !is_expandable(text) {
+        return Ok(Err(FaultCode::BadExpansion));
+    }
+    let instance = Text::from_str(alloc, text)?;
+    Ok(Ok(instance))
+}
+
+// Why a text is no console.
+fn no_console(text: &str) -> FaultCode {
+    if text == "owner" {
+        FaultCode::NotInProfile
+    } else {
+        FaultCode::UnexpectedToken
+    }
+}
+
+/// Where a text says that output goes.
+pub(crate) fn read_console(text: &str) -> Result<Console, FaultCode>
+    ensures { result_ok result ≡ console_in text.now }
+{
+    match text {
+        "none" => Ok(Console::None),
+        "log" => Ok(Console::Log),
+        "output" => Ok(Console::Output),
+        _ => Err(no_console(text)),
+    }
+}

@@ -1,0 +1,160 @@
+//! Reads a job file.
+ghost use Rattle.std.specs.Prelude.{◌≡◌, ◌≤◌, ◌⊎◌, IfErr, IfOk, IfSome, MatchOption, MatchResult, Err, Ok, List, true, false, length, nat_le};
+ghost use Rattle.std.specs.Str.{is_utf8};
+ghost use Rattle.up_text.specs.Places.{start};
+ghost use Rattle.up_stanza.specs.declared.fault.FaultCode.TheVariants.{Memory};
+ghost use Rattle.up_stanza.specs.Confs.{conf_of, has_few_keys, is_readable, keys_exported, keys_set, limited, total};
+ghost use Rattle.up_stanza.specs.declared.stanza.Stanza.{Stanza};
+ghost use Rattle.up_stanza.specs.Grammar.{Conf};
+ghost use Rattle.up_stanza.specs.Reading.{IsConf};
+ghost use Rattle.up_stanza.specs.Stanzas.{said_of};
+
+use crate::fault::{ConfFault, FaultCode};
+use crate::reader::read_stanzas;
+use crate::stanza::{Stanza, Stanzas};
+use std::alloc::{AllocError, Global};
+use std::str;
+use up_text::Lexer;
+
+/// The longest file that is read, in bytes.
+const MAX_LEN: usize = 1_048_576;
+
+/// The most keys that a file sets, and that it exports.
+const MAX_KEYS: usize = 30_000;
+
+fn keys_set(stanza: &Stanza) -> usize
+    ensures { result ≡ keys_set stanza.now }
+{
+    match stanza {
+        Stanza::Env(_) => 1,
+        _ => 0,
+    }
+}
+
+fn keys_exported(stanza: &Stanza) -> usize
+    ensures { result ≡ keys_exported stanza.now }
+{
+    match stanza {
+        Stanza::Export(keys) => keys.as_slice().len(),
+        _ => 0,
+    }
+}
+
+// Whether the stanzas set few enough keys.
+#[tactic(auto, using(crate::proofs::Totals::total_more, crate::proofs::Totals::total_over))]
+fn sets_few(stanzas: &[Stanza]) -> bool
+    ensures { result ≡ nat_le (total keys_set stanzas.now) 30000 }
+{
+    let mut left = MAX_KEYS;
+    for stanza in stanzas {
+        let count = keys_set(stanza);
+        if count > left {
+            return false;
+        }
+        left -= count;
+    }
+    true
+}
+
+// Whether the stanzas export few enough keys.
+#[tactic(auto, using(crate::proofs::Totals::total_more, crate::proofs::Totals::total_over))]
+fn exports_few(stanzas: &[Stanza]) -> bool
+    ensures { result ≡ nat_le (total keys_exported stanzas.now) 30000 }
+{
+    let mut left = MAX_KEYS;
+    for stanza in stanzas {
+        let count = keys_exported(stanza);
+        if count > left {
+            return false;
+        }
+        left -= count;
+    }
+    true
+}
+
+fn has_few_keys(stanzas: &[Stanza]) -> bool
+    ensures { result ≡ has_few_keys stanzas.now }
+{
+    sets_few(stanzas) && exports_few(stanzas)
+}
+
+// A fault of the whole file.
+fn at_first_line(code: FaultCode) -> ConfFault
+    ensures { result ≡ record { line = 1; code = code } }
+{
+    ConfFault { line: 1, code }
+}
+
+// The stanzas of a text, or the fault.
+fn read_text(alloc: Global, text: &str) -> Result<Result<Stanzas, ConfFault>, AllocError>
+    requires { length text.now ≤ 1048576 }
+    ensures { IfOk result (λ read. IsConf (limited (said_of (start text.now))) read) }
+{
+    let (stanzas, fault) = read_stanzas(alloc, Lexer::new(text))?;
+    if !has_few_keys(stanzas.as_slice()) {
+        return Ok(Err(at_first_line(FaultCode::TooLarge)));
+    }
+    match fault {
+        Some(fault) => Ok(Err(fault)),
+        None => Ok(Ok(stanzas)),
+    }
+}
+
+// The bytes as a text, where they are UTF-8.
+fn as_text(bytes: &[u8]) -> Option<&str>
+    ensures test { MatchOption result (is_utf8 bytes.now ≡ false) (λ text. is_utf8 bytes.now ≡ true) }
+    ensures same { IfSome result (λ text. text.now ≡ bytes.now) }
+{
+    match str::from_utf8(bytes) {
+        Ok(text) => Some(text),
+        Err(_) => None,
+    }
+}
+
+// The text of a file's bytes, where they may be read.
+#[tactic(auto, unfolding(crate::specs::Confs::is_readable))]
+fn text_of(bytes: &[u8]) -> Result<&str, FaultCode>
+    ensures test { MatchResult result (λ text. is_readable bytes.now ≡ true) (λ code. is_readable bytes.now ≡ false) }
+    ensures same { IfOk result (λ text. text.now ≡ bytes.now) }
+    ensures short { IfOk result (λ text. length text.now ≤ 1048576) }
+{
+    if bytes.len() > MAX_LEN {
+        return Err(FaultCode::TooLarge);
+    }
+    if bytes.contains(&0) {
+        return Err(FaultCode::NotText);
+    }
+    match as_text(bytes) {
+        Some(text) => Ok(text),
+        None => Err(FaultCode::NotText),
+    }
+}
+
+/// The stanzas of a file, or why it has none; an `AllocError` where memory is refused.
+#[tactic(auto, unfolding(crate::specs::Confs::conf_of))]
+pub fn read_bytes(alloc: Global, bytes: &[u8]) -> Result<Result<Stanzas, ConfFault>, AllocError>
+    ensures { IfOk result (λ read. IsConf (conf_of bytes.now) read) }
+{
+    match text_of(bytes) {
+        Ok(text) => read_text(alloc, text),
+        Err(code) => Ok(Err(at_first_line(code))),
+    }
+}
+
+/// The stanzas of a file. Every fault but `Memory` comes only where the file isn't well formed, and its line is that of the first
+/// unreadable stanza, or 1 where the whole file is at fault.
+#[tactic(auto, using(crate::proofs::Conforming::conf_is_not))]
+pub fn read_conf(alloc: Global, bytes: &[u8]) -> Result<Stanzas, ConfFault>
+    ensures read { IfOk result (λ stanzas. conf_of bytes.now ≡ Ok stanzas) }
+    ensures refused { IfErr result (λ fault. (fault.code ≡ Memory) ⊎ (conf_of bytes.now ≡ Err fault.line)) }
+
+    // By the grammar: these stanzas are written, or none are.
+    ensures written { IfOk result (λ stanzas. Conf bytes.now stanzas) }
+    ensures unwritten { IfErr result (λ fault. (fault.code ≡ Memory) ⊎ ((stanzas : List Stanza) → Conf bytes.now stanzas → ⊥)) }
+{
+    match read_bytes(alloc, bytes) {
+        Ok(Ok(stanzas)) => Ok(stanzas),
+        Ok(Err(fault)) => Err(fault),
+        Err(_) => Err(at_first_line(FaultCode::Memory)),
+    }
+}
