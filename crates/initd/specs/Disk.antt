@@ -1,11 +1,11 @@
 -- What is printed of a folder on the disk.
 use Rattle.std.specs.Prelude.{◌≡◌, ◌⊎◌, ℕ, ◌≤◌, List, length}
 use Rattle.up_conf.specs.declared.folder.File.{File}
-use Rattle.initd.specs.declared.printed.Printed.{Printed}
+use Rattle.up_replay.specs.declared.printed.Printed.{Printed}
+use Rattle.up_replay.specs.Folders.{Checks, prints, unusable}
+use Rattle.up_replay.specs.Replay.{Plays}
+use Rattle.up_replay.specs.Rows.{script_inputs}
 use Rattle.initd.specs.declared.walk.WalkError.TheVariants.{Unusable}
-use Rattle.initd.specs.Folders.{Checks, prints, unusable}
-use Rattle.initd.specs.Replay.{Plays}
-use Rattle.initd.specs.Rows.{script_inputs}
 use Rattle.initd.specs.Walk.{IsWalked, MayFail}
 
 -- what can't be used is said

@@ -1,11 +1,2 @@
-pub mod Bundle
 pub mod Disk
-pub mod Folders
-pub mod Lines
-pub mod Replay
-pub mod Requests
-pub mod Rows
-pub mod Script
-pub mod Signals
-pub mod Variables
 pub mod Walk

@@ -3,15 +3,13 @@ ghost use Rattle.std.specs.Prelude.{◌≡◌, ◌≤◌, ◌⊎◌, IfOk, IfSom
 ghost use Rattle.initd.specs.Disk.{ChecksDir, PlaysDir, PlaysFiles, IsUnusable};
 ghost use Rattle.initd.specs.Walk.{IsWalked};
 
-use crate::check::check;
-use crate::printed::{Printed, cannot_use};
-use crate::replay::print_folder;
-use crate::script::script_inputs;
 use crate::walk::{WalkError, read_file, walk};
 use std::alloc::AllocError;
 use std::io::ErrorKind;
 use std::rt::Files;
 use up_conf::Folder;
+use up_replay::check::check;
+use up_replay::{Printed, cannot_use, print_folder, script_inputs};
 
 /// The most bytes that a script has: 64 MiB.
 const MAX_LEN: usize = 67_108_864;

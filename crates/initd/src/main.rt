@@ -1,30 +1,21 @@
 //! The program `initd`: says what the job files of a folder do, and which are faulty.
 #![tactic(auto)]
 
-mod bundle;
-mod check;
 mod command;
 mod disk;
-mod lines;
-mod printed;
-mod replay;
-mod requests;
-mod script;
 #[cfg(test)]
 mod tests;
-mod variables;
 mod walk;
-mod words;
 
 use command::{Asked, print_refusal, read_words};
 use disk::{check_dir, replay_dir};
-use printed::Printed;
-use replay::{replay, write_printed};
 use std::alloc::AllocError;
 use std::io::{BufWriter, ErrorKind, Write};
 use std::process::ExitCode;
 use std::rt::Env;
 use std::{env, io};
+use up_replay::replay::replay;
+use up_replay::{Printed, write_printed};
 
 // The words of the command line, the program's name first.
 fn words_of(rt: &(impl Env + AllocGlobal)) -> io::Result<Vec<String>> {

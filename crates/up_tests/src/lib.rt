@@ -12,4 +12,6 @@ mod image;
 #[cfg(test)]
 mod model;
 #[cfg(test)]
+mod replay;
+#[cfg(test)]
 mod text;

@@ -2,10 +2,10 @@
 use crate::answer;
 use crate::command::Asked;
 use crate::disk::{check_dir, replay_dir};
-use crate::printed::Printed;
 use crate::tests::walk::{below, make_file, scratch};
 use std::fs;
 use std::test::Fail;
+use up_replay::Printed;
 
 const DONE: &str =
     "event starting JOB=\"a\" INSTANCE=\"\"\nspawn a main \"/bin/sh\" \"-e\" \"-c\" \"exec /bin/e \\\"a  b\\\"\"\n  UPSTART_EVENTS=\"go\"\n  UPSTART_JOB=\"a\"\n  UPSTART_INSTANCE=\"\"\n";

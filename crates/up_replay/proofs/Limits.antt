@@ -1,0 +1,59 @@
+-- What is printed depends on no more than one byte past the most that a bundle has.
+use Rattle.std.proofs.Common.{◌≡◌, ℕ, ◌<◌, ◌≤◌, false, List, length, take, nat_le, length-take, arith, refl, ap, ⊎_elim, subst, ◌∙◌, Option, Some, None, codes}
+use Rattle.std.specs.Prelude.{IfSome}
+use Rattle.std.specs.Io.KnownBytes.{Appends}
+use Rattle.std.proofs.lemmas.Bool.{cases_lt}
+use Rattle.std.proofs.lemmas.Bool.Decides.{nat_tests}
+use Rattle.std.proofs.lemmas.List.{take_all}
+use Rattle.up_conf.specs.declared.report.Fault.{Fault}
+use Rattle.up_replay.specs.declared.printed.Printed.{Printed}
+use Rattle.up_replay.specs.Bundle.{files_of, lines_of}
+use Rattle.up_replay.specs.Folders.{prints, unusable}
+use Rattle.up_replay.specs.Replay.{bundle_printed, Prints, Replays}
+use Rattle.up_replay.proofs.Reports.{any_report}
+
+-- what is printed for a bundle that is too long tells of no report
+other_report : (report other : List Fault) (bytes : List ℕ) → nat_le (length bytes) 67108864 ≡ false → (others : List ℕ) → nat_le (length others) 67108864 ≡ false → bundle_printed report bytes ≡ bundle_printed other others
+unfolding bundle_printed
+other_report report other bytes one others two = rw (one, two) refl
+
+long : (n : ℕ) → 67108864 < n → nat_le n 67108864 ≡ false
+long n more = grind (arith, nat_tests)
+
+-- what is printed for a bundle's first bytes is printed for the bundle
+pub prints_take : (all : List ℕ) (made : Printed) → Prints (take 67108865 all) made → Prints all made
+prints_take all made had = ⊎_elim by_long by_short (cases_lt 67108864 (length all))
+  where
+    by_short : length all ≤ 67108864 → Prints all made
+    by_short few = let whole : length all ≤ 67108865 = omega arith in subst (λ bytes. Prints bytes made) (take_all 67108865 all whole) had
+
+    by_long : 67108864 < length all → Prints all made
+    by_long more =
+        let any = any_report (files_of (lines_of all)) in
+        let size : 67108864 < length (take 67108865 all) = rw length-take (omega arith) in
+        record { report = any.0; is = any.1; same = had.same ∙ other_report had.report any.0 (take 67108865 all) (long _ size) all (long _ more) }
+
+-- what is printed for a bundle that is too long
+pub prints_long : (bytes : List ℕ) (made : Printed) → 67108864 < length bytes → made ≡ prints (unusable (codes "-")) 3 → Prints bytes made
+unfolding bundle_printed
+prints_long bytes made more is =
+    let any = any_report (files_of (lines_of bytes)) in
+    record { report = any.0; is = any.1; same = is ∙ rw (long _ more) refl }
+
+replayed_whole : (all bytes : List ℕ) (made : Printed) (status : ℕ) (old new : Option (List ℕ)) → bytes ≡ take 67108865 all → Prints bytes made
+    → (status < 3 → (status ≡ made.status) × Appends old new made.text) → Replays all status old new
+replayed_whole all bytes made status old new front had wrote below =
+    let whole = prints_take all made (subst (λ b. Prints b made) front had) in
+    let written = wrote below in
+    record {
+      report = whole.report;
+      is = whole.is;
+      ends = written.0 ∙ ap (λ (m : Printed). m.status) whole.same;
+      text = subst (λ text. Appends old new text) (ap (λ (m : Printed). m.text) whole.same) written.1;
+    }
+
+-- what was written for a reader's bytes, where these are known
+pub replayed_known : (known : Option (List ℕ)) (bytes : List ℕ) (made : Printed) (status : ℕ) (old new : Option (List ℕ)) → IfSome known (λ all. bytes ≡ take 67108865 all) → Prints bytes made
+    → (status < 3 → (status ≡ made.status) × Appends old new made.text) → IfSome known (λ all. Replays all status old new)
+replayed_known None bytes made status old new front had wrote = tt
+replayed_known (Some all) bytes made status old new front had wrote = replayed_whole all bytes made status old new front had wrote

@@ -1,0 +1,64 @@
+-- What is printed of a folder.
+use Rattle.std.specs.Prelude.{◌≡◌, ℕ, nat_le, List, [], ◌∷◌, ◌++◌, length, Result, Ok, Err, if◌then◌else◌, codes}
+use Rattle.std.specs.List.{flat_map}
+use Rattle.std.specs.Fmt.{decimal}
+use Rattle.up_conf.specs.declared.folder.File.{File}
+use Rattle.up_conf.specs.declared.report.Fault.{Fault}
+use Rattle.up_conf.specs.declared.job.JobDef.{JobDef}
+use Rattle.up_conf.specs.FaultCodes as fault
+use Rattle.up_conf.specs.Folders.{jobs_of, IsReport}
+use Rattle.up_image.specs.declared.refusal.CompileError.{CompileError}
+use Rattle.up_image.specs.declared.refusal.CompileError.TheVariants.{SameName, TooManyJobs}
+use Rattle.up_image.specs.Compiling.{has_twice, read_paths}
+use Rattle.up_image.specs.Refusals as refusal
+use Rattle.up_replay.specs.declared.printed.Printed.{Printed}
+
+-- the line of a fault
+unfoldable pub fault_line : Fault → List ℕ
+fault_line found =
+    found.path ++ codes ":" ++ decimal found.line ++ codes ": " ++ decimal (fault.number_of found.code) ++ codes " " ++ fault.name_of found.code ++ codes "\n"
+
+-- the line of a refused folder
+unfoldable pub refusal_line : CompileError → List ℕ
+refusal_line error = codes "initd: " ++ decimal (refusal.number_of error) ++ codes " " ++ refusal.name_of error ++ codes "\n"
+
+-- the line of what can't be read or written
+unfoldable pub unusable : List ℕ → List ℕ
+unusable name = codes "initd: cannot use " ++ name ++ codes "\n"
+
+-- bytes that are printed, with a status
+abbrev pub prints : List ℕ → ℕ → Printed
+prints text status = record { text = text; status = status }
+
+-- the status, by the faults of a folder
+abbrev pub status_of : List Fault → ℕ
+status_of [] = 0
+status_of (found ∷ report) = 1
+
+-- the jobs of files with this report of their faults, or why they are refused
+unfoldable pub compiled : List Fault → List File → Result (List JobDef × List Fault) CompileError
+compiled report files =
+    if has_twice (read_paths files) then Err SameName
+    else (if nat_le (length (jobs_of files)) 1024 then Ok (jobs_of files, report)
+    else Err TooManyJobs)
+
+-- how many jobs and faults there are
+unfoldable pub count_line : ℕ → ℕ → List ℕ
+count_line jobs faults = decimal jobs ++ codes " jobs, " ++ decimal faults ++ codes " faults\n"
+
+-- what a check of a folder prints
+abbrev pub checked : Result (List JobDef × List Fault) CompileError → Printed
+checked (Ok made) = prints (flat_map fault_line made.1 ++ count_line (length made.0) (length made.1)) (status_of made.1)
+checked (Err error) = prints (refusal_line error) 3
+
+-- the jobs and some report of a folder's files, or why they are refused
+pub record IsCompiled (files : List File) (made : Result (List JobDef × List Fault) CompileError) : Type 0 where
+  pub report : List Fault
+  pub is : IsReport files report
+  pub same : made ≡ compiled report files
+
+-- what is printed for a check of a folder's files, with some report of its faults
+pub record Checks (files : List File) (made : Printed) : Type 0 where
+  pub report : List Fault
+  pub is : IsReport files report
+  pub same : made ≡ checked (compiled report files)

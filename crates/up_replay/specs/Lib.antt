@@ -1,0 +1,9 @@
+pub mod Bundle
+pub mod Folders
+pub mod Lines
+pub mod Replay
+pub mod Requests
+pub mod Rows
+pub mod Script
+pub mod Signals
+pub mod Variables

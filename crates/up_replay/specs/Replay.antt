@@ -1,0 +1,68 @@
+-- What a replay prints, and its status.
+use Rattle.std.specs.Prelude.{◌≡◌, ℕ, ◌<◌, nat_le, List, [], ◌++◌, length, Option, None, Some, Result, Ok, Err, if◌then◌else◌, codes}
+use Rattle.std.specs.List.{flat_map}
+use Rattle.std.specs.Fmt.{decimal}
+use Rattle.std.specs.Io.KnownBytes.{Appends}
+use Rattle.up_conf.specs.declared.folder.File.{File}
+use Rattle.up_conf.specs.declared.report.Fault.{Fault}
+use Rattle.up_conf.specs.declared.job.JobDef.{JobDef}
+use Rattle.up_conf.specs.Folders.{IsReport}
+use Rattle.up_image.specs.declared.refusal.CompileError.{CompileError}
+use Rattle.up_model.specs.declared.input.Input.{Input}
+use Rattle.up_model.specs.Answers.{answers}
+use Rattle.up_replay.specs.declared.printed.Printed.{Printed}
+use Rattle.up_replay.specs.Bundle.{lines_of, files_of, bad_line, script_line, script_text}
+use Rattle.up_replay.specs.Folders.{fault_line, refusal_line, unusable, prints, status_of, compiled}
+use Rattle.up_replay.specs.Lines.{step_lines}
+use Rattle.up_replay.specs.Rows.{script_inputs}
+
+-- the line of a bad step of the script with this name
+unfoldable pub bad_step_line : List ℕ → ℕ → List ℕ
+bad_step_line name line = name ++ codes ":" ++ decimal line ++ codes ": bad step\n"
+
+-- the inputs of a bundle, or the number of its first bad line
+abbrev pub unless_bad : Option ℕ → Result (List Input) ℕ → Result (List Input) ℕ
+unless_bad None read = read
+unless_bad (Some line) read = Err line
+
+-- the inputs of a bundle by its lines
+unfoldable pub inputs_in : List (List ℕ) → Result (List Input) ℕ
+inputs_in lines = unless_bad (bad_line lines) (script_inputs (script_line 1 lines) (script_text lines))
+
+-- what the faults of a folder and a run of its jobs print
+abbrev pub played : List ℕ → List JobDef → List Fault → Result (List Input) ℕ → Printed
+played name jobs report (Ok inputs) = prints (flat_map fault_line report ++ flat_map step_lines (answers [] jobs [] inputs)) (status_of report)
+played name jobs report (Err line) = prints (flat_map fault_line report ++ bad_step_line name line) 2
+
+-- what a folder and a script with this name print
+abbrev pub replayed : List ℕ → Result (List JobDef × List Fault) CompileError → Result (List Input) ℕ → Printed
+replayed name (Ok made) read = played name made.0 made.1 read
+replayed name (Err error) read = prints (refusal_line error) 3
+
+-- what is printed for a folder's files and a script, with some report of the folder's faults
+pub record Plays (files : List File) (name : List ℕ) (read : Result (List Input) ℕ) (made : Printed) : Type 0 where
+  pub report : List Fault
+  pub is : IsReport files report
+  pub same : made ≡ replayed name (compiled report files) read
+
+-- what is printed for the bytes of a bundle, which has 64 MiB at most, with this report of its folder's faults
+unfoldable pub bundle_printed : List Fault → List ℕ → Printed
+bundle_printed report bytes =
+    if nat_le (length bytes) 67108864 then replayed (codes "-") (compiled report (files_of (lines_of bytes))) (inputs_in (lines_of bytes))
+    else prints (unusable (codes "-")) 3
+
+-- what is printed for a bundle
+pub record Prints (bytes : List ℕ) (made : Printed) : Type 0 where
+  pub report : List Fault
+  pub is : IsReport (files_of (lines_of bytes)) report
+  pub same : made ≡ bundle_printed report bytes
+
+-- A status below 3 is the one of the bundle that was read, and what is printed for it was written and nothing else.
+pub record Replayed (bytes : List ℕ) (status : ℕ) (old new : Option (List ℕ)) : Type 0 where
+  pub report : List Fault
+  pub is : IsReport (files_of (lines_of bytes)) report
+  pub ends : status ≡ (bundle_printed report bytes).status
+  pub text : Appends old new (bundle_printed report bytes).text
+
+abbrev pub Replays : List ℕ → ℕ → Option (List ℕ) → Option (List ℕ) → Type 0
+Replays bytes status old new = status < 3 → Replayed bytes status old new

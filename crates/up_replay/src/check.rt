@@ -1,0 +1,63 @@
+//! Checks a folder: what its faults are, and how many jobs it has.
+ghost use Rattle.std.specs.Prelude.{◌≡◌, ◌++◌, IfOk, OnOk};
+ghost use Rattle.up_replay.specs.Folders.{checked, compiled, count_line, Checks, IsCompiled};
+
+use crate::lines::{push, push_decimal};
+use crate::printed::{Printed, push_faults, refused, status_of};
+use std::alloc::{AllocError, Global};
+use up_conf::{Folder, Report};
+use up_image::{CompileError, Table, compile};
+use up_text::Items;
+
+/// The jobs and the faults of a folder, or why it is refused.
+#[tactic(auto, unfolding(crate::specs::Folders::compiled), using(crate::proofs::Reports::refused_twice, crate::proofs::Reports::refused_many))]
+pub(crate) fn compiled(
+    alloc: Global,
+    folder: &Folder,
+) -> Result<Result<(Table, Report), CompileError>, AllocError>
+    ensures { IfOk result (IsCompiled folder.now) }
+{
+    match compile(alloc, folder) {
+        Ok(made) => Ok(Ok(made)),
+        Err(CompileError::SameName) => Ok(Err(CompileError::SameName)),
+        Err(CompileError::TooManyJobs) => Ok(Err(CompileError::TooManyJobs)),
+        Err(CompileError::Memory) => Err(AllocError),
+    }
+}
+
+#[tactic(auto, unfolding(crate::specs::Folders::count_line))]
+fn push_counts(text: &mut Vec<u8>, jobs: usize, faults: usize) -> Result<(), AllocError>
+    ensures { OnOk result (text.new.items ≡ text.old.items ++ count_line jobs faults) }
+{
+    push_decimal(text, jobs as u64)?;
+    push(text, " jobs, ")?;
+    push_decimal(text, faults as u64)?;
+    push(text, " faults\n")
+}
+
+fn print_made(
+    alloc: Global,
+    made: Result<(Table, Report), CompileError>,
+) -> Result<Printed, AllocError>
+    ensures { IfOk result (λ printed. printed ≡ checked made) }
+{
+    match made {
+        Ok((table, report)) => {
+            let mut text: Vec<u8> = Vec::new(alloc);
+            push_faults(&mut text, report.as_slice())?;
+            push_counts(&mut text, table.len(), report.len())?;
+            let text = Items::new(text);
+            let status = status_of(&report);
+            Ok(Printed { text, status })
+        }
+        Err(error) => refused(alloc, error),
+    }
+}
+
+/// What a check of a folder prints: the faults of its files, and how many jobs and faults there are.
+pub fn check(alloc: Global, folder: &Folder) -> Result<Printed, AllocError>
+    ensures { IfOk result (Checks folder.now) }
+{
+    let made = compiled(alloc, folder)?;
+    print_made(alloc, made)
+}

@@ -1,0 +1,74 @@
+//! What the program prints, and its status.
+ghost use Rattle.std.specs.Prelude.{◌≡◌, ◌++◌, IfOk, OnOk, codes};
+ghost use Rattle.std.specs.List.{flat_map};
+ghost use Rattle.up_replay.specs.Folders.{fault_line, prints, refusal_line, status_of, unusable};
+
+use crate::lines::{push, push_decimal};
+use std::alloc::{AllocError, Global};
+use up_conf::{Fault, Report};
+use up_image::CompileError;
+use up_text::Items;
+
+/// What is printed, and the status.
+#[derive(Debug, Drop)]
+pub struct Printed {
+    pub text: Items<u8>,
+    pub status: u8,
+}
+
+#[tactic(auto, unfolding(crate::specs::Folders::fault_line))]
+fn push_fault(text: &mut Vec<u8>, fault: &Fault) -> Result<(), AllocError>
+    ensures { OnOk result (text.new.items ≡ text.old.items ++ fault_line fault.now) }
+{
+    push(text, fault.path.as_str())?;
+    push(text, ":")?;
+    push_decimal(text, u64::from(fault.line))?;
+    push(text, ": ")?;
+    push_decimal(text, u64::from(fault.code.number()))?;
+    push(text, " ")?;
+    push(text, fault.code.name())?;
+    push(text, "\n")
+}
+
+pub(crate) fn push_faults(text: &mut Vec<u8>, faults: &[Fault]) -> Result<(), AllocError>
+    ensures { OnOk result (text.new.items ≡ text.old.items ++ flat_map fault_line faults.now) }
+{
+    for fault in faults {
+        push_fault(text, fault)?;
+    }
+    Ok(())
+}
+
+pub(crate) fn status_of(report: &Report) -> u8
+    ensures { result ≡ status_of report.now }
+{
+    if report.is_empty() { 0 } else { 1 }
+}
+
+/// The line of a refused folder.
+#[tactic(auto, unfolding(crate::specs::Folders::refusal_line))]
+pub(crate) fn refused(alloc: Global, error: CompileError) -> Result<Printed, AllocError>
+    ensures { IfOk result (λ made. made ≡ prints (refusal_line error) 3) }
+{
+    let mut text: Vec<u8> = Vec::new(alloc);
+    push(&mut text, "initd: ")?;
+    push_decimal(&mut text, u64::from(error.number()))?;
+    push(&mut text, " ")?;
+    push(&mut text, error.name())?;
+    push(&mut text, "\n")?;
+    let text = Items::new(text);
+    Ok(Printed { text, status: 3 })
+}
+
+/// The line of what can't be read or written.
+#[tactic(auto, unfolding(crate::specs::Folders::unusable))]
+pub fn cannot_use(alloc: Global, name: &str) -> Result<Printed, AllocError>
+    ensures { IfOk result (λ made. made ≡ prints (unusable name.now) 3) }
+{
+    let mut text: Vec<u8> = Vec::new(alloc);
+    push(&mut text, "initd: cannot use ")?;
+    push(&mut text, name)?;
+    push(&mut text, "\n")?;
+    let text = Items::new(text);
+    Ok(Printed { text, status: 3 })
+}

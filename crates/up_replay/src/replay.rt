@@ -1,0 +1,189 @@
+//! Replays a bundle.
+ghost use Rattle.std.specs.Prelude.{◌≡◌, ◌⊎◌, ◌≤◌, ◌<◌, ◌+◌, [], ◌++◌, IfOk, IfSome, OnOk, length, take, codes};
+ghost use Rattle.std.specs.List.{flat_map};
+ghost use Rattle.std.specs.Io.KnownBytes.{Appends};
+ghost use Rattle.up_model.specs.Answers.{answers};
+ghost use Rattle.up_replay.specs.Lines.{step_lines};
+ghost use Rattle.up_replay.specs.Replay.{bad_step_line, played, replayed, unless_bad, Plays, Prints, Replays};
+ghost use Rattle.up_replay.specs.Rows.{script_inputs};
+
+use crate::bundle::{Bundle, read_bundle};
+use crate::check::compiled;
+use crate::lines::{push, push_decimal, push_step};
+use crate::printed::{Printed, cannot_use, push_faults, refused, status_of};
+use crate::script::script_inputs;
+use std::alloc::{AllocError, Global};
+use std::io;
+use std::io::{ErrorKind, Read, Write};
+use up_conf::{Folder, Report};
+use up_engine::Engine;
+use up_image::{CompileError, Table};
+use up_model::{Input, Step};
+use up_text::{Env, Items};
+
+/// The most bytes that a bundle has: 64 MiB.
+const MAX_LEN: usize = 67_108_864;
+
+fn push_steps(text: &mut Vec<u8>, steps: &[Step]) -> Result<(), AllocError>
+    ensures { OnOk result (text.new.items ≡ text.old.items ++ flat_map step_lines steps.now) }
+{
+    for step in steps {
+        push_step(text, step)?;
+    }
+    Ok(())
+}
+
+#[tactic(auto, unfolding(crate::specs::Replay::bad_step_line))]
+fn push_bad_step(text: &mut Vec<u8>, name: &str, line: u32) -> Result<(), AllocError>
+    ensures { OnOk result (text.new.items ≡ text.old.items ++ bad_step_line name.now line) }
+{
+    push(text, name)?;
+    push(text, ":")?;
+    push_decimal(text, u64::from(line))?;
+    push(text, ": bad step\n")
+}
+
+// The steps of a run from nothing.
+fn run(alloc: Global, table: Table, inputs: Vec<Input>) -> Result<Items<Step>, AllocError>
+    ensures { IfOk result (λ steps. steps ≡ answers [] table [] inputs.items) }
+{
+    let base = Env::new(alloc);
+    let mut engine = Engine::new(alloc, table, base);
+    match engine.run(inputs) {
+        Ok(run) => {
+            if run.down {
+                Err(AllocError)
+            } else {
+                Ok(run.steps)
+            }
+        }
+        Err(_) => Err(AllocError),
+    }
+}
+
+// The inputs of a bundle, or its first bad line.
+fn inputs_in(alloc: Global, bundle: &Bundle<'_>) -> Result<Result<Items<Input>, u32>, AllocError>
+    requires { bundle.now.line + length bundle.now.script.now < 4294967295 }
+    ensures { IfOk result (λ read. read ≡ unless_bad bundle.now.bad (script_inputs bundle.now.line bundle.now.script.now)) }
+{
+    match bundle.bad {
+        Some(line) => Ok(Err(line)),
+        None => script_inputs(alloc, bundle.script, bundle.line),
+    }
+}
+
+fn play(
+    alloc: Global,
+    table: Table,
+    report: &Report,
+    name: &str,
+    read: Result<Items<Input>, u32>,
+) -> Result<Printed, AllocError>
+    ensures { IfOk result (λ made. made ≡ played name.now table report.now read) }
+{
+    let mut text: Vec<u8> = Vec::new(alloc);
+    push_faults(&mut text, report.as_slice())?;
+    match read {
+        Ok(inputs) => {
+            let steps = run(alloc, table, inputs.into_vec())?;
+            push_steps(&mut text, steps.as_slice())?;
+            let text = Items::new(text);
+            let status = status_of(report);
+            Ok(Printed { text, status })
+        }
+        Err(line) => {
+            push_bad_step(&mut text, name, line)?;
+            let text = Items::new(text);
+            Ok(Printed { text, status: 2 })
+        }
+    }
+}
+
+fn print_made(
+    alloc: Global,
+    made: Result<(Table, Report), CompileError>,
+    name: &str,
+    read: Result<Items<Input>, u32>,
+) -> Result<Printed, AllocError>
+    ensures { IfOk result (λ printed. printed ≡ replayed name.now made read) }
+{
+    match made {
+        Ok((table, report)) => play(alloc, table, &report, name, read),
+        Err(error) => refused(alloc, error),
+    }
+}
+
+/// What is printed for a folder and the inputs of a script with this name, or the script's first bad line.
+pub fn print_folder(
+    alloc: Global,
+    folder: &Folder,
+    name: &str,
+    read: Result<Items<Input>, u32>,
+) -> Result<Printed, AllocError>
+    ensures { IfOk result (Plays folder.now name.now read) }
+{
+    let made = compiled(alloc, folder)?;
+    print_made(alloc, made, name, read)
+}
+
+/// What is printed for the bytes of a bundle.
+#[tactic(auto, unfolding(crate::specs::Replay::bundle_printed, crate::specs::Replay::inputs_in), using(crate::proofs::Sizes::script_small, crate::proofs::Limits::prints_long))]
+pub fn print(alloc: Global, bytes: &[u8]) -> Result<Printed, AllocError>
+    ensures { IfOk result (Prints bytes.now) }
+{
+    if bytes.len() > MAX_LEN {
+        return cannot_use(alloc, "-");
+    }
+    let bundle = read_bundle(alloc, bytes)?;
+    let read = inputs_in(alloc, &bundle)?;
+    print_folder(alloc, &bundle.folder, "-", read)
+}
+
+// All bytes, but at most one more than a bundle may have.
+fn read_all<R: Read>(alloc: Global, reader: &mut R) -> io::Result<Vec<u8>>
+    ensures { IfOk result (λ bytes. IfSome (R.remaining reader.old) (λ all. bytes.items ≡ take 67108865 all)) }
+{
+    let mut bytes: Vec<u8> = Vec::new(alloc);
+    let mut limited = Read::take(reader, 67_108_865);
+    limited.read_to_end(&mut bytes)?;
+    Ok(bytes)
+}
+
+/// Writes what is printed, and gives the status: 3 where it can't be written.
+pub fn write_printed<W: Write>(writer: &mut W, made: &Printed) -> u8
+    ensures written { result < 3 → (result ≡ made.now.status) × Appends (W.contents writer.old) (W.contents writer.new) made.now.text }
+    ensures status { (result ≡ made.now.status) ⊎ (result ≡ 3) }
+{
+    match writer.write_all(made.text.as_slice()) {
+        Ok(()) => made.status,
+        Err(_) => 3,
+    }
+}
+
+// Says that the bundle can't be read, and gives the status.
+fn write_unreadable<W: Write>(writer: &mut W) -> u8
+    ensures { result ≡ 3 }
+{
+    let _ = writer.write_all(b"initd: cannot use -\n");
+    3
+}
+
+/// Reads a bundle, writes what is printed for it and gives the status: 0; 1 with faulty files; 2 at a bad step; 3 where the folder is
+/// refused or the bundle can't be read or written; 4 for want of memory.
+pub fn replay<R: Read, W: Write>(alloc: Global, reader: &mut R, writer: &mut W) -> u8
+    ensures { IfSome (R.remaining reader.old) (λ bytes. Replays bytes result (W.contents writer.old) (W.contents writer.new)) }
+{
+    match read_all(alloc, reader) {
+        Ok(bytes) => match print(alloc, bytes.as_slice()) {
+            Ok(made) => write_printed(writer, &made),
+            Err(_) => 4,
+        },
+        Err(error) => {
+            if error.kind() == ErrorKind::OutOfMemory {
+                4
+            } else {
+                write_unreadable(writer)
+            }
+        }
+    }
+}

@@ -1,0 +1,164 @@
+//! Reads the requests of a script.
+ghost use Rattle.std.specs.Prelude.{◌≡◌, IfOk};
+ghost use Rattle.up_replay.specs.Requests.{command_of, may_wait, is_alone, begins_no_wait, alone, with_name, with_words, asked_by, request_of};
+
+use crate::variables::{name_of, vars_of};
+use std::alloc::{AllocError, Global};
+use up_conf::number_in;
+use up_model::{Command, Input, Request};
+use up_text::{Env, Text};
+
+fn command_of(name: &Text) -> Option<Command>
+    ensures { result ≡ command_of name.now }
+{
+    if name.is("start") {
+        Some(Command::Start)
+    } else if name.is("stop") {
+        Some(Command::Stop)
+    } else if name.is("restart") {
+        Some(Command::Restart)
+    } else if name.is("status") {
+        Some(Command::Status)
+    } else if name.is("list") {
+        Some(Command::List)
+    } else if name.is("emit") {
+        Some(Command::Emit)
+    } else if name.is("reload") {
+        Some(Command::Reload)
+    } else if name.is("reload-configuration") {
+        Some(Command::ReloadConfiguration)
+    } else if name.is("version") {
+        Some(Command::Version)
+    } else {
+        None
+    }
+}
+
+fn may_wait(command: Command) -> bool
+    ensures { result ≡ may_wait command }
+{
+    match command {
+        Command::Start | Command::Stop | Command::Restart | Command::Emit => true,
+        Command::Status
+        | Command::List
+        | Command::Reload
+        | Command::ReloadConfiguration
+        | Command::Version => false,
+    }
+}
+
+fn is_alone(command: Command) -> bool
+    ensures { result ≡ is_alone command }
+{
+    match command {
+        Command::List | Command::ReloadConfiguration | Command::Version => true,
+        Command::Start
+        | Command::Stop
+        | Command::Restart
+        | Command::Status
+        | Command::Emit
+        | Command::Reload => false,
+    }
+}
+
+fn begins_no_wait(words: &[Text]) -> bool
+    ensures { result ≡ begins_no_wait words.now }
+{
+    match words {
+        [word, ..] => word.is("--no-wait"),
+        [] => false,
+    }
+}
+
+// A command that stands alone.
+fn alone(
+    alloc: Global,
+    command: Command,
+    wait: bool,
+    words: &[Text],
+) -> Result<Option<Request>, AllocError>
+    ensures { IfOk result (λ request. request ≡ alone command wait words.now) }
+{
+    if !words.is_empty() {
+        return Ok(None);
+    }
+    let name = Text::from_str(alloc, "")?;
+    let vars = Env::new(alloc);
+    Ok(Some(Request {
+        command,
+        wait,
+        name,
+        vars,
+    }))
+}
+
+// A command with its NAME [KEY=VALUE]..
+fn about(
+    alloc: Global,
+    command: Command,
+    wait: bool,
+    words: &[Text],
+) -> Result<Option<Request>, AllocError>
+    ensures { IfOk result (λ request. request ≡ with_name command wait words.now) }
+{
+    let [word, words @ ..] = words else {
+        return Ok(None);
+    };
+    let Some(_) = name_of(alloc, word.as_str())? else {
+        return Ok(None);
+    };
+    let Some(vars) = vars_of(alloc, words)? else {
+        return Ok(None);
+    };
+    let name = word.copy()?;
+    Ok(Some(Request {
+        command,
+        wait,
+        name,
+        vars,
+    }))
+}
+
+fn with_words(
+    alloc: Global,
+    command: Command,
+    wait: bool,
+    words: &[Text],
+) -> Result<Option<Request>, AllocError>
+    ensures { IfOk result (λ request. request ≡ with_words command wait words.now) }
+{
+    if is_alone(command) {
+        alone(alloc, command, wait, words)
+    } else {
+        about(alloc, command, wait, words)
+    }
+}
+
+fn asked_by(alloc: Global, words: &[Text], command: Command) -> Result<Option<Request>, AllocError>
+    ensures { IfOk result (λ request. request ≡ asked_by words.now command) }
+{
+    if may_wait(command) && begins_no_wait(words) {
+        with_words(alloc, command, false, &words[1..])
+    } else {
+        with_words(alloc, command, true, words)
+    }
+}
+
+/// The request of the words behind `request`.
+pub(crate) fn request_of(alloc: Global, words: &[Text]) -> Result<Option<Input>, AllocError>
+    ensures { IfOk result (λ input. input ≡ request_of words.now) }
+{
+    let [id, name, words @ ..] = words else {
+        return Ok(None);
+    };
+    let Some(id) = number_in(0, u64::MAX, id.as_str()) else {
+        return Ok(None);
+    };
+    let Some(command) = command_of(name) else {
+        return Ok(None);
+    };
+    match asked_by(alloc, words, command)? {
+        Some(request) => Ok(Some(Input::Request { id, request })),
+        None => Ok(None),
+    }
+}

@@ -1,0 +1,92 @@
+//! The worked rows on expressions, as bundles.
+use crate::replay::{Case, check};
+use std::process::Abort;
+use std::test::Fail;
+
+const AND_KEEPS_FIRST: Case = Case {
+    bundle: b"%file a.conf\nstart on A and B\nexec /bin/d\n%script\nemit A X=1\nemit A X=2\nemit B\nturn 3\nturn\nturn 2\n",
+    printed: "event starting JOB=\"a\" INSTANCE=\"\"\nspawn a main \"/bin/d\"\n  X=\"1\"\n  UPSTART_EVENTS=\"A B\"\n  UPSTART_JOB=\"a\"\n  UPSTART_INSTANCE=\"\"\n",
+    status: 0,
+};
+
+const AND_OF_SAME_EVENT: Case = Case {
+    bundle: b"%file a.conf\nstart on A and A\nexec /bin/d\n%script\nemit A\nturn\nturn 2\n",
+    printed: "event starting JOB=\"a\" INSTANCE=\"\"\nspawn a main \"/bin/d\"\n  UPSTART_EVENTS=\"A A\"\n  UPSTART_JOB=\"a\"\n  UPSTART_INSTANCE=\"\"\n",
+    status: 0,
+};
+
+const OR_AFTER_HALF_AN_AND: Case = Case {
+    bundle: b"%file a.conf\nstart on (A and D) or B\nexec /bin/d\n%script\nemit A\nemit B\nturn\nturn\nturn\nturn 2\n",
+    printed: "event starting JOB=\"a\" INSTANCE=\"\"\nspawn a main \"/bin/d\"\n  UPSTART_EVENTS=\"B\"\n  UPSTART_JOB=\"a\"\n  UPSTART_INSTANCE=\"\"\n",
+    status: 0,
+};
+
+const JOB_BLOCKS_ITSELF: Case = Case {
+    bundle: b"%file a.conf\nstart on go\nstop on starting JOB=a\nexec /bin/d\n%script\nemit go\nturn\nturn 7\n",
+    printed: "event starting JOB=\"a\" INSTANCE=\"\"\n",
+    status: 0,
+};
+
+const START_WHILE_STARTING: Case = Case {
+    bundle: b"%file a.conf\nstart on go\nstop on halt\nexec /bin/d\n%file b.conf\nstart on starting a and free\n%script\nemit go X=1\nturn 2\nemit halt\nturn\nemit go X=2\nturn 2\nemit free\nturn 5\n",
+    printed: "event starting JOB=\"a\" INSTANCE=\"\"\nevent starting JOB=\"b\" INSTANCE=\"\"\nevent started JOB=\"b\" INSTANCE=\"\"\nspawn a main \"/bin/d\"\n  X=\"1\"\n  UPSTART_EVENTS=\"go\"\n  UPSTART_JOB=\"a\"\n  UPSTART_INSTANCE=\"\"\n",
+    status: 0,
+};
+
+const SELF_RESTARTING_JOB: Case = Case {
+    bundle: b"%file a.conf\nstart on stopped a or startup\nstop on started a\n%script\nemit startup\nturn 50\n",
+    printed: "event starting JOB=\"a\" INSTANCE=\"\"\nevent started JOB=\"a\" INSTANCE=\"\"\nevent stopping JOB=\"a\" INSTANCE=\"\" RESULT=\"ok\"\nevent stopped JOB=\"a\" INSTANCE=\"\" RESULT=\"ok\"\nevent starting JOB=\"a\" INSTANCE=\"\"\nevent started JOB=\"a\" INSTANCE=\"\"\nevent stopping JOB=\"a\" INSTANCE=\"\" RESULT=\"ok\"\nevent stopped JOB=\"a\" INSTANCE=\"\" RESULT=\"ok\"\nevent starting JOB=\"a\" INSTANCE=\"\"\nevent started JOB=\"a\" INSTANCE=\"\"\nevent stopping JOB=\"a\" INSTANCE=\"\" RESULT=\"ok\"\nevent stopped JOB=\"a\" INSTANCE=\"\" RESULT=\"ok\"\nevent starting JOB=\"a\" INSTANCE=\"\"\nevent started JOB=\"a\" INSTANCE=\"\"\nevent stopping JOB=\"a\" INSTANCE=\"\" RESULT=\"ok\"\nevent stopped JOB=\"a\" INSTANCE=\"\" RESULT=\"ok\"\nevent starting JOB=\"a\" INSTANCE=\"\"\nevent started JOB=\"a\" INSTANCE=\"\"\nevent stopping JOB=\"a\" INSTANCE=\"\" RESULT=\"ok\"\nevent stopped JOB=\"a\" INSTANCE=\"\" RESULT=\"ok\"\nevent starting JOB=\"a\" INSTANCE=\"\"\nevent started JOB=\"a\" INSTANCE=\"\"\nevent stopping JOB=\"a\" INSTANCE=\"\" RESULT=\"ok\"\nevent stopped JOB=\"a\" INSTANCE=\"\" RESULT=\"ok\"\nevent starting JOB=\"a\" INSTANCE=\"\"\n",
+    status: 0,
+};
+
+const VALUE_BY_DEFAULT: Case = Case {
+    bundle: b"%file a.conf\nstart on A X=${Z-1}\nexec /bin/d\n%script\nemit A X=2\nturn 2\nemit A X=1\nturn\n",
+    printed: "event starting JOB=\"a\" INSTANCE=\"\"\n",
+    status: 0,
+};
+
+const BAD_EXPRESSIONS: Case = Case {
+    bundle: b"%file a.conf\nstart on x and\n%file b.conf\nexec /bin/b\nstart on x K=v w\n%file c.conf\nstop on x [[:x]\n%file d.conf\nstart on (x\n  or y\n%file e.conf\nstop on x ${Z\n%script\nemit x\nturn\n",
+    printed: "a.conf:1: 8 BadExpression\nb.conf:2: 9 ValueBeforeKey\nc.conf:1: 13 BadPattern\nd.conf:1: 8 BadExpression\ne.conf:1: 14 BadExpansion\n",
+    status: 1,
+};
+
+#[test]
+fn and_keeps_first(rt: HostRuntime) -> Result<(), Fail> {
+    check(&rt, &AND_KEEPS_FIRST)
+}
+
+#[test]
+fn and_of_same_event(rt: HostRuntime) -> Result<(), Fail> {
+    check(&rt, &AND_OF_SAME_EVENT)
+}
+
+#[test]
+fn or_after_half_an_and(rt: HostRuntime) -> Result<(), Fail> {
+    check(&rt, &OR_AFTER_HALF_AN_AND)
+}
+
+#[test]
+fn job_blocks_itself(rt: HostRuntime) -> Result<(), Fail> {
+    check(&rt, &JOB_BLOCKS_ITSELF)
+}
+
+#[test]
+fn start_while_starting(rt: HostRuntime) -> Result<(), Fail> {
+    check(&rt, &START_WHILE_STARTING)
+}
+
+#[test]
+fn self_restarting_job(rt: HostRuntime) -> Result<(), Fail> {
+    check(&rt, &SELF_RESTARTING_JOB)
+}
+
+#[test]
+fn value_by_default(rt: HostRuntime) -> Result<(), Fail> {
+    check(&rt, &VALUE_BY_DEFAULT)
+}
+
+#[test]
+fn bad_expressions(rt: HostRuntime) -> Result<(), Fail> {
+    check(&rt, &BAD_EXPRESSIONS)
+}
