@@ -1,5 +1,5 @@
 -- The steps of a script.
-use Rattle.std.specs.Prelude.{◌≡◌, ℕ, ◌+◌, ◌-◌, ◌≤◌, Bool, true, false, ◌==◌, ◌&&◌, not, List, [], ◌∷◌, ◌++◌, length, take, drop, Option, None, Some, option_map, option_and_then, Result, Ok, Err, if◌then◌else◌}
+use Rattle.std.specs.Prelude.{◌≡◌, ℕ, ◌+◌, ◌-◌, ◌≤◌, Bool, true, false, ◌==◌, ◌&&◌, not, List, [], ◌∷◌, ◌++◌, length, take, drop, Option, None, Some, option_map, option_and_then, Result, Ok, Err}
 use Rattle.std.specs.List.{list_any, prefix_len, concat}
 use Rattle.std.specs.Str.{is_utf8}
 use Rattle.up_text.specs.Comments.{without_comments}
@@ -60,12 +60,10 @@ lines_inputs line lines =
     let texts = prefix_len is_text lines in
     unless_left (line + texts) (drop texts lines) (inputs_from line (stanzas (concat (take texts lines))))
 
--- the inputs of a script whose first line has this number, or the number of its first bad line: the stanzas of a script that is text
--- are its steps; of any other the comments are taken out, and then its lines up to the first that is no text are read
+-- the inputs of a script whose first line has this number, or the number of its first bad line: without its comments, its lines up to
+-- the first that is no text are read
 unfoldable pub script_inputs : ℕ → List ℕ → Result (List Input) ℕ
-script_inputs line script =
-    if is_text script then inputs_from line (stanzas script)
-    else lines_inputs line (lines_of (without_comments script))
+script_inputs line script = lines_inputs line (lines_of (without_comments script))
 
 -- whether lines begin with one that is text
 abbrev pub begins_text : List (List ℕ) → Bool

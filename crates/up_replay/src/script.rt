@@ -162,11 +162,6 @@ pub fn script_inputs(
     requires { line + length script.now < 4294967295 }
     ensures { IfOk result (λ read. read ≡ script_inputs line script.now) }
 {
-    match text_of(script) {
-        Some(text) => text_inputs(alloc, text, line),
-        None => {
-            let bytes = without_comments(alloc, script)?;
-            lines_inputs(alloc, bytes.as_slice(), line)
-        }
-    }
+    let bytes = without_comments(alloc, script)?;
+    lines_inputs(alloc, bytes.as_slice(), line)
 }
