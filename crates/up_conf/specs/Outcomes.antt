@@ -1,7 +1,6 @@
 -- What reading the files of a folder gives.
-use Rattle.std.specs.Prelude.{◌≡◌, nat_le, true, List, map, Option, None, Some, option_map}
+use Rattle.std.specs.Prelude.{◌≡◌, nat_le, true, List, map, Option, None, Some}
 use Rattle.std.specs.List.{list_all}
-use Rattle.up_conf.specs.declared.folder.File.{File}
 use Rattle.up_conf.specs.declared.report.Fault.{Fault}
 use Rattle.up_stanza.specs.FaultCodes.{number_of}
 use Rattle.up_conf.specs.Folders.{Spot, spot_of}
