@@ -24,11 +24,12 @@ fn is_event(condition: &Option<Condition>, name: &str) -> bool {
 
 // Whether texts are these.
 fn are_texts(texts: &[Text], expected: &[&str]) -> bool {
+    for (text, bytes) in texts.iter().zip(expected) {
+        if !text.is(*bytes) {
+            return false;
+        }
+    }
     texts.len() == expected.len()
-        && texts
-            .iter()
-            .zip(expected)
-            .all(|(text, bytes)| text.is(*bytes))
 }
 
 // Whether a process runs these words.

@@ -1,8 +1,8 @@
 //! Folders that are compiled, and those that are refused.
 use std::alloc::{AllocError, Global};
 use std::test::Fail;
-use up_conf::Folder;
-use up_image::{CompileError, compile};
+use up_conf::{Folder, Report};
+use up_image::{CompileError, Table, compile};
 use up_text::{Items, Text};
 
 fn add(alloc: Global, folder: &mut Folder, path: &str, bytes: &[u8]) -> Result<(), AllocError> {
@@ -50,9 +50,8 @@ fn a_path_that_is_read_stands_once(rt: HostRuntime) -> Result<(), Fail> {
     Ok(())
 }
 
-#[test]
-fn a_table_lends_its_jobs_by_name(rt: HostRuntime) -> Result<(), Fail> {
-    let alloc = rt.alloc();
+// Five jobs, of which `a` has an override, and two faulty files.
+fn folder_of_five_jobs(alloc: Global) -> Result<Folder, AllocError> {
     let mut folder = Folder::new(alloc);
     for path in ["b.conf", "B.conf", "a-b.conf", "aa.conf", "a.conf"] {
         add(alloc, &mut folder, path, b"exec x\n")?;
@@ -61,17 +60,46 @@ fn a_table_lends_its_jobs_by_name(rt: HostRuntime) -> Result<(), Fail> {
     for path in ["z.conf", "x=.conf", "c.override"] {
         add(alloc, &mut folder, path, b"setuid root\n")?;
     }
-    let (table, report) = compile(alloc, &folder)?;
-    let names = ["B", "a", "a-b", "aa", "b"];
-    assert_eq!(rt; table.len(), names.len());
-    assert_eq!(rt; table.as_slice().len(), names.len());
-    for i in 0..names.len() {
-        assert_eq!(rt; table.job(i).name.as_str(), names[i]);
-        assert_eq!(rt; table.job(i).task, i == 1);
+    Ok(folder)
+}
+
+// Whether a table lends at its places jobs of these names, each a task or not.
+fn lends(table: &Table, named: &[(&str, bool)]) -> bool {
+    for (i, (name, task)) in named.iter().enumerate() {
+        if i >= table.len() {
+            return false;
+        }
+        let job = table.job(i);
+        if job.name.as_str() != *name || job.task != *task {
+            return false;
+        }
     }
-    assert_eq!(rt; report.len(), 2);
-    assert_eq!(rt; report.as_slice()[0].path.as_str(), "x=.conf");
-    assert_eq!(rt; report.as_slice()[1].path.as_str(), "z.conf");
+    table.len() == named.len() && table.as_slice().len() == named.len()
+}
+
+// Whether these files, and no others, are faulty.
+fn tells(report: &Report, paths: &[&str]) -> bool {
+    for (fault, path) in report.as_slice().iter().zip(paths) {
+        if !fault.path.is(*path) {
+            return false;
+        }
+    }
+    report.len() == paths.len()
+}
+
+#[test]
+fn a_table_lends_its_jobs_by_name(rt: HostRuntime) -> Result<(), Fail> {
+    let folder = folder_of_five_jobs(rt.alloc())?;
+    let made = compile(rt.alloc(), &folder)?;
+    let named = [
+        ("B", false),
+        ("a", true),
+        ("a-b", false),
+        ("aa", false),
+        ("b", false),
+    ];
+    assert!(rt; lends(&made.0, &named));
+    assert!(rt; tells(&made.1, &["x=.conf", "z.conf"]));
     Ok(())
 }
 
@@ -81,9 +109,9 @@ fn an_empty_folder_has_no_job(rt: HostRuntime) -> Result<(), Fail> {
     let mut folder = Folder::new(alloc);
     add(alloc, &mut folder, "a.override", b"setuid root\n")?;
     add(alloc, &mut folder, "a.override", b"setuid root\n")?;
-    let (table, report) = compile(alloc, &folder)?;
-    assert_eq!(rt; table.len(), 0);
-    assert!(rt; report.is_empty());
+    let made = compile(alloc, &folder)?;
+    assert!(rt; lends(&made.0, &[]));
+    assert!(rt; tells(&made.1, &[]) && made.1.is_empty());
     Ok(())
 }
 
@@ -97,29 +125,36 @@ fn folder_of_1024_jobs(alloc: Global) -> Result<Folder, AllocError> {
 }
 
 // Whether a folder gives so many jobs and faults.
-fn gives(alloc: Global, folder: &Folder, jobs: usize, faults: usize) -> Result<bool, CompileError> {
-    let (table, report) = compile(alloc, folder)?;
-    Ok(table.len() == jobs && report.len() == faults && report.is_empty() == (faults == 0))
+fn gives(alloc: Global, folder: &Folder, jobs: usize, faults: usize) -> bool {
+    match compile(alloc, folder) {
+        Ok(made) => made.0.len() == jobs && made.1.len() == faults,
+        Err(_) => false,
+    }
+}
+
+// Whether a folder is refused for this.
+fn is_refused(alloc: Global, folder: &Folder, error: CompileError) -> bool {
+    match compile(alloc, folder) {
+        Ok(_) => false,
+        Err(found) => found == error,
+    }
 }
 
 #[test]
 fn a_table_has_1024_jobs(rt: HostRuntime) -> Result<(), Fail> {
     let alloc = rt.alloc();
     let mut folder = folder_of_1024_jobs(alloc)?;
-    assert!(rt; gives(alloc, &folder, 1024, 0)?);
+    assert!(rt; gives(alloc, &folder, 1024, 0));
     add(alloc, &mut folder, "faulty.conf", b"setuid root\n")?;
-    assert!(rt; gives(alloc, &folder, 1024, 1)?);
+    assert!(rt; gives(alloc, &folder, 1024, 1));
     add(alloc, &mut folder, "1024.conf", b"exec x\n")?;
-    assert!(rt; matches!(compile(alloc, &folder), Err(CompileError::TooManyJobs)));
+    assert!(rt; is_refused(alloc, &folder, CompileError::TooManyJobs));
     add(alloc, &mut folder, "7.conf", b"exec x\n")?;
-    assert!(rt; matches!(compile(alloc, &folder), Err(CompileError::SameName)));
+    assert!(rt; is_refused(alloc, &folder, CompileError::SameName));
     Ok(())
 }
 
-// So many that a comparison of each two would take minutes.
-#[test]
-fn many_files_are_compared(rt: HostRuntime) -> Result<(), Fail> {
-    let alloc = rt.alloc();
+fn folder_of_65535_files(alloc: Global) -> Result<Folder, AllocError> {
     let mut folder = Folder::new(alloc);
     for n in 0..32_767u32 {
         let conf = format!(in alloc; "{n}.conf")?;
@@ -128,8 +163,15 @@ fn many_files_are_compared(rt: HostRuntime) -> Result<(), Fail> {
         add(alloc, &mut folder, over.as_str(), b"")?;
     }
     add(alloc, &mut folder, "last.conf", b"")?;
-    add(alloc, &mut folder, "0.override", b"")?;
-    assert!(rt; matches!(compile(alloc, &folder), Err(CompileError::SameName)));
+    Ok(folder)
+}
+
+// So many that a comparison of each two would take minutes.
+#[test]
+fn many_files_are_compared(rt: HostRuntime) -> Result<(), Fail> {
+    let mut folder = folder_of_65535_files(rt.alloc())?;
+    add(rt.alloc(), &mut folder, "0.override", b"")?;
+    assert!(rt; is_refused(rt.alloc(), &folder, CompileError::SameName));
     Ok(())
 }
 

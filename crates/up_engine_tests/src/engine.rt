@@ -6,9 +6,9 @@ use std::alloc::{AllocError, Global};
 use std::process::Abort;
 use std::test::Fail;
 use up_conf::Folder;
-use up_engine::{Engine, StepError};
+use up_engine::{Engine, Run, StepError};
 use up_image::{CompileError, Table, compile};
-use up_model::{Command, Event, How, Input, Output, Process, Request, Step, Who};
+use up_model::{Command, Event, How, Input, Order, Output, Process, Request, Step, Who};
 use up_text::{Env, Items, Name, Text, TextFault};
 
 /// Why a row couldn't be tried: memory was refused, or its file or a name isn't readable.
@@ -148,18 +148,21 @@ fn show_who(text: &mut String, who: &Who) -> Result<(), Untried> {
     Ok(())
 }
 
+fn show_order(text: &mut String, order: &Order) -> Result<(), Untried> {
+    text.push_str("spawn")?;
+    show_who(text, &order.who)?;
+    write!(text, " {:?} [", order.process)?;
+    for word in order.argv.as_slice() {
+        text.push_str(word.as_str())?;
+        text.push_str(" ")?;
+    }
+    write!(text, "] in {} silent={}", order.dir.as_str(), order.silent)?;
+    show_env(text, &order.env)
+}
+
 fn show(text: &mut String, output: &Output) -> Result<(), Untried> {
     match output {
-        Output::Spawn(order) => {
-            text.push_str("spawn")?;
-            show_who(text, &order.who)?;
-            write!(text, " {:?} [", order.process)?;
-            for word in order.argv.as_slice() {
-                write!(text, "{} ", word.as_str())?;
-            }
-            write!(text, "] in {} silent={}", order.dir.as_str(), order.silent)?;
-            show_env(text, &order.env)?;
-        }
+        Output::Spawn(order) => show_order(text, order)?,
         Output::Signal { who, pid, signal } => {
             text.push_str("signal")?;
             show_who(text, who)?;
@@ -204,8 +207,41 @@ fn table(alloc: Global, file: &str) -> Result<Table, Untried> {
         let bytes = Vec::from_slice(alloc, file.as_bytes())?;
         folder.add(path, Items::new(bytes))?;
     }
-    let (table, _) = compile(alloc, &folder)?;
-    Ok(table)
+    Ok(compile(alloc, &folder)?.0)
+}
+
+// The engine of a folder with this job file, or with none.
+fn engine(alloc: Global, file: &str) -> Result<Engine, Untried> {
+    let table = table(alloc, file)?;
+    Ok(Engine::new(alloc, table, Env::new(alloc)))
+}
+
+fn check_row(
+    rt: &impl Abort,
+    alloc: Global,
+    engine: &mut Engine,
+    place: usize,
+    row: &Row,
+) -> Result<(), Untried> {
+    let (given, outputs, live, turn) = *row;
+    let answer = engine.step(input(alloc, given)?);
+    let text = answer_shown(alloc, answer)?;
+    assert_eq!(rt; text.as_str(), outputs, "at row {place}");
+    assert_eq!(rt; engine.live_events(), live, "at row {place}");
+    assert_eq!(rt; engine.has_turn(), turn, "at row {place}");
+    Ok(())
+}
+
+fn check_each(
+    rt: &impl Abort,
+    alloc: Global,
+    engine: &mut Engine,
+    rows: &[Row],
+) -> Result<(), Untried> {
+    for (place, row) in rows.iter().enumerate() {
+        check_row(rt, alloc, engine, place, row)?;
+    }
+    Ok(())
 }
 
 pub(crate) fn check_rows(
@@ -214,16 +250,8 @@ pub(crate) fn check_rows(
     file: &str,
     rows: &[Row],
 ) -> Result<(), Untried> {
-    let table = table(alloc, file)?;
-    let mut engine = Engine::new(alloc, table, Env::new(alloc));
-    for (i, (given, outputs, live, turn)) in rows.iter().enumerate() {
-        let answer = engine.step(input(alloc, *given)?);
-        let text = answer_shown(alloc, answer)?;
-        assert_eq!(rt; text.as_str(), *outputs, "at row {i}");
-        assert_eq!(rt; engine.live_events(), *live, "at row {i}");
-        assert_eq!(rt; engine.has_turn(), *turn, "at row {i}");
-    }
-    Ok(())
+    let mut engine = engine(alloc, file)?;
+    check_each(rt, alloc, &mut engine, rows)
 }
 
 const START_FILE: &'static str = "start on startup\nexec /bin/true x\n";
@@ -275,11 +303,10 @@ fn stop_and_start_on_same_event(rt: HostRuntime) -> Result<(), Fail> {
 
 #[test]
 fn end_of_a_stranger(rt: HostRuntime) -> Result<(), Fail> {
-    let mut rows = vec![in rt.alloc(); (Given::Ended(How::Exit(0)), "40 NotExpected", 0, false)]?;
-    for row in &STARTUP {
-        rows.push(*row)?;
-    }
-    check_rows(&rt, rt.alloc(), START_FILE, rows.as_slice())?;
+    let mut engine = engine(rt.alloc(), START_FILE)?;
+    let stranger = [(Given::Ended(How::Exit(0)), "40 NotExpected", 0, false)];
+    check_each(&rt, rt.alloc(), &mut engine, &stranger)?;
+    check_each(&rt, rt.alloc(), &mut engine, &STARTUP)?;
     Ok(())
 }
 
@@ -310,35 +337,53 @@ fn is_row(alloc: Global, step: &Step, row: &Row) -> Result<bool, Untried> {
     }
 }
 
+fn check_left(rt: &impl Abort, engine: &Engine, live: usize, turn: bool) {
+    assert_eq!(rt; engine.live_events(), live);
+    assert_eq!(rt; engine.has_turn(), turn);
+}
+
+// The steps of a run are those of the row `startup`, or the first of them where the engine is down. Answers what the last one leaves.
+fn check_steps(rt: &impl Abort, alloc: Global, run: &Run) -> Result<(usize, bool), Untried> {
+    let steps = run.steps.as_slice();
+    assert!(rt; steps.len() <= STARTUP.len());
+    assert_eq!(rt; run.down, steps.len() < STARTUP.len());
+    let mut left = (0, false);
+    for (step, row) in steps.iter().zip(&STARTUP) {
+        assert!(rt; is_row(alloc, step, row)?);
+        left = (row.2, row.3);
+    }
+    Ok(left)
+}
+
 // A run of the row `startup`. Where memory is refused in its midst, its steps are the first of the row's, and the engine is down;
 // where it is refused before, nothing has happened. Answers whether memory sufficed.
-fn check_run(rt: &impl Abort, alloc: Global) -> Result<bool, Untried> {
-    let inputs = inputs(alloc, &STARTUP)?;
-    let table = table(alloc, START_FILE)?;
-    let mut engine = Engine::new(alloc, table, Env::new(alloc));
-    let mut seen = (0, false);
-    let mut down = false;
-    let mut whole = false;
+fn check_inputs(
+    rt: &impl Abort,
+    alloc: Global,
+    engine: &mut Engine,
+    inputs: Vec<Input>,
+) -> Result<bool, Untried> {
     match engine.run(inputs) {
         Ok(run) => {
-            let steps = run.steps.as_slice();
-            assert!(rt; steps.len() <= STARTUP.len());
-            assert_eq!(rt; run.down, steps.len() < STARTUP.len());
-            for (step, row) in steps.iter().zip(&STARTUP) {
-                assert!(rt; is_row(alloc, step, row)?);
-                seen = (row.2, row.3);
+            let (live, turn) = check_steps(rt, alloc, &run)?;
+            check_left(rt, engine, live, turn);
+            if run.down {
+                assert!(rt; matches!(engine.step(Input::Turn), Err(StepError::Down)));
             }
-            down = run.down;
-            whole = !down;
+            Ok(!run.down)
         }
-        Err(fault) => assert_eq!(rt; fault, StepError::Memory),
+        Err(fault) => {
+            assert_eq!(rt; fault, StepError::Memory);
+            check_left(rt, engine, 0, false);
+            Ok(false)
+        }
     }
-    assert_eq!(rt; engine.live_events(), seen.0);
-    assert_eq!(rt; engine.has_turn(), seen.1);
-    if down {
-        assert!(rt; matches!(engine.step(Input::Turn), Err(StepError::Down)));
-    }
-    Ok(whole)
+}
+
+fn check_run(rt: &impl Abort, alloc: Global) -> Result<bool, Untried> {
+    let inputs = inputs(alloc, &STARTUP)?;
+    let mut engine = engine(alloc, START_FILE)?;
+    check_inputs(rt, alloc, &mut engine, inputs)
 }
 
 #[test]

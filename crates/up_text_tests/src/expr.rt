@@ -399,22 +399,42 @@ fn environment(alloc: Global) -> Result<Env, Fail> {
     Ok(env)
 }
 
-fn check_match(rt: &impl Abort, alloc: Global, case: &Match, env: &Env) -> Result<(), Fail> {
+// The leaf that a text is.
+fn leaf_of(rt: &impl Abort, alloc: Global, text: &str) -> Result<Leaf, Fail> {
+    match parse(rt, alloc, text)??.into_expr() {
+        Expr::Leaf(leaf) => Ok(leaf),
+        Expr::And(_, _) | Expr::Or(_, _) => Err(Fail::from("the text is no leaf")),
+    }
+}
+
+// Where one allocation is made to fail, the next call answers the same.
+fn matches(
+    alloc: Global,
+    leaf: &Leaf,
+    event: &str,
+    vars: &Env,
+    env: &Env,
+) -> Result<Result<bool, ExprFault>, Fail> {
+    let event = Name::new(alloc, event)?;
+    match leaf_matches(alloc, leaf, &event, vars, env) {
+        Err(ExprFault::Memory) => Ok(leaf_matches(alloc, leaf, &event, vars, env)),
+        found => Ok(found),
+    }
+}
+
+fn vars_of(alloc: Global, pairs: &[(&str, &str)]) -> Result<Env, Fail> {
     let mut vars = Env::new(alloc);
-    for (key, value) in case.vars {
+    for (key, value) in pairs {
         vars.set(key, value)?;
     }
-    let event = Name::new(alloc, case.event)?;
-    match parse(rt, alloc, case.leaf)??.into_expr() {
-        Expr::Leaf(leaf) => {
-            let mut matches = leaf_matches(alloc, &leaf, &event, &vars, env);
-            if matches!(matches, Err(ExprFault::Memory)) {
-                matches = leaf_matches(alloc, &leaf, &event, &vars, env);
-            }
-            assert_eq!(rt; matches, Ok(case.matches), "{leaf:?}");
-        }
-        expr => panic!(rt; "{expr:?} is no leaf"),
-    }
+    Ok(vars)
+}
+
+fn check_match(rt: &impl Abort, alloc: Global, case: &Match, env: &Env) -> Result<(), Fail> {
+    let vars = vars_of(alloc, case.vars)?;
+    let leaf = leaf_of(rt, alloc, case.leaf)?;
+    let found = matches(alloc, &leaf, case.event, &vars, env)?;
+    assert_eq!(rt; found, Ok(case.matches), "{}", case.leaf);
     Ok(())
 }
 
@@ -441,23 +461,27 @@ fn values_expand(rt: HostRuntime) -> Result<(), Fail> {
     check_matches(&rt, rt.alloc(), &EXPANSIONS)
 }
 
+// A leaf of the event e whose variable X must not match this value.
+fn differing(alloc: Global, value: &str) -> Result<Leaf, Fail> {
+    let key = Text::from_str(alloc, "X")?;
+    let value = Text::from_str(alloc, value)?;
+    let values = vec![in alloc; Test::Differs(key, value)]?;
+    let event = Name::new(alloc, "e")?;
+    Ok(Leaf {
+        event,
+        values: Items::new(values),
+    })
+}
+
 // A value that no expression may have fails its leaf too, also where it must not match.
 #[test]
 fn malformed_values_fail(rt: HostRuntime) -> Result<(), Fail> {
     let env = environment(rt.alloc())?;
-    let event = Name::new(rt.alloc(), "e")?;
+    let none = Env::new(rt.alloc());
     for value in ["${Z", "${5}", "[[:x]"] {
-        let key = Text::from_str(rt.alloc(), "X")?;
-        let test = Test::Differs(key, Text::from_str(rt.alloc(), value)?);
-        let leaf = Leaf {
-            event: Name::new(rt.alloc(), "e")?,
-            values: Items::new(vec![in rt.alloc(); test]?),
-        };
-        let none = Env::new(rt.alloc());
-        assert!(rt;
-            !leaf_matches(rt.alloc(), &leaf, &event, &none, &env)?,
-            "{value:?}"
-        );
+        let leaf = differing(rt.alloc(), value)?;
+        let found = matches(rt.alloc(), &leaf, "e", &none, &env)?;
+        assert_eq!(rt; found, Ok(false), "{value:?}");
     }
     Ok(())
 }

@@ -5,7 +5,12 @@ use std::test::Fail;
 
 // The first of these files that hasn't a fault of this number at this line.
 fn first_other(alloc: Global, cases: &[(&[u8], u32, u8)]) -> Option<usize> {
-    cases.iter().position(|(bytes, line, number)| !has_fault(alloc, *bytes, *line, *number))
+    for (place, (bytes, line, number)) in cases.iter().enumerate() {
+        if !has_fault(alloc, *bytes, *line, *number) {
+            return Some(place);
+        }
+    }
+    None
 }
 
 #[test]

@@ -5,24 +5,29 @@ use std::test::Fail;
 use up_conf::{Folder, JobDef, Report, read_folder};
 use up_text::{Items, Text};
 
+fn add(alloc: Global, folder: &mut Folder, path: &str, bytes: &[u8]) -> Result<(), AllocError> {
+    let path = Text::from_str(alloc, path)?;
+    let bytes = Vec::from_slice(alloc, bytes)?;
+    folder.add(path, Items::new(bytes))
+}
+
 // The folder of these files.
 fn folder_of(alloc: Global, files: &[(&str, &[u8])]) -> Result<Folder, AllocError> {
     let mut folder = Folder::new(alloc);
     for (path, bytes) in files {
-        let path = Text::from_str(alloc, *path)?;
-        let bytes = Vec::from_slice(alloc, *bytes)?;
-        folder.add(path, Items::new(bytes))?;
+        add(alloc, &mut folder, *path, *bytes)?;
     }
     Ok(folder)
 }
 
 // Whether the jobs have these names.
 fn are_named(jobs: &[JobDef], names: &[&str]) -> bool {
+    for (job, name) in jobs.iter().zip(names) {
+        if job.name.as_str() != *name {
+            return false;
+        }
+    }
     jobs.len() == names.len()
-        && jobs
-            .iter()
-            .zip(names)
-            .all(|(job, name)| job.name.as_str() == *name)
 }
 
 // Whether a report has these paths, lines and numbers.
@@ -146,22 +151,26 @@ fn a_faulty_override_is_ignored(rt: HostRuntime) -> Result<(), Fail> {
     Ok(())
 }
 
+// A folder of so many jobs, each with an override.
+fn folder_of_many(alloc: Global, count: u32) -> Result<Folder, AllocError> {
+    let mut folder = Folder::new(alloc);
+    for n in 0..count {
+        let conf = format!(in alloc; "{n}.conf")?;
+        add(alloc, &mut folder, conf.as_str(), b"start on go\nexec x\n")?;
+        let over = format!(in alloc; "{n}.override")?;
+        add(alloc, &mut folder, over.as_str(), b"manual\n")?;
+    }
+    Ok(folder)
+}
+
 #[test]
 fn many_files_are_read(rt: HostRuntime) -> Result<(), Fail> {
-    let alloc = rt.alloc();
-    let mut folder = Folder::new(alloc);
-    for n in 0..1024u32 {
-        let path = Text::new(format!(in alloc; "{n}.conf")?);
-        folder.add(
-            path,
-            Items::new(Vec::from_slice(alloc, b"start on go\nexec x\n")?),
-        )?;
-        let path = Text::new(format!(in alloc; "{n}.override")?);
-        folder.add(path, Items::new(Vec::from_slice(alloc, b"manual\n")?))?;
-    }
-    let (jobs, report) = read_folder(alloc, &folder)?;
+    let folder = folder_of_many(rt.alloc(), 1024)?;
+    let (jobs, report) = read_folder(rt.alloc(), &folder)?;
     assert!(rt; report.is_empty());
     assert_eq!(rt; jobs.as_slice().len(), 1024);
-    assert!(rt; jobs.as_slice().iter().all(|job| job.start_on.is_none()));
+    for job in jobs.as_slice() {
+        assert!(rt; job.start_on.is_none());
+    }
     Ok(())
 }

@@ -1,7 +1,6 @@
 //! What stanzas make of a job.
 use crate::conf::{are_texts, is_event, runs};
 use std::alloc::{AllocError, Global};
-use std::process::Abort;
 use std::test::Fail;
 use up_conf::{ConfFault, Exit, JobDef, Setting, apply_override, job_of, read_conf};
 use up_text::Name;
@@ -25,16 +24,37 @@ fn job_alone(alloc: Global, conf: &[u8]) -> Result<JobDef, ConfFault> {
     Ok(job_of(alloc, name, &conf)?)
 }
 
+// Jobs of the name `a`, one of each of these files.
+fn jobs(alloc: Global, files: &[&[u8]]) -> Result<Vec<JobDef>, ConfFault> {
+    let mut jobs = Vec::with_capacity(alloc, files.len())?;
+    for file in files {
+        let job = job_alone(alloc, *file)?;
+        keep(&mut jobs, job)?;
+    }
+    Ok(jobs)
+}
+
+fn keep(jobs: &mut Vec<JobDef>, job: JobDef) -> Result<(), AllocError> {
+    jobs.push(job)?;
+    Ok(())
+}
+
+fn is_setting(setting: &Setting, key: &str, value: Option<&str>) -> bool {
+    let is_value = match &setting.value {
+        Some(found) => value == Some(found.as_str()),
+        None => value.is_none(),
+    };
+    setting.key.is(key) && is_value
+}
+
 // Whether settings are these.
 fn are_settings(settings: &[Setting], expected: &[(&str, Option<&str>)]) -> bool {
+    for (setting, (key, value)) in settings.iter().zip(expected) {
+        if !is_setting(setting, *key, *value) {
+            return false;
+        }
+    }
     settings.len() == expected.len()
-        && settings.iter().zip(expected).all(|(setting, pair)| {
-            setting.key.is(pair.0)
-                && match &setting.value {
-                    Some(value) => pair.1 == Some(value.as_str()),
-                    None => pair.1.is_none(),
-                }
-        })
 }
 
 // Whether these stand: `task`, `respawn` and `console none`.
@@ -64,44 +84,30 @@ fn has_processes(job: &JobDef, main: &[&str], pre_start: &[&str]) -> bool {
         && job.post_stop.is_none()
 }
 
-fn check_settings(rt: &impl Abort, alloc: Global) -> Result<(), ConfFault> {
-    let job = job_alone(
-        alloc,
-        b"task\nrespawn\ninstance a\ninstance $X\nchdir /a\nchdir /b\nconsole none\nconsole output\nkill timeout 7\nkill timeout 0\nkill signal INT\nkill signal 9\nrespawn limit 3 4\nrespawn limit unlimited\n",
-    )?;
-    assert!(rt; has_marks(&job, true, true, false));
-    assert!(rt; has_texts(&job, "$X", "/b"));
-    assert!(rt; has_numbers(&job, 9, 0, 0, 0));
-    Ok(())
-}
+const SETTINGS: &'static [u8] =
+    b"task\nrespawn\ninstance a\ninstance $X\nchdir /a\nchdir /b\nconsole none\nconsole output\nkill timeout 7\nkill timeout 0\nkill signal INT\nkill signal 9\nrespawn limit 3 4\nrespawn limit unlimited\n";
 
-fn check_processes_and_events(rt: &impl Abort, alloc: Global) -> Result<(), ConfFault> {
-    let job = job_alone(
-        alloc,
-        b"script\nb\nend script\nexec /bin/a\npre-start exec p\npre-start exec q\nrespawn limit 3 4\nconsole none\nstart on a\nstart on b\nstop on c\nstop on d\n",
-    )?;
-    assert!(rt; has_marks(&job, false, false, true));
-    assert!(rt; has_processes(&job, &["/bin/a"], &["q"]));
-    assert!(rt; is_event(&job.start_on, "b"));
-    assert!(rt; is_event(&job.stop_on, "d"));
-    assert!(rt; has_numbers(&job, 15, 5, 3, 4));
-    Ok(())
-}
-
-fn check_empty_file(rt: &impl Abort, alloc: Global) -> Result<(), ConfFault> {
-    let job = job_alone(alloc, b"")?;
-    assert!(rt; has_marks(&job, false, false, false));
-    assert!(rt; has_texts(&job, "", ""));
-    assert!(rt; has_numbers(&job, 15, 5, 10, 5));
-    assert!(rt; job.main.is_none());
-    Ok(())
-}
+const PROCESSES: &'static [u8] =
+    b"script\nb\nend script\nexec /bin/a\npre-start exec p\npre-start exec q\nrespawn limit 3 4\nconsole none\nstart on a\nstart on b\nstop on c\nstop on d\n";
 
 #[test]
 fn the_last_of_each_kind_counts(rt: HostRuntime) -> Result<(), Fail> {
-    check_settings(&rt, rt.alloc())?;
-    check_processes_and_events(&rt, rt.alloc())?;
-    check_empty_file(&rt, rt.alloc())?;
+    let jobs = jobs(rt.alloc(), &[SETTINGS, PROCESSES, b""])?;
+    let [settings, processes, empty] = jobs.as_slice() else {
+        return Err(Fail::from("a file gives no job"));
+    };
+    assert!(rt; has_marks(settings, true, true, false));
+    assert!(rt; has_texts(settings, "$X", "/b"));
+    assert!(rt; has_numbers(settings, 9, 0, 0, 0));
+    assert!(rt; has_marks(processes, false, false, true));
+    assert!(rt; has_processes(processes, &["/bin/a"], &["q"]));
+    assert!(rt; is_event(&processes.start_on, "b"));
+    assert!(rt; is_event(&processes.stop_on, "d"));
+    assert!(rt; has_numbers(processes, 15, 5, 3, 4));
+    assert!(rt; has_marks(empty, false, false, false));
+    assert!(rt; has_texts(empty, "", ""));
+    assert!(rt; has_numbers(empty, 15, 5, 10, 5));
+    assert!(rt; empty.main.is_none());
     Ok(())
 }
 
@@ -117,74 +123,65 @@ fn are_expected_exits(exits: &[Exit]) -> bool {
     }
 }
 
-fn check_sums(rt: &impl Abort, alloc: Global) -> Result<(), ConfFault> {
-    let job = job_alone(
-        alloc,
-        b"env A=1\nenv B\nenv A\nenv C=\nexport A B\nexport B C A\nnormal exit 0 TERM\nnormal exit 15 SIGTERM 0\n",
-    )?;
-    assert!(rt;
-        are_settings(
-            job.env.as_slice(),
-            &[("A", None), ("B", None), ("C", Some(""))]
-        )
-    );
-    assert!(rt; are_texts(job.export.as_slice(), &["A", "B", "C"]));
-    assert!(rt; are_expected_exits(job.normal.as_slice()));
-    Ok(())
-}
-
-fn check_manual(rt: &impl Abort, alloc: Global) -> Result<(), ConfFault> {
-    let job = job_alone(alloc, b"start on a\nmanual\nstop on b\n")?;
-    assert!(rt; job.start_on.is_none());
-    assert!(rt; is_event(&job.stop_on, "b"));
-    Ok(())
-}
-
-fn check_start_behind_manual(rt: &impl Abort, alloc: Global) -> Result<(), ConfFault> {
-    let job = job_alone(alloc, b"start on a\nmanual\nstart on b\n")?;
-    assert!(rt; is_event(&job.start_on, "b"));
-    Ok(())
-}
+const SUMS: &'static [u8] =
+    b"env A=1\nenv B\nenv A\nenv C=\nexport A B\nexport B C A\nnormal exit 0 TERM\nnormal exit 15 SIGTERM 0\n";
 
 #[test]
 fn others_add_up(rt: HostRuntime) -> Result<(), Fail> {
-    check_sums(&rt, rt.alloc())?;
-    check_manual(&rt, rt.alloc())?;
-    check_start_behind_manual(&rt, rt.alloc())?;
+    let manual = b"start on a\nmanual\nstop on b\n";
+    let started = b"start on a\nmanual\nstart on b\n";
+    let jobs = jobs(rt.alloc(), &[SUMS, manual, started])?;
+    let [sums, manual, started] = jobs.as_slice() else {
+        return Err(Fail::from("a file gives no job"));
+    };
+    let settings = [("A", None), ("B", None), ("C", Some(""))];
+    assert!(rt; are_settings(sums.env.as_slice(), &settings));
+    assert!(rt; are_texts(sums.export.as_slice(), &["A", "B", "C"]));
+    assert!(rt; are_expected_exits(sums.normal.as_slice()));
+    assert!(rt; manual.start_on.is_none());
+    assert!(rt; is_event(&manual.stop_on, "b"));
+    assert!(rt; is_event(&started.start_on, "b"));
     Ok(())
+}
+
+// Whether it is the job of the test below.
+fn is_overridden(job: &JobDef) -> bool {
+    let settings = [("A", Some("1")), ("B", Some("3")), ("C", None)];
+    are_settings(job.env.as_slice(), &settings)
+        && are_texts(job.export.as_slice(), &["B", "A"])
+        && runs(&job.main, &["y", "z"])
+        && has_marks(job, true, false, false)
+        && job.start_on.is_none()
 }
 
 #[test]
 fn an_override_goes_behind(rt: HostRuntime) -> Result<(), Fail> {
-    let alloc = rt.alloc();
     let job = job(
-        alloc,
+        rt.alloc(),
         b"start on a\nexec x\nenv A=1\nenv B=2\nexport B\ntask\n",
         b"env B=3\nenv C\nexport A B\nexec y z\nmanual\n",
     )?;
-    assert!(rt;
-        are_settings(
-            job.env.as_slice(),
-            &[("A", Some("1")), ("B", Some("3")), ("C", None)]
-        )
-    );
-    assert!(rt; are_texts(job.export.as_slice(), &["B", "A"]));
-    assert!(rt; runs(&job.main, &["y", "z"]));
-    assert!(rt; has_marks(&job, true, false, false));
-    assert!(rt; job.start_on.is_none());
+    assert!(rt; is_overridden(&job));
     Ok(())
 }
 
-#[test]
-fn many_keys_are_set(rt: HostRuntime) -> Result<(), Fail> {
-    let alloc = rt.alloc();
+fn file_of_many_keys(alloc: Global) -> Result<Vec<u8>, AllocError> {
     let mut text: Vec<u8> = Vec::new(alloc);
     for n in 0..30_000u32 {
         let line = format!(in alloc; "env K{n}={n}\nexport K{n}\n")?;
         text.extend_from_slice(line.as_bytes())?;
     }
-    let job = job_alone(alloc, text.as_slice())?;
-    assert_eq!(rt; job.env.as_slice().len(), 30_000);
-    assert_eq!(rt; job.export.as_slice().len(), 30_000);
+    Ok(text)
+}
+
+fn has_many_keys(job: &JobDef) -> bool {
+    job.env.as_slice().len() == 30_000 && job.export.as_slice().len() == 30_000
+}
+
+#[test]
+fn many_keys_are_set(rt: HostRuntime) -> Result<(), Fail> {
+    let text = file_of_many_keys(rt.alloc())?;
+    let job = job_alone(rt.alloc(), text.as_slice())?;
+    assert!(rt; has_many_keys(&job));
     Ok(())
 }

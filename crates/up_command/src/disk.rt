@@ -1,0 +1,82 @@
+//! Checks and replays folders on the disk.
+ghost use Rattle.std.specs.Prelude.{◌≡◌, ◌≤◌, ◌⊎◌, IfOk, IfSome, length};
+ghost use Rattle.up_command.specs.Disk.{ChecksDir, PlaysDir, PlaysFiles, IsUnusable};
+ghost use Rattle.up_command.specs.Walk.{IsWalked};
+
+use crate::walk::{WalkError, read_file, walk};
+use std::alloc::AllocError;
+use std::io::ErrorKind;
+use std::rt::Files;
+use up_conf::Folder;
+use up_replay::check::check;
+use up_replay::{Printed, cannot_use, print_folder, script_inputs};
+
+/// The most bytes that a script has: 64 MiB.
+const MAX_LEN: usize = 67_108_864;
+
+/// What a check of a folder on the disk prints.
+pub fn check_dir<R: Files + AllocGlobal + Clone + Drop>(
+    rt: &R,
+    dir: &str,
+) -> Result<Printed, AllocError>
+    ensures { IfOk result (ChecksDir dir.now) }
+{
+    match walk(rt, dir) {
+        Ok(folder) => check(rt.alloc(), &folder),
+        Err(WalkError::Unusable(path)) => cannot_use(rt.alloc(), path.as_str()),
+        Err(WalkError::Memory) => Err(AllocError),
+    }
+}
+
+// The bytes of a script, where it can be read and isn't too long.
+fn read_script<R: Files + AllocGlobal>(rt: &R, script: &str) -> Result<Option<Vec<u8>>, AllocError>
+    ensures { IfOk result (λ read. IfSome read (λ bytes. length bytes.items ≤ 67108864)) }
+{
+    match read_file(rt, script, MAX_LEN + 1) {
+        Ok(bytes) => {
+            if bytes.len() > MAX_LEN {
+                return Ok(None);
+            }
+            Ok(Some(bytes))
+        }
+        Err(error) => {
+            if error.kind() == ErrorKind::OutOfMemory {
+                return Err(AllocError);
+            }
+            Ok(None)
+        }
+    }
+}
+
+// What a script does to the files of a folder.
+fn replay_folder<R: Files + AllocGlobal>(
+    rt: &R,
+    folder: &Folder,
+    script: &str,
+) -> Result<Printed, AllocError>
+    requires { IsWalked folder.now }
+    ensures { IfOk result (λ made. PlaysFiles script.now made ⊎ IsUnusable script.now made) }
+{
+    match read_script(rt, script)? {
+        Some(bytes) => {
+            let read = script_inputs(rt.alloc(), bytes.as_slice(), 1)?;
+            print_folder(rt.alloc(), folder, script, read)
+        }
+        None => cannot_use(rt.alloc(), script),
+    }
+}
+
+/// What a replay of a script over a folder on the disk prints. Both are read before anything is printed, the folder first.
+pub fn replay_dir<R: Files + AllocGlobal + Clone + Drop>(
+    rt: &R,
+    dir: &str,
+    script: &str,
+) -> Result<Printed, AllocError>
+    ensures { IfOk result (PlaysDir dir.now script.now) }
+{
+    match walk(rt, dir) {
+        Ok(folder) => replay_folder(rt, &folder, script),
+        Err(WalkError::Unusable(path)) => cannot_use(rt.alloc(), path.as_str()),
+        Err(WalkError::Memory) => Err(AllocError),
+    }
+}

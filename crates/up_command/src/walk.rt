@@ -1,0 +1,288 @@
+//! Reads job files, and a folder of them with its subfolders, from the disk.
+ghost use Rattle.std.specs.Prelude.{◌≡◌, ◌≤◌, ◌<◌, ◌+◌, ◌++◌, ◌∷◌, [], map, if◌then◌else◌, true, is_some, IfOk, IfErr, IfSome, OnOk, length, string_bytes};
+ghost use Rattle.std.specs.IoError.{error_kind};
+ghost use Rattle.up_command.specs.Walk.{path_in, is_source, level_of, below, MayAdd, TakesPath, Keeps, IsWalked, Names, NamesDeep, NamesSource, MayFail};
+
+use std::alloc::{AllocError, Global};
+use std::io::{ErrorKind, Read};
+use std::rt::Files;
+use std::{fs, io};
+use up_conf::Folder;
+use up_text::{Items, Text};
+
+/// How many folders may lie in one another below the first.
+const MAX_DEPTH: u32 = 64;
+
+/// How many files and folders a folder may have, with those of its subfolders.
+const MAX_ENTRIES: usize = 65_536;
+
+/// One byte more than a job file has, by which its reader sees that it is too long.
+const MAX_READ: usize = 1_048_577;
+
+/// Why a folder isn't read.
+#[derive(Debug, Drop)]
+pub enum WalkError {
+    /// What has this path can't be listed, or not be read whole.
+    Unusable(Text),
+    /// Memory was refused.
+    Memory,
+}
+
+impl From<AllocError> for WalkError {
+    ghost use Rattle.std.specs.Prelude.{◌≡◌};
+    ghost use Rattle.up_command.specs.declared.walk.WalkError.TheVariants.{Memory};
+
+    ghost from_gives = { λ _ error. error ≡ Memory };
+
+    fn from(_: AllocError) -> WalkError {
+        WalkError::Memory
+    }
+}
+
+// A folder that is still to be listed.
+#[derive(Drop)]
+struct Level {
+    // Its path below the first folder, with a slash behind it; nothing for the first folder.
+    path: String,
+    depth: u32,
+}
+
+// What was found so far.
+#[derive(Drop)]
+struct Found {
+    folder: Folder,
+    levels: Vec<Level>,
+    entries: usize,
+}
+
+// Why what has this path can't be used.
+fn unusable(alloc: Global, path: &str) -> WalkError
+    ensures { Names path.now result }
+{
+    match Text::from_str(alloc, path) {
+        Ok(path) => WalkError::Unusable(path),
+        Err(_) => WalkError::Memory,
+    }
+}
+
+// What an error of the system says of this path.
+fn refused(alloc: Global, error: io::Error, path: &str) -> WalkError
+    ensures named { Names path.now result }
+    ensures memory { error_kind error ≡ ErrorKind.OutOfMemory → result ≡ WalkError.Memory }
+{
+    if error.kind() == ErrorKind::OutOfMemory {
+        WalkError::Memory
+    } else {
+        unusable(alloc, path)
+    }
+}
+
+// Whether a path stands for a job or an override.
+fn is_source(path: &str) -> bool
+    ensures { result ≡ is_source path.now }
+{
+    let path = path.as_bytes();
+    path.ends_with(b".conf") || path.ends_with(b".override")
+}
+
+// The path of what lies in a folder.
+fn joined(alloc: Global, dir: &str, path: &str) -> Result<String, AllocError>
+    ensures { IfOk result (λ whole. string_bytes whole ≡ path_in dir.now path.now) }
+{
+    let mut whole = String::from_str(alloc, dir)?;
+    if !dir.as_bytes().ends_with(b"/") {
+        whole.push_str("/")?;
+    }
+    whole.push_str(path)?;
+    Ok(whole)
+}
+
+/// The bytes of a file, but no more than `most`.
+pub fn read_file<R: Files + AllocGlobal>(rt: &R, path: &str, most: usize) -> io::Result<Vec<u8>>
+    ensures { IfOk result (λ bytes. length bytes.items ≤ most) }
+{
+    let mut bytes: Vec<u8> = Vec::new(rt.alloc());
+    let mut limited = Read::take(fs::open(rt, path)?, most as u64);
+    limited.read_to_end(&mut bytes)?;
+    bytes.truncate(most);
+    Ok(bytes)
+}
+
+// The bytes of a job file; none of another file. A pipe or a device is no file that could be read whole.
+fn read_source<R: Files + AllocGlobal>(
+    rt: &R,
+    whole: &str,
+    path: &str,
+    is_file: bool,
+) -> Result<Option<Vec<u8>>, WalkError>
+    ensures read { IfOk result (λ read. IfSome read (λ bytes. (is_source path.now ≡ true) × (length bytes.items ≤ 1048577))) }
+    ensures all { IfOk result (λ read. is_some read ≡ is_source path.now) }
+    ensures file { IfOk result (λ read. is_source path.now ≡ true → is_file ≡ true) }
+    ensures refused { IfErr result (NamesSource whole.now path.now) }
+{
+    if !is_source(path) {
+        return Ok(None);
+    }
+    if !is_file {
+        return Err(unusable(rt.alloc(), whole));
+    }
+    match read_file(rt, whole, MAX_READ) {
+        Ok(bytes) => Ok(Some(bytes)),
+        Err(error) => Err(refused(rt.alloc(), error, whole)),
+    }
+}
+
+impl Found {
+    // Keeps a file that stands for a job or an override.
+    fn take_file<R: Files + AllocGlobal>(
+        &mut self,
+        rt: &R,
+        whole: &str,
+        path: String,
+        is_file: bool,
+    ) -> Result<(), WalkError>
+        ensures refused { IfErr result (NamesSource whole.now (string_bytes path)) }
+        ensures added { OnOk result (MayAdd (string_bytes path) self.old.folder self.new.folder) }
+        ensures levels { self.new.levels ≡ self.old.levels }
+        ensures file { OnOk result (is_source (string_bytes path) ≡ true → is_file ≡ true) }
+        ensures taken { OnOk result (length self.new.folder ≡ length self.old.folder + (if is_source (string_bytes path) then 1 else 0)) }
+        ensures entries { self.new.entries ≡ self.old.entries }
+    {
+        if let Some(bytes) = read_source(rt, whole, path.as_str(), is_file)? {
+            self.folder.add(Text::new(path), Items::new(bytes))?;
+        }
+        Ok(())
+    }
+
+    // Keeps a folder to be listed, unless it lies too deep.
+    fn take_folder(
+        &mut self,
+        alloc: Global,
+        dir: &str,
+        mut path: String,
+        depth: u32,
+    ) -> Result<(), WalkError>
+        ensures refused { IfErr result (NamesDeep dir.now depth) }
+        ensures shallow { OnOk result (depth < 64) }
+        ensures later { OnOk result (map level_of self.new.levels.items ≡ map level_of self.old.levels.items ++ below (string_bytes path) depth ∷ []) }
+        ensures folder { self.new.folder ≡ self.old.folder }
+        ensures entries { self.new.entries ≡ self.old.entries }
+    {
+        if depth >= MAX_DEPTH {
+            return Err(unusable(alloc, dir));
+        }
+        path.push_str("/")?;
+        let level = Level {
+            path,
+            depth: depth + 1,
+        };
+        self.levels.push(level).map_err(AllocError::from)?;
+        Ok(())
+    }
+
+    // Takes what has this path below the folder, in a folder that lies so deep.
+    fn take_path<R: Files + AllocGlobal>(
+        &mut self,
+        rt: &R,
+        dir: &str,
+        path: String,
+        depth: u32,
+    ) -> Result<(), WalkError>
+        ensures refused { IfErr result (MayFail dir.now) }
+        ensures added { OnOk result (MayAdd (string_bytes path) self.old.folder self.new.folder) }
+        ensures taken { OnOk result (TakesPath (string_bytes path) depth self.old.folder self.new.folder (map level_of self.old.levels.items) (map level_of self.new.levels.items)) }
+        ensures entries { self.new.entries ≡ self.old.entries }
+    {
+        let whole = joined(rt.alloc(), dir, path.as_str())?;
+        match fs::metadata(rt, whole.as_str()) {
+            Ok(found) if found.is_dir() => self.take_folder(rt.alloc(), dir, path, depth),
+            Ok(found) => self.take_file(rt, whole.as_str(), path, found.is_file()),
+            Err(error) if is_source(path.as_str()) => {
+                Err(refused(rt.alloc(), error, whole.as_str()))
+            }
+            // A link to nothing, or what went since the folder was listed: by its name no job file.
+            Err(error) if error.kind() == ErrorKind::NotFound => Ok(()),
+            Err(error) => Err(refused(rt.alloc(), error, dir)),
+        }
+    }
+
+    // Takes what has this name in a folder.
+    fn take_entry<R: Files + AllocGlobal>(
+        &mut self,
+        rt: &R,
+        dir: &str,
+        level: &Level,
+        name: &str,
+    ) -> Result<(), WalkError>
+        requires { Keeps self.old.folder self.old.entries }
+        ensures refused { IfErr result (MayFail dir.now) }
+        ensures kept { OnOk result (Keeps self.new.folder self.new.entries) }
+        ensures added { OnOk result (MayAdd (string_bytes level.now.path ++ name.now) self.old.folder self.new.folder) }
+        ensures taken { OnOk result (TakesPath (string_bytes level.now.path ++ name.now) level.now.depth self.old.folder self.new.folder (map level_of self.old.levels.items) (map level_of self.new.levels.items)) }
+        ensures counted { OnOk result (self.new.entries ≡ self.old.entries + 1) }
+    {
+        if self.entries >= MAX_ENTRIES {
+            return Err(unusable(rt.alloc(), dir));
+        }
+        let mut path = String::from_str(rt.alloc(), level.path.as_str())?;
+        path.push_str(name)?;
+        self.take_path(rt, dir, path, level.depth)?;
+        self.entries += 1;
+        Ok(())
+    }
+
+    // Takes all that a folder has.
+    fn list<R: Files + AllocGlobal + Clone + Drop>(
+        &mut self,
+        rt: &R,
+        dir: &str,
+        level: &Level,
+    ) -> Result<(), WalkError>
+        requires { Keeps self.old.folder self.old.entries }
+        ensures refused { IfErr result (MayFail dir.now) }
+        ensures kept { OnOk result (Keeps self.new.folder self.new.entries) }
+    {
+        let whole = joined(rt.alloc(), dir, level.path.as_str())?;
+        let entries = match fs::read_dir(rt, whole.as_str()) {
+            Ok(entries) => entries,
+            Err(error) => return Err(refused(rt.alloc(), error, dir)),
+        };
+        for entry in entries {
+            match entry {
+                Ok(entry) => self.take_entry(rt, dir, level, entry.file_name())?,
+                Err(error) => return Err(refused(rt.alloc(), error, dir)),
+            }
+        }
+        Ok(())
+    }
+}
+
+/// Reads the job files and overrides of a folder and of its subfolders. Symbolic links are followed. A folder that can't be listed, that
+/// has too many entries or too deep a subfolder, and a name that is no text, make `dir` unusable.
+pub fn walk<R: Files + AllocGlobal + Clone + Drop>(rt: &R, dir: &str) -> Result<Folder, WalkError>
+    ensures walked { IfOk result IsWalked }
+    ensures refused { IfErr result (MayFail dir.now) }
+{
+    // No path names no folder; joined with a slash it would be the root.
+    if dir.is_empty() {
+        return Err(unusable(rt.alloc(), dir));
+    }
+    let mut found = Found {
+        folder: Folder::new(rt.alloc()),
+        levels: Vec::new(rt.alloc()),
+        entries: 0,
+    };
+    let first = Level {
+        path: String::new(rt.alloc()),
+        depth: 0,
+    };
+    found.levels.push(first).map_err(AllocError::from)?;
+    // Each folder but the first is an entry.
+    'listing: for _ in 0..=MAX_ENTRIES {
+        match found.levels.pop() {
+            Some(level) => found.list(rt, dir, &level)?,
+            None => return Ok(found.folder),
+        }
+    }
+    Err(unusable(rt.alloc(), dir))
+}
