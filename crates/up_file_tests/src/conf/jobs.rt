@@ -154,14 +154,18 @@ fn is_overridden(job: &JobDef) -> bool {
         && job.start_on.is_none()
 }
 
-#[test]
-fn an_override_goes_behind(rt: HostRuntime) -> Result<(), Fail> {
+fn overrides(alloc: Global) -> Result<bool, ConfFault> {
     let job = job(
-        rt.alloc(),
+        alloc,
         b"start on a\nexec x\nenv A=1\nenv B=2\nexport B\ntask\n",
         b"env B=3\nenv C\nexport A B\nexec y z\nmanual\n",
     )?;
-    assert!(rt; is_overridden(&job));
+    Ok(is_overridden(&job))
+}
+
+#[test]
+fn an_override_goes_behind(rt: HostRuntime) -> Result<(), Fail> {
+    assert!(rt; overrides(rt.alloc())?);
     Ok(())
 }
 
@@ -174,14 +178,14 @@ fn file_of_many_keys(alloc: Global) -> Result<Vec<u8>, AllocError> {
     Ok(text)
 }
 
-fn has_many_keys(job: &JobDef) -> bool {
-    job.env.as_slice().len() == 30_000 && job.export.as_slice().len() == 30_000
+fn sets_many_keys(alloc: Global, text: &[u8]) -> Result<bool, ConfFault> {
+    let job = job_alone(alloc, text)?;
+    Ok(job.env.as_slice().len() == 30_000 && job.export.as_slice().len() == 30_000)
 }
 
 #[test]
 fn many_keys_are_set(rt: HostRuntime) -> Result<(), Fail> {
     let text = file_of_many_keys(rt.alloc())?;
-    let job = job_alone(rt.alloc(), text.as_slice())?;
-    assert!(rt; has_many_keys(&job));
+    assert!(rt; sets_many_keys(rt.alloc(), text.as_slice())?);
     Ok(())
 }

@@ -1,5 +1,0 @@
-//! The tests of `up_engine`, over its public interface.
-#![tactic(auto)]
-
-#[cfg(test)]
-mod engine;

@@ -1,0 +1,155 @@
+//! Copies of values, and the names of commands.
+use std::alloc::{AllocError, Global};
+use std::test::Fail;
+use up_model::{Command, Event, How, Input, Process, Request, Who};
+use up_text::{Env, Name, Text, TextFault};
+
+fn who(alloc: Global) -> Result<Who, TextFault> {
+    let job = Name::new(alloc, "a")?;
+    let instance = Text::from_str(alloc, "i")?;
+    Ok(Who { job, instance })
+}
+
+fn vars(alloc: Global) -> Result<Env, TextFault> {
+    let mut vars = Env::new(alloc);
+    vars.set("A", "1")?;
+    vars.set("B", "2")?;
+    Ok(vars)
+}
+
+fn request(alloc: Global) -> Result<Request, TextFault> {
+    Ok(Request {
+        command: Command::Start,
+        wait: true,
+        name: Text::from_str(alloc, "a")?,
+        vars: vars(alloc)?,
+    })
+}
+
+fn is_who(who: &Who) -> bool {
+    who.job.as_str() == "a" && who.instance.is("i")
+}
+
+fn are_vars(vars: &Env) -> bool {
+    vars.len() == 2 && vars.at(0) == ("A", "1") && vars.at(1) == ("B", "2")
+}
+
+fn is_request(request: &Request) -> bool {
+    request.command == Command::Start
+        && request.wait
+        && request.name.is("a")
+        && are_vars(&request.vars)
+}
+
+fn event(alloc: Global) -> Result<Event, TextFault> {
+    let name = Name::new(alloc, "go")?;
+    let vars = vars(alloc)?;
+    Ok(Event { name, vars })
+}
+
+fn is_event(event: &Event) -> bool {
+    event.name.as_str() == "go" && are_vars(&event.vars)
+}
+
+fn who_is_copied(who: Who) -> Result<bool, AllocError> {
+    let copied = who.copy()?;
+    Ok(is_who(&copied))
+}
+
+fn event_is_copied(event: Event) -> Result<bool, AllocError> {
+    let copied = event.copy()?;
+    Ok(is_event(&copied))
+}
+
+fn request_is_copied(request: Request) -> Result<bool, AllocError> {
+    let copied = request.copy()?;
+    Ok(is_request(&copied))
+}
+
+#[test]
+fn copies(rt: HostRuntime) -> Result<(), Fail> {
+    let alloc = rt.alloc();
+    assert!(rt; who_is_copied(who(alloc)?)?);
+    assert!(rt; event_is_copied(event(alloc)?)?);
+    assert!(rt; request_is_copied(request(alloc)?)?);
+    Ok(())
+}
+
+const PROCESS: Process = Process::PostStop;
+
+// One input of each kind.
+fn input(alloc: Global, kind: u8) -> Result<Input, TextFault> {
+    let made = match kind {
+        0 => Input::Request {
+            id: 7,
+            request: request(alloc)?,
+        },
+        1 => Input::Emit(event(alloc)?),
+        2 => Input::Spawned {
+            who: who(alloc)?,
+            process: PROCESS,
+            pid: 100,
+        },
+        3 => Input::Refused {
+            who: who(alloc)?,
+            process: PROCESS,
+        },
+        4 => Input::Ended {
+            who: who(alloc)?,
+            process: PROCESS,
+            how: How::Signal(15),
+        },
+        5 => Input::Clock(5),
+        _ => Input::Turn,
+    };
+    Ok(made)
+}
+
+// Whether it is the input of this kind.
+fn is_input(kind: u8, input: &Input) -> bool {
+    match input {
+        Input::Request { id, request } => kind == 0 && *id == 7 && is_request(request),
+        Input::Emit(event) => kind == 1 && is_event(event),
+        Input::Spawned { who, process, pid } => {
+            kind == 2 && is_who(who) && *process == PROCESS && *pid == 100
+        }
+        Input::Refused { who, process } => kind == 3 && is_who(who) && *process == PROCESS,
+        Input::Ended { who, process, how } => {
+            kind == 4 && is_who(who) && *process == PROCESS && *how == How::Signal(15)
+        }
+        Input::Clock(reading) => kind == 5 && *reading == 5,
+        Input::Turn => kind == 6,
+    }
+}
+
+fn input_is_copied(kind: u8, input: Input) -> Result<bool, AllocError> {
+    let copied = input.copy()?;
+    Ok(is_input(kind, &copied))
+}
+
+#[test]
+fn copies_of_inputs(rt: HostRuntime) -> Result<(), Fail> {
+    for kind in 0..7u8 {
+        let input = input(rt.alloc(), kind)?;
+        assert!(rt; input_is_copied(kind, input)?, "kind {kind}");
+    }
+    Ok(())
+}
+
+#[test]
+fn commands(rt: HostRuntime) {
+    let named = [
+        (Command::Start, "start"),
+        (Command::Stop, "stop"),
+        (Command::Restart, "restart"),
+        (Command::Status, "status"),
+        (Command::List, "list"),
+        (Command::Emit, "emit"),
+        (Command::Reload, "reload"),
+        (Command::ReloadConfiguration, "reload-configuration"),
+        (Command::Version, "version"),
+    ];
+    for (command, name) in named {
+        assert_eq!(rt; command.name(), name);
+    }
+}

@@ -1,0 +1,15 @@
+//! The tests of the libraries that run jobs, over their public interfaces and the disk: `up_engine`, `up_replay` and `up_command`.
+#![tactic(auto)]
+
+#[cfg(test)]
+mod command;
+#[cfg(test)]
+mod disk;
+#[cfg(test)]
+mod engine;
+#[cfg(test)]
+mod failures;
+#[cfg(test)]
+mod replay;
+#[cfg(test)]
+mod walk;
