@@ -77,8 +77,20 @@ fn list_settings(
     Ok(Items::new(settings))
 }
 
-/// What the stanzas of two files set.
+// Sets what the stanzas of two files set.
 #[tactic(auto, using(crate::proofs::Gathers::summed_both))]
+fn put_both<'a>(
+    map: &mut IndexMap<&'a str, &'a Option<Text>>,
+    conf: &'a [Stanza],
+    over: &'a [Stanza],
+) -> Result<(), AllocError>
+    ensures { OnOk result (settings_in map.new.entries ≡ summed env_with (settings_in map.old.entries) (conf.now ++ over.now)) }
+{
+    put_stanzas(map, conf)?;
+    put_stanzas(map, over)
+}
+
+/// What the stanzas of two files set.
 pub(crate) fn gather_env(
     alloc: Global,
     conf: &[Stanza],
@@ -87,10 +99,12 @@ pub(crate) fn gather_env(
     ensures { IfOk result (λ env. env ≡ summed env_with [] (conf.now ++ over.now)) }
 {
     let mut map: IndexMap<&str, &Option<Text>> = IndexMap::new(alloc);
-    put_stanzas(&mut map, conf)?;
-    put_stanzas(&mut map, over)?;
-    let settings = list_settings(alloc, &map)?;
-    Ok(settings)
+    let settings = match put_both(&mut map, conf, over) {
+        Ok(()) => list_settings(alloc, &map),
+        Err(error) => Err(error),
+    };
+    drop(map);
+    settings
 }
 
 // Adds a key, where it isn't there.
@@ -132,8 +146,20 @@ fn add_stanzas<'a>(keys: &mut IndexSet<&'a str>, stanzas: &'a [Stanza]) -> Resul
     Ok(())
 }
 
-/// The keys that the stanzas of two files export.
+// Adds what the stanzas of two files export.
 #[tactic(auto, using(crate::proofs::Gathers::summed_both))]
+fn add_both<'a>(
+    keys: &mut IndexSet<&'a str>,
+    conf: &'a [Stanza],
+    over: &'a [Stanza],
+) -> Result<(), AllocError>
+    ensures { OnOk result (map (λ k. k.now) keys.new.keys ≡ summed export_with (map (λ k. k.now) keys.old.keys) (conf.now ++ over.now)) }
+{
+    add_stanzas(keys, conf)?;
+    add_stanzas(keys, over)
+}
+
+/// The keys that the stanzas of two files export.
 pub(crate) fn gather_export(
     alloc: Global,
     conf: &[Stanza],
@@ -142,8 +168,10 @@ pub(crate) fn gather_export(
     ensures { IfOk result (λ export. export ≡ summed export_with [] (conf.now ++ over.now)) }
 {
     let mut keys: IndexSet<&str> = IndexSet::new(alloc);
-    add_stanzas(&mut keys, conf)?;
-    add_stanzas(&mut keys, over)?;
-    let export = copy_keys(alloc, keys.as_slice())?;
-    Ok(export)
+    let export = match add_both(&mut keys, conf, over) {
+        Ok(()) => copy_keys(alloc, keys.as_slice()),
+        Err(error) => Err(error),
+    };
+    drop(keys);
+    export
 }

@@ -3,6 +3,7 @@
 //! Everything above this crate takes the stanzas of a file from here too.
 #![tactic(auto)]
 
+mod both;
 mod copies;
 pub mod files;
 pub mod folder;

@@ -1,25 +1,39 @@
 //! What stanzas make of a job.
-ghost use Rattle.std.specs.Prelude.{◌≡◌, ◌++◌, IfOk};
-ghost use Rattle.up_conf.specs.Jobs.{job_of};
+ghost use Rattle.std.specs.Prelude.{◌≡◌, ◌++◌, [], IfOk};
+ghost use Rattle.up_conf.specs.Gathering.{others_after};
+ghost use Rattle.up_conf.specs.Jobs.{job_of, plain_job};
 
+use crate::both::both;
 use crate::gathered::{gather_env, gather_export};
 use crate::job::JobDef;
-use crate::outline::{plain_outline, with_stanzas};
+use crate::outline::{Outline, plain_outline, with_stanzas};
 use std::alloc::{AllocError, Global};
 use up_stanza::{Stanza, Stanzas};
 use up_text::Name;
+
+// What the stanzas of two files make of a job, but for its keys.
+fn outline_of<'a>(
+    alloc: Global,
+    conf: &'a [Stanza],
+    over: &'a [Stanza],
+) -> Result<Outline<'a>, AllocError>
+    ensures { IfOk result (λ outline. outline ≡ others_after (others_after (plain_job []) conf.now) over.now) }
+{
+    let outline = with_stanzas(plain_outline(alloc), conf)?;
+    with_stanzas(outline, over)
+}
 
 // The job of this name that the stanzas of two files define.
 #[tactic(auto, using(crate::proofs::Meanings::job_of_both))]
 fn define(alloc: Global, name: Name, conf: &[Stanza], over: &[Stanza]) -> Result<JobDef, AllocError>
     ensures { IfOk result (λ job. job ≡ job_of name (conf.now ++ over.now)) }
 {
-    let env = gather_env(alloc, conf, over)?;
-    let export = gather_export(alloc, conf, over)?;
-    let outline = with_stanzas(plain_outline(alloc), conf)?;
-    let outline = with_stanzas(outline, over)?;
-    let job = outline.into_job(alloc, name, env, export)?;
-    Ok(job)
+    let keys = both(
+        gather_env(alloc, conf, over),
+        gather_export(alloc, conf, over),
+    );
+    let (outline, (env, export)) = both(outline_of(alloc, conf, over), keys)?;
+    outline.into_job(alloc, name, env, export)
 }
 
 /// The job of this name that stanzas define: the last of each kind counts, `env`, `export` and `normal exit` add up, and `manual`

@@ -103,9 +103,14 @@ fn read_override(alloc: Global, paths: &Paths, name: &str) -> Result<Stanzas, Al
 fn define(alloc: Global, paths: &Paths, name: Name, stanzas: &Stanzas) -> Result<JobDef, AllocError>
     ensures { IfOk result (λ job. job ≡ job_of name (stanzas.now ++ override_of paths.now name)) }
 {
-    let over = read_override(alloc, paths, name.as_str())?;
-    let job = apply_override(alloc, name, stanzas, &over)?;
-    Ok(job)
+    match read_override(alloc, paths, name.as_str()) {
+        Ok(over) => {
+            let job = apply_override(alloc, name, stanzas, &over);
+            drop(over);
+            job
+        }
+        Err(error) => Err(error),
+    }
 }
 
 // What the file of a job says: the job, or the fault.
@@ -128,7 +133,11 @@ fn read_job(
         return Ok(Err(tell(&file.path, fault)?));
     };
     match read_bytes(alloc, file.bytes.as_slice())? {
-        Ok(stanzas) => Ok(Ok(define(alloc, paths, name, &stanzas)?)),
+        Ok(stanzas) => {
+            let job = define(alloc, paths, name, &stanzas);
+            drop(stanzas);
+            Ok(Ok(job?))
+        }
         Err(fault) => Ok(Err(tell(&file.path, fault)?)),
     }
 }

@@ -2,10 +2,11 @@
 //! copied.
 ghost use Rattle.std.specs.Prelude.{◌≡◌, ◌∷◌, [], IfOk, option_copied, unwrap_or};
 ghost use Rattle.std.specs.List.{list_any};
-ghost use Rattle.up_stanza.specs.declared.stanza.Stanza.TheVariants.{Manual, NormalExit, Runs};
+ghost use Rattle.up_stanza.specs.declared.stanza.Stanza.TheVariants.{NormalExit, Runs};
 ghost use Rattle.up_conf.specs.Jobs.{added, all_added, is_silent, plain_job, same_exit};
 ghost use Rattle.up_conf.specs.Gathering.{others_after};
 
+use crate::both::both;
 use crate::copies::copy_action;
 use crate::job::JobDef;
 use std::alloc::{AllocError, Global};
@@ -152,67 +153,32 @@ fn with_normal<'a>(job: Outline<'a>, exits: &[Exit]) -> Result<Outline<'a>, Allo
     Ok(job)
 }
 
-// The job after no event is to start it.
-fn without_start<'a>(job: Outline<'a>) -> Outline<'a>
-    ensures { result ≡ others_after job.entry (Manual ∷ []) }
-{
-    Outline {
-        start_on: None,
-        ..job
-    }
-}
-
 // The job after a stanza, but for the keys that it sets and exports.
 fn with_stanza<'a>(job: Outline<'a>, stanza: &'a Stanza) -> Result<Outline<'a>, AllocError>
     ensures { IfOk result (λ new. new ≡ others_after job.entry (stanza.now ∷ [])) }
 {
+    let mut job = job;
     match stanza {
-        Stanza::About(_) => Ok(job),
-        Stanza::Emits(_) => Ok(job),
-        Stanza::Env(_) => Ok(job),
-        Stanza::Export(_) => Ok(job),
-        Stanza::Task => Ok(Outline { task: true, ..job }),
-        Stanza::Manual => Ok(without_start(job)),
-        Stanza::Respawn => Ok(Outline {
-            respawn: true,
-            ..job
-        }),
-        Stanza::RespawnLimit(limit) => Ok(Outline {
-            limit: *limit,
-            ..job
-        }),
-        Stanza::NormalExit(exits) => with_normal(job, exits.as_slice()),
-        Stanza::KillTimeout(seconds) => Ok(Outline {
-            kill_timeout: *seconds,
-            ..job
-        }),
-        Stanza::KillSignal(signal) => Ok(Outline {
-            kill_signal: *signal,
-            ..job
-        }),
-        Stanza::ReloadSignal(_) => Ok(job),
-        Stanza::Instance(name) => Ok(Outline {
-            instance: Some(name),
-            ..job
-        }),
-        Stanza::Console(console) => Ok(Outline {
-            silent: is_silent(*console),
-            ..job
-        }),
-        Stanza::Chdir(dir) => Ok(Outline {
-            dir: Some(dir),
-            ..job
-        }),
-        Stanza::Runs(process, action) => Ok(with_action(job, *process, action)),
-        Stanza::StartOn(tree) => Ok(Outline {
-            start_on: Some(tree),
-            ..job
-        }),
-        Stanza::StopOn(tree) => Ok(Outline {
-            stop_on: Some(tree),
-            ..job
-        }),
+        Stanza::NormalExit(exits) => return with_normal(job, exits.as_slice()),
+        Stanza::Runs(process, action) => return Ok(with_action(job, *process, action)),
+        Stanza::Task => job.task = true,
+        Stanza::Manual => job.start_on = None,
+        Stanza::Respawn => job.respawn = true,
+        Stanza::RespawnLimit(limit) => job.limit = *limit,
+        Stanza::KillTimeout(seconds) => job.kill_timeout = *seconds,
+        Stanza::KillSignal(signal) => job.kill_signal = *signal,
+        Stanza::Instance(name) => job.instance = Some(name),
+        Stanza::Console(console) => job.silent = is_silent(*console),
+        Stanza::Chdir(dir) => job.dir = Some(dir),
+        Stanza::StartOn(tree) => job.start_on = Some(tree),
+        Stanza::StopOn(tree) => job.stop_on = Some(tree),
+        Stanza::About(_)
+        | Stanza::Emits(_)
+        | Stanza::Env(_)
+        | Stanza::Export(_)
+        | Stanza::ReloadSignal(_) => {}
     }
+    Ok(job)
 }
 
 /// The job after stanzas, but for the keys that they set and export.
@@ -274,26 +240,46 @@ impl<'a> Outline<'a> {
     ) -> Result<JobDef, AllocError>
         ensures { IfOk result (λ job. job ≡ record self.entry { name = name; env = env; export = export }) }
     {
+        let texts = both(copy_text(alloc, self.instance), copy_text(alloc, self.dir));
+        let starts = both(
+            copy_run(alloc, self.pre_start),
+            copy_run(alloc, self.post_start),
+        );
+        let stops = both(
+            copy_run(alloc, self.pre_stop),
+            copy_run(alloc, self.post_stop),
+        );
+        let runs = both(copy_run(alloc, self.main), both(starts, stops));
+        let trees = both(
+            copy_tree(alloc, self.start_on),
+            copy_tree(alloc, self.stop_on),
+        );
+        let (texts, (runs, trees)) = both(texts, both(runs, trees))?;
+        let (instance, dir) = texts;
+        let (main, (starts, stops)) = runs;
+        let (pre_start, post_start) = starts;
+        let (pre_stop, post_stop) = stops;
+        let (start_on, stop_on) = trees;
         Ok(JobDef {
             name,
             task: self.task,
             respawn: self.respawn,
             silent: self.silent,
-            instance: copy_text(alloc, self.instance)?,
-            dir: copy_text(alloc, self.dir)?,
+            instance,
+            dir,
             limit: self.limit,
             kill_signal: self.kill_signal,
             kill_timeout: self.kill_timeout,
             env,
             export,
             normal: self.normal,
-            main: copy_run(alloc, self.main)?,
-            pre_start: copy_run(alloc, self.pre_start)?,
-            post_start: copy_run(alloc, self.post_start)?,
-            pre_stop: copy_run(alloc, self.pre_stop)?,
-            post_stop: copy_run(alloc, self.post_stop)?,
-            start_on: copy_tree(alloc, self.start_on)?,
-            stop_on: copy_tree(alloc, self.stop_on)?,
+            main,
+            pre_start,
+            post_start,
+            pre_stop,
+            post_stop,
+            start_on,
+            stop_on,
         })
     }
 }

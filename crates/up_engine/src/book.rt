@@ -59,14 +59,25 @@ fn update(queue: &mut Vec<Live>, next: &Record, place: usize) -> Result<(), Allo
     Ok(())
 }
 
+// A record is dropped by a call: at the end of a scope its drop takes the prover twenty seconds.
 fn append(records: &mut Vec<Record>, queue: &mut Vec<Live>, next: Record) -> Result<(), AllocError>
     ensures entry { OnOk result (chronicle records.new.items ≡ entry_of next ∷ chronicle records.old.items) }
     ensures kept { map live_of queue.old.items ≡ model.queue (chronicle records.old.items) → map live_of queue.new.items ≡ model.queue (chronicle records.new.items) }
 {
-    records.reserve(1)?;
-    update(queue, &next, records.len())?;
-    records.push(next).unwrap();
-    Ok(())
+    if let Err(error) = records.reserve(1) {
+        drop(next);
+        return Err(error);
+    }
+    match update(queue, &next, records.len()) {
+        Ok(()) => {
+            records.push(next).unwrap();
+            Ok(())
+        }
+        Err(error) => {
+            drop(next);
+            Err(error)
+        }
+    }
 }
 
 fn count_live(queue: &Vec<Live>) -> usize

@@ -209,6 +209,28 @@ fn effect(
     }
 }
 
+fn add_found(book: &mut Book, found: Option<Record>) -> Result<(), AllocError>
+    ensures { OnOk result (book.new ≡ entries_of found ++ book.old) }
+{
+    match found {
+        Some(next) => book.add(next),
+        None => Ok(()),
+    }
+}
+
+// Adds an input, and behind it what it does.
+fn add_given(book: &mut Book, given: Input, found: Option<Record>) -> Result<(), AllocError>
+    ensures { OnOk result (book.new ≡ entries_of found ++ entry.Given given ∷ book.old) }
+{
+    match book.add(Record::Given(given)) {
+        Ok(()) => add_found(book, found),
+        Err(error) => {
+            drop(found);
+            Err(error)
+        }
+    }
+}
+
 /// Takes an input in, with its own effect, where `turn` is the event that a turn would take.
 pub(crate) fn act(
     alloc: Global,
@@ -219,10 +241,11 @@ pub(crate) fn act(
 ) -> Result<(), AllocError>
     ensures { OnOk result ((base : List (List ℕ × List ℕ)) → option_map live_of turn ≡ model.turn_event base jobs.now (queue book.old) book.old → book.new ≡ model.effect base jobs.now given book.old ++ book.old) }
 {
-    let effect = effect(alloc, jobs, book, &given, turn)?;
-    book.add(Record::Given(given))?;
-    if let Some(next) = effect {
-        book.add(next)?;
+    match effect(alloc, jobs, book, &given, turn) {
+        Ok(found) => add_given(book, given, found),
+        Err(error) => {
+            drop(given);
+            Err(error)
+        }
     }
-    Ok(())
 }

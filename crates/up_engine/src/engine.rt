@@ -78,9 +78,11 @@ impl Engine {
         ensures down { IsDown self.old → (result ≡ Err StepError.Down) × (self.new ≡ self.old) }
     {
         if self.down {
+            drop(given);
             return Err(StepError::Down);
         }
         if !is_expected(&self.book, self.table.as_slice(), &given) {
+            drop(given);
             return Err(StepError::NotExpected);
         }
         self.live = self.book.live_events();
@@ -94,9 +96,17 @@ impl Engine {
             self.turn,
         )?;
         let found = outputs(self.alloc, self.table.as_slice(), self.book.records())?;
-        self.turn = turn_event(self.alloc, &self.base, &self.book, self.table.as_slice())?;
-        self.down = false;
-        Ok(found)
+        match turn_event(self.alloc, &self.base, &self.book, self.table.as_slice()) {
+            Ok(turn) => {
+                self.turn = turn;
+                self.down = false;
+                Ok(found)
+            }
+            Err(error) => {
+                drop(found);
+                Err(error.into())
+            }
+        }
     }
 
     // The answer to one input of a run, or none where memory was refused.

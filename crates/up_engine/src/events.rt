@@ -127,6 +127,23 @@ fn names_of(alloc: Global, book: &Book, places: &[usize]) -> Result<String, Allo
     Ok(text)
 }
 
+// Puts behind the base environment what a start by these events tells.
+fn add_start(
+    env: &mut Env,
+    book: &Book,
+    places: &[usize],
+    names: &str,
+    job: &Name,
+    name: &str,
+) -> Result<(), AllocError>
+    ensures { OnOk result (names.now ≡ model.names_of (model.events_at places.now book.now) → env.new ≡ model.start_env env.old (model.events_at places.now book.now) (record { job = job.now; instance = name.now })) }
+{
+    collect(env, book, places)?;
+    put(env, "UPSTART_EVENTS", names)?;
+    put(env, "UPSTART_JOB", job.as_str())?;
+    put(env, "UPSTART_INSTANCE", name)
+}
+
 /// The environment of a start by the events at these places.
 pub(crate) fn start_env(
     alloc: Global,
@@ -138,11 +155,8 @@ pub(crate) fn start_env(
 ) -> Result<Env, AllocError>
     ensures { IfOk result (λ env. env ≡ model.start_env base.now (model.events_at places.now book.now) (record { job = job.now; instance = name.now })) }
 {
-    let mut env = base.copy()?;
-    collect(&mut env, book, places)?;
     let names = names_of(alloc, book, places)?;
-    put(&mut env, "UPSTART_EVENTS", names.as_str())?;
-    put(&mut env, "UPSTART_JOB", job.as_str())?;
-    put(&mut env, "UPSTART_INSTANCE", name)?;
+    let mut env = base.copy()?;
+    add_start(&mut env, book, places, names.as_str(), job, name)?;
     Ok(env)
 }

@@ -49,9 +49,12 @@ fn run(alloc: Global, table: Table, inputs: Vec<Input>) -> Result<Items<Step>, A
 {
     let base = Env::new(alloc);
     let mut engine = Engine::new(alloc, table, base);
-    match engine.run(inputs) {
+    let run = engine.run(inputs);
+    drop(engine);
+    match run {
         Ok(run) => {
             if run.down {
+                drop(run.steps);
                 Err(AllocError)
             } else {
                 Ok(run.steps)

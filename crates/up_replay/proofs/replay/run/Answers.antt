@@ -1,8 +1,8 @@
 use Rattle.std.proofs.Common.{[]}
 use Rattle.up_replay.proofs.replay.run.Goals as goal
 
-pub returns-in-Ok : goal.returns-in-Ok
-returns-in-Ok c =
+pub returns-else-run : goal.returns-else-run
+returns-else-run c =
     let meant = c.in-Ok.ensures.meaning c.new-base.result c.args.table [] c.new-engine.ensures in
     let steps = (rw c.if-run.false at meant).0 in
     rw c.new-base.ensures at steps

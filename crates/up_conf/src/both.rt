@@ -1,0 +1,18 @@
+//! Two values, each of which memory may refuse.
+ghost use Rattle.std.specs.Prelude.{◌≡◌, IfOk, Ok};
+
+use std::alloc::AllocError;
+
+/// Both values, where both are there. What memory refused beside a value drops that value here, where the prover sees no more of it than
+/// its type's name: in a function that makes nine, each way out would drop up to nine, field by field.
+pub(crate) fn both<A: Drop, B: Drop>(
+    first: Result<A, AllocError>,
+    second: Result<B, AllocError>,
+) -> Result<(A, B), AllocError>
+    ensures first { IfOk result (λ pair. first ≡ Ok pair.0) }
+    ensures second { IfOk result (λ pair. second ≡ Ok pair.1) }
+{
+    let first = first?;
+    let second = second?;
+    Ok((first, second))
+}
