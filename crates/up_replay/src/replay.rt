@@ -3,6 +3,7 @@ ghost use Rattle.std.specs.Prelude.{◌≡◌, ◌⊎◌, ◌≤◌, ◌<◌, �
 ghost use Rattle.std.specs.List.{flat_map};
 ghost use Rattle.std.specs.Io.KnownBytes.{Appends};
 ghost use Rattle.up_model.specs.Answers.{answers};
+ghost use Rattle.up_replay.specs.Folders.{fault_line};
 ghost use Rattle.up_replay.specs.Lines.{step_lines};
 ghost use Rattle.up_replay.specs.Replay.{bad_step_line, played, replayed, unless_bad, Plays, Prints, Replays};
 ghost use Rattle.up_replay.specs.Rows.{script_inputs};
@@ -75,6 +76,22 @@ fn inputs_in(alloc: Global, bundle: &Bundle<'_>) -> Result<Result<Items<Input>, 
     }
 }
 
+// A folder's faults, and behind them what a run gave.
+fn push_run(text: &mut Vec<u8>, report: &Report, steps: &[Step]) -> Result<(), AllocError>
+    ensures { OnOk result (text.new.items ≡ text.old.items ++ (flat_map fault_line report.now ++ flat_map step_lines steps.now)) }
+{
+    push_faults(text, report.as_slice())?;
+    push_steps(text, steps)
+}
+
+// A folder's faults, and behind them the first bad line of a script.
+fn push_no_run(text: &mut Vec<u8>, report: &Report, name: &str, line: u32) -> Result<(), AllocError>
+    ensures { OnOk result (text.new.items ≡ text.old.items ++ (flat_map fault_line report.now ++ bad_step_line name.now line)) }
+{
+    push_faults(text, report.as_slice())?;
+    push_bad_step(text, name, line)
+}
+
 fn play(
     alloc: Global,
     table: Table,
@@ -85,17 +102,19 @@ fn play(
     ensures { IfOk result (λ made. made ≡ played name.now table report.now read) }
 {
     let mut text: Vec<u8> = Vec::new(alloc);
-    push_faults(&mut text, report.as_slice())?;
     match read {
         Ok(inputs) => {
             let steps = run(alloc, table, inputs.into_vec())?;
-            push_steps(&mut text, steps.as_slice())?;
+            let pushed = push_run(&mut text, report, steps.as_slice());
+            drop(steps);
+            pushed?;
             let text = Items::new(text);
             let status = status_of(report);
             Ok(Printed { text, status })
         }
         Err(line) => {
-            push_bad_step(&mut text, name, line)?;
+            drop(table);
+            push_no_run(&mut text, report, name, line)?;
             let text = Items::new(text);
             Ok(Printed { text, status: 2 })
         }
