@@ -3,8 +3,8 @@ ghost use Rattle.std.specs.Prelude.{◌≡◌, IfOk, Ok};
 
 use std::alloc::AllocError;
 
-/// Both values, where both are there. What memory refused beside a value drops that value here, where the prover sees no more of it than
-/// its type's name: in a function that makes nine, each way out would drop up to nine, field by field.
+/// Both values, or want of memory where one of them was refused. The other is dropped here, where the prover knows no more of it than its
+/// type's name: in a function that makes nine values each way out would drop those made so far, field by field.
 pub(crate) fn both<A: Drop, B: Drop>(
     first: Result<A, AllocError>,
     second: Result<B, AllocError>,
