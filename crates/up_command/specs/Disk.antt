@@ -1,4 +1,4 @@
--- What is printed of a folder on the disk.
+-- What is printed of a folder on the disk, and the status.
 use Rattle.std.specs.Prelude.{◌≡◌, ◌⊎◌, ℕ, ◌≤◌, List, length}
 use Rattle.up_conf.specs.declared.folder.File.{File}
 use Rattle.up_replay.specs.declared.printed.Printed.{Printed}
@@ -40,7 +40,7 @@ pub record PlaysFiles (script : List ℕ) (made : Printed) : Type 0 where
 abbrev pub PlaysDir : List ℕ → List ℕ → Printed → Type 0
 PlaysDir dir script made = PlaysFiles script made ⊎ (CannotWalk dir made ⊎ IsUnusable script made)
 
--- the status of what is printed, unless it can't be written or memory is refused
+-- the status of something that may be printed, unless it can't be written or memory is refused
 abbrev pub EndsWith : (Printed → Type 0) → ℕ → Type 0
 EndsWith Says status = ((made : Printed) × Says made × (status ≡ made.status)) ⊎ ((status ≡ 3) ⊎ (status ≡ 4))
 

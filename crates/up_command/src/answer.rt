@@ -36,7 +36,7 @@ fn print(rt: &(impl Print + AllocGlobal), made: Result<Printed, AllocError>) -> 
 }
 
 /// Does what is asked for, prints on standard output, and gives the status: that of what is printed, 3 where it can't be written, 4 for
-/// want of memory. An error is that of the standard output.
+/// want of memory. An error is that of the standard output, or want of memory for its buffer.
 pub fn answer<R: Files + Input + Print + AllocGlobal + Clone + Drop>(
     rt: &R,
     asked: Asked,

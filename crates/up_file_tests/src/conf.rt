@@ -6,10 +6,22 @@ mod limits;
 
 use std::alloc::{AllocError, Global};
 use std::test::Fail;
-use up_conf::{Action, Process, Stanza, read_conf};
+use up_conf::{Action, Folder, Process, Stanza, read_conf};
 use up_expr::{Condition, Expr};
 use up_stanza::read_bytes;
-use up_text::Text;
+use up_text::{Items, Text};
+
+// Adds a file to a folder.
+pub(crate) fn add(
+    alloc: Global,
+    folder: &mut Folder,
+    path: &str,
+    bytes: &[u8],
+) -> Result<(), AllocError> {
+    let path = Text::from_str(alloc, path)?;
+    let bytes = Vec::from_slice(alloc, bytes)?;
+    folder.add(path, Items::new(bytes))
+}
 
 // Whether an expression is an event without values.
 fn is_event(condition: &Option<Condition>, name: &str) -> bool {

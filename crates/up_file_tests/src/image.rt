@@ -1,15 +1,9 @@
 //! Folders that are compiled, and those that are refused.
+use crate::conf::add;
 use std::alloc::{AllocError, Global};
 use std::test::Fail;
 use up_conf::{Folder, Report};
 use up_image::{CompileError, Table, compile};
-use up_text::{Items, Text};
-
-fn add(alloc: Global, folder: &mut Folder, path: &str, bytes: &[u8]) -> Result<(), AllocError> {
-    let path = Text::from_str(alloc, path)?;
-    let bytes = Vec::from_slice(alloc, bytes)?;
-    folder.add(path, Items::new(bytes))
-}
 
 // Whether a folder of files with these paths, each with an `exec`, is refused for a path that stands twice.
 fn has_same_name(alloc: Global, paths: &[&str]) -> Result<bool, AllocError> {

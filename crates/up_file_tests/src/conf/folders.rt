@@ -1,15 +1,8 @@
 //! What a folder says.
-use crate::conf::{is_event, runs};
+use crate::conf::{add, is_event, runs};
 use std::alloc::{AllocError, Global};
 use std::test::Fail;
 use up_conf::{Folder, JobDef, Report, read_folder};
-use up_text::{Items, Text};
-
-fn add(alloc: Global, folder: &mut Folder, path: &str, bytes: &[u8]) -> Result<(), AllocError> {
-    let path = Text::from_str(alloc, path)?;
-    let bytes = Vec::from_slice(alloc, bytes)?;
-    folder.add(path, Items::new(bytes))
-}
 
 // The folder of these files.
 fn folder_of(alloc: Global, files: &[(&str, &[u8])]) -> Result<Folder, AllocError> {
