@@ -1,6 +1,6 @@
 //! Why a step is refused.
 ghost use Rattle.std.specs.Prelude.{◌≡◌};
-ghost use Rattle.up_engine.specs.Faults.{number_of, name_of};
+ghost use Rattle.up_engine.specs.Faults.{number_of};
 
 use std::alloc::AllocError;
 use thiserror::Error;
@@ -31,7 +31,7 @@ impl From<AllocError> for StepError {
 }
 
 impl StepError {
-    /// The number by which a replay names this refusal.
+    /// The number of this refusal; its name is what it is printed as.
     pub fn number(self) -> u8
         ensures { result ≡ number_of self }
     {
@@ -39,17 +39,6 @@ impl StepError {
             StepError::NotExpected => 40,
             StepError::Down => 41,
             StepError::Memory => 42,
-        }
-    }
-
-    /// The name that a replay prints behind the number.
-    pub fn name(self) -> &'static str
-        ensures { result.now ≡ name_of self }
-    {
-        match self {
-            StepError::NotExpected => "NotExpected",
-            StepError::Down => "Down",
-            StepError::Memory => "Memory",
         }
     }
 }

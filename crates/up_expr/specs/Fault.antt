@@ -1,4 +1,4 @@
-use Rattle.std.specs.Prelude.{ℕ, List, codes}
+use Rattle.std.specs.Prelude.{ℕ}
 use Rattle.up_expr.specs.declared.fault.ExprFault.{ExprFault}
 use Rattle.up_expr.specs.declared.fault.ExprFault.TheVariants.{BadExpression, ValueBeforeKey, BadName, BadPattern, BadExpansion, TooLarge, Memory}
 
@@ -11,13 +11,3 @@ number_of BadPattern = 13
 number_of BadExpansion = 14
 number_of TooLarge = 16
 number_of Memory = 42
-
--- its name, as it is printed
-abbrev pub name_of : ExprFault → List ℕ
-name_of BadExpression = codes "BadExpression"
-name_of ValueBeforeKey = codes "ValueBeforeKey"
-name_of BadName = codes "BadName"
-name_of BadPattern = codes "BadPattern"
-name_of BadExpansion = codes "BadExpansion"
-name_of TooLarge = codes "TooLarge"
-name_of Memory = codes "Memory"

@@ -1,6 +1,6 @@
 //! Why an expression is refused.
-ghost use Rattle.std.specs.Prelude.{◌≡◌, codes};
-ghost use Rattle.up_expr.specs.Fault.{number_of, name_of};
+ghost use Rattle.std.specs.Prelude.{◌≡◌};
+ghost use Rattle.up_expr.specs.Fault.{number_of};
 
 use std::alloc::AllocError;
 use thiserror::Error;
@@ -43,7 +43,7 @@ impl From<AllocError> for ExprFault {
 }
 
 impl ExprFault {
-    /// The number by which a report names this refusal.
+    /// The number by which a report names this refusal; its name is what it is printed as.
     pub fn number(self) -> u8
         ensures { result ≡ number_of self }
     {
@@ -55,21 +55,6 @@ impl ExprFault {
             ExprFault::BadExpansion => 14,
             ExprFault::TooLarge => 16,
             ExprFault::Memory => 42,
-        }
-    }
-
-    /// The name that a report prints behind the number.
-    pub fn name(self) -> &'static str
-        ensures { result.now ≡ name_of self }
-    {
-        match self {
-            ExprFault::BadExpression => "BadExpression",
-            ExprFault::ValueBeforeKey => "ValueBeforeKey",
-            ExprFault::BadName => "BadName",
-            ExprFault::BadPattern => "BadPattern",
-            ExprFault::BadExpansion => "BadExpansion",
-            ExprFault::TooLarge => "TooLarge",
-            ExprFault::Memory => "Memory",
         }
     }
 }

@@ -14,45 +14,57 @@ fn has_same_name(alloc: Global, paths: &[&str]) -> Result<bool, AllocError> {
     Ok(matches!(compile(alloc, &folder), Err(CompileError::SameName)))
 }
 
+// The place of the first folder for which it is otherwise.
+fn first_other(
+    alloc: Global,
+    folders: &[&[&str]],
+    same: bool,
+) -> Result<Option<usize>, AllocError> {
+    for (place, paths) in folders.iter().enumerate() {
+        if has_same_name(alloc, paths)? != same {
+            return Ok(Some(place));
+        }
+    }
+    Ok(None)
+}
+
+const TWICE: &'static [&'static [&'static str]] = &[
+    &["a.conf", "a.conf"],
+    &["a.conf", "b.conf", "a.conf"],
+    &["=.conf", "=.conf"],
+    &["net/a.conf", "net/a.conf"],
+    &["a.override", "a.override", "a.conf"],
+    &["a.override", "a.conf", "b.conf", "a.override"],
+    &[".override", ".override", ".conf"],
+];
+
 #[test]
 fn a_path_that_is_read_stands_once(rt: HostRuntime) -> Result<(), Fail> {
-    let alloc = rt.alloc();
-    let twice: [&[&str]; 7] = [
-        &["a.conf", "a.conf"],
-        &["a.conf", "b.conf", "a.conf"],
-        &["=.conf", "=.conf"],
-        &["net/a.conf", "net/a.conf"],
-        &["a.override", "a.override", "a.conf"],
-        &["a.override", "a.conf", "b.conf", "a.override"],
-        &[".override", ".override", ".conf"],
-    ];
-    for paths in twice {
-        assert!(rt; has_same_name(alloc, paths)?);
-    }
-    let once: [&[&str]; 7] = [
-        &["a.conf", "a.override", "b.conf"],
-        &["a.override", "a.override"],
-        &["a.override", "a.override", "b.conf"],
-        &["net/a.override", "net/a.override", "a.conf"],
-        &["a.txt", "a.txt", "conf", "conf", "a.CONF", "a.CONF"],
-        &["a.conf", "net/a.conf", "A.conf"],
-        &["override", "override", "conf"],
-    ];
-    for paths in once {
-        assert!(rt; !has_same_name(alloc, paths)?);
-    }
+    assert_eq!(rt; first_other(rt.alloc(), TWICE, true)?, None);
     Ok(())
 }
 
-// Five jobs, of which `a` has an override, and two faulty files.
-fn folder_of_five_jobs(alloc: Global) -> Result<Folder, AllocError> {
+const ONCE: &'static [&'static [&'static str]] = &[
+    &["a.conf", "a.override", "b.conf"],
+    &["a.override", "a.override"],
+    &["a.override", "a.override", "b.conf"],
+    &["net/a.override", "net/a.override", "a.conf"],
+    &["a.txt", "a.txt", "conf", "conf", "a.CONF", "a.CONF"],
+    &["a.conf", "net/a.conf", "A.conf"],
+    &["override", "override", "conf"],
+];
+
+#[test]
+fn a_path_that_is_not_read_may_stand_twice(rt: HostRuntime) -> Result<(), Fail> {
+    assert_eq!(rt; first_other(rt.alloc(), ONCE, false)?, None);
+    Ok(())
+}
+
+// The folder of these files.
+fn folder_of(alloc: Global, files: &[(&str, &[u8])]) -> Result<Folder, AllocError> {
     let mut folder = Folder::new(alloc);
-    for path in ["b.conf", "B.conf", "a-b.conf", "aa.conf", "a.conf"] {
-        add(alloc, &mut folder, path, b"exec x\n")?;
-    }
-    add(alloc, &mut folder, "a.override", b"task\n")?;
-    for path in ["z.conf", "x=.conf", "c.override"] {
-        add(alloc, &mut folder, path, b"setuid root\n")?;
+    for (path, bytes) in files {
+        add(alloc, &mut folder, path, bytes)?;
     }
     Ok(folder)
 }
@@ -81,31 +93,53 @@ fn tells(report: &Report, paths: &[&str]) -> bool {
     report.len() == paths.len()
 }
 
+// Whether a folder gives these jobs, each a task or not, and these faulty files.
+fn gives_named(alloc: Global, folder: &Folder, named: &[(&str, bool)], faulty: &[&str]) -> bool {
+    match compile(alloc, folder) {
+        Ok(made) => lends(&made.0, named) && tells(&made.1, faulty),
+        Err(_) => false,
+    }
+}
+
+// Five jobs, of which `a` has an override, and two faulty files.
+const FIVE_JOBS: &'static [(&'static str, &'static [u8])] = &[
+    ("b.conf", b"exec x\n"),
+    ("B.conf", b"exec x\n"),
+    ("a-b.conf", b"exec x\n"),
+    ("aa.conf", b"exec x\n"),
+    ("a.conf", b"exec x\n"),
+    ("a.override", b"task\n"),
+    ("z.conf", b"setuid root\n"),
+    ("x=.conf", b"setuid root\n"),
+    ("c.override", b"setuid root\n"),
+];
+
+const BY_NAME: &'static [(&'static str, bool)] = &[
+    ("B", false),
+    ("a", true),
+    ("a-b", false),
+    ("aa", false),
+    ("b", false),
+];
+
+const FAULTY: &'static [&'static str] = &["x=.conf", "z.conf"];
+
 #[test]
 fn a_table_lends_its_jobs_by_name(rt: HostRuntime) -> Result<(), Fail> {
-    let folder = folder_of_five_jobs(rt.alloc())?;
-    let made = compile(rt.alloc(), &folder)?;
-    let named = [
-        ("B", false),
-        ("a", true),
-        ("a-b", false),
-        ("aa", false),
-        ("b", false),
-    ];
-    assert!(rt; lends(&made.0, &named));
-    assert!(rt; tells(&made.1, &["x=.conf", "z.conf"]));
+    let folder = folder_of(rt.alloc(), FIVE_JOBS)?;
+    assert!(rt; gives_named(rt.alloc(), &folder, BY_NAME, FAULTY));
     Ok(())
 }
 
+const NO_JOBS: &'static [(&'static str, &'static [u8])] = &[
+    ("a.override", b"setuid root\n"),
+    ("a.override", b"setuid root\n"),
+];
+
 #[test]
 fn an_empty_folder_has_no_job(rt: HostRuntime) -> Result<(), Fail> {
-    let alloc = rt.alloc();
-    let mut folder = Folder::new(alloc);
-    add(alloc, &mut folder, "a.override", b"setuid root\n")?;
-    add(alloc, &mut folder, "a.override", b"setuid root\n")?;
-    let made = compile(alloc, &folder)?;
-    assert!(rt; lends(&made.0, &[]));
-    assert!(rt; tells(&made.1, &[]) && made.1.is_empty());
+    let folder = folder_of(rt.alloc(), NO_JOBS)?;
+    assert!(rt; gives_named(rt.alloc(), &folder, &[], &[]));
     Ok(())
 }
 
@@ -134,17 +168,27 @@ fn is_refused(alloc: Global, folder: &Folder, error: CompileError) -> bool {
     }
 }
 
+// Whether the folder of 1,024 jobs is compiled, with a faulty file too, and refused with a job more, and with a path twice.
+fn are_the_most(alloc: Global, folder: &mut Folder) -> Result<bool, AllocError> {
+    if !gives(alloc, folder, 1024, 0) {
+        return Ok(false);
+    }
+    add(alloc, folder, "faulty.conf", b"setuid root\n")?;
+    if !gives(alloc, folder, 1024, 1) {
+        return Ok(false);
+    }
+    add(alloc, folder, "1024.conf", b"exec x\n")?;
+    if !is_refused(alloc, folder, CompileError::TooManyJobs) {
+        return Ok(false);
+    }
+    add(alloc, folder, "7.conf", b"exec x\n")?;
+    Ok(is_refused(alloc, folder, CompileError::SameName))
+}
+
 #[test]
 fn a_table_has_1024_jobs(rt: HostRuntime) -> Result<(), Fail> {
-    let alloc = rt.alloc();
-    let mut folder = folder_of_1024_jobs(alloc)?;
-    assert!(rt; gives(alloc, &folder, 1024, 0));
-    add(alloc, &mut folder, "faulty.conf", b"setuid root\n")?;
-    assert!(rt; gives(alloc, &folder, 1024, 1));
-    add(alloc, &mut folder, "1024.conf", b"exec x\n")?;
-    assert!(rt; is_refused(alloc, &folder, CompileError::TooManyJobs));
-    add(alloc, &mut folder, "7.conf", b"exec x\n")?;
-    assert!(rt; is_refused(alloc, &folder, CompileError::SameName));
+    let mut folder = folder_of_1024_jobs(rt.alloc())?;
+    assert!(rt; are_the_most(rt.alloc(), &mut folder)?);
     Ok(())
 }
 
@@ -169,19 +213,26 @@ fn many_files_are_compared(rt: HostRuntime) -> Result<(), Fail> {
     Ok(())
 }
 
+const REFUSALS: &'static [(CompileError, u8, &'static str)] = &[
+    (CompileError::TooManyJobs, 20, "TooManyJobs"),
+    (CompileError::SameName, 21, "SameName"),
+    (CompileError::Memory, 42, "Memory"),
+];
+
+fn is_called(
+    alloc: Global,
+    error: CompileError,
+    number: u8,
+    name: &str,
+) -> Result<bool, AllocError> {
+    let text = format!(in alloc; "{error}")?;
+    Ok(error.number() == number && error.name() == name && text.as_str() == name)
+}
+
 #[test]
 fn refusals_have_numbers_and_names(rt: HostRuntime) -> Result<(), Fail> {
-    let alloc = rt.alloc();
-    let cases = [
-        (CompileError::TooManyJobs, 20, "TooManyJobs"),
-        (CompileError::SameName, 21, "SameName"),
-        (CompileError::Memory, 42, "Memory"),
-    ];
-    for (error, number, name) in cases {
-        assert_eq!(rt; error.number(), number);
-        assert_eq!(rt; error.name(), name);
-        let text = format!(in alloc; "{error}")?;
-        assert_eq!(rt; text.as_str(), name);
+    for (error, number, name) in REFUSALS {
+        assert!(rt; is_called(rt.alloc(), *error, *number, name)?, "{name}");
     }
     Ok(())
 }

@@ -67,11 +67,23 @@ fn request_is_copied(request: Request) -> Result<bool, AllocError> {
 }
 
 #[test]
-fn copies(rt: HostRuntime) -> Result<(), Fail> {
-    let alloc = rt.alloc();
-    assert!(rt; who_is_copied(who(alloc)?)?);
-    assert!(rt; event_is_copied(event(alloc)?)?);
-    assert!(rt; request_is_copied(request(alloc)?)?);
+fn instances_are_copied(rt: HostRuntime) -> Result<(), Fail> {
+    let who = who(rt.alloc())?;
+    assert!(rt; who_is_copied(who)?);
+    Ok(())
+}
+
+#[test]
+fn events_are_copied(rt: HostRuntime) -> Result<(), Fail> {
+    let event = event(rt.alloc())?;
+    assert!(rt; event_is_copied(event)?);
+    Ok(())
+}
+
+#[test]
+fn requests_are_copied(rt: HostRuntime) -> Result<(), Fail> {
+    let request = request(rt.alloc())?;
+    assert!(rt; request_is_copied(request)?);
     Ok(())
 }
 
@@ -136,20 +148,21 @@ fn copies_of_inputs(rt: HostRuntime) -> Result<(), Fail> {
     Ok(())
 }
 
+const COMMANDS: &'static [(Command, &'static str)] = &[
+    (Command::Start, "start"),
+    (Command::Stop, "stop"),
+    (Command::Restart, "restart"),
+    (Command::Status, "status"),
+    (Command::List, "list"),
+    (Command::Emit, "emit"),
+    (Command::Reload, "reload"),
+    (Command::ReloadConfiguration, "reload-configuration"),
+    (Command::Version, "version"),
+];
+
 #[test]
 fn commands(rt: HostRuntime) {
-    let named = [
-        (Command::Start, "start"),
-        (Command::Stop, "stop"),
-        (Command::Restart, "restart"),
-        (Command::Status, "status"),
-        (Command::List, "list"),
-        (Command::Emit, "emit"),
-        (Command::Reload, "reload"),
-        (Command::ReloadConfiguration, "reload-configuration"),
-        (Command::Version, "version"),
-    ];
-    for (command, name) in named {
-        assert_eq!(rt; command.name(), name);
+    for (command, name) in COMMANDS {
+        assert_eq!(rt; command.name(), *name);
     }
 }

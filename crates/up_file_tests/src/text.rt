@@ -6,135 +6,228 @@ mod fnmatch_table;
 mod lexer;
 mod pattern;
 
-use std::alloc::Global;
-use std::process::Abort;
+use std::alloc::{AllocError, Global};
 use std::test::Fail;
 use up_text::env::{is_key, is_key_byte, is_key_start, is_value};
 use up_text::{Env, Items, Name, Text, TextFault};
 
+const NAMES: &'static [&'static str] = &["a", "net/apache", "x!~"];
+
+const NO_NAMES: &'static [&'static str] = &["", "a b", "a=b", "a(b", "a#", "\u{e9}", "a\"b"];
+
+// Whether a name bears its text, and is equal to its copy alone.
+fn is_named(name: &Name, text: &str, other: &Name) -> Result<bool, AllocError> {
+    let copied = name.copy()?;
+    Ok(name.as_str() == text && copied.is(name) && !other.is(name))
+}
+
+fn is_name(alloc: Global, text: &str, other: &Name) -> Result<bool, TextFault> {
+    let name = Name::new(alloc, text)?;
+    Ok(is_named(&name, text, other)?)
+}
+
 #[test]
 fn names(rt: HostRuntime) -> Result<(), Fail> {
-    for text in ["a", "net/apache", "x!~"] {
-        let name = Name::new(rt.alloc(), text)?;
-        assert_eq!(rt; name.as_str(), text);
-        let copied = name.copy()?;
-        assert!(rt; copied.is(&name));
-        let other = Name::new(rt.alloc(), "b")?;
-        assert!(rt; !other.is(&name));
-    }
-    for text in ["", "a b", "a=b", "a(b", "a#", "\u{e9}", "a\"b"] {
-        let refused = Name::new(rt.alloc(), text);
-        assert!(rt; matches!(refused, Err(TextFault::BadName)), "{text:?}");
+    let other = Name::new(rt.alloc(), "b")?;
+    for text in NAMES {
+        assert!(rt; is_name(rt.alloc(), text, &other)?, "{text:?}");
     }
     Ok(())
 }
 
-fn check_pairs(rt: &impl Abort, env: &Env, pairs: &[(&str, &str)]) {
-    assert_eq!(rt; env.len(), pairs.len());
+#[test]
+fn refuses_names(rt: HostRuntime) {
+    for text in NO_NAMES {
+        let named = Name::new(rt.alloc(), text);
+        assert!(rt; matches!(named, Err(TextFault::BadName)), "{text:?}");
+    }
+}
+
+pub type Pair = (&'static str, &'static str);
+
+// The environment where these keys were set, one after the other.
+pub fn env_of(alloc: Global, pairs: &[Pair]) -> Result<Env, TextFault> {
+    let mut env = Env::new(alloc);
+    for (key, value) in pairs {
+        env.set(key, value)?;
+    }
+    Ok(env)
+}
+
+fn has_pairs(env: &Env, pairs: &[Pair]) -> bool {
     for (i, pair) in pairs.iter().enumerate() {
-        let (key, value) = env.at(i);
-        assert_eq!(rt; key, pair.0);
-        assert_eq!(rt; value, pair.1);
+        if i >= env.len() || env.at(i) != *pair {
+            return false;
+        }
     }
+    env.len() == pairs.len()
 }
 
-const BOTH: [(&'static str, &'static str); 2] = [("A", "3"), ("B", "2")];
+const BOTH: &'static [Pair] = &[("A", "3"), ("B", "2")];
 
-fn check_set(rt: &impl Abort, env: &mut Env) -> Result<(), TextFault> {
-    assert!(rt; env.is_empty());
-    env.set("A", "0")?;
-    env.set("B", "2")?;
-    env.set("A", "3")?;
-    check_pairs(rt, env, &BOTH);
-    assert!(rt; !env.is_empty());
-    assert_eq!(rt; env.get("A"), Some("3"));
-    assert_eq!(rt; env.get("C"), None);
+const A_TWICE: &'static [Pair] = &[("A", "0"), ("B", "2"), ("A", "3")];
+
+// Whether the keys of `BOTH`, and no others, have values.
+fn gives_both(env: &Env) -> bool {
+    has_pairs(env, BOTH) && !env.is_empty() && env.get("A") == Some("3") && env.get("C") == None
+}
+
+#[test]
+fn keys_are_set(rt: HostRuntime) -> Result<(), Fail> {
+    assert!(rt; gives_both(&env_of(rt.alloc(), A_TWICE)?));
     Ok(())
 }
 
-fn check_bad_pairs(rt: &impl Abort, env: &mut Env) {
-    let refused = [("", "x"), ("1a", "x"), ("a-b", "x"), ("A", "x\0y")];
-    for (key, value) in refused {
-        assert_eq!(rt; env.set(key, value), Err(TextFault::BadName));
-    }
-    check_pairs(rt, env, &BOTH);
+#[test]
+fn an_environment_begins_empty(rt: HostRuntime) {
+    let env = Env::new(rt.alloc());
+    assert!(rt; env.is_empty() && has_pairs(&env, &[]));
 }
 
-fn check_copy(rt: &impl Abort, env: &Env) -> Result<(), TextFault> {
+const BAD_PAIRS: &'static [Pair] = &[("", "x"), ("1a", "x"), ("a-b", "x"), ("A", "x\0y")];
+
+fn is_refused(env: &mut Env, pair: &Pair) -> bool {
+    env.set(pair.0, pair.1) == Err(TextFault::BadName) && has_pairs(env, BOTH)
+}
+
+#[test]
+fn bad_pairs_are_refused(rt: HostRuntime) -> Result<(), Fail> {
+    let mut env = env_of(rt.alloc(), BOTH)?;
+    for pair in BAD_PAIRS {
+        assert!(rt; is_refused(&mut env, pair), "{pair:?}");
+    }
+    Ok(())
+}
+
+fn is_copied(env: &Env) -> Result<bool, TextFault> {
     let copied = env.copy()?;
-    check_pairs(rt, &copied, &BOTH);
-    Ok(())
-}
-
-fn check_append(rt: &impl Abort, alloc: Global, env: &Env) -> Result<(), TextFault> {
-    let mut other = Env::new(alloc);
-    other.set("A", "1")?;
-    other.append(env)?;
-    check_pairs(rt, &other, &BOTH);
-    Ok(())
+    Ok(has_pairs(&copied, BOTH))
 }
 
 #[test]
-fn environments(rt: HostRuntime) -> Result<(), Fail> {
-    let mut env = Env::new(rt.alloc());
-    check_set(&rt, &mut env)?;
-    check_bad_pairs(&rt, &mut env);
-    check_copy(&rt, &env)?;
-    check_append(&rt, rt.alloc(), &env)?;
+fn environments_are_copied(rt: HostRuntime) -> Result<(), Fail> {
+    assert!(rt; is_copied(&env_of(rt.alloc(), BOTH)?)?);
     Ok(())
 }
 
+const ONE: &'static [Pair] = &[("A", "1")];
+
+fn appends(alloc: Global, added: &Env) -> Result<bool, TextFault> {
+    let mut env = env_of(alloc, ONE)?;
+    env.append(added)?;
+    Ok(has_pairs(&env, BOTH))
+}
+
 #[test]
-fn keys_and_values(rt: HostRuntime) {
-    for text in ["A", "_", "a1", "zZ_09"] {
-        assert!(rt; is_key(text), "{text:?}");
+fn environments_are_appended(rt: HostRuntime) -> Result<(), Fail> {
+    let added = env_of(rt.alloc(), BOTH)?;
+    assert!(rt; appends(rt.alloc(), &added)?);
+    Ok(())
+}
+
+// Texts, and whether each is a key.
+const KEYS: &'static [(&'static str, bool)] = &[
+    ("A", true),
+    ("_", true),
+    ("a1", true),
+    ("zZ_09", true),
+    ("", false),
+    ("1a", false),
+    ("a-b", false),
+    ("A=", false),
+    ("a ", false),
+    ("\u{e9}", false),
+];
+
+#[test]
+fn keys(rt: HostRuntime) {
+    for (text, is) in KEYS {
+        assert_eq!(rt; is_key(text), *is, "{text:?}");
     }
-    for text in ["", "1a", "a-b", "A=", "a ", "\u{e9}"] {
-        assert!(rt; !is_key(text), "{text:?}");
+}
+
+// Bytes, whether a key may begin with each, and whether it may have it.
+const KEY_BYTES: &'static [(u8, bool, bool)] = &[
+    (b'_', true, true),
+    (b'z', true, true),
+    (b'A', true, true),
+    (b'0', false, true),
+    (b'9', false, true),
+    (b'-', false, false),
+];
+
+#[test]
+fn bytes_of_keys(rt: HostRuntime) {
+    for (byte, begins, stands) in KEY_BYTES {
+        let found = (is_key_start(*byte), is_key_byte(*byte));
+        assert_eq!(rt; found, (*begins, *stands), "{byte}");
     }
-    assert!(rt; is_key_start(b'_') && is_key_start(b'z') && !is_key_start(b'0'));
-    assert!(rt; is_key_byte(b'A') && is_key_byte(b'9') && !is_key_byte(b'-'));
-    assert!(rt; is_value(""));
-    assert!(rt; is_value("a = \"\u{e9}\"\n"));
-    assert!(rt; !is_value("a\0"));
+}
+
+// Texts, and whether each is a value.
+const VALUES: &'static [(&'static str, bool)] = &[
+    ("", true),
+    ("a = \"\u{e9}\"\n", true),
+    ("a\0", false),
+];
+
+#[test]
+fn values(rt: HostRuntime) {
+    for (text, is) in VALUES {
+        assert_eq!(rt; is_value(text), *is, "{text:?}");
+    }
+}
+
+const TEXT: &'static str = "a\u{e9}";
+
+fn is_text(text: &Text) -> bool {
+    text.as_str() == TEXT && text.is(TEXT) && !text.is("a")
+}
+
+// Whether a text is copied, and then given back as a string.
+fn is_given_back(text: Text) -> Result<bool, AllocError> {
+    let copied = is_text(&text.copy()?) && is_text(&text.clone()?);
+    let string = text.into_string();
+    Ok(copied && string.as_str() == TEXT && is_text(&Text::new(string)))
 }
 
 #[test]
 fn texts(rt: HostRuntime) -> Result<(), Fail> {
-    let text = Text::from_str(rt.alloc(), "a\u{e9}")?;
-    assert_eq!(rt; text.as_str(), "a\u{e9}");
-    assert!(rt; text.is("a\u{e9}"));
-    assert!(rt; !text.is("a"));
-    assert!(rt; text.copy()?.is("a\u{e9}"));
-    let string = text.clone()?.into_string();
-    assert_eq!(rt; string.as_str(), "a\u{e9}");
-    assert!(rt; Text::new(string).is("a\u{e9}"));
+    let text = Text::from_str(rt.alloc(), TEXT)?;
+    assert!(rt; is_text(&text) && is_given_back(text)?);
     Ok(())
+}
+
+const ITEMS: &'static [u8] = &[3, 1];
+
+fn are_items(items: Items<u8>) -> bool {
+    items.as_slice() == ITEMS && items.into_vec().as_slice() == ITEMS
 }
 
 #[test]
 fn items(rt: HostRuntime) -> Result<(), Fail> {
     let items = Items::new(vec![in rt.alloc(); 3, 1]?);
-    assert_eq!(rt; items.as_slice(), [3, 1].as_slice());
-    let vec: Vec<u8> = items.into_vec();
-    assert_eq!(rt; vec.as_slice(), [3, 1].as_slice());
+    assert!(rt; are_items(items));
     Ok(())
+}
+
+const FAULTS: &'static [(TextFault, u8, &'static str)] = &[
+    (TextFault::UnterminatedQuote, 5, "UnterminatedQuote"),
+    (TextFault::TrailingBackslash, 7, "TrailingBackslash"),
+    (TextFault::BadName, 12, "BadName"),
+    (TextFault::BadExpansion, 14, "BadExpansion"),
+    (TextFault::Memory, 42, "Memory"),
+];
+
+fn is_called(alloc: Global, fault: TextFault, number: u8, name: &str) -> Result<bool, AllocError> {
+    let printed = format!(in alloc; "{fault}")?;
+    Ok(fault.number() == number && printed.as_str() == name)
 }
 
 #[test]
 fn faults(rt: HostRuntime) -> Result<(), Fail> {
-    let numbered = [
-        (TextFault::UnterminatedQuote, 5, "UnterminatedQuote"),
-        (TextFault::TrailingBackslash, 7, "TrailingBackslash"),
-        (TextFault::BadName, 12, "BadName"),
-        (TextFault::BadExpansion, 14, "BadExpansion"),
-        (TextFault::Memory, 42, "Memory"),
-    ];
-    for (fault, number, name) in numbered {
-        assert_eq!(rt; fault.number(), number);
-        assert_eq!(rt; fault.name(), name);
-        let printed = format!(in rt.alloc(); "{fault}")?;
-        assert_eq!(rt; printed.as_str(), name);
+    for (fault, number, name) in FAULTS {
+        assert!(rt; is_called(rt.alloc(), *fault, *number, name)?, "{name}");
     }
     Ok(())
 }

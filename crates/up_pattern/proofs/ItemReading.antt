@@ -10,7 +10,7 @@ use Rattle.up_pattern.specs.declared.pattern.Symbol.TheVariants.{Bare, Escaped, 
 use Rattle.up_pattern.specs.declared.pattern.Reading.{Reading}
 use Rattle.up_pattern.specs.Matching.{IsFlat, MeansItem, item_of_part}
 use Rattle.up_pattern.specs.Pattern.{symbols, is_open, is_close, is_not, before_close, body, inner, is_closed, has_class, Item, Run, Any, Only, Among, ranges, lone_item, set_item, item_of, more, items_from, all_items}
-use Rattle.up_value.specs.Lists.{begins}
+use Rattle.up_pattern.specs.Lists.{begins}
 
 -- symbols that belong to an item before are passed
 items_from-drop : (taken : ℕ) (symbols : List Symbol) → items_from taken symbols ≡ items_from 0 (drop taken symbols)

@@ -9,7 +9,7 @@ use Rattle.up_pattern.specs.declared.pattern.Symbol.{Symbol}
 use Rattle.up_pattern.specs.declared.pattern.Symbol.TheVariants.{Bare, Escaped, Trailing}
 use Rattle.up_pattern.specs.Matching.{First, range_end}
 use Rattle.up_pattern.specs.Pattern.{symbols, symbols_from, is_bare, is_open, is_close, is_dash, is_class_mark, byte_of, before_close, body, is_closed, has_class, ranges, is_among}
-use Rattle.up_value.specs.Lists.{begins}
+use Rattle.up_pattern.specs.Lists.{begins}
 
 symbols-nil : symbols [] ≡ []
 unfolding symbols

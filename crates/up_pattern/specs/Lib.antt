@@ -1,3 +1,3 @@
-pub use Rattle.up_value.specs.Lists
+pub mod Lists
 pub mod Matching
 pub mod Pattern

@@ -1,7 +1,7 @@
 -- What patterns admit, by fnmatch(3), where `/` and a leading dot are bytes like any other.
 use Rattle.std.specs.Prelude.{ℕ, zero, suc, ◌+◌, ◌==◌, nat_le, Bool, true, false, not, ◌&&◌, ◌||◌, if◌then◌else◌, List, [], ◌∷◌, length, drop, map, Option, None, Some, is_some}
 use Rattle.std.specs.List.{list_any, flat_map}
-use Rattle.up_value.specs.Lists.{begins}
+use Rattle.up_pattern.specs.Lists.{begins}
 use Rattle.up_pattern.specs.declared.pattern.Symbol.{Symbol}
 use Rattle.up_pattern.specs.declared.pattern.Symbol.TheVariants.{Bare, Escaped, Trailing}
 

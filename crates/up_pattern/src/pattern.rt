@@ -2,7 +2,7 @@
 ghost use Rattle.std.specs.Prelude.{◌≡◌, ◌<◌, ◌≤◌, ◌≢◌, ◌&&◌, nat_le, [], ◌∷◌, length, false, MatchOption, IfSome};
 ghost use Rattle.up_pattern.specs.declared.pattern.Symbol.TheVariants.{Bare};
 ghost use Rattle.up_pattern.specs.Pattern.{symbols, is_bare, is_class_mark, is_not, is_open, byte_of, body, inner, ranges, is_among, lone_item, set_item, more, all_items, admits_byte, is_class, supported, glob};
-ghost use Rattle.up_value.specs.Lists.{begins};
+ghost use Rattle.up_pattern.specs.Lists.{begins};
 ghost use Rattle.up_pattern.specs.Matching.{First, items_match, EndsSo, IsFlat, MeansItem, RunGives, TakesNone, TakesOne, range_end, item_of_part, is_run, star_from};
 
 pub mod laws;

@@ -49,7 +49,7 @@ fn text_front(script: &[u8]) -> (&[u8], &[u8], u32)
 }
 
 /// What comes next in a step.
-#[derive(Debug, Drop)]
+#[derive(Drop)]
 enum Next {
     Word(Text),
     End,

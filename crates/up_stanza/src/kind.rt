@@ -3,7 +3,7 @@ ghost use Rattle.std.specs.Prelude.{◌≡◌};
 ghost use Rattle.up_stanza.specs.Kinds.{kind_of};
 
 /// A first token behind which the arguments are the tokens up to the stanza's end. Several stanzas may begin with it, as with `kill`.
-#[derive(Clone, Copy, Debug)]
+#[derive(Clone, Copy)]
 pub(crate) enum Listed {
     Description,
     Author,
@@ -24,7 +24,7 @@ pub(crate) enum Listed {
 }
 
 /// A kind of stanza, by its first token.
-#[derive(Clone, Copy, Debug)]
+#[derive(Clone, Copy)]
 pub(crate) enum Kind {
     Listed(Listed),
     Exec,

@@ -46,10 +46,10 @@ fn alone(stanza: Stanza, texts: &[Text]) -> Result<Stanza, FaultCode>
     ensures { result_ok result ≡ none stanza texts.now }
 {
     if texts.is_empty() {
-        Ok(stanza)
-    } else {
-        Err(FaultCode::UnexpectedToken)
+        return Ok(stanza);
     }
+    drop(stanza);
+    Err(FaultCode::UnexpectedToken)
 }
 
 // One or more arguments.

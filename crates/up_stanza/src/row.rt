@@ -12,7 +12,7 @@ use up_text::{Items, Lexer, Text, TextFault, Token};
 const MANY: usize = 16;
 
 /// What comes next in a stanza.
-#[derive(Debug, Drop)]
+#[derive(Drop)]
 pub(crate) enum Next {
     Token(Token),
     /// The stanza's end.

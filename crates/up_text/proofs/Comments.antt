@@ -2,7 +2,7 @@
 use Rattle.std.proofs.Common.{◌≡◌, ℕ, ◌≤◌, Bool, true, false, cond, ◌==◌, List, [], ◌∷◌, ◌++◌, length, refl, sym, ◌∙◌, ap, arith, append_assoc, length-append}
 use Rattle.up_text.specs.declared.lexer.comments.Standing.{Standing}
 use Rattle.up_text.specs.Tokens.{Mode, Outside, Comment, Escaped, Continued, Quoted, QuotedEscape, is_backslash, is_blank, is_hash, is_line_feed, is_quote, mode_after}
-use Rattle.up_value.specs.Lists.{begins}
+use Rattle.up_pattern.specs.Lists.{begins}
 use Rattle.up_text.specs.Comments.{is_comment, unless_comment, mode_of, uncommented, unjoined, without_comments}
 
 -- what is joined makes no other mode but for what is joined

@@ -11,7 +11,7 @@ use Rattle.std.proofs.lemmas.List.{take-append-drop}
 use Rattle.std.specs.List.{list_all}
 use Rattle.up_text.specs.Lexer.{is_ordinary, is_literal, is_in_line, is_low, is_high, Splits, SplitsChar}
 use Rattle.up_text.specs.Tokens.{is_line_feed, is_blank, is_hash, is_backslash, is_quote, is_paren}
-use Rattle.up_value.specs.Lists.{begins}
+use Rattle.up_pattern.specs.Lists.{begins}
 
 -- where the bytes that pass are below 128, the text may be cut behind them
 pub IsCharBoundary-behind : (p : ℕ → Bool) (text : List ℕ) → IsUtf8 text → ((byte : ℕ) → p byte ≡ true → byte < 128) → IsCharBoundary text (prefix_len p text)

@@ -11,7 +11,7 @@ use Rattle.up_text.specs.CommandParts.{marks_in, Between}
 use Rattle.up_text.specs.Lexer.{is_line_end, begins_joint, begins_fold, begins_gap, Splits, GapRun, Holds}
 use Rattle.up_text.specs.Places.{is_space, is_gap, written}
 use Rattle.up_text.specs.Tokens.{Mark, Part, Quoting, Blank, Passed, Stop, Mode, Outside, Comment, Escaped, Continued, Quoted, QuotedEscape, end_marks, marks, mark_of, mark_outside, mode_after, open_after, is_line_feed, is_blank, is_hash, is_quote, is_backslash}
-use Rattle.up_value.specs.Lists.{begins}
+use Rattle.up_pattern.specs.Lists.{begins}
 
 -- modes in which nothing more of a gap is written
 

@@ -9,7 +9,7 @@ use Rattle.up_text.proofs.Runs.{blank-is, feed-is, hash-is, backslash-is, feeds-
 use Rattle.up_text.specs.Lexer.{place, is_in_line, begins_joint, begins_gap, passes_feeds, Splits, GapRun, IsBehindGap}
 use Rattle.up_text.specs.Places.{is_gap, gap_at, marks_at, passing, is_finished}
 use Rattle.up_text.specs.Tokens.{Mark, Part, Quoting, Alone, Blank, Passed, Stop, Outside, Comment, marks, mark_outside, feed_mark, open_after, is_line_feed, is_blank, is_hash, is_quote, is_backslash, is_paren, reaches_feed}
-use Rattle.up_value.specs.Lists.{begins}
+use Rattle.up_pattern.specs.Lists.{begins}
 
 or-true : (b : Bool) → (true || b) ≡ true
 or-true b = refl

@@ -7,7 +7,7 @@ use Rattle.up_text.specs.Lexer.{place, is_ordinary, IsBehindGap, begins_gap, pas
 use Rattle.up_text.specs.Places.{Got, Ended, reading, token_of, marks_at, is_finished}
 use Rattle.up_text.specs.Printing.{is_word, is_stanza, printed_line, printed, tokens_from}
 use Rattle.up_text.specs.Tokens.{is_blank, is_hash, is_line_feed, is_backslash}
-use Rattle.up_value.specs.Lists.{begins}
+use Rattle.up_pattern.specs.Lists.{begins}
 use Rattle.up_text.proofs.Gaps.{GapRun-none, GapRun-blanks, behind-gap}
 use Rattle.up_text.proofs.Lexemes.{lexemes_of-is, none_when_finished}
 use Rattle.up_text.proofs.Readings.{reading-behind, end-read, ordinary-read}

@@ -11,7 +11,7 @@ use Rattle.up_text.specs.declared.token.Token.{Token}
 use Rattle.up_text.specs.Lexer.{place, is_ordinary, is_spelling, ends_token, is_line_end, Splits, Run, Broken, GivesToken, GivesFault, IsFaultOf, IsBehindGap, begins_gap, passes_feeds, open_at}
 use Rattle.up_text.specs.Places.{Place, Reading, Got, Ended, Fails, reading, Answers, line_at, feeds, given, is_spelled, is_plain, fault_in, spelled, read_at, marks_at, passing, within, token_of}
 use Rattle.up_text.specs.Tokens.{Mark, Part, Quoting, Folded, Alone, Blank, Passed, Stop, Fail, Outside, marks, mark_outside, feed_mark, is_line_feed, is_blank, is_hash, is_quote, is_backslash, is_paren, reaches_feed}
-use Rattle.up_value.specs.Lists.{begins}
+use Rattle.up_pattern.specs.Lists.{begins}
 use Rattle.up_text.proofs.Runs.{backslash-is, quote-is, paren-is, ends-front, Broken-then, Run-then, Run-ordinary}
 
 -- a longest front of marks that pass

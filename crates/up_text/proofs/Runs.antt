@@ -11,7 +11,7 @@ use Rattle.up_value.specs.declared.fault.TextFault.TheVariants.{UnterminatedQuot
 use Rattle.up_text.specs.Lexer.{is_ordinary, is_literal, is_high, is_low, is_byte, begins_joint, begins_fold, ends_token, Splits, SplitsChar, Holds, shown, is_spelling, Run, Broken, Escape}
 use Rattle.up_text.specs.Places.{feeds}
 use Rattle.up_text.specs.Tokens.{Mark, Part, Quoting, Folded, Fail, Mode, Outside, Quoted, marks, open_after, is_line_feed, is_blank, is_hash, is_quote, is_backslash, is_paren, reaches_feed}
-use Rattle.up_value.specs.Lists.{begins}
+use Rattle.up_pattern.specs.Lists.{begins}
 
 -- what a byte is not
 

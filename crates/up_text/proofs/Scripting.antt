@@ -14,7 +14,7 @@ use Rattle.up_text.specs.Lexer.{is_in_word, is_in_line, BeginsWord, BeginsLine, 
 use Rattle.up_text.specs.Places.{feeds}
 use Rattle.up_text.specs.Scripts.{lines_of, is_filled, words_in, are_end_words, may_follow, is_end_line, script_in}
 use Rattle.up_text.specs.Tokens.{is_line_feed, is_blank}
-use Rattle.up_value.specs.Lists.{begins}
+use Rattle.up_pattern.specs.Lists.{begins}
 
 -- blanks in front change no word
 words-blanks : (blanks rest : List ℕ) → list_all is_blank blanks ≡ true → words_in (blanks ++ rest) ≡ words_in rest

@@ -7,7 +7,7 @@ use Rattle.std.proofs.lemmas.Bool.Decides.{nat_tests}
 use Rattle.std.proofs.lemmas.List.{drop-drop}
 use Rattle.std.specs.List.{prefix_len}
 use Rattle.up_text.specs.Expansion.{Sign, Plain, Named, Braced, Opened, key_of, braced, dollar, sign, bytes_behind, signs}
-use Rattle.up_value.specs.Lists.{begins}
+use Rattle.up_pattern.specs.Lists.{begins}
 use Rattle.up_value.specs.Names.{is_key_start, is_key_byte}
 
 -- a byte of a run

@@ -13,7 +13,7 @@ use Rattle.up_text.specs.CommandParts.{marks_in, row_in, tidied, is_kept}
 use Rattle.up_text.specs.Lexer.{is_line_end, is_spelling, begins_gap}
 use Rattle.up_text.specs.Places.{is_space, is_stop}
 use Rattle.up_text.specs.Tokens.{Mark, Part, Quoting, Folded, Alone, Blank, Passed, Stop, Fail, Outside, marks, mode_after, mark_outside, open_after, is_line_feed, is_blank, is_hash, is_quote, is_backslash, reaches_feed}
-use Rattle.up_value.specs.Lists.{begins}
+use Rattle.up_pattern.specs.Lists.{begins}
 
 -- lists
 

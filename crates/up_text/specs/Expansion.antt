@@ -2,7 +2,7 @@
 use Rattle.std.specs.Prelude.{ℕ, zero, suc, ◌+◌, ◌-◌, ◌==◌, ◌&&◌, nat_lt, Bool, true, false, if◌then◌else◌, List, [], ◌∷◌, ◌++◌, length, take, drop, Option, None, Some, option_map, is_some}
 use Rattle.std.specs.List.{prefix_len}
 use Rattle.up_value.specs.Bindings.{value_of}
-use Rattle.up_value.specs.Lists.{begins}
+use Rattle.up_pattern.specs.Lists.{begins}
 use Rattle.up_value.specs.Names.{is_key_start, is_key_byte}
 
 -- The first half: what a text says, whatever is set. Its bytes are read as signs, and the signs as texts that may stand in one

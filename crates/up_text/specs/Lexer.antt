@@ -8,7 +8,7 @@ use Rattle.up_text.specs.declared.lexer.Lexer.TheInside.{Inside}
 use Rattle.up_text.specs.declared.lexer.draft.Draft.TheInside as draft
 use Rattle.up_text.specs.declared.token.Token.{Token}
 use Rattle.up_text.specs.Tokens.{Mark, Part, Quoting, Folded, Fail, Mode, Outside, marks, is_line_feed, is_blank, is_hash, is_quote, is_backslash, is_paren}
-use Rattle.up_value.specs.Lists.{begins}
+use Rattle.up_pattern.specs.Lists.{begins}
 use Rattle.up_text.specs.Scripts.{lines_of, script_in, words_in}
 use Rattle.up_text.specs.Places.{Place, Reading, Got, Ended, Fails, passing, gap_at, marks_at, read_at, feeds, is_gap, given, written}
 

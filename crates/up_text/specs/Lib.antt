@@ -1,7 +1,7 @@
+pub use Rattle.up_pattern.specs.Lists
 pub use Rattle.up_pattern.specs.Pattern
 pub use Rattle.up_value.specs.Bindings
 pub use Rattle.up_value.specs.Fault
-pub use Rattle.up_value.specs.Lists
 pub use Rattle.up_value.specs.Names
 pub mod CommandParts
 pub mod Commands

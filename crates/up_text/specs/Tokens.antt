@@ -1,6 +1,6 @@
 -- How the text of a job file or a script is read as tokens, by init(5).
 use Rattle.std.specs.Prelude.{ℕ, ◌+◌, ◌-◌, Bool, true, false, ◌||◌, ◌&&◌, ◌==◌, if◌then◌else◌, List, [], ◌∷◌}
-use Rattle.up_value.specs.Lists.{begins}
+use Rattle.up_pattern.specs.Lists.{begins}
 use Rattle.up_value.specs.declared.fault.TextFault.{TextFault}
 use Rattle.up_value.specs.declared.fault.TextFault.TheVariants.{UnterminatedQuote, TrailingBackslash}
 

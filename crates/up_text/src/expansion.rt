@@ -4,7 +4,7 @@ ghost use Rattle.std.specs.List.{prefix_len};
 ghost use Rattle.up_value.specs.Bindings.{value_of};
 ghost use Rattle.up_text.specs.Expanding.{Gives, IsGiven, depth_behind, said, signs_of};
 ghost use Rattle.up_text.specs.Expansion.{Sign, Lacks, counted, expand, is_expandable, key_of, signs, texts_of};
-ghost use Rattle.up_value.specs.Lists.{begins};
+ghost use Rattle.up_pattern.specs.Lists.{begins};
 ghost use Rattle.up_value.specs.Names.{is_key_byte, is_key_start};
 
 pub mod laws;

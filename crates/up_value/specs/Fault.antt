@@ -1,4 +1,4 @@
-use Rattle.std.specs.Prelude.{ℕ, List, codes}
+use Rattle.std.specs.Prelude.{ℕ}
 use Rattle.up_value.specs.declared.fault.TextFault.{TextFault}
 use Rattle.up_value.specs.declared.fault.TextFault.TheVariants.{UnterminatedQuote, TrailingBackslash, BadName, BadExpansion, Memory}
 
@@ -9,11 +9,3 @@ number_of TrailingBackslash = 7
 number_of BadName = 12
 number_of BadExpansion = 14
 number_of Memory = 42
-
--- its name, as it is printed
-abbrev pub name_of : TextFault → List ℕ
-name_of UnterminatedQuote = codes "UnterminatedQuote"
-name_of TrailingBackslash = codes "TrailingBackslash"
-name_of BadName = codes "BadName"
-name_of BadExpansion = codes "BadExpansion"
-name_of Memory = codes "Memory"

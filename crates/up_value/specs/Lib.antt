@@ -1,4 +1,3 @@
 pub mod Bindings
 pub mod Fault
-pub mod Lists
 pub mod Names

@@ -1,6 +1,6 @@
 //! Why a text is refused.
-ghost use Rattle.std.specs.Prelude.{◌≡◌, codes};
-ghost use Rattle.up_value.specs.Fault.{number_of, name_of};
+ghost use Rattle.std.specs.Prelude.{◌≡◌};
+ghost use Rattle.up_value.specs.Fault.{number_of};
 
 use std::alloc::AllocError;
 use thiserror::Error;
@@ -37,7 +37,7 @@ impl From<AllocError> for TextFault {
 }
 
 impl TextFault {
-    /// The number by which a report names this refusal.
+    /// The number by which a report names this refusal; its name is what it is printed as.
     pub fn number(self) -> u8
         ensures { result ≡ number_of self }
     {
@@ -47,19 +47,6 @@ impl TextFault {
             TextFault::BadName => 12,
             TextFault::BadExpansion => 14,
             TextFault::Memory => 42,
-        }
-    }
-
-    /// The name that a report prints behind the number.
-    pub fn name(self) -> &'static str
-        ensures { result.now ≡ name_of self }
-    {
-        match self {
-            TextFault::UnterminatedQuote => "UnterminatedQuote",
-            TextFault::TrailingBackslash => "TrailingBackslash",
-            TextFault::BadName => "BadName",
-            TextFault::BadExpansion => "BadExpansion",
-            TextFault::Memory => "Memory",
         }
     }
 }

@@ -2,7 +2,7 @@
 ghost use Rattle.std.specs.Prelude.{◌≡◌, ◌<◌, Bool, true, false, length, drop, take};
 ghost use Rattle.std.specs.List.{prefix_len, position_or_len};
 ghost use Rattle.up_text.specs.Tokens.{is_line_feed, is_blank, is_hash, is_quote, is_backslash, is_paren};
-ghost use Rattle.up_value.specs.Lists.{begins};
+ghost use Rattle.up_pattern.specs.Lists.{begins};
 ghost use Rattle.up_text.specs.Lexer.{is_ordinary, is_literal, is_high, is_low, is_in_line, is_line_end, begins_joint, begins_gap, ends_token, Splits, SplitsChar};
 
 use memchr::memchr;

@@ -1,7 +1,7 @@
 //! Takes the comments out of a text, of which the bytes need be no characters.
 ghost use Rattle.std.specs.Prelude.{◌≡◌, ◌++◌, false, IfOk, OnOk};
 ghost use Rattle.up_text.specs.Tokens.{is_line_feed, is_quote, mode_after, mode_outside, mode_quoted};
-ghost use Rattle.up_value.specs.Lists.{begins};
+ghost use Rattle.up_pattern.specs.Lists.{begins};
 ghost use Rattle.up_text.specs.Comments.{is_comment, unless_comment, mode_of, unjoined, without_comments};
 
 use crate::lexer::bytes::{is_blank, is_quote};

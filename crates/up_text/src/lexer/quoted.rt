@@ -1,7 +1,7 @@
 //! A quoted piece of a token or a command.
 ghost use Rattle.std.specs.Prelude.{◌≡◌, ◌+◌, ◌<◌, ◌≤◌, ◌^◌, ◌==◌, ◌++◌, ◌∷◌, ℕ, Bool, true, false, if◌then◌else◌, List, [], length, IfOk, MatchResult};
 ghost use Rattle.up_text.specs.Tokens.{Outside, Quoted, is_quote, is_backslash, is_blank};
-ghost use Rattle.up_value.specs.Lists.{begins};
+ghost use Rattle.up_pattern.specs.Lists.{begins};
 ghost use Rattle.up_text.specs.Lexer.{is_byte, begins_fold, Holds, IsEscape, Run, Broken};
 
 use crate::lexer::bytes::{

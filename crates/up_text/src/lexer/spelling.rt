@@ -3,7 +3,7 @@ ghost use Rattle.std.specs.Prelude.{◌≡◌, ◌+◌, ◌<◌, ◌≤◌, ◌^
 ghost use Rattle.std.specs.List.{list_all};
 ghost use Rattle.up_value.specs.declared.fault.TextFault.TheVariants.{Memory};
 ghost use Rattle.up_text.specs.Tokens.{Outside, is_quote};
-ghost use Rattle.up_value.specs.Lists.{begins};
+ghost use Rattle.up_pattern.specs.Lists.{begins};
 ghost use Rattle.up_text.specs.Places.{token_of};
 ghost use Rattle.up_text.specs.Lexer.{is_byte, is_ordinary, is_line_end, ends_token, begins_gap, place, Run, Broken, GivesToken, GivesFault, open_at};
 

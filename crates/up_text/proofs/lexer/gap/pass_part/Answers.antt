@@ -3,7 +3,7 @@ use Rattle.up_text.proofs.Gaps.{GapRun-blanks, GapRun-comment, GapRun-feed, GapR
 use Rattle.up_text.proofs.Runs.{begins-low, feed-low, joint-low, joint-feed}
 use Rattle.up_text.specs.Lexer.{begins_joint}
 use Rattle.up_text.specs.Tokens.{is_line_feed}
-use Rattle.up_value.specs.Lists.{begins}
+use Rattle.up_pattern.specs.Lists.{begins}
 use Rattle.up_text.proofs.lexer.gap.pass_part.Goals as goal
 
 pub returns-then-begins_blank-clause-run : goal.returns-then-begins_blank-clause-run

@@ -2,7 +2,7 @@ use Rattle.std.proofs.Common.{◌≡◌, true, false, ◌∙◌, sym}
 use Rattle.up_text.proofs.Runs.{fold-split, literal-first, Splits-shorter, Run-escape_quoted, Broken-escape, Run-literal}
 use Rattle.up_text.specs.Lexer.{begins_fold, is_literal}
 use Rattle.up_text.specs.Tokens.{is_blank, is_backslash}
-use Rattle.up_value.specs.Lists.{begins}
+use Rattle.up_pattern.specs.Lists.{begins}
 use Rattle.up_text.proofs.lexer.quoted.push_part.Goals as goal
 
 pub returns-in-Some-clause-means : goal.returns-in-Some-clause-means

@@ -4,7 +4,7 @@ use Rattle.std.proofs.lemmas.Result.{err_from_is_err_and}
 use Rattle.std.proofs.lemmas.List.{nil_from_length}
 use Rattle.up_text.proofs.Runs.{Run-then, Run-fits, Run-closing, Broken-then, Broken-quote, begins-low, quote-low}
 use Rattle.up_text.specs.Lexer.{is_byte}
-use Rattle.up_value.specs.Lists.{begins}
+use Rattle.up_pattern.specs.Lists.{begins}
 use Rattle.up_text.proofs.lexer.quoted.push_quoted.Goals as goal
 
 pub returns-then-is_empty : goal.returns-then-is_empty

@@ -3,7 +3,7 @@ use Rattle.std.proofs.lemmas.Result.{MatchResult-weaker}
 use Rattle.up_text.proofs.Runs.{begins-low, quote-low, begins-filled, drop-shorter, Run-then, Run-shrinks, Run-escape_outside, Broken-backslash, Broken-then, Run-opening, Run-ordinary, Escape-shorter, Splits-shorter, not-joint, ordinary-first}
 use Rattle.up_text.specs.Lexer.{is_byte, is_ordinary, Run}
 use Rattle.up_text.specs.Tokens.{Outside, Quoted, is_backslash}
-use Rattle.up_value.specs.Lists.{begins}
+use Rattle.up_pattern.specs.Lists.{begins}
 use Rattle.up_text.proofs.lexer.spelling.push_piece.Goals as goal
 
 pub returns-in-Some : goal.returns-in-Some
