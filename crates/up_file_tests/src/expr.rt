@@ -2,14 +2,15 @@
 ghost use Rattle.std.specs.Prelude.{◌≡◌, ◌<◌, length};
 
 use std::alloc::{AllocError, Global};
-use std::process::Abort;
 use std::test::Fail;
 use up_expr::{Condition, Expr, ExprFault, Leaf, Test, leaf_matches, parse_expr};
 use up_text::{Env, Items, Lexer, Name, Text, Token};
 
 // The tokens of a stanza, where parentheses are tokens.
-fn tokens_of(rt: &impl Abort, alloc: Global, text: &str) -> Result<Vec<Token>, Fail> {
-    assert!(rt; text.len() < 1_000_000);
+fn tokens_of(alloc: Global, text: &str) -> Result<Vec<Token>, Fail> {
+    if text.len() >= 1_000_000 {
+        return Err(Fail::from("the text is too long"));
+    }
     let mut lexer = Lexer::new(text);
     lexer.parens(true);
     let mut tokens = Vec::new(alloc);
@@ -22,14 +23,17 @@ fn tokens_of(rt: &impl Abort, alloc: Global, text: &str) -> Result<Vec<Token>, F
     Ok(tokens)
 }
 
-fn parse(rt: &impl Abort, alloc: Global, text: &str) -> Result<Result<Condition, ExprFault>, Fail> {
-    let tokens = tokens_of(rt, alloc, text)?;
-    let parsed = parse_expr(alloc, tokens.as_slice());
-    // Where one allocation is made to fail, the next call reads the same.
-    if matches!(parsed, Err(ExprFault::Memory)) {
-        return Ok(parse_expr(alloc, tokens.as_slice()));
+// Where one allocation is made to fail, the next call reads the same.
+fn parse_tokens(alloc: Global, tokens: &[Token]) -> Result<Condition, ExprFault> {
+    match parse_expr(alloc, tokens) {
+        Err(ExprFault::Memory) => parse_expr(alloc, tokens),
+        parsed => parsed,
     }
-    Ok(parsed)
+}
+
+fn parse(alloc: Global, text: &str) -> Result<Result<Condition, ExprFault>, Fail> {
+    let tokens = tokens_of(alloc, text)?;
+    Ok(parse_tokens(alloc, tokens.as_slice()))
 }
 
 fn write_test(out: &mut String, test: &Test) -> Result<(), AllocError> {
@@ -69,100 +73,154 @@ fn write_tree(out: &mut String, expr: &Expr) -> Result<(), AllocError> {
     out.push_str(")")
 }
 
-fn check_trees(rt: &impl Abort, alloc: Global, cases: &[(&str, &str)]) -> Result<(), Fail> {
-    for (text, tree) in cases {
-        let condition = parse(rt, alloc, text)??;
-        let mut written = String::new(alloc);
-        write_tree(&mut written, condition.expr())?;
-        assert_eq!(rt; written.as_str(), *tree, "{text:?}");
-    }
-    Ok(())
+// Whether this tree is written so.
+fn is_written(alloc: Global, expr: &Expr, tree: &str) -> Result<bool, AllocError> {
+    let mut written = String::new(alloc);
+    write_tree(&mut written, expr)?;
+    Ok(written.as_str() == tree)
 }
+
+fn has_tree(alloc: Global, text: &str, tree: &str) -> Result<bool, Fail> {
+    match parse(alloc, text)? {
+        Ok(condition) => Ok(is_written(alloc, condition.expr(), tree)?),
+        Err(_) => Ok(false),
+    }
+}
+
+// The first of these texts that isn't read as the tree beside it.
+fn first_other_tree(
+    alloc: Global,
+    cases: &[(&'static str, &'static str)],
+) -> Result<Option<&'static str>, Fail> {
+    for (text, tree) in cases {
+        if !has_tree(alloc, text, tree)? {
+            return Ok(Some(*text));
+        }
+    }
+    Ok(None)
+}
+
+const GROUPED: [(&'static str, &'static str); 9] = [
+    ("a", "a"),
+    ("a and b", "(a and b)"),
+    ("a or b and c", "((a or b) and c)"),
+    ("a and b or c and d", "(((a and b) or c) and d)"),
+    ("a and (b or c)", "(a and (b or c))"),
+    ("(a or b) and (c or d)", "((a or b) and (c or d))"),
+    (
+        "a or (b and (c or d) and e)",
+        "(a or ((b and (c or d)) and e))",
+    ),
+    ("((a))", "a"),
+    ("(a\n or b)", "(a or b)"),
+];
 
 #[test]
 fn operators_group_to_the_left(rt: HostRuntime) -> Result<(), Fail> {
-    let cases = [
-        ("a", "a"),
-        ("a and b", "(a and b)"),
-        ("a or b and c", "((a or b) and c)"),
-        ("a and b or c and d", "(((a and b) or c) and d)"),
-        ("a and (b or c)", "(a and (b or c))"),
-        ("(a or b) and (c or d)", "((a or b) and (c or d))"),
-        (
-            "a or (b and (c or d) and e)",
-            "(a or ((b and (c or d)) and e))",
-        ),
-        ("((a))", "a"),
-        ("(a\n or b)", "(a or b)"),
-    ];
-    check_trees(&rt, rt.alloc(), &cases)
+    assert_eq!(rt; first_other_tree(rt.alloc(), &GROUPED)?, None);
+    Ok(())
 }
+
+const VALUES: [(&'static str, &'static str); 7] = [
+    ("stopped a RESULT!=ok", "stopped 'a' RESULT!='ok'"),
+    ("a x 'y z' K=v and b", "(a 'x' 'y z' K='v' and b)"),
+    ("a \"and\" '(' \\or", "a 'and' '(' 'or'"),
+    ("\"and\" or 'or'", "(and or or)"),
+    ("a K=v J!=w L!= M=b=c", "a K='v' J!='w' L!='' M='b=c'"),
+    ("a k-x=1 =y !=z K!!=v", "a 'k-x=1' '=y' '!=z' 'K!!=v'"),
+    (
+        "a $X ${Y-b} [!c]* K=${Z}",
+        "a '$X' '${Y-b}' '[!c]*' K='${Z}'",
+    ),
+];
 
 #[test]
 fn leaves_have_values(rt: HostRuntime) -> Result<(), Fail> {
-    let cases = [
-        ("stopped a RESULT!=ok", "stopped 'a' RESULT!='ok'"),
-        ("a x 'y z' K=v and b", "(a 'x' 'y z' K='v' and b)"),
-        ("a \"and\" '(' \\or", "a 'and' '(' 'or'"),
-        ("\"and\" or 'or'", "(and or or)"),
-        ("a K=v J!=w L!= M=b=c", "a K='v' J!='w' L!='' M='b=c'"),
-        ("a k-x=1 =y !=z K!!=v", "a 'k-x=1' '=y' '!=z' 'K!!=v'"),
-        (
-            "a $X ${Y-b} [!c]* K=${Z}",
-            "a '$X' '${Y-b}' '[!c]*' K='${Z}'",
-        ),
-    ];
-    check_trees(&rt, rt.alloc(), &cases)
+    assert_eq!(rt; first_other_tree(rt.alloc(), &VALUES)?, None);
+    Ok(())
+}
+
+fn copy_is_written(alloc: Global, condition: &Condition, tree: &str) -> Result<bool, AllocError> {
+    let copied = condition.copy(alloc)?;
+    is_written(alloc, copied.expr(), tree)
+}
+
+fn copy_has_tree(alloc: Global, text: &str, tree: &str) -> Result<bool, Fail> {
+    match parse(alloc, text)? {
+        Ok(condition) => Ok(copy_is_written(alloc, &condition, tree)?),
+        Err(_) => Ok(false),
+    }
 }
 
 #[test]
 fn conditions_are_copied(rt: HostRuntime) -> Result<(), Fail> {
-    let alloc = rt.alloc();
-    let condition = parse(&rt, alloc, "a x K=v and (b or c J!=w)")??;
-    let copied = condition.copy(alloc)?;
-    let mut written = String::new(alloc);
-    write_tree(&mut written, copied.expr())?;
-    assert_eq!(rt; written.as_str(), "(a 'x' K='v' and (b or c J!='w'))");
+    let text = "a x K=v and (b or c J!=w)";
+    assert!(rt; copy_has_tree(rt.alloc(), text, "(a 'x' K='v' and (b or c J!='w'))")?);
     Ok(())
 }
 
-fn check_refused(rt: &impl Abort, alloc: Global, texts: &[&str], number: u8) -> Result<(), Fail> {
-    for text in texts {
-        match parse(rt, alloc, text)? {
-            Ok(_) => panic!(rt; "{text:?} was read"),
-            Err(fault) => assert_eq!(rt; fault.number(), number, "{text:?}"),
+fn is_refused(alloc: Global, text: &str, number: u8) -> Result<bool, Fail> {
+    match parse(alloc, text)? {
+        Ok(_) => Ok(false),
+        Err(fault) => Ok(fault.number() == number),
+    }
+}
+
+// The first of these texts that isn't refused with the number beside it.
+fn first_not_refused(
+    alloc: Global,
+    cases: &[(&'static str, u8)],
+) -> Result<Option<&'static str>, Fail> {
+    for (text, number) in cases {
+        if !is_refused(alloc, text, *number)? {
+            return Ok(Some(*text));
         }
     }
-    Ok(())
+    Ok(None)
 }
+
+const NO_EXPRESSIONS: [(&'static str, u8); 16] = [
+    ("", 8),
+    ("and", 8),
+    ("x and", 8),
+    ("or x", 8),
+    ("x and or y", 8),
+    ("x and )", 8),
+    ("()", 8),
+    ("(x", 8),
+    ("x)", 8),
+    ("(x) y", 8),
+    ("x (y)", 8),
+    ("(x) (y)", 8),
+    ("(x and) y", 8),
+    ("x K=v w", 9),
+    ("x K!=v w", 9),
+    ("x y K=v w and z", 9),
+];
 
 #[test]
 fn refuses_what_is_no_expression(rt: HostRuntime) -> Result<(), Fail> {
-    let lacking = ["", "and", "x and", "or x", "x and or y", "x and )"];
-    check_refused(&rt, rt.alloc(), &lacking, 8)?;
-    let parentheses = ["()", "(x", "x)", "(x) y", "x (y)", "(x) (y)", "(x and) y"];
-    check_refused(&rt, rt.alloc(), &parentheses, 8)?;
-    let orders = ["x K=v w", "x K!=v w", "x y K=v w and z"];
-    check_refused(&rt, rt.alloc(), &orders, 9)
+    assert_eq!(rt; first_not_refused(rt.alloc(), &NO_EXPRESSIONS)?, None);
+    Ok(())
 }
+
+const NO_NAMES_OR_VALUES: [(&'static str, u8); 10] = [
+    ("a=b", 12),
+    ("'a b'", 12),
+    ("$x", 12),
+    ("x and ''", 12),
+    ("a [[:x]", 13),
+    ("a K=[[.b.]]", 13),
+    ("a K!=x[a[=b]", 13),
+    ("a ${Z", 14),
+    ("a K=${Z", 14),
+    ("a K!=${5}", 14),
+];
 
 #[test]
 fn refuses_names_and_values(rt: HostRuntime) -> Result<(), Fail> {
-    let names = ["a=b", "'a b'", "$x", "x and ''"];
-    check_refused(&rt, rt.alloc(), &names, 12)?;
-    let patterns = ["a [[:x]", "a K=[[.b.]]", "a K!=x[a[=b]"];
-    check_refused(&rt, rt.alloc(), &patterns, 13)?;
-    let expansions = ["a ${Z", "a K=${Z", "a K!=${5}"];
-    check_refused(&rt, rt.alloc(), &expansions, 14)
-}
-
-// So many pieces in a row.
-fn repeated(alloc: Global, piece: &str, count: usize) -> Result<String, AllocError> {
-    let mut text = String::new(alloc);
-    for _ in 0..count {
-        text.push_str(piece)?;
-    }
-    Ok(text)
+    assert_eq!(rt; first_not_refused(rt.alloc(), &NO_NAMES_OR_VALUES)?, None);
+    Ok(())
 }
 
 fn leaves(expr: &Expr) -> usize {
@@ -174,41 +232,104 @@ fn leaves(expr: &Expr) -> usize {
     }
 }
 
-// The tree of 2,048 leaves is as deep; dropping it is part of the test.
-#[test]
-fn leaves_are_limited(rt: HostRuntime) -> Result<(), Fail> {
-    let mut text = repeated(rt.alloc(), "a or ", 2_047)?;
-    text.push_str("a")?;
-    let condition = parse(&rt, rt.alloc(), text.as_str())??;
-    assert_eq!(rt; leaves(condition.expr()), 2_048);
-    text.push_str(" and a")?;
-    check_refused(&rt, rt.alloc(), &[text.as_str()], 16)
+// A text of pieces in a row, an end, and parentheses that close; with how many leaves it is read, or that it is too large.
+#[derive(Drop)]
+struct Large {
+    name: &'static str,
+    piece: &'static str,
+    times: usize,
+    end: &'static str,
+    closing: usize,
+    leaves: Result<usize, u8>,
 }
 
-fn nested(alloc: Global, depth: usize) -> Result<String, AllocError> {
-    let mut text = repeated(alloc, "(a and ", depth)?;
-    text.push_str("a")?;
-    let closing = repeated(alloc, ")", depth)?;
-    text.push_str(closing.as_str())?;
+// At each limit a text and the next larger one.
+const LARGE: [Large; 6] = [
+    // The tree is as deep as it has leaves; dropping it is part of the test.
+    Large {
+        name: "most leaves",
+        piece: "a or ",
+        times: 2_047,
+        end: "a",
+        closing: 0,
+        leaves: Ok(2_048),
+    },
+    Large {
+        name: "too many leaves",
+        piece: "a or ",
+        times: 2_047,
+        end: "a and a",
+        closing: 0,
+        leaves: Err(16),
+    },
+    Large {
+        name: "most parentheses",
+        piece: "(a and ",
+        times: 256,
+        end: "a",
+        closing: 256,
+        leaves: Ok(257),
+    },
+    Large {
+        name: "too many parentheses",
+        piece: "(a and ",
+        times: 257,
+        end: "a",
+        closing: 257,
+        leaves: Err(16),
+    },
+    Large {
+        name: "most values",
+        piece: "a ",
+        times: 65_536,
+        end: "",
+        closing: 0,
+        leaves: Ok(1),
+    },
+    Large {
+        name: "too many values",
+        piece: "a ",
+        times: 65_536,
+        end: "a",
+        closing: 0,
+        leaves: Err(16),
+    },
+];
+
+fn push_repeated(text: &mut String, piece: &str, times: usize) -> Result<(), AllocError> {
+    for _ in 0..times {
+        text.push_str(piece)?;
+    }
+    Ok(())
+}
+
+fn text_of(alloc: Global, case: &Large) -> Result<String, AllocError> {
+    let mut text = String::new(alloc);
+    push_repeated(&mut text, case.piece, case.times)?;
+    text.push_str(case.end)?;
+    push_repeated(&mut text, ")", case.closing)?;
     Ok(text)
 }
 
-#[test]
-fn parentheses_are_limited(rt: HostRuntime) -> Result<(), Fail> {
-    let deepest = nested(rt.alloc(), 256)?;
-    let condition = parse(&rt, rt.alloc(), deepest.as_str())??;
-    assert_eq!(rt; leaves(condition.expr()), 257);
-    let deeper = nested(rt.alloc(), 257)?;
-    check_refused(&rt, rt.alloc(), &[deeper.as_str()], 16)
+// How many leaves a text has, or the number of its fault.
+fn read_leaves(alloc: Global, text: &str) -> Result<Result<usize, u8>, Fail> {
+    match parse(alloc, text)? {
+        Ok(condition) => Ok(Ok(leaves(condition.expr()))),
+        Err(fault) => Ok(Err(fault.number())),
+    }
+}
+
+fn is_read(alloc: Global, case: &Large) -> Result<bool, Fail> {
+    let text = text_of(alloc, case)?;
+    Ok(read_leaves(alloc, text.as_str())? == case.leaves)
 }
 
 #[test]
-fn values_are_limited(rt: HostRuntime) -> Result<(), Fail> {
-    let mut text = repeated(rt.alloc(), "a ", 65_536)?;
-    let condition = parse(&rt, rt.alloc(), text.as_str())??;
-    assert_eq!(rt; leaves(condition.expr()), 1);
-    text.push_str("a")?;
-    check_refused(&rt, rt.alloc(), &[text.as_str()], 16)
+fn expressions_are_limited(rt: HostRuntime) -> Result<(), Fail> {
+    for case in &LARGE {
+        assert!(rt; is_read(rt.alloc(), case)?, "{}", case.name);
+    }
+    Ok(())
 }
 
 #[derive(Drop)]
@@ -390,75 +511,82 @@ const EXPANSIONS: [Match; 10] = [
     },
 ];
 
-// With `K` empty, `J` = `y` and `P` no supported pattern.
-fn environment(alloc: Global) -> Result<Env, Fail> {
-    let mut env = Env::new(alloc);
-    env.set("K", "")?;
-    env.set("J", "y")?;
-    env.set("P", "[[:x]")?;
-    Ok(env)
-}
+// `K` is empty, and `P` no supported pattern.
+const ENVIRONMENT: [(&'static str, &'static str); 3] = [("K", ""), ("J", "y"), ("P", "[[:x]")];
 
-// The leaf that a text is.
-fn leaf_of(rt: &impl Abort, alloc: Global, text: &str) -> Result<Leaf, Fail> {
-    match parse(rt, alloc, text)??.into_expr() {
-        Expr::Leaf(leaf) => Ok(leaf),
-        Expr::And(_, _) | Expr::Or(_, _) => Err(Fail::from("the text is no leaf")),
+fn env_of(alloc: Global, pairs: &[(&str, &str)]) -> Result<Env, Fail> {
+    let mut env = Env::new(alloc);
+    for (key, value) in pairs {
+        env.set(key, value)?;
     }
+    Ok(env)
 }
 
 // Where one allocation is made to fail, the next call answers the same.
 fn matches(
     alloc: Global,
     leaf: &Leaf,
-    event: &str,
+    event: &Name,
     vars: &Env,
     env: &Env,
-) -> Result<Result<bool, ExprFault>, Fail> {
-    let event = Name::new(alloc, event)?;
-    match leaf_matches(alloc, leaf, &event, vars, env) {
-        Err(ExprFault::Memory) => Ok(leaf_matches(alloc, leaf, &event, vars, env)),
-        found => Ok(found),
+) -> Result<bool, ExprFault> {
+    match leaf_matches(alloc, leaf, event, vars, env) {
+        Err(ExprFault::Memory) => leaf_matches(alloc, leaf, event, vars, env),
+        found => found,
     }
 }
 
-fn vars_of(alloc: Global, pairs: &[(&str, &str)]) -> Result<Env, Fail> {
-    let mut vars = Env::new(alloc);
-    for (key, value) in pairs {
-        vars.set(key, value)?;
-    }
-    Ok(vars)
+// Whether a leaf matches an event with these variables, or doesn't, as the case says.
+fn is_match(alloc: Global, leaf: &Leaf, vars: &Env, case: &Match) -> Result<bool, Fail> {
+    let event = Name::new(alloc, case.event)?;
+    let env = env_of(alloc, &ENVIRONMENT)?;
+    Ok(matches(alloc, leaf, &event, vars, &env) == Ok(case.matches))
 }
 
-fn check_match(rt: &impl Abort, alloc: Global, case: &Match, env: &Env) -> Result<(), Fail> {
-    let vars = vars_of(alloc, case.vars)?;
-    let leaf = leaf_of(rt, alloc, case.leaf)?;
-    let found = matches(alloc, &leaf, case.event, &vars, env)?;
-    assert_eq!(rt; found, Ok(case.matches), "{}", case.leaf);
-    Ok(())
+// The same for the leaf that an expression is.
+fn is_leaf_match(alloc: Global, expr: &Expr, case: &Match) -> Result<bool, Fail> {
+    match expr {
+        Expr::Leaf(leaf) => {
+            let vars = env_of(alloc, case.vars)?;
+            is_match(alloc, leaf, &vars, case)
+        }
+        Expr::And(_, _) | Expr::Or(_, _) => Ok(false),
+    }
 }
 
-fn check_matches(rt: &impl Abort, alloc: Global, cases: &[Match]) -> Result<(), Fail> {
-    let env = environment(alloc)?;
-    for case in cases {
-        check_match(rt, alloc, case, &env)?;
+fn holds(alloc: Global, case: &Match) -> Result<bool, Fail> {
+    match parse(alloc, case.leaf)? {
+        Ok(condition) => is_leaf_match(alloc, condition.expr(), case),
+        Err(_) => Ok(false),
     }
-    Ok(())
+}
+
+// The place of the first case that doesn't hold.
+fn first_other(alloc: Global, cases: &[Match]) -> Result<Option<usize>, Fail> {
+    for (place, case) in cases.iter().enumerate() {
+        if !holds(alloc, case)? {
+            return Ok(Some(place));
+        }
+    }
+    Ok(None)
 }
 
 #[test]
 fn leaves_match_names_and_values(rt: HostRuntime) -> Result<(), Fail> {
-    check_matches(&rt, rt.alloc(), &PLAIN)
+    assert_eq!(rt; first_other(rt.alloc(), &PLAIN)?, None);
+    Ok(())
 }
 
 #[test]
 fn values_are_patterns(rt: HostRuntime) -> Result<(), Fail> {
-    check_matches(&rt, rt.alloc(), &PATTERNS)
+    assert_eq!(rt; first_other(rt.alloc(), &PATTERNS)?, None);
+    Ok(())
 }
 
 #[test]
 fn values_expand(rt: HostRuntime) -> Result<(), Fail> {
-    check_matches(&rt, rt.alloc(), &EXPANSIONS)
+    assert_eq!(rt; first_other(rt.alloc(), &EXPANSIONS)?, None);
+    Ok(())
 }
 
 // A leaf of the event e whose variable X must not match this value.
@@ -473,48 +601,67 @@ fn differing(alloc: Global, value: &str) -> Result<Leaf, Fail> {
     })
 }
 
+const NO_VALUES: Match = Match {
+    leaf: "",
+    event: "e",
+    vars: &[],
+    matches: false,
+};
+
+fn fails(alloc: Global, value: &str) -> Result<bool, Fail> {
+    let leaf = differing(alloc, value)?;
+    is_match(alloc, &leaf, &Env::new(alloc), &NO_VALUES)
+}
+
 // A value that no expression may have fails its leaf too, also where it must not match.
 #[test]
 fn malformed_values_fail(rt: HostRuntime) -> Result<(), Fail> {
-    let env = environment(rt.alloc())?;
-    let none = Env::new(rt.alloc());
     for value in ["${Z", "${5}", "[[:x]"] {
-        let leaf = differing(rt.alloc(), value)?;
-        let found = matches(rt.alloc(), &leaf, "e", &none, &env)?;
-        assert_eq!(rt; found, Ok(false), "{value:?}");
+        assert!(rt; fails(rt.alloc(), value)?, "{value:?}");
     }
     Ok(())
 }
 
+const STOPPED: Match = Match {
+    leaf: "stopped a RESULT!=ok",
+    event: "stopped",
+    vars: &[("JOB", "a")],
+    matches: true,
+};
+
+const REFUSED: [(&'static str, u8); 2] = [("x K=v w", 9), ("x and", 8)];
+
 #[test]
 fn expansion_and_patterns(rt: HostRuntime) -> Result<(), Fail> {
-    let stopped = Match {
-        leaf: "stopped a RESULT!=ok",
-        event: "stopped",
-        vars: &[("JOB", "a")],
-        matches: true,
-    };
-    check_match(&rt, rt.alloc(), &stopped, &environment(rt.alloc())?)?;
-    check_refused(&rt, rt.alloc(), &["x K=v w"], 9)?;
-    check_refused(&rt, rt.alloc(), &["x and"], 8)
+    let stopped = holds(rt.alloc(), &STOPPED)?;
+    let refused = first_not_refused(rt.alloc(), &REFUSED)?;
+    assert_eq!(rt; (stopped, refused), (true, None));
+    Ok(())
+}
+
+const FAULTS: [(ExprFault, u8, &'static str); 7] = [
+    (ExprFault::BadExpression, 8, "BadExpression"),
+    (ExprFault::ValueBeforeKey, 9, "ValueBeforeKey"),
+    (ExprFault::BadName, 12, "BadName"),
+    (ExprFault::BadPattern, 13, "BadPattern"),
+    (ExprFault::BadExpansion, 14, "BadExpansion"),
+    (ExprFault::TooLarge, 16, "TooLarge"),
+    (ExprFault::Memory, 42, "Memory"),
+];
+
+fn is_printed(alloc: Global, fault: ExprFault, name: &str) -> Result<bool, AllocError> {
+    let printed = format!(in alloc; "{fault}")?;
+    Ok(printed.as_str() == name)
+}
+
+fn is_named(alloc: Global, fault: ExprFault, number: u8, name: &str) -> Result<bool, AllocError> {
+    Ok(fault.number() == number && fault.name() == name && is_printed(alloc, fault, name)?)
 }
 
 #[test]
 fn faults(rt: HostRuntime) -> Result<(), Fail> {
-    let numbered = [
-        (ExprFault::BadExpression, 8, "BadExpression"),
-        (ExprFault::ValueBeforeKey, 9, "ValueBeforeKey"),
-        (ExprFault::BadName, 12, "BadName"),
-        (ExprFault::BadPattern, 13, "BadPattern"),
-        (ExprFault::BadExpansion, 14, "BadExpansion"),
-        (ExprFault::TooLarge, 16, "TooLarge"),
-        (ExprFault::Memory, 42, "Memory"),
-    ];
-    for (fault, number, name) in numbered {
-        assert_eq!(rt; fault.number(), number);
-        assert_eq!(rt; fault.name(), name);
-        let printed = format!(in rt.alloc(); "{fault}")?;
-        assert_eq!(rt; printed.as_str(), name);
+    for (fault, number, name) in &FAULTS {
+        assert!(rt; is_named(rt.alloc(), *fault, *number, name)?, "{name}");
     }
     Ok(())
 }
