@@ -52,130 +52,160 @@ fn runs(action: &Option<Action>, expected: &[&str]) -> bool {
     }
 }
 
-// A text that repeats a piece.
-fn repeated(alloc: Global, head: &[u8], piece: &[u8], times: usize) -> Result<Vec<u8>, AllocError> {
-    let mut text: Vec<u8> = Vec::new(alloc);
-    text.extend_from_slice(head)?;
-    for _ in 0..times {
-        text.extend_from_slice(piece)?;
-    }
-    Ok(text)
-}
+// How many stanzas a file has, or the line and the number of its fault.
+type Reading = Result<usize, (u32, u8)>;
 
-// Whether a file has this fault at this line.
-fn has_fault(alloc: Global, bytes: &[u8], line: u32, number: u8) -> bool {
+fn read(alloc: Global, bytes: &[u8]) -> Reading {
     match read_conf(alloc, bytes) {
-        Ok(_) => false,
-        Err(fault) => fault.line == line && fault.code.number() == number,
+        Ok(stanzas) => Ok(stanzas.as_slice().len()),
+        Err(fault) => Err((fault.line, fault.code.number())),
     }
 }
 
-// How many stanzas a file has.
-fn count(alloc: Global, bytes: &[u8]) -> Option<usize> {
-    match read_conf(alloc, bytes) {
-        Ok(stanzas) => Some(stanzas.as_slice().len()),
-        Err(_) => None,
-    }
-}
+const BYTES: [(&'static [u8], Reading); 2] = [
+    (b"task\nmanual\n", Ok(2)),
+    (b"task\nbogus x\n", Err((2, 1))),
+];
 
-// Whether a file is one stanza that runs these words.
-fn runs_words(alloc: Global, bytes: &[u8], expected: &[&str]) -> bool {
-    match read_conf(alloc, bytes) {
-        Ok(stanzas) => match stanzas.as_slice() {
-            [Stanza::Runs(Process::Main, Action::Words(words))] => are_texts(
-                words.as_slice(),
-                expected,
-            ),
-            _ => false,
-        },
-        Err(_) => false,
-    }
-}
-
-// Whether a file is one stanza by which this process's shell gets this text.
-fn runs_shell(alloc: Global, bytes: &[u8], process: Process, expected: &str) -> bool {
-    match read_conf(alloc, bytes) {
-        Ok(stanzas) => match stanzas.as_slice() {
-            [Stanza::Runs(found, Action::Shell(text))] => *found == process && text.is(expected),
-            _ => false,
-        },
-        Err(_) => false,
+fn gives(alloc: Global, bytes: &[u8], reading: Reading) -> Result<bool, AllocError> {
+    match read_bytes(alloc, bytes)? {
+        Ok(stanzas) => Ok(reading == Ok(stanzas.as_slice().len())),
+        Err(fault) => Ok(reading == Err((fault.line, fault.code.number()))),
     }
 }
 
 #[test]
 fn bytes_give_stanzas_or_their_fault(rt: HostRuntime) -> Result<(), Fail> {
-    let Ok(stanzas) = read_bytes(rt.alloc(), b"task\nmanual\n")? else {
-        return Err(Fail::from("the file isn't read"));
-    };
-    assert_eq!(rt; stanzas.as_slice().len(), 2);
-    let Err(fault) = read_bytes(rt.alloc(), b"task\nbogus x\n")? else {
-        return Err(Fail::from("the file is read"));
-    };
-    assert_eq!(rt; (fault.line, fault.code.number()), (2, 1));
+    for (bytes, reading) in &BYTES {
+        assert!(rt; gives(rt.alloc(), *bytes, *reading)?, "{reading:?}");
+    }
     Ok(())
+}
+
+// Files and how many stanzas they have, if they are read.
+const FILES: [(&'static [u8], Option<usize>); 6] = [
+    (
+        b"description \"a b\"\nauthor x\nversion 1\nusage u\nemits a b\nenv A=1\nenv B\nexport A B\ntask\nmanual\n",
+        Some(10),
+    ),
+    (
+        b"respawn\nrespawn limit 3 5\nrespawn limit unlimited\nnormal exit 0 TERM SIGHUP\nkill timeout 7\nkill signal INT\nreload signal 1\n",
+        Some(7),
+    ),
+    (
+        b"instance $TTY\nconsole none\nchdir /tmp\n\"exec\" /bin/d\nscript\nx\nend script\npre-start exec a\npost-stop script\ny\nend script # z\n",
+        Some(7),
+    ),
+    (b"start on (a or b X=1)\n  and c\nstop on d\n", None),
+    (b"start on (a\n or b X=1)\nstop on d\n", Some(2)),
+    (b"\n# nothing\n", Some(0)),
+];
+
+// The first of these files that hasn't so many stanzas.
+fn first_other_file(alloc: Global, files: &[(&[u8], Option<usize>)]) -> Option<usize> {
+    for (place, (bytes, count)) in files.iter().enumerate() {
+        if read(alloc, *bytes).ok() != *count {
+            return Some(place);
+        }
+    }
+    None
 }
 
 #[test]
 fn every_stanza_is_read(rt: HostRuntime) -> Result<(), Fail> {
-    let alloc = rt.alloc();
-    let first =
-        b"description \"a b\"\nauthor x\nversion 1\nusage u\nemits a b\nenv A=1\nenv B\nexport A B\ntask\nmanual\n";
-    let second =
-        b"respawn\nrespawn limit 3 5\nrespawn limit unlimited\nnormal exit 0 TERM SIGHUP\nkill timeout 7\nkill signal INT\nreload signal 1\n";
-    let third =
-        b"instance $TTY\nconsole none\nchdir /tmp\n\"exec\" /bin/d\nscript\nx\nend script\npre-start exec a\npost-stop script\ny\nend script # z\n";
-    let fourth = b"start on (a or b X=1)\n  and c\nstop on d\n";
-    assert_eq!(rt; count(alloc, first), Some(10));
-    assert_eq!(rt; count(alloc, second), Some(7));
-    assert_eq!(rt; count(alloc, third), Some(7));
-    assert_eq!(rt; count(alloc, fourth), None);
-    assert_eq!(rt;
-        count(alloc, b"start on (a\n or b X=1)\nstop on d\n"),
-        Some(2)
-    );
-    assert_eq!(rt; count(alloc, b"\n# nothing\n"), Some(0));
+    assert_eq!(rt; first_other_file(rt.alloc(), &FILES), None);
     Ok(())
+}
+
+// What a process runs: words, or a shell with a text.
+enum Command {
+    Words(&'static [&'static str]),
+    Shell(&'static str),
+}
+
+// A file of one stanza, the process that it is of, and what that runs.
+struct Run {
+    bytes: &'static [u8],
+    process: Process,
+    command: Command,
+}
+
+const RUNS: [Run; 8] = [
+    Run {
+        bytes: b"exec /bin/a b#c",
+        process: Process::Main,
+        command: Command::Words(&["/bin/a", "b"]),
+    },
+    Run {
+        bytes: b"exec a \\\n\t b\n",
+        process: Process::Main,
+        command: Command::Words(&["a", "b"]),
+    },
+    Run {
+        bytes: b"exec /bin/e \"a  b\" # c\n",
+        process: Process::Main,
+        command: Command::Shell("exec /bin/e \"a  b\""),
+    },
+    Run {
+        bytes: b"exec a\\ \n",
+        process: Process::Main,
+        command: Command::Shell("exec a\\ "),
+    },
+    Run {
+        bytes: b"pre-stop exec a|b\n",
+        process: Process::PreStop,
+        command: Command::Shell("exec a|b"),
+    },
+    Run {
+        bytes: b"script\n a #b\n\n end  scripts\n\tend script #c",
+        process: Process::Main,
+        command: Command::Shell(" a #b\n\n end  scripts\n"),
+    },
+    Run {
+        bytes: b"script\nend script#c\nend script\n",
+        process: Process::Main,
+        command: Command::Shell("end script#c\n"),
+    },
+    Run {
+        bytes: b"post-start script\nend script",
+        process: Process::PostStart,
+        command: Command::Shell(""),
+    },
+];
+
+fn is_command(action: &Action, command: &Command) -> bool {
+    match (action, command) {
+        (Action::Words(words), Command::Words(expected)) => are_texts(words.as_slice(), *expected),
+        (Action::Shell(text), Command::Shell(expected)) => text.is(*expected),
+        _ => false,
+    }
+}
+
+fn is_run(stanzas: &[Stanza], run: &Run) -> bool {
+    match stanzas {
+        [Stanza::Runs(process, action)] => {
+            *process == run.process && is_command(action, &run.command)
+        }
+        _ => false,
+    }
+}
+
+// The first of these files by which something else is run.
+fn first_other_run(alloc: Global, runs: &[Run]) -> Option<usize> {
+    for (place, run) in runs.iter().enumerate() {
+        let is_read = match read_conf(alloc, run.bytes) {
+            Ok(stanzas) => is_run(stanzas.as_slice(), run),
+            Err(_) => false,
+        };
+        if !is_read {
+            return Some(place);
+        }
+    }
+    None
 }
 
 #[test]
 fn commands_are_read(rt: HostRuntime) -> Result<(), Fail> {
-    let alloc = rt.alloc();
-    assert!(rt; runs_words(alloc, b"exec /bin/a b#c", &["/bin/a", "b"]));
-    assert!(rt; runs_words(alloc, b"exec a \\\n\t b\n", &["a", "b"]));
-    assert!(rt;
-        runs_shell(
-            alloc,
-            b"exec /bin/e \"a  b\" # c\n",
-            Process::Main,
-            "exec /bin/e \"a  b\""
-        )
-    );
-    assert!(rt; runs_shell(alloc, b"exec a\\ \n", Process::Main, "exec a\\ "));
-    assert!(rt; runs_shell(alloc, b"pre-stop exec a|b\n", Process::PreStop, "exec a|b"));
-    assert!(rt;
-        runs_shell(
-            alloc,
-            b"script\n a #b\n\n end  scripts\n\tend script #c",
-            Process::Main,
-            " a #b\n\n end  scripts\n"
-        )
-    );
-    assert!(rt;
-        runs_shell(
-            alloc,
-            b"script\nend script#c\nend script\n",
-            Process::Main,
-            "end script#c\n"
-        )
-    );
-    assert!(rt;
-        runs_shell(
-            alloc,
-            b"post-start script\nend script",
-            Process::PostStart,
-            ""
-        )
-    );
+    assert_eq!(rt; first_other_run(rt.alloc(), &RUNS), None);
     Ok(())
 }

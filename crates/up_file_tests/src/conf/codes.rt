@@ -1,120 +1,124 @@
 //! Which fault a file has, and at which line.
-use crate::conf::{count, has_fault, repeated};
-use std::alloc::Global;
+use crate::conf::read;
+use std::alloc::{AllocError, Global};
 use std::test::Fail;
 
 // The first of these files that hasn't a fault of this number at this line.
 fn first_other(alloc: Global, cases: &[(&[u8], u32, u8)]) -> Option<usize> {
     for (place, (bytes, line, number)) in cases.iter().enumerate() {
-        if !has_fault(alloc, *bytes, *line, *number) {
+        if read(alloc, *bytes) != Err((*line, *number)) {
             return Some(place);
         }
     }
     None
 }
 
-#[test]
-fn each_code_is_given(rt: HostRuntime) -> Result<(), Fail> {
-    let alloc = rt.alloc();
-    let first: [(&[u8], u32, u8); 8] = [
-        (b"manual\nbogus x\n", 2, 1),
-        (b"# a\n# b\nsetuid root\n", 3, 2),
-        (b"\ndescription\n", 2, 3),
-        (b"task x\n", 1, 4),
-        (b"task\nexec 'a\n\n", 2, 5),
-        (b"\nscript\nx\n", 2, 6),
-        (b"exec a\\", 1, 7),
-        (b"start on a\nstop on\n", 2, 8),
-    ];
-    assert_eq!(rt; first_other(alloc, &first), None);
-    let second: [(&[u8], u32, u8); 7] = [
-        (b"start on a X=1 b\n", 1, 9),
-        (b"task\nkill timeout +5\n", 2, 10),
-        (b"kill signal SIGX\n", 1, 11),
-        (b"export A\nexport A=\n", 2, 12),
-        (b"start on a [[:x:]]\n", 1, 13),
-        (b"task\n\ninstance ${A\n", 3, 14),
-        (b"task\n\xff\n", 1, 15),
-    ];
-    assert_eq!(rt; first_other(alloc, &second), None);
-    let mut deep = repeated(alloc, b"task\nstart on ", b"(", 257)?;
-    deep.extend_from_slice(b"a")?;
+const EACH: [(&'static [u8], u32, u8); 15] = [
+    (b"manual\nbogus x\n", 2, 1),
+    (b"# a\n# b\nsetuid root\n", 3, 2),
+    (b"\ndescription\n", 2, 3),
+    (b"task x\n", 1, 4),
+    (b"task\nexec 'a\n\n", 2, 5),
+    (b"\nscript\nx\n", 2, 6),
+    (b"exec a\\", 1, 7),
+    (b"start on a\nstop on\n", 2, 8),
+    (b"start on a X=1 b\n", 1, 9),
+    (b"task\nkill timeout +5\n", 2, 10),
+    (b"kill signal SIGX\n", 1, 11),
+    (b"export A\nexport A=\n", 2, 12),
+    (b"start on a [[:x:]]\n", 1, 13),
+    (b"task\n\ninstance ${A\n", 3, 14),
+    (b"task\n\xff\n", 1, 15),
+];
+
+// A file whose second line has too many parentheses.
+fn deep_file(alloc: Global) -> Result<Vec<u8>, AllocError> {
+    let mut text: Vec<u8> = Vec::new(alloc);
+    text.extend_from_slice(b"task\nstart on ")?;
     for _ in 0..257 {
-        deep.extend_from_slice(b")")?;
+        text.push(b'(')?;
     }
-    assert!(rt; has_fault(alloc, deep.as_slice(), 2, 16));
-    Ok(())
+    text.push(b'a')?;
+    for _ in 0..257 {
+        text.push(b')')?;
+    }
+    Ok(text)
 }
 
 #[test]
+fn each_code_is_given(rt: HostRuntime) -> Result<(), Fail> {
+    let deep = deep_file(rt.alloc())?;
+    let last = read(rt.alloc(), deep.as_slice());
+    assert_eq!(rt;
+        (first_other(rt.alloc(), &EACH), last),
+        (None, Err((2, 16)))
+    );
+    Ok(())
+}
+
+const SEVERAL: [(&'static [u8], u32, u8); 21] = [
+    (b"respawn x\n", 1, 4),
+    (b"console x\n", 1, 4),
+    (b"start x\n", 1, 1),
+    (b"normal x\n", 1, 1),
+    (b"kill x\n", 1, 1),
+    (b"reload x\n", 1, 1),
+    (b"pre-start x\n", 1, 1),
+    (b"pre-start\n", 1, 3),
+    (b"stop\n", 1, 3),
+    (b"normal\n", 1, 3),
+    (b"exec # a\n", 1, 3),
+    (b"start on a=1\n", 1, 12),
+    (b"env =1\n", 1, 12),
+    (b"export 1A\n", 1, 12),
+    (b"exec 'a\\", 1, 5),
+    (b"start on a ${[[:x:]]\n", 1, 14),
+    (b"console owner x\n", 1, 2),
+    (b"console owner\n", 1, 2),
+    (b"start on(a)\n", 1, 1),
+    (b"\nexec\0\n", 1, 15),
+    (b"script\nend script#c\n", 1, 6),
+];
+
+#[test]
 fn one_code_of_several_is_given(rt: HostRuntime) -> Result<(), Fail> {
-    let alloc = rt.alloc();
-    let first: [(&[u8], u32, u8); 11] = [
-        (b"respawn x\n", 1, 4),
-        (b"console x\n", 1, 4),
-        (b"start x\n", 1, 1),
-        (b"normal x\n", 1, 1),
-        (b"kill x\n", 1, 1),
-        (b"reload x\n", 1, 1),
-        (b"pre-start x\n", 1, 1),
-        (b"pre-start\n", 1, 3),
-        (b"stop\n", 1, 3),
-        (b"normal\n", 1, 3),
-        (b"exec # a\n", 1, 3),
-    ];
-    assert_eq!(rt; first_other(alloc, &first), None);
-    let second: [(&[u8], u32, u8); 10] = [
-        (b"start on a=1\n", 1, 12),
-        (b"env =1\n", 1, 12),
-        (b"export 1A\n", 1, 12),
-        (b"exec 'a\\", 1, 5),
-        (b"start on a ${[[:x:]]\n", 1, 14),
-        (b"console owner x\n", 1, 2),
-        (b"console owner\n", 1, 2),
-        (b"start on(a)\n", 1, 1),
-        (b"\nexec\0\n", 1, 15),
-        (b"script\nend script#c\n", 1, 6),
-    ];
-    assert_eq!(rt; first_other(alloc, &second), None);
+    assert_eq!(rt; first_other(rt.alloc(), &SEVERAL), None);
     Ok(())
 }
 
 // Tokens that aren't whole, in each place where tokens are read.
+const FAULTY_TOKENS: [(&'static [u8], u32, u8); 7] = [
+    (b"env A='b\n", 1, 5),
+    (b"task\nstart on a 'b\n", 2, 5),
+    (b"pre-start 'x\n", 1, 5),
+    (b"start 'on\n", 1, 5),
+    (b"\n'x\n", 2, 5),
+    (b"respawn\nenv A=b\\", 2, 7),
+    (b"script 'a\n", 1, 5),
+];
+
 #[test]
 fn faulty_tokens_are_told(rt: HostRuntime) -> Result<(), Fail> {
-    let alloc = rt.alloc();
-    let cases: [(&[u8], u32, u8); 7] = [
-        (b"env A='b\n", 1, 5),
-        (b"task\nstart on a 'b\n", 2, 5),
-        (b"pre-start 'x\n", 1, 5),
-        (b"start 'on\n", 1, 5),
-        (b"\n'x\n", 2, 5),
-        (b"respawn\nenv A=b\\", 2, 7),
-        (b"script 'a\n", 1, 5),
-    ];
-    assert_eq!(rt; first_other(alloc, &cases), None);
+    assert_eq!(rt; first_other(rt.alloc(), &FAULTY_TOKENS), None);
     Ok(())
 }
 
+const NUMBERS: [(&'static [u8], u32, u8); 7] = [
+    (b"respawn limit 65536 5\n", 1, 10),
+    (b"respawn limit 5\n", 1, 3),
+    (b"respawn limit 5 2147483648\n", 1, 10),
+    (b"normal exit 256\n", 1, 10),
+    (b"normal exit\n", 1, 3),
+    (b"kill timeout 99999999999999999999999\n", 1, 10),
+    (b"kill signal 32\n", 1, 11),
+];
+
+const LARGEST_NUMBERS: &'static [u8] =
+    b"respawn limit 065535 2147483647\nnormal exit 0255 SYS\nkill signal 31\nkill timeout 00\n";
+
 #[test]
 fn numbers_have_limits(rt: HostRuntime) -> Result<(), Fail> {
-    let alloc = rt.alloc();
-    let cases: [(&[u8], u32, u8); 7] = [
-        (b"respawn limit 65536 5\n", 1, 10),
-        (b"respawn limit 5\n", 1, 3),
-        (b"respawn limit 5 2147483648\n", 1, 10),
-        (b"normal exit 256\n", 1, 10),
-        (b"normal exit\n", 1, 3),
-        (b"kill timeout 99999999999999999999999\n", 1, 10),
-        (b"kill signal 32\n", 1, 11),
-    ];
-    assert_eq!(rt; first_other(alloc, &cases), None);
-    assert_eq!(rt;
-        count(
-            alloc,
-            b"respawn limit 065535 2147483647\nnormal exit 0255 SYS\nkill signal 31\nkill timeout 00\n"
-        ),
-        Some(4)
-    );
+    let largest = read(rt.alloc(), LARGEST_NUMBERS);
+    assert_eq!(rt; (first_other(rt.alloc(), &NUMBERS), largest), (None, Ok(4)));
     Ok(())
 }

@@ -1,8 +1,78 @@
 //! What a folder says.
-use crate::conf::{add, is_event, runs};
+use crate::conf::add;
+use crate::conf::jobs::{Fact, first_unstated};
 use std::alloc::{AllocError, Global};
 use std::test::Fail;
-use up_conf::{Folder, JobDef, Report, read_folder};
+use up_conf::{ConfFault, Folder, JobDef, Report, read_folder};
+
+// A folder's files, its jobs with what they say, and its faults: their path, line and number, and the name of some.
+struct Case {
+    files: &'static [(&'static str, &'static [u8])],
+    jobs: &'static [(&'static str, &'static [Fact])],
+    faults: &'static [(&'static str, u32, u8, Option<&'static str>)],
+}
+
+const IN_BYTE_ORDER: Case = Case {
+    files: &[
+        ("b.conf", b"task\n"),
+        ("a-b.conf", b"exec x\n"),
+        ("a/z.conf", b""),
+        ("notes", b"\xff"),
+        ("a.conf", b"exec y\n"),
+        ("c.override", b"bogus\n"),
+        ("d.conf.override", b"bogus\n"),
+        ("B.conf", b"\n"),
+    ],
+    jobs: &[
+        ("B", &[]),
+        ("a", &[Fact::Main(&["y"]), Fact::NeverStarts]),
+        ("a-b", &[]),
+        ("a/z", &[]),
+        ("b", &[Fact::Task]),
+    ],
+    faults: &[],
+};
+
+const FAULTS: Case = Case {
+    files: &[
+        ("x y.override", b"task\nbogus\n"),
+        ("x y.conf", b"task\nbogus\n"),
+        ("a.override", b"task\nbogus\n"),
+        ("a.conf", b"bogus\n"),
+        ("a-b.conf", b"task\ntask x\n"),
+        (".override", b"console x\n"),
+        (".conf", b"task\n"),
+        ("good.override", b"task\n"),
+        ("good.conf", b"exec g\n"),
+        ("bad.override", b"task\n"),
+        ("bad.conf", b"# a\n# b\nsetuid root\n"),
+    ],
+    jobs: &[("good", &[Fact::Task])],
+    faults: &[
+        (".conf", 1, 12, None),
+        (".override", 1, 4, None),
+        ("a-b.conf", 2, 4, None),
+        ("a.conf", 1, 1, None),
+        ("a.override", 2, 1, None),
+        ("bad.conf", 3, 2, Some("NotInProfile")),
+        ("x y.conf", 1, 12, None),
+        ("x y.override", 2, 1, None),
+    ],
+};
+
+const FAULTY_OVERRIDE: Case = Case {
+    files: &[
+        ("a.conf", b"start on go\nexec /bin/d\n"),
+        ("a.override", b"manual\nbogus x\n"),
+        ("b.conf", b"start on go\nexec /bin/d\n"),
+        ("b.override", b"manual\nexec /bin/e\n"),
+    ],
+    jobs: &[
+        ("a", &[Fact::Main(&["/bin/d"]), Fact::StartsOn("go")]),
+        ("b", &[Fact::Main(&["/bin/e"]), Fact::NeverStarts]),
+    ],
+    faults: &[("a.override", 2, 1, Some("UnknownStanza"))],
+};
 
 // The folder of these files.
 fn folder_of(alloc: Global, files: &[(&str, &[u8])]) -> Result<Folder, AllocError> {
@@ -13,157 +83,141 @@ fn folder_of(alloc: Global, files: &[(&str, &[u8])]) -> Result<Folder, AllocErro
     Ok(folder)
 }
 
-// Whether the jobs have these names.
-fn are_named(jobs: &[JobDef], names: &[&str]) -> bool {
-    for (job, name) in jobs.iter().zip(names) {
-        if job.name.as_str() != *name {
-            return false;
-        }
-    }
-    jobs.len() == names.len()
-}
-
-// Whether a report has these paths, lines and numbers.
-fn reports(report: &Report, faults: &[(&str, u32, u8)]) -> bool {
-    report.len() == faults.len()
-        && report.is_empty() == faults.is_empty()
-        && report.as_slice().iter().zip(faults).all(|(fault, told)| {
-            fault.path.is(told.0) && fault.line == told.1 && fault.code.number() == told.2
-        })
-}
-
-// Whether the job at a place runs these words and starts on this event alone, or on none.
-fn is_job(jobs: &[JobDef], place: usize, words: &[&str], event: Option<&str>) -> bool {
+// Whether the job at a place has this name and says this.
+fn is_job(jobs: &[JobDef], place: usize, name: &str, facts: &[Fact]) -> bool {
     match jobs.get(place) {
-        Some(job) => {
-            runs(&job.main, words)
-                && match event {
-                    Some(event) => is_event(&job.start_on, event),
-                    None => job.start_on.is_none(),
-                }
-        }
+        Some(job) => job.name.as_str() == name && first_unstated(job, facts).is_none(),
         None => false,
     }
 }
 
-// Whether the job at a place is a task.
-fn is_task(jobs: &[JobDef], place: usize) -> bool {
-    match jobs.get(place) {
-        Some(job) => job.task,
-        None => false,
+// The first of these jobs that isn't at its place, or `more` where there are others.
+fn first_other_job(
+    jobs: &[JobDef],
+    expected: &[(&'static str, &'static [Fact])],
+) -> Option<&'static str> {
+    for (place, (name, facts)) in expected.iter().enumerate() {
+        if !is_job(jobs, place, *name, *facts) {
+            return Some(*name);
+        }
+    }
+    if jobs.len() == expected.len() {
+        None
+    } else {
+        Some("more")
     }
 }
 
-// Whether the fault at a place has this name.
-fn is_told(report: &Report, place: usize, name: &str) -> bool {
+// Whether the fault at a place is this one.
+fn is_fault(
+    report: &Report,
+    place: usize,
+    path: &str,
+    line: u32,
+    number: u8,
+    name: Option<&str>,
+) -> bool {
     match report.as_slice().get(place) {
-        Some(fault) => fault.code.name() == name,
+        Some(fault) => {
+            fault.path.is(path)
+                && fault.line == line
+                && fault.code.number() == number
+                && (name.is_none() || name == Some(fault.code.name()))
+        }
         None => false,
     }
+}
+
+// The path of the first of these faults that isn't at its place, or `more` where there are others.
+fn first_other_fault(
+    report: &Report,
+    expected: &[(&'static str, u32, u8, Option<&'static str>)],
+) -> Option<&'static str> {
+    for (place, (path, line, number, name)) in expected.iter().enumerate() {
+        if !is_fault(report, place, *path, *line, *number, *name) {
+            return Some(*path);
+        }
+    }
+    if report.len() == expected.len() && report.is_empty() == expected.is_empty() {
+        None
+    } else {
+        Some("more")
+    }
+}
+
+// The first job and the first fault that differ from what the case says.
+type Others = (Option<&'static str>, Option<&'static str>);
+
+fn others_in(alloc: Global, folder: &Folder, case: &Case) -> Result<Others, ConfFault> {
+    match read_folder(alloc, folder) {
+        Ok((jobs, report)) => Ok((
+            first_other_job(jobs.as_slice(), case.jobs),
+            first_other_fault(&report, case.faults),
+        )),
+        Err(fault) => Err(fault),
+    }
+}
+
+fn others(alloc: Global, case: &Case) -> Result<Others, ConfFault> {
+    let folder = folder_of(alloc, case.files)?;
+    others_in(alloc, &folder, case)
 }
 
 #[test]
 fn jobs_are_in_byte_order(rt: HostRuntime) -> Result<(), Fail> {
-    let alloc = rt.alloc();
-    let folder = folder_of(
-        alloc,
-        &[
-            ("b.conf", b"task\n"),
-            ("a-b.conf", b"exec x\n"),
-            ("a/z.conf", b""),
-            ("notes", b"\xff"),
-            ("a.conf", b"exec y\n"),
-            ("c.override", b"bogus\n"),
-            ("d.conf.override", b"bogus\n"),
-            ("B.conf", b"\n"),
-        ],
-    )?;
-    let (jobs, report) = read_folder(alloc, &folder)?;
-    assert!(rt; are_named(jobs.as_slice(), &["B", "a", "a-b", "a/z", "b"]));
-    assert!(rt; reports(&report, &[]));
-    assert!(rt; is_job(jobs.as_slice(), 1, &["y"], None));
-    assert!(rt; is_task(jobs.as_slice(), 4));
+    assert_eq!(rt; others(rt.alloc(), &IN_BYTE_ORDER)?, (None, None));
     Ok(())
 }
 
 #[test]
 fn faults_are_in_byte_order(rt: HostRuntime) -> Result<(), Fail> {
-    let alloc = rt.alloc();
-    let folder = folder_of(
-        alloc,
-        &[
-            ("x y.override", b"task\nbogus\n"),
-            ("x y.conf", b"task\nbogus\n"),
-            ("a.override", b"task\nbogus\n"),
-            ("a.conf", b"bogus\n"),
-            ("a-b.conf", b"task\ntask x\n"),
-            (".override", b"console x\n"),
-            (".conf", b"task\n"),
-            ("good.override", b"task\n"),
-            ("good.conf", b"exec g\n"),
-            ("bad.override", b"task\n"),
-            ("bad.conf", b"# a\n# b\nsetuid root\n"),
-        ],
-    )?;
-    let (jobs, report) = read_folder(alloc, &folder)?;
-    assert!(rt; are_named(jobs.as_slice(), &["good"]));
-    assert!(rt; is_task(jobs.as_slice(), 0));
-    let told = [
-        (".conf", 1, 12),
-        (".override", 1, 4),
-        ("a-b.conf", 2, 4),
-        ("a.conf", 1, 1),
-        ("a.override", 2, 1),
-        ("bad.conf", 3, 2),
-        ("x y.conf", 1, 12),
-        ("x y.override", 2, 1),
-    ];
-    assert!(rt; reports(&report, &told));
-    assert!(rt; is_told(&report, 5, "NotInProfile"));
+    assert_eq!(rt; others(rt.alloc(), &FAULTS)?, (None, None));
     Ok(())
 }
 
 #[test]
 fn a_faulty_override_is_ignored(rt: HostRuntime) -> Result<(), Fail> {
-    let alloc = rt.alloc();
-    let folder = folder_of(
-        alloc,
-        &[
-            ("a.conf", b"start on go\nexec /bin/d\n"),
-            ("a.override", b"manual\nbogus x\n"),
-            ("b.conf", b"start on go\nexec /bin/d\n"),
-            ("b.override", b"manual\nexec /bin/e\n"),
-        ],
-    )?;
-    let (jobs, report) = read_folder(alloc, &folder)?;
-    assert!(rt; reports(&report, &[("a.override", 2, 1)]));
-    assert!(rt; is_told(&report, 0, "UnknownStanza"));
-    assert!(rt; are_named(jobs.as_slice(), &["a", "b"]));
-    assert!(rt; is_job(jobs.as_slice(), 0, &["/bin/d"], Some("go")));
-    assert!(rt; is_job(jobs.as_slice(), 1, &["/bin/e"], None));
+    assert_eq!(rt; others(rt.alloc(), &FAULTY_OVERRIDE)?, (None, None));
     Ok(())
 }
 
-// A folder of so many jobs, each with an override.
+// Adds a job of this number, with an override.
+fn add_job(alloc: Global, folder: &mut Folder, n: u32) -> Result<(), AllocError> {
+    let conf = format!(in alloc; "{n}.conf")?;
+    add(alloc, folder, conf.as_str(), b"start on go\nexec x\n")?;
+    let over = format!(in alloc; "{n}.override")?;
+    add(alloc, folder, over.as_str(), b"manual\n")
+}
+
+// A folder of so many jobs.
 fn folder_of_many(alloc: Global, count: u32) -> Result<Folder, AllocError> {
     let mut folder = Folder::new(alloc);
     for n in 0..count {
-        let conf = format!(in alloc; "{n}.conf")?;
-        add(alloc, &mut folder, conf.as_str(), b"start on go\nexec x\n")?;
-        let over = format!(in alloc; "{n}.override")?;
-        add(alloc, &mut folder, over.as_str(), b"manual\n")?;
+        add_job(alloc, &mut folder, n)?;
     }
     Ok(folder)
+}
+
+// How many of these jobs start on no event.
+fn unstarted(jobs: &[JobDef]) -> usize {
+    jobs.iter().filter(|job| job.start_on.is_none()).count()
+}
+
+// How many jobs a folder has, how many of them start on no event, and whether it has no fault.
+fn counts(alloc: Global, folder: &Folder) -> Result<(usize, usize, bool), ConfFault> {
+    match read_folder(alloc, folder) {
+        Ok((jobs, report)) => Ok((
+            jobs.as_slice().len(),
+            unstarted(jobs.as_slice()),
+            report.is_empty(),
+        )),
+        Err(fault) => Err(fault),
+    }
 }
 
 #[test]
 fn many_files_are_read(rt: HostRuntime) -> Result<(), Fail> {
     let folder = folder_of_many(rt.alloc(), 1024)?;
-    let (jobs, report) = read_folder(rt.alloc(), &folder)?;
-    assert!(rt; report.is_empty());
-    assert_eq!(rt; jobs.as_slice().len(), 1024);
-    for job in jobs.as_slice() {
-        assert!(rt; job.start_on.is_none());
-    }
+    assert_eq!(rt; counts(rt.alloc(), &folder)?, (1024, 1024, true));
     Ok(())
 }

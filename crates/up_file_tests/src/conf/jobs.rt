@@ -6,7 +6,7 @@ use up_conf::{ConfFault, Exit, JobDef, Setting, apply_override, job_of, read_con
 use up_text::Name;
 
 // The job `a` of a file and its override.
-fn job(alloc: Global, conf: &[u8], over: &[u8]) -> Result<JobDef, ConfFault> {
+fn overridden(alloc: Global, conf: &[u8], over: &[u8]) -> Result<JobDef, ConfFault> {
     let Ok(name) = Name::new(alloc, "a") else {
         return Err(AllocError.into());
     };
@@ -16,7 +16,7 @@ fn job(alloc: Global, conf: &[u8], over: &[u8]) -> Result<JobDef, ConfFault> {
 }
 
 // The job `a` of a file alone.
-fn job_alone(alloc: Global, conf: &[u8]) -> Result<JobDef, ConfFault> {
+fn alone(alloc: Global, conf: &[u8]) -> Result<JobDef, ConfFault> {
     let Ok(name) = Name::new(alloc, "a") else {
         return Err(AllocError.into());
     };
@@ -24,19 +24,35 @@ fn job_alone(alloc: Global, conf: &[u8]) -> Result<JobDef, ConfFault> {
     Ok(job_of(alloc, name, &conf)?)
 }
 
-// Jobs of the name `a`, one of each of these files.
-fn jobs(alloc: Global, files: &[&[u8]]) -> Result<Vec<JobDef>, ConfFault> {
-    let mut jobs = Vec::with_capacity(alloc, files.len())?;
-    for file in files {
-        let job = job_alone(alloc, *file)?;
-        keep(&mut jobs, job)?;
-    }
-    Ok(jobs)
-}
-
-fn keep(jobs: &mut Vec<JobDef>, job: JobDef) -> Result<(), AllocError> {
-    jobs.push(job)?;
-    Ok(())
+// Something that a job says.
+pub(crate) enum Fact {
+    // Whether `task`, `respawn` and `console none` stand.
+    Marks(bool, bool, bool),
+    // The texts of its instances and its folder.
+    Texts(&'static str, &'static str),
+    // The signal that ends it, the time after which it is killed, and how often it is respawned in which time.
+    Numbers(u8, u32, u32, u32),
+    // `task` stands.
+    Task,
+    // Its main process runs these words.
+    Main(&'static [&'static str]),
+    // It has no main process.
+    NoMain,
+    // Its main process and its pre-start run these words, and it has no other process.
+    Processes(&'static [&'static str], &'static [&'static str]),
+    // It starts on this event alone.
+    StartsOn(&'static str),
+    // It starts on no event.
+    NeverStarts,
+    // It stops on this event alone.
+    StopsOn(&'static str),
+    // What it sets, and the keys that it exports.
+    Env(&'static [(&'static str, Option<&'static str>)]),
+    Export(&'static [&'static str]),
+    // How many keys it sets, and how many it exports.
+    Keys(usize, usize),
+    // Its normal exits are the status 0, TERM and the status 15.
+    Exits,
 }
 
 fn is_setting(setting: &Setting, key: &str, value: Option<&str>) -> bool {
@@ -84,31 +100,9 @@ fn has_processes(job: &JobDef, main: &[&str], pre_start: &[&str]) -> bool {
         && job.post_stop.is_none()
 }
 
-const SETTINGS: &'static [u8] =
-    b"task\nrespawn\ninstance a\ninstance $X\nchdir /a\nchdir /b\nconsole none\nconsole output\nkill timeout 7\nkill timeout 0\nkill signal INT\nkill signal 9\nrespawn limit 3 4\nrespawn limit unlimited\n";
-
-const PROCESSES: &'static [u8] =
-    b"script\nb\nend script\nexec /bin/a\npre-start exec p\npre-start exec q\nrespawn limit 3 4\nconsole none\nstart on a\nstart on b\nstop on c\nstop on d\n";
-
-#[test]
-fn the_last_of_each_kind_counts(rt: HostRuntime) -> Result<(), Fail> {
-    let jobs = jobs(rt.alloc(), &[SETTINGS, PROCESSES, b""])?;
-    let [settings, processes, empty] = jobs.as_slice() else {
-        return Err(Fail::from("a file gives no job"));
-    };
-    assert!(rt; has_marks(settings, true, true, false));
-    assert!(rt; has_texts(settings, "$X", "/b"));
-    assert!(rt; has_numbers(settings, 9, 0, 0, 0));
-    assert!(rt; has_marks(processes, false, false, true));
-    assert!(rt; has_processes(processes, &["/bin/a"], &["q"]));
-    assert!(rt; is_event(&processes.start_on, "b"));
-    assert!(rt; is_event(&processes.stop_on, "d"));
-    assert!(rt; has_numbers(processes, 15, 5, 3, 4));
-    assert!(rt; has_marks(empty, false, false, false));
-    assert!(rt; has_texts(empty, "", ""));
-    assert!(rt; has_numbers(empty, 15, 5, 10, 5));
-    assert!(rt; empty.main.is_none());
-    Ok(())
+// Whether it sets and exports so many keys.
+fn has_keys(job: &JobDef, set: usize, exported: usize) -> bool {
+    job.env.as_slice().len() == set && job.export.as_slice().len() == exported
 }
 
 // Whether the normal exits are the status 0, TERM and the status 15.
@@ -123,49 +117,167 @@ fn are_expected_exits(exits: &[Exit]) -> bool {
     }
 }
 
-const SUMS: &'static [u8] =
-    b"env A=1\nenv B\nenv A\nenv C=\nexport A B\nexport B C A\nnormal exit 0 TERM\nnormal exit 15 SIGTERM 0\n";
+fn states(job: &JobDef, fact: &Fact) -> bool {
+    match fact {
+        Fact::Marks(task, respawn, silent) => has_marks(job, *task, *respawn, *silent),
+        Fact::Texts(instance, dir) => has_texts(job, *instance, *dir),
+        Fact::Numbers(signal, seconds, count, interval) => {
+            has_numbers(job, *signal, *seconds, *count, *interval)
+        }
+        Fact::Task => job.task,
+        Fact::Main(words) => runs(&job.main, *words),
+        Fact::NoMain => job.main.is_none(),
+        Fact::Processes(main, pre_start) => has_processes(job, *main, *pre_start),
+        Fact::StartsOn(event) => is_event(&job.start_on, *event),
+        Fact::NeverStarts => job.start_on.is_none(),
+        Fact::StopsOn(event) => is_event(&job.stop_on, *event),
+        Fact::Env(settings) => are_settings(job.env.as_slice(), *settings),
+        Fact::Export(keys) => are_texts(job.export.as_slice(), *keys),
+        Fact::Keys(set, exported) => has_keys(job, *set, *exported),
+        Fact::Exits => are_expected_exits(job.normal.as_slice()),
+    }
+}
+
+// The place of the first fact that a job doesn't state.
+pub(crate) fn first_unstated(job: &JobDef, facts: &[Fact]) -> Option<usize> {
+    for (place, fact) in facts.iter().enumerate() {
+        if !states(job, fact) {
+            return Some(place);
+        }
+    }
+    None
+}
+
+fn job(alloc: Global, conf: &[u8], over: Option<&[u8]>) -> Result<JobDef, ConfFault> {
+    match over {
+        Some(over) => overridden(alloc, conf, over),
+        None => alone(alloc, conf),
+    }
+}
+
+// The place of the first fact that the job of a file doesn't state, or a fault.
+fn first_other(
+    alloc: Global,
+    conf: &[u8],
+    over: Option<&[u8]>,
+    facts: &[Fact],
+) -> Result<Option<usize>, ConfFault> {
+    match job(alloc, conf, over) {
+        Ok(job) => Ok(first_unstated(&job, facts)),
+        Err(fault) => Err(fault),
+    }
+}
+
+// A file, its override if it has one, and what its job says.
+struct Case {
+    name: &'static str,
+    conf: &'static [u8],
+    over: Option<&'static [u8]>,
+    facts: &'static [Fact],
+}
+
+const LAST_OF_EACH_KIND: [Case; 3] = [
+    Case {
+        name: "settings",
+        conf: b"task\nrespawn\ninstance a\ninstance $X\nchdir /a\nchdir /b\nconsole none\nconsole output\nkill timeout 7\nkill timeout 0\nkill signal INT\nkill signal 9\nrespawn limit 3 4\nrespawn limit unlimited\n",
+        over: None,
+        facts: &[
+            Fact::Marks(true, true, false),
+            Fact::Texts("$X", "/b"),
+            Fact::Numbers(9, 0, 0, 0),
+        ],
+    },
+    Case {
+        name: "processes",
+        conf: b"script\nb\nend script\nexec /bin/a\npre-start exec p\npre-start exec q\nrespawn limit 3 4\nconsole none\nstart on a\nstart on b\nstop on c\nstop on d\n",
+        over: None,
+        facts: &[
+            Fact::Marks(false, false, true),
+            Fact::Processes(&["/bin/a"], &["q"]),
+            Fact::StartsOn("b"),
+            Fact::StopsOn("d"),
+            Fact::Numbers(15, 5, 3, 4),
+        ],
+    },
+    Case {
+        name: "empty",
+        conf: b"",
+        over: None,
+        facts: &[
+            Fact::Marks(false, false, false),
+            Fact::Texts("", ""),
+            Fact::Numbers(15, 5, 10, 5),
+            Fact::NoMain,
+        ],
+    },
+];
+
+// The name of the first file whose job doesn't say all that it should, and the place of what it doesn't say.
+fn first_other_case(
+    alloc: Global,
+    cases: &[Case],
+) -> Result<Option<(&'static str, usize)>, ConfFault> {
+    for case in cases {
+        if let Some(place) = first_other(alloc, case.conf, case.over, case.facts)? {
+            return Ok(Some((case.name, place)));
+        }
+    }
+    Ok(None)
+}
 
 #[test]
-fn others_add_up(rt: HostRuntime) -> Result<(), Fail> {
-    let manual = b"start on a\nmanual\nstop on b\n";
-    let started = b"start on a\nmanual\nstart on b\n";
-    let jobs = jobs(rt.alloc(), &[SUMS, manual, started])?;
-    let [sums, manual, started] = jobs.as_slice() else {
-        return Err(Fail::from("a file gives no job"));
-    };
-    let settings = [("A", None), ("B", None), ("C", Some(""))];
-    assert!(rt; are_settings(sums.env.as_slice(), &settings));
-    assert!(rt; are_texts(sums.export.as_slice(), &["A", "B", "C"]));
-    assert!(rt; are_expected_exits(sums.normal.as_slice()));
-    assert!(rt; manual.start_on.is_none());
-    assert!(rt; is_event(&manual.stop_on, "b"));
-    assert!(rt; is_event(&started.start_on, "b"));
+fn the_last_of_each_kind_counts(rt: HostRuntime) -> Result<(), Fail> {
+    assert_eq!(rt; first_other_case(rt.alloc(), &LAST_OF_EACH_KIND)?, None);
     Ok(())
 }
 
-// Whether it is the job of the test below.
-fn is_overridden(job: &JobDef) -> bool {
-    let settings = [("A", Some("1")), ("B", Some("3")), ("C", None)];
-    are_settings(job.env.as_slice(), &settings)
-        && are_texts(job.export.as_slice(), &["B", "A"])
-        && runs(&job.main, &["y", "z"])
-        && has_marks(job, true, false, false)
-        && job.start_on.is_none()
+const OTHERS: [Case; 3] = [
+    Case {
+        name: "sums",
+        conf: b"env A=1\nenv B\nenv A\nenv C=\nexport A B\nexport B C A\nnormal exit 0 TERM\nnormal exit 15 SIGTERM 0\n",
+        over: None,
+        facts: &[
+            Fact::Env(&[("A", None), ("B", None), ("C", Some(""))]),
+            Fact::Export(&["A", "B", "C"]),
+            Fact::Exits,
+        ],
+    },
+    Case {
+        name: "manual",
+        conf: b"start on a\nmanual\nstop on b\n",
+        over: None,
+        facts: &[Fact::NeverStarts, Fact::StopsOn("b")],
+    },
+    Case {
+        name: "started",
+        conf: b"start on a\nmanual\nstart on b\n",
+        over: None,
+        facts: &[Fact::StartsOn("b")],
+    },
+];
+
+#[test]
+fn others_add_up(rt: HostRuntime) -> Result<(), Fail> {
+    assert_eq!(rt; first_other_case(rt.alloc(), &OTHERS)?, None);
+    Ok(())
 }
 
-fn overrides(alloc: Global) -> Result<bool, ConfFault> {
-    let job = job(
-        alloc,
-        b"start on a\nexec x\nenv A=1\nenv B=2\nexport B\ntask\n",
-        b"env B=3\nenv C\nexport A B\nexec y z\nmanual\n",
-    )?;
-    Ok(is_overridden(&job))
-}
+const OVERRIDDEN: [Case; 1] = [Case {
+    name: "overridden",
+    conf: b"start on a\nexec x\nenv A=1\nenv B=2\nexport B\ntask\n",
+    over: Some(b"env B=3\nenv C\nexport A B\nexec y z\nmanual\n"),
+    facts: &[
+        Fact::Env(&[("A", Some("1")), ("B", Some("3")), ("C", None)]),
+        Fact::Export(&["B", "A"]),
+        Fact::Main(&["y", "z"]),
+        Fact::Marks(true, false, false),
+        Fact::NeverStarts,
+    ],
+}];
 
 #[test]
 fn an_override_goes_behind(rt: HostRuntime) -> Result<(), Fail> {
-    assert!(rt; overrides(rt.alloc())?);
+    assert_eq!(rt; first_other_case(rt.alloc(), &OVERRIDDEN)?, None);
     Ok(())
 }
 
@@ -178,14 +290,14 @@ fn file_of_many_keys(alloc: Global) -> Result<Vec<u8>, AllocError> {
     Ok(text)
 }
 
-fn sets_many_keys(alloc: Global, text: &[u8]) -> Result<bool, ConfFault> {
-    let job = job_alone(alloc, text)?;
-    Ok(job.env.as_slice().len() == 30_000 && job.export.as_slice().len() == 30_000)
-}
+const MANY_KEYS: [Fact; 1] = [Fact::Keys(30_000, 30_000)];
 
 #[test]
 fn many_keys_are_set(rt: HostRuntime) -> Result<(), Fail> {
     let text = file_of_many_keys(rt.alloc())?;
-    assert!(rt; sets_many_keys(rt.alloc(), text.as_slice())?);
+    assert_eq!(rt;
+        first_other(rt.alloc(), text.as_slice(), None, &MANY_KEYS)?,
+        None
+    );
     Ok(())
 }
