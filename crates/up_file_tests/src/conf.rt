@@ -62,7 +62,7 @@ fn read(alloc: Global, bytes: &[u8]) -> Reading {
     }
 }
 
-const BYTES: [(&'static [u8], Reading); 2] = [
+const BYTES: &'static [(&'static [u8], Reading)] = &[
     (b"task\nmanual\n", Ok(2)),
     (b"task\nbogus x\n", Err((2, 1))),
 ];
@@ -76,14 +76,14 @@ fn gives(alloc: Global, bytes: &[u8], reading: Reading) -> Result<bool, AllocErr
 
 #[test]
 fn bytes_give_stanzas_or_their_fault(rt: HostRuntime) -> Result<(), Fail> {
-    for (bytes, reading) in &BYTES {
+    for (bytes, reading) in BYTES {
         assert!(rt; gives(rt.alloc(), *bytes, *reading)?, "{reading:?}");
     }
     Ok(())
 }
 
 // Files and how many stanzas they have, if they are read.
-const FILES: [(&'static [u8], Option<usize>); 6] = [
+const FILES: &'static [(&'static [u8], Option<usize>)] = &[
     (
         b"description \"a b\"\nauthor x\nversion 1\nusage u\nemits a b\nenv A=1\nenv B\nexport A B\ntask\nmanual\n",
         Some(10),
@@ -113,7 +113,7 @@ fn first_other_file(alloc: Global, files: &[(&[u8], Option<usize>)]) -> Option<u
 
 #[test]
 fn every_stanza_is_read(rt: HostRuntime) -> Result<(), Fail> {
-    assert_eq!(rt; first_other_file(rt.alloc(), &FILES), None);
+    assert_eq!(rt; first_other_file(rt.alloc(), FILES), None);
     Ok(())
 }
 
@@ -130,7 +130,7 @@ struct Run {
     command: Command,
 }
 
-const RUNS: [Run; 8] = [
+const RUNS: &'static [Run] = &[
     Run {
         bytes: b"exec /bin/a b#c",
         process: Process::Main,
@@ -206,6 +206,6 @@ fn first_other_run(alloc: Global, runs: &[Run]) -> Option<usize> {
 
 #[test]
 fn commands_are_read(rt: HostRuntime) -> Result<(), Fail> {
-    assert_eq!(rt; first_other_run(rt.alloc(), &RUNS), None);
+    assert_eq!(rt; first_other_run(rt.alloc(), RUNS), None);
     Ok(())
 }

@@ -13,7 +13,7 @@ fn first_other(alloc: Global, cases: &[(&[u8], u32, u8)]) -> Option<usize> {
     None
 }
 
-const EACH: [(&'static [u8], u32, u8); 15] = [
+const EACH: &'static [(&'static [u8], u32, u8)] = &[
     (b"manual\nbogus x\n", 2, 1),
     (b"# a\n# b\nsetuid root\n", 3, 2),
     (b"\ndescription\n", 2, 3),
@@ -49,14 +49,11 @@ fn deep_file(alloc: Global) -> Result<Vec<u8>, AllocError> {
 fn each_code_is_given(rt: HostRuntime) -> Result<(), Fail> {
     let deep = deep_file(rt.alloc())?;
     let last = read(rt.alloc(), deep.as_slice());
-    assert_eq!(rt;
-        (first_other(rt.alloc(), &EACH), last),
-        (None, Err((2, 16)))
-    );
+    assert_eq!(rt; (first_other(rt.alloc(), EACH), last), (None, Err((2, 16))));
     Ok(())
 }
 
-const SEVERAL: [(&'static [u8], u32, u8); 21] = [
+const SEVERAL: &'static [(&'static [u8], u32, u8)] = &[
     (b"respawn x\n", 1, 4),
     (b"console x\n", 1, 4),
     (b"start x\n", 1, 1),
@@ -82,12 +79,12 @@ const SEVERAL: [(&'static [u8], u32, u8); 21] = [
 
 #[test]
 fn one_code_of_several_is_given(rt: HostRuntime) -> Result<(), Fail> {
-    assert_eq!(rt; first_other(rt.alloc(), &SEVERAL), None);
+    assert_eq!(rt; first_other(rt.alloc(), SEVERAL), None);
     Ok(())
 }
 
 // Tokens that aren't whole, in each place where tokens are read.
-const FAULTY_TOKENS: [(&'static [u8], u32, u8); 7] = [
+const FAULTY_TOKENS: &'static [(&'static [u8], u32, u8)] = &[
     (b"env A='b\n", 1, 5),
     (b"task\nstart on a 'b\n", 2, 5),
     (b"pre-start 'x\n", 1, 5),
@@ -99,11 +96,11 @@ const FAULTY_TOKENS: [(&'static [u8], u32, u8); 7] = [
 
 #[test]
 fn faulty_tokens_are_told(rt: HostRuntime) -> Result<(), Fail> {
-    assert_eq!(rt; first_other(rt.alloc(), &FAULTY_TOKENS), None);
+    assert_eq!(rt; first_other(rt.alloc(), FAULTY_TOKENS), None);
     Ok(())
 }
 
-const NUMBERS: [(&'static [u8], u32, u8); 7] = [
+const NUMBERS: &'static [(&'static [u8], u32, u8)] = &[
     (b"respawn limit 65536 5\n", 1, 10),
     (b"respawn limit 5\n", 1, 3),
     (b"respawn limit 5 2147483648\n", 1, 10),
@@ -119,6 +116,6 @@ const LARGEST_NUMBERS: &'static [u8] =
 #[test]
 fn numbers_have_limits(rt: HostRuntime) -> Result<(), Fail> {
     let largest = read(rt.alloc(), LARGEST_NUMBERS);
-    assert_eq!(rt; (first_other(rt.alloc(), &NUMBERS), largest), (None, Ok(4)));
+    assert_eq!(rt; (first_other(rt.alloc(), NUMBERS), largest), (None, Ok(4)));
     Ok(())
 }

@@ -12,7 +12,7 @@ struct Case {
     faults: &'static [(&'static str, u32, u8, Option<&'static str>)],
 }
 
-const IN_BYTE_ORDER: Case = Case {
+const IN_BYTE_ORDER: &'static Case = &Case {
     files: &[
         ("b.conf", b"task\n"),
         ("a-b.conf", b"exec x\n"),
@@ -33,7 +33,7 @@ const IN_BYTE_ORDER: Case = Case {
     faults: &[],
 };
 
-const FAULTS: Case = Case {
+const FAULTS: &'static Case = &Case {
     files: &[
         ("x y.override", b"task\nbogus\n"),
         ("x y.conf", b"task\nbogus\n"),
@@ -60,7 +60,7 @@ const FAULTS: Case = Case {
     ],
 };
 
-const FAULTY_OVERRIDE: Case = Case {
+const FAULTY_OVERRIDE: &'static Case = &Case {
     files: &[
         ("a.conf", b"start on go\nexec /bin/d\n"),
         ("a.override", b"manual\nbogus x\n"),
@@ -165,19 +165,19 @@ fn others(alloc: Global, case: &Case) -> Result<Others, ConfFault> {
 
 #[test]
 fn jobs_are_in_byte_order(rt: HostRuntime) -> Result<(), Fail> {
-    assert_eq!(rt; others(rt.alloc(), &IN_BYTE_ORDER)?, (None, None));
+    assert_eq!(rt; others(rt.alloc(), IN_BYTE_ORDER)?, (None, None));
     Ok(())
 }
 
 #[test]
 fn faults_are_in_byte_order(rt: HostRuntime) -> Result<(), Fail> {
-    assert_eq!(rt; others(rt.alloc(), &FAULTS)?, (None, None));
+    assert_eq!(rt; others(rt.alloc(), FAULTS)?, (None, None));
     Ok(())
 }
 
 #[test]
 fn a_faulty_override_is_ignored(rt: HostRuntime) -> Result<(), Fail> {
-    assert_eq!(rt; others(rt.alloc(), &FAULTY_OVERRIDE)?, (None, None));
+    assert_eq!(rt; others(rt.alloc(), FAULTY_OVERRIDE)?, (None, None));
     Ok(())
 }
 

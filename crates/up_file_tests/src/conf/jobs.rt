@@ -176,7 +176,7 @@ struct Case {
     facts: &'static [Fact],
 }
 
-const LAST_OF_EACH_KIND: [Case; 3] = [
+const LAST_OF_EACH_KIND: &'static [Case] = &[
     Case {
         name: "settings",
         conf: b"task\nrespawn\ninstance a\ninstance $X\nchdir /a\nchdir /b\nconsole none\nconsole output\nkill timeout 7\nkill timeout 0\nkill signal INT\nkill signal 9\nrespawn limit 3 4\nrespawn limit unlimited\n",
@@ -227,11 +227,11 @@ fn first_other_case(
 
 #[test]
 fn the_last_of_each_kind_counts(rt: HostRuntime) -> Result<(), Fail> {
-    assert_eq!(rt; first_other_case(rt.alloc(), &LAST_OF_EACH_KIND)?, None);
+    assert_eq!(rt; first_other_case(rt.alloc(), LAST_OF_EACH_KIND)?, None);
     Ok(())
 }
 
-const OTHERS: [Case; 3] = [
+const OTHERS: &'static [Case] = &[
     Case {
         name: "sums",
         conf: b"env A=1\nenv B\nenv A\nenv C=\nexport A B\nexport B C A\nnormal exit 0 TERM\nnormal exit 15 SIGTERM 0\n",
@@ -258,11 +258,11 @@ const OTHERS: [Case; 3] = [
 
 #[test]
 fn others_add_up(rt: HostRuntime) -> Result<(), Fail> {
-    assert_eq!(rt; first_other_case(rt.alloc(), &OTHERS)?, None);
+    assert_eq!(rt; first_other_case(rt.alloc(), OTHERS)?, None);
     Ok(())
 }
 
-const OVERRIDDEN: [Case; 1] = [Case {
+const OVERRIDDEN: &'static [Case] = &[Case {
     name: "overridden",
     conf: b"start on a\nexec x\nenv A=1\nenv B=2\nexport B\ntask\n",
     over: Some(b"env B=3\nenv C\nexport A B\nexec y z\nmanual\n"),
@@ -277,7 +277,7 @@ const OVERRIDDEN: [Case; 1] = [Case {
 
 #[test]
 fn an_override_goes_behind(rt: HostRuntime) -> Result<(), Fail> {
-    assert_eq!(rt; first_other_case(rt.alloc(), &OVERRIDDEN)?, None);
+    assert_eq!(rt; first_other_case(rt.alloc(), OVERRIDDEN)?, None);
     Ok(())
 }
 
@@ -290,13 +290,13 @@ fn file_of_many_keys(alloc: Global) -> Result<Vec<u8>, AllocError> {
     Ok(text)
 }
 
-const MANY_KEYS: [Fact; 1] = [Fact::Keys(30_000, 30_000)];
+const MANY_KEYS: &'static [Fact] = &[Fact::Keys(30_000, 30_000)];
 
 #[test]
 fn many_keys_are_set(rt: HostRuntime) -> Result<(), Fail> {
     let text = file_of_many_keys(rt.alloc())?;
     assert_eq!(rt;
-        first_other(rt.alloc(), text.as_slice(), None, &MANY_KEYS)?,
+        first_other(rt.alloc(), text.as_slice(), None, MANY_KEYS)?,
         None
     );
     Ok(())

@@ -15,7 +15,7 @@ struct Large {
 }
 
 // At each limit a file and the next larger one.
-const LARGE: [Large; 11] = [
+const LARGE: &'static [Large] = &[
     Large {
         name: "longest",
         head: b"task\n###########",
@@ -142,7 +142,7 @@ fn is_read(alloc: Global, case: &Large) -> Result<bool, AllocError> {
 
 #[test]
 fn files_are_limited(rt: HostRuntime) -> Result<(), Fail> {
-    for case in &LARGE {
+    for case in LARGE {
         assert!(rt; is_read(rt.alloc(), case)?, "{}", case.name);
     }
     Ok(())
