@@ -34,10 +34,17 @@ fn is_event(condition: &Option<Condition>, name: &str) -> bool {
     }
 }
 
+fn is_text(texts: &[Text], place: usize, expected: &str) -> bool {
+    match texts.get(place) {
+        Some(text) => text.is(expected),
+        None => false,
+    }
+}
+
 // Whether texts are these.
 fn are_texts(texts: &[Text], expected: &[&str]) -> bool {
-    for (text, bytes) in texts.iter().zip(expected) {
-        if !text.is(*bytes) {
+    for (place, text) in expected.iter().enumerate() {
+        if !is_text(texts, place, *text) {
             return false;
         }
     }
@@ -77,7 +84,9 @@ fn gives(alloc: Global, bytes: &[u8], reading: Reading) -> Result<bool, AllocErr
 #[test]
 fn bytes_give_stanzas_or_their_fault(rt: HostRuntime) -> Result<(), Fail> {
     for (bytes, reading) in BYTES {
-        assert!(rt; gives(rt.alloc(), *bytes, *reading)?, "{reading:?}");
+        if !gives(rt.alloc(), *bytes, *reading)? {
+            return Err(Fail::from(*reading));
+        }
     }
     Ok(())
 }
@@ -101,20 +110,18 @@ const FILES: &'static [(&'static [u8], Option<usize>)] = &[
     (b"\n# nothing\n", Some(0)),
 ];
 
-// The first of these files that hasn't so many stanzas.
-fn first_other_file(alloc: Global, files: &[(&[u8], Option<usize>)]) -> Option<usize> {
+fn check_files(alloc: Global, files: &[(&[u8], Option<usize>)]) -> Result<(), Fail> {
     for (place, (bytes, count)) in files.iter().enumerate() {
         if read(alloc, *bytes).ok() != *count {
-            return Some(place);
+            return Err(Fail::new(format_args!("file {place}: not {count:?}")));
         }
     }
-    None
+    Ok(())
 }
 
 #[test]
 fn every_stanza_is_read(rt: HostRuntime) -> Result<(), Fail> {
-    assert_eq!(rt; first_other_file(rt.alloc(), FILES), None);
-    Ok(())
+    check_files(rt.alloc(), FILES)
 }
 
 // What a process runs: words, or a shell with a text.
@@ -190,22 +197,23 @@ fn is_run(stanzas: &[Stanza], run: &Run) -> bool {
     }
 }
 
-// The first of these files by which something else is run.
-fn first_other_run(alloc: Global, runs: &[Run]) -> Option<usize> {
+fn holds(alloc: Global, run: &Run) -> bool {
+    match read_conf(alloc, run.bytes) {
+        Ok(stanzas) => is_run(stanzas.as_slice(), run),
+        Err(_) => false,
+    }
+}
+
+fn check_runs(alloc: Global, runs: &[Run]) -> Result<(), Fail> {
     for (place, run) in runs.iter().enumerate() {
-        let is_read = match read_conf(alloc, run.bytes) {
-            Ok(stanzas) => is_run(stanzas.as_slice(), run),
-            Err(_) => false,
-        };
-        if !is_read {
-            return Some(place);
+        if !holds(alloc, run) {
+            return Err(Fail::new(format_args!("file {place}: another run")));
         }
     }
-    None
+    Ok(())
 }
 
 #[test]
 fn commands_are_read(rt: HostRuntime) -> Result<(), Fail> {
-    assert_eq!(rt; first_other_run(rt.alloc(), RUNS), None);
-    Ok(())
+    check_runs(rt.alloc(), RUNS)
 }

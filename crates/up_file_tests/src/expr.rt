@@ -85,27 +85,26 @@ fn copy_is_written(alloc: Global, condition: &Condition, tree: &str) -> Result<b
     is_written(alloc, copied.expr(), tree)
 }
 
-// Whether a text is read as this tree, and its copy is the same.
+// Whether a tree is written so, and its copy too.
+fn are_written(alloc: Global, condition: &Condition, tree: &str) -> Result<bool, Fail> {
+    let is_tree = is_written(alloc, condition.expr(), tree)?;
+    Ok(is_tree && copy_is_written(alloc, condition, tree)?)
+}
+
 fn has_tree(alloc: Global, text: &str, tree: &str) -> Result<bool, Fail> {
     match parse(alloc, text)? {
-        Ok(condition) => Ok(
-            is_written(alloc, condition.expr(), tree)? && copy_is_written(alloc, &condition, tree)?,
-        ),
+        Ok(condition) => are_written(alloc, &condition, tree),
         Err(_) => Ok(false),
     }
 }
 
-// The first of these texts that isn't read as the tree beside it.
-fn first_other_tree(
-    alloc: Global,
-    cases: &[(&'static str, &'static str)],
-) -> Result<Option<&'static str>, Fail> {
+fn check_trees(alloc: Global, cases: &[(&'static str, &'static str)]) -> Result<(), Fail> {
     for (text, tree) in cases {
-        if !has_tree(alloc, text, tree)? {
-            return Ok(Some(*text));
+        if !has_tree(alloc, *text, *tree)? {
+            return Err(Fail::from(*text));
         }
     }
-    Ok(None)
+    Ok(())
 }
 
 const GROUPED: &'static [(&'static str, &'static str)] = &[
@@ -125,8 +124,7 @@ const GROUPED: &'static [(&'static str, &'static str)] = &[
 
 #[test]
 fn operators_group_to_the_left(rt: HostRuntime) -> Result<(), Fail> {
-    assert_eq!(rt; first_other_tree(rt.alloc(), GROUPED)?, None);
-    Ok(())
+    check_trees(rt.alloc(), GROUPED)
 }
 
 const VALUES: &'static [(&'static str, &'static str)] = &[
@@ -148,8 +146,7 @@ const VALUES: &'static [(&'static str, &'static str)] = &[
 
 #[test]
 fn leaves_have_values(rt: HostRuntime) -> Result<(), Fail> {
-    assert_eq!(rt; first_other_tree(rt.alloc(), VALUES)?, None);
-    Ok(())
+    check_trees(rt.alloc(), VALUES)
 }
 
 fn is_refused(alloc: Global, text: &str, number: u8) -> Result<bool, Fail> {
@@ -159,17 +156,13 @@ fn is_refused(alloc: Global, text: &str, number: u8) -> Result<bool, Fail> {
     }
 }
 
-// The first of these texts that isn't refused with the number beside it.
-fn first_not_refused(
-    alloc: Global,
-    cases: &[(&'static str, u8)],
-) -> Result<Option<&'static str>, Fail> {
+fn check_refused(alloc: Global, cases: &[(&'static str, u8)]) -> Result<(), Fail> {
     for (text, number) in cases {
-        if !is_refused(alloc, text, *number)? {
-            return Ok(Some(*text));
+        if !is_refused(alloc, *text, *number)? {
+            return Err(Fail::from(*text));
         }
     }
-    Ok(None)
+    Ok(())
 }
 
 const NO_EXPRESSIONS: &'static [(&'static str, u8)] = &[
@@ -193,8 +186,7 @@ const NO_EXPRESSIONS: &'static [(&'static str, u8)] = &[
 
 #[test]
 fn refuses_what_is_no_expression(rt: HostRuntime) -> Result<(), Fail> {
-    assert_eq!(rt; first_not_refused(rt.alloc(), NO_EXPRESSIONS)?, None);
-    Ok(())
+    check_refused(rt.alloc(), NO_EXPRESSIONS)
 }
 
 const NO_NAMES_OR_VALUES: &'static [(&'static str, u8)] = &[
@@ -212,8 +204,7 @@ const NO_NAMES_OR_VALUES: &'static [(&'static str, u8)] = &[
 
 #[test]
 fn refuses_names_and_values(rt: HostRuntime) -> Result<(), Fail> {
-    assert_eq!(rt; first_not_refused(rt.alloc(), NO_NAMES_OR_VALUES)?, None);
-    Ok(())
+    check_refused(rt.alloc(), NO_NAMES_OR_VALUES)
 }
 
 fn leaves(expr: &Expr) -> usize {
@@ -558,32 +549,28 @@ fn holds(alloc: Global, case: &Match) -> Result<bool, Fail> {
     }
 }
 
-// The place of the first case that doesn't hold.
-fn first_other(alloc: Global, cases: &[Match]) -> Result<Option<usize>, Fail> {
+fn check_matches(alloc: Global, cases: &[Match]) -> Result<(), Fail> {
     for (place, case) in cases.iter().enumerate() {
         if !holds(alloc, case)? {
-            return Ok(Some(place));
+            return Err(Fail::new(format_args!("case {place}: {}", case.leaf)));
         }
     }
-    Ok(None)
+    Ok(())
 }
 
 #[test]
 fn leaves_match_names_and_values(rt: HostRuntime) -> Result<(), Fail> {
-    assert_eq!(rt; first_other(rt.alloc(), PLAIN)?, None);
-    Ok(())
+    check_matches(rt.alloc(), PLAIN)
 }
 
 #[test]
 fn values_are_patterns(rt: HostRuntime) -> Result<(), Fail> {
-    assert_eq!(rt; first_other(rt.alloc(), PATTERNS)?, None);
-    Ok(())
+    check_matches(rt.alloc(), PATTERNS)
 }
 
 #[test]
 fn values_expand(rt: HostRuntime) -> Result<(), Fail> {
-    assert_eq!(rt; first_other(rt.alloc(), EXPANSIONS)?, None);
-    Ok(())
+    check_matches(rt.alloc(), EXPANSIONS)
 }
 
 // A leaf of the event e whose variable X must not match this value.
@@ -619,21 +606,19 @@ fn malformed_values_fail(rt: HostRuntime) -> Result<(), Fail> {
     Ok(())
 }
 
-const STOPPED: &'static Match = &Match {
+const STOPPED: &'static [Match] = &[Match {
     leaf: "stopped a RESULT!=ok",
     event: "stopped",
     vars: &[("JOB", "a")],
     matches: true,
-};
+}];
 
 const REFUSED: &'static [(&'static str, u8)] = &[("x K=v w", 9), ("x and", 8)];
 
 #[test]
 fn expansion_and_patterns(rt: HostRuntime) -> Result<(), Fail> {
-    let stopped = holds(rt.alloc(), STOPPED)?;
-    let refused = first_not_refused(rt.alloc(), REFUSED)?;
-    assert_eq!(rt; (stopped, refused), (true, None));
-    Ok(())
+    check_matches(rt.alloc(), STOPPED)?;
+    check_refused(rt.alloc(), REFUSED)
 }
 
 const FAULTS: &'static [(ExprFault, u8, &'static str)] = &[

@@ -1,16 +1,16 @@
 //! Which fault a file has, and at which line.
-use crate::conf::read;
+use crate::conf::{check_files, read};
 use std::alloc::{AllocError, Global};
 use std::test::Fail;
 
-// The first of these files that hasn't a fault of this number at this line.
-fn first_other(alloc: Global, cases: &[(&[u8], u32, u8)]) -> Option<usize> {
+// Each of these files has a fault of this number at this line.
+fn check(alloc: Global, cases: &[(&[u8], u32, u8)]) -> Result<(), Fail> {
     for (place, (bytes, line, number)) in cases.iter().enumerate() {
         if read(alloc, *bytes) != Err((*line, *number)) {
-            return Some(place);
+            return Err(Fail::new(format_args!("file {place}: not {line}: {number}")));
         }
     }
-    None
+    Ok(())
 }
 
 const EACH: &'static [(&'static [u8], u32, u8)] = &[
@@ -47,10 +47,9 @@ fn deep_file(alloc: Global) -> Result<Vec<u8>, AllocError> {
 
 #[test]
 fn each_code_is_given(rt: HostRuntime) -> Result<(), Fail> {
+    check(rt.alloc(), EACH)?;
     let deep = deep_file(rt.alloc())?;
-    let last = read(rt.alloc(), deep.as_slice());
-    assert_eq!(rt; (first_other(rt.alloc(), EACH), last), (None, Err((2, 16))));
-    Ok(())
+    check(rt.alloc(), &[(deep.as_slice(), 2, 16)])
 }
 
 const SEVERAL: &'static [(&'static [u8], u32, u8)] = &[
@@ -79,8 +78,7 @@ const SEVERAL: &'static [(&'static [u8], u32, u8)] = &[
 
 #[test]
 fn one_code_of_several_is_given(rt: HostRuntime) -> Result<(), Fail> {
-    assert_eq!(rt; first_other(rt.alloc(), SEVERAL), None);
-    Ok(())
+    check(rt.alloc(), SEVERAL)
 }
 
 // Tokens that aren't whole, in each place where tokens are read.
@@ -96,8 +94,7 @@ const FAULTY_TOKENS: &'static [(&'static [u8], u32, u8)] = &[
 
 #[test]
 fn faulty_tokens_are_told(rt: HostRuntime) -> Result<(), Fail> {
-    assert_eq!(rt; first_other(rt.alloc(), FAULTY_TOKENS), None);
-    Ok(())
+    check(rt.alloc(), FAULTY_TOKENS)
 }
 
 const NUMBERS: &'static [(&'static [u8], u32, u8)] = &[
@@ -110,12 +107,13 @@ const NUMBERS: &'static [(&'static [u8], u32, u8)] = &[
     (b"kill signal 32\n", 1, 11),
 ];
 
-const LARGEST_NUMBERS: &'static [u8] =
-    b"respawn limit 065535 2147483647\nnormal exit 0255 SYS\nkill signal 31\nkill timeout 00\n";
+const LARGEST_NUMBERS: &'static [(&'static [u8], Option<usize>)] = &[(
+    b"respawn limit 065535 2147483647\nnormal exit 0255 SYS\nkill signal 31\nkill timeout 00\n",
+    Some(4),
+)];
 
 #[test]
 fn numbers_have_limits(rt: HostRuntime) -> Result<(), Fail> {
-    let largest = read(rt.alloc(), LARGEST_NUMBERS);
-    assert_eq!(rt; (first_other(rt.alloc(), NUMBERS), largest), (None, Ok(4)));
-    Ok(())
+    check(rt.alloc(), NUMBERS)?;
+    check_files(rt.alloc(), LARGEST_NUMBERS)
 }

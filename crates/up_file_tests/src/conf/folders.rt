@@ -91,7 +91,7 @@ fn is_job(jobs: &[JobDef], place: usize, name: &str, facts: &[Fact]) -> bool {
     }
 }
 
-// The first of these jobs that isn't at its place, or `more` where there are others.
+// The first of these jobs that isn't at its place, or that there are others.
 fn first_other_job(
     jobs: &[JobDef],
     expected: &[(&'static str, &'static [Fact])],
@@ -104,7 +104,7 @@ fn first_other_job(
     if jobs.len() == expected.len() {
         None
     } else {
-        Some("more")
+        Some("more jobs")
     }
 }
 
@@ -128,7 +128,7 @@ fn is_fault(
     }
 }
 
-// The path of the first of these faults that isn't at its place, or `more` where there are others.
+// The path of the first of these faults that isn't at its place, or that there are others.
 fn first_other_fault(
     report: &Report,
     expected: &[(&'static str, u32, u8, Option<&'static str>)],
@@ -141,44 +141,46 @@ fn first_other_fault(
     if report.len() == expected.len() && report.is_empty() == expected.is_empty() {
         None
     } else {
-        Some("more")
+        Some("more faults")
     }
 }
 
-// The first job and the first fault that differ from what the case says.
-type Others = (Option<&'static str>, Option<&'static str>);
-
-fn others_in(alloc: Global, folder: &Folder, case: &Case) -> Result<Others, ConfFault> {
+// The first job or fault that isn't at its place.
+fn first_other(
+    alloc: Global,
+    folder: &Folder,
+    case: &Case,
+) -> Result<Option<&'static str>, ConfFault> {
     match read_folder(alloc, folder) {
-        Ok((jobs, report)) => Ok((
-            first_other_job(jobs.as_slice(), case.jobs),
-            first_other_fault(&report, case.faults),
-        )),
+        Ok((jobs, report)) => {
+            let job = first_other_job(jobs.as_slice(), case.jobs);
+            Ok(job.or(first_other_fault(&report, case.faults)))
+        }
         Err(fault) => Err(fault),
     }
 }
 
-fn others(alloc: Global, case: &Case) -> Result<Others, ConfFault> {
+fn check(alloc: Global, case: &Case) -> Result<(), Fail> {
     let folder = folder_of(alloc, case.files)?;
-    others_in(alloc, &folder, case)
+    match first_other(alloc, &folder, case)? {
+        Some(other) => Err(Fail::new(other)),
+        None => Ok(()),
+    }
 }
 
 #[test]
 fn jobs_are_in_byte_order(rt: HostRuntime) -> Result<(), Fail> {
-    assert_eq!(rt; others(rt.alloc(), IN_BYTE_ORDER)?, (None, None));
-    Ok(())
+    check(rt.alloc(), IN_BYTE_ORDER)
 }
 
 #[test]
 fn faults_are_in_byte_order(rt: HostRuntime) -> Result<(), Fail> {
-    assert_eq!(rt; others(rt.alloc(), FAULTS)?, (None, None));
-    Ok(())
+    check(rt.alloc(), FAULTS)
 }
 
 #[test]
 fn a_faulty_override_is_ignored(rt: HostRuntime) -> Result<(), Fail> {
-    assert_eq!(rt; others(rt.alloc(), FAULTY_OVERRIDE)?, (None, None));
-    Ok(())
+    check(rt.alloc(), FAULTY_OVERRIDE)
 }
 
 // Adds a job of this number, with an override.

@@ -55,18 +55,24 @@ pub(crate) enum Fact {
     Exits,
 }
 
-fn is_setting(setting: &Setting, key: &str, value: Option<&str>) -> bool {
-    let is_value = match &setting.value {
+fn has_value(setting: &Setting, value: Option<&str>) -> bool {
+    match &setting.value {
         Some(found) => value == Some(found.as_str()),
         None => value.is_none(),
-    };
-    setting.key.is(key) && is_value
+    }
+}
+
+fn is_setting(settings: &[Setting], place: usize, key: &str, value: Option<&str>) -> bool {
+    match settings.get(place) {
+        Some(setting) => setting.key.is(key) && has_value(setting, value),
+        None => false,
+    }
 }
 
 // Whether settings are these.
 fn are_settings(settings: &[Setting], expected: &[(&str, Option<&str>)]) -> bool {
-    for (setting, (key, value)) in settings.iter().zip(expected) {
-        if !is_setting(setting, *key, *value) {
+    for (place, (key, value)) in expected.iter().enumerate() {
+        if !is_setting(settings, place, *key, *value) {
             return false;
         }
     }
@@ -162,9 +168,20 @@ fn first_other(
     over: Option<&[u8]>,
     facts: &[Fact],
 ) -> Result<Option<usize>, ConfFault> {
-    match job(alloc, conf, over) {
-        Ok(job) => Ok(first_unstated(&job, facts)),
-        Err(fault) => Err(fault),
+    let job = Box::new(alloc, job(alloc, conf, over)?)?;
+    Ok(first_unstated(&job, facts))
+}
+
+fn check_job(
+    alloc: Global,
+    name: &'static str,
+    conf: &[u8],
+    over: Option<&[u8]>,
+    facts: &[Fact],
+) -> Result<(), Fail> {
+    match first_other(alloc, conf, over, facts)? {
+        Some(place) => Err(Fail::new(format_args!("{name}: fact {place}"))),
+        None => Ok(()),
     }
 }
 
@@ -174,6 +191,13 @@ struct Case {
     conf: &'static [u8],
     over: Option<&'static [u8]>,
     facts: &'static [Fact],
+}
+
+fn check(alloc: Global, cases: &[Case]) -> Result<(), Fail> {
+    for case in cases {
+        check_job(alloc, case.name, case.conf, case.over, case.facts)?;
+    }
+    Ok(())
 }
 
 const LAST_OF_EACH_KIND: &'static [Case] = &[
@@ -212,23 +236,9 @@ const LAST_OF_EACH_KIND: &'static [Case] = &[
     },
 ];
 
-// The name of the first file whose job doesn't say all that it should, and the place of what it doesn't say.
-fn first_other_case(
-    alloc: Global,
-    cases: &[Case],
-) -> Result<Option<(&'static str, usize)>, ConfFault> {
-    for case in cases {
-        if let Some(place) = first_other(alloc, case.conf, case.over, case.facts)? {
-            return Ok(Some((case.name, place)));
-        }
-    }
-    Ok(None)
-}
-
 #[test]
 fn the_last_of_each_kind_counts(rt: HostRuntime) -> Result<(), Fail> {
-    assert_eq!(rt; first_other_case(rt.alloc(), LAST_OF_EACH_KIND)?, None);
-    Ok(())
+    check(rt.alloc(), LAST_OF_EACH_KIND)
 }
 
 const OTHERS: &'static [Case] = &[
@@ -258,8 +268,7 @@ const OTHERS: &'static [Case] = &[
 
 #[test]
 fn others_add_up(rt: HostRuntime) -> Result<(), Fail> {
-    assert_eq!(rt; first_other_case(rt.alloc(), OTHERS)?, None);
-    Ok(())
+    check(rt.alloc(), OTHERS)
 }
 
 const OVERRIDDEN: &'static [Case] = &[Case {
@@ -277,8 +286,7 @@ const OVERRIDDEN: &'static [Case] = &[Case {
 
 #[test]
 fn an_override_goes_behind(rt: HostRuntime) -> Result<(), Fail> {
-    assert_eq!(rt; first_other_case(rt.alloc(), OVERRIDDEN)?, None);
-    Ok(())
+    check(rt.alloc(), OVERRIDDEN)
 }
 
 fn file_of_many_keys(alloc: Global) -> Result<Vec<u8>, AllocError> {
@@ -295,9 +303,5 @@ const MANY_KEYS: &'static [Fact] = &[Fact::Keys(30_000, 30_000)];
 #[test]
 fn many_keys_are_set(rt: HostRuntime) -> Result<(), Fail> {
     let text = file_of_many_keys(rt.alloc())?;
-    assert_eq!(rt;
-        first_other(rt.alloc(), text.as_slice(), None, MANY_KEYS)?,
-        None
-    );
-    Ok(())
+    check_job(rt.alloc(), "many keys", text.as_slice(), None, MANY_KEYS)
 }
