@@ -161,6 +161,10 @@ fn job(alloc: Global, conf: &[u8], over: Option<&[u8]>) -> Result<JobDef, ConfFa
     }
 }
 
+fn boxed(alloc: Global, job: JobDef) -> Result<Box<JobDef>, AllocError> {
+    Ok(Box::new(alloc, job)?)
+}
+
 // The place of the first fact that the job of a file doesn't state, or a fault.
 fn first_other(
     alloc: Global,
@@ -168,7 +172,7 @@ fn first_other(
     over: Option<&[u8]>,
     facts: &[Fact],
 ) -> Result<Option<usize>, ConfFault> {
-    let job = Box::new(alloc, job(alloc, conf, over)?)?;
+    let job = boxed(alloc, job(alloc, conf, over)?)?;
     Ok(first_unstated(&job, facts))
 }
 
