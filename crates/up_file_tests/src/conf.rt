@@ -113,7 +113,7 @@ const FILES: &'static [(&'static [u8], Option<usize>)] = &[
 fn check_files(alloc: Global, files: &[(&[u8], Option<usize>)]) -> Result<(), Fail> {
     for (place, (bytes, count)) in files.iter().enumerate() {
         if read(alloc, *bytes).ok() != *count {
-            return Err(Fail::new(format_args!("file {place}: not {count:?}")));
+            return Err(Fail::new(format_args!("file {place}: the count isn't {count:?}")));
         }
     }
     Ok(())
@@ -207,7 +207,7 @@ fn holds(alloc: Global, run: &Run) -> bool {
 fn check_runs(alloc: Global, runs: &[Run]) -> Result<(), Fail> {
     for (place, run) in runs.iter().enumerate() {
         if !holds(alloc, run) {
-            return Err(Fail::new(format_args!("file {place}: another run")));
+            return Err(Fail::new(format_args!("file {place} runs something else")));
         }
     }
     Ok(())

@@ -7,7 +7,7 @@ use std::test::Fail;
 fn check(alloc: Global, cases: &[(&[u8], u32, u8)]) -> Result<(), Fail> {
     for (place, (bytes, line, number)) in cases.iter().enumerate() {
         if read(alloc, *bytes) != Err((*line, *number)) {
-            return Err(Fail::new(format_args!("file {place}: not {line}: {number}")));
+            return Err(Fail::new(format_args!("file {place}: no fault {number} at line {line}")));
         }
     }
     Ok(())

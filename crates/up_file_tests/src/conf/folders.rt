@@ -163,7 +163,7 @@ fn first_other(
 fn check(alloc: Global, case: &Case) -> Result<(), Fail> {
     let folder = folder_of(alloc, case.files)?;
     match first_other(alloc, &folder, case)? {
-        Some(other) => Err(Fail::new(other)),
+        Some(other) => Err(Fail::new(format_args!("other than told: {other}"))),
         None => Ok(()),
     }
 }

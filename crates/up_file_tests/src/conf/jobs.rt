@@ -161,6 +161,7 @@ fn job(alloc: Global, conf: &[u8], over: Option<&[u8]>) -> Result<JobDef, ConfFa
     }
 }
 
+// In a box, since a local value of so many parts takes the prover long.
 fn boxed(alloc: Global, job: JobDef) -> Result<Box<JobDef>, AllocError> {
     Ok(Box::new(alloc, job)?)
 }
@@ -184,7 +185,7 @@ fn check_job(
     facts: &[Fact],
 ) -> Result<(), Fail> {
     match first_other(alloc, conf, over, facts)? {
-        Some(place) => Err(Fail::new(format_args!("{name}: fact {place}"))),
+        Some(place) => Err(Fail::new(format_args!("{name}: fact {place} isn't stated"))),
         None => Ok(()),
     }
 }
