@@ -637,7 +637,7 @@ fn is_printed(alloc: Global, fault: ExprFault, name: &str) -> Result<bool, Alloc
 }
 
 fn is_named(alloc: Global, fault: ExprFault, number: u8, name: &str) -> Result<bool, AllocError> {
-    Ok(fault.number() == number && fault.name() == name && is_printed(alloc, fault, name)?)
+    Ok(fault.number() == number && is_printed(alloc, fault, name)?)
 }
 
 #[test]
