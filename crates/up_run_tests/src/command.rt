@@ -3,6 +3,55 @@ use std::alloc::{AllocError, Global};
 use std::test::Fail;
 use up_command::{Asked, print_refusal, read_words};
 
+// What a command line gives: what it asks for, or the status or the text of its refusal.
+enum Wanted {
+    Asked(Asked<'static>),
+    Status(u8),
+    Text(&'static str),
+}
+
+type Case = (&'static [&'static str], Wanted);
+
+static ASKED: [Case; 5] = [
+    (&["initd"], Wanted::Asked(Asked::Bundle)),
+    (
+        &["initd", "check", "jobs"],
+        Wanted::Asked(Asked::Check { dir: "jobs" }),
+    ),
+    (
+        &["initd", "check", "--", "-x"],
+        Wanted::Asked(Asked::Check { dir: "-x" }),
+    ),
+    (
+        &["initd", "replay", "jobs/", "a script"],
+        Wanted::Asked(Asked::Replay {
+            dir: "jobs/",
+            script: "a script",
+        }),
+    ),
+    (
+        &["initd", "replay", "check", "replay"],
+        Wanted::Asked(Asked::Replay {
+            dir: "check",
+            script: "replay",
+        }),
+    ),
+];
+
+static REFUSED: [Case; 11] = [
+    (&["initd", "check"], Wanted::Status(2)),
+    (&["initd", "check", "a", "b"], Wanted::Status(2)),
+    (&["initd", "replay", "a"], Wanted::Status(2)),
+    (&["initd", "replay", "a", "b", "c"], Wanted::Status(2)),
+    (&["initd", "chek", "a"], Wanted::Status(2)),
+    (&["initd", "a.bundle"], Wanted::Status(2)),
+    (&["initd", "--fast"], Wanted::Status(2)),
+    (&["initd", "check", "--fast", "a"], Wanted::Status(2)),
+    (&["initd", "--help"], Wanted::Status(0)),
+    (&["initd", "--version"], Wanted::Status(0)),
+    (&["initd", "--version"], Wanted::Text("initd 0.1.0\n")),
+];
+
 fn strings(alloc: Global, words: &[&str]) -> Result<Vec<String>, AllocError> {
     let mut strings: Vec<String> = Vec::new(alloc);
     for word in words {
@@ -13,79 +62,67 @@ fn strings(alloc: Global, words: &[&str]) -> Result<Vec<String>, AllocError> {
     Ok(strings)
 }
 
-fn asks(alloc: Global, words: &[&str], asked: Asked) -> Result<bool, Fail> {
-    let words = strings(alloc, words)?;
-    match read_words(alloc, words.as_slice()) {
-        Ok(found) => Ok(found == asked),
-        Err(_) => Ok(false),
+fn asks(alloc: Global, words: &[String], asked: &Asked) -> bool {
+    match read_words(alloc, words) {
+        Ok(found) => found == *asked,
+        Err(_) => false,
     }
 }
 
 // The status of a command line that is refused.
-fn refusal(rt: &HostRuntime, words: &[&str]) -> Result<Option<u8>, Fail> {
-    let words = strings(rt.alloc(), words)?;
-    match read_words(rt.alloc(), words.as_slice()) {
-        Ok(_) => Ok(None),
-        Err(error) => Ok(Some(print_refusal(rt, &error))),
+fn refusal(rt: &HostRuntime, words: &[String]) -> Option<u8> {
+    match read_words(rt.alloc(), words) {
+        Ok(_) => None,
+        Err(error) => Some(print_refusal(rt, &error)),
     }
+}
+
+// The text of a command line that is refused.
+fn refusal_text(alloc: Global, words: &[String]) -> Result<Option<String>, AllocError> {
+    match read_words(alloc, words) {
+        Ok(_) => Ok(None),
+        Err(error) => Ok(Some(format!(in alloc; "{error}")?)),
+    }
+}
+
+fn has_text(alloc: Global, words: &[String], wanted: &str) -> Result<bool, AllocError> {
+    match refusal_text(alloc, words)? {
+        Some(text) => Ok(text.as_str() == wanted),
+        None => Ok(false),
+    }
+}
+
+fn gives(rt: &HostRuntime, words: &[String], wanted: &Wanted) -> Result<bool, AllocError> {
+    match wanted {
+        Wanted::Asked(asked) => Ok(asks(rt.alloc(), words, asked)),
+        Wanted::Status(status) => Ok(refusal(rt, words) == Some(*status)),
+        Wanted::Text(text) => has_text(rt.alloc(), words, text),
+    }
+}
+
+fn is_case(rt: &HostRuntime, case: &Case) -> Result<bool, AllocError> {
+    let words = strings(rt.alloc(), case.0)?;
+    gives(rt, words.as_slice(), &case.1)
+}
+
+// The place of the first case that gives something else.
+fn first_other(rt: &HostRuntime, cases: &[Case]) -> Result<Option<usize>, AllocError> {
+    for (place, case) in cases.iter().enumerate() {
+        if !is_case(rt, case)? {
+            return Ok(Some(place));
+        }
+    }
+    Ok(None)
 }
 
 #[test]
 fn words_ask(rt: HostRuntime) -> Result<(), Fail> {
-    let cases: [(&[&str], Asked<'static>); 5] = [
-        (&["initd"], Asked::Bundle),
-        (&["initd", "check", "jobs"], Asked::Check { dir: "jobs" }),
-        (&["initd", "check", "--", "-x"], Asked::Check { dir: "-x" }),
-        (
-            &["initd", "replay", "jobs/", "a script"],
-            Asked::Replay {
-                dir: "jobs/",
-                script: "a script",
-            },
-        ),
-        (
-            &["initd", "replay", "check", "replay"],
-            Asked::Replay {
-                dir: "check",
-                script: "replay",
-            },
-        ),
-    ];
-    for (words, asked) in cases {
-        assert!(rt; asks(rt.alloc(), words, asked)?);
-    }
+    assert_eq!(rt; first_other(&rt, &ASKED)?, None);
     Ok(())
 }
 
 #[test]
 fn words_are_refused(rt: HostRuntime) -> Result<(), Fail> {
-    let cases: [(&[&str], u8); 10] = [
-        (&["initd", "check"], 2),
-        (&["initd", "check", "a", "b"], 2),
-        (&["initd", "replay", "a"], 2),
-        (&["initd", "replay", "a", "b", "c"], 2),
-        (&["initd", "chek", "a"], 2),
-        (&["initd", "a.bundle"], 2),
-        (&["initd", "--fast"], 2),
-        (&["initd", "check", "--fast", "a"], 2),
-        (&["initd", "--help"], 0),
-        (&["initd", "--version"], 0),
-    ];
-    for (words, status) in cases {
-        assert_eq!(rt; refusal(&rt, words)?, Some(status));
-    }
+    assert_eq!(rt; first_other(&rt, &REFUSED)?, None);
     Ok(())
-}
-
-#[test]
-fn the_version_is_told(rt: HostRuntime) -> Result<(), Fail> {
-    let words = strings(rt.alloc(), &["initd", "--version"])?;
-    match read_words(rt.alloc(), words.as_slice()) {
-        Ok(_) => Err(Fail::from("the version is not told")),
-        Err(error) => {
-            let text = format!(in rt.alloc(); "{error}")?;
-            assert_eq!(rt; text.as_str(), "initd 0.1.0\n");
-            Ok(())
-        }
-    }
 }

@@ -1,115 +1,119 @@
 //! Checks and replays of folders on the disk.
-use crate::walk::{below, make_file, scratch};
-use std::fs;
+use crate::walk::{below, expect, make_file, scratch, text_of};
 use std::test::Fail;
+use std::{fs, io};
 use up_command::answer::answer;
 use up_command::{Asked, check_dir, replay_dir};
 use up_replay::Printed;
 
-const DONE: &str =
-    "event starting JOB=\"a\" INSTANCE=\"\"\nspawn a main \"/bin/sh\" \"-e\" \"-c\" \"exec /bin/e \\\"a  b\\\"\"\n  UPSTART_EVENTS=\"go\"\n  UPSTART_JOB=\"a\"\n  UPSTART_INSTANCE=\"\"\n";
+// Files that are written, by their paths in the folder; what is printed then, as `text_of` takes it; and the status.
+type Step = (&'static [(&'static str, &'static [u8])], &'static str, u8);
 
-// Whether this is printed, with this status.
-fn is_printed(made: &Printed, printed: &str, status: u8) -> bool {
-    made.text.as_slice() == printed.as_bytes() && made.status == status
+fn make_files(rt: &HostRuntime, dir: &str, files: &[(&str, &[u8])]) -> io::Result<()> {
+    for (path, bytes) in files {
+        make_file(rt, dir, path, bytes)?;
+    }
+    Ok(())
 }
 
-// Whether a check of a folder prints this, with this status.
-fn checks(rt: &HostRuntime, dir: &str, printed: &str, status: u8) -> Result<bool, Fail> {
-    let made = check_dir(rt, dir)?;
-    Ok(is_printed(&made, printed, status))
-}
-
-// Whether a replay prints this, with this status.
-fn replays(
+fn is_printed(
     rt: &HostRuntime,
     dir: &str,
-    script: &str,
-    printed: &str,
-    status: u8,
-) -> Result<bool, Fail> {
-    let made = replay_dir(rt, dir, script)?;
-    Ok(is_printed(&made, printed, status))
+    made: &Printed,
+    (printed, status): (&str, u8),
+) -> io::Result<bool> {
+    let text = text_of(rt, dir, printed)?;
+    Ok(made.text.as_slice() == text.as_bytes() && made.status == status)
 }
 
-// What is printed where this can't be used.
-fn unusable(rt: &HostRuntime, path: &str) -> Result<String, Fail> {
-    Ok(format!(in rt.alloc(); "initd: cannot use {path}\n")?)
+// Whether a check of what lies in a folder prints this, with this status.
+fn checks(rt: &HostRuntime, dir: &str, path: &str, wanted: (&str, u8)) -> Result<bool, Fail> {
+    let checked = below(rt, dir, path)?;
+    let made = check_dir(rt, checked.as_str())?;
+    Ok(is_printed(rt, dir, &made, wanted)?)
 }
 
-fn reports_faults(rt: &HostRuntime, dir: &str) -> Result<bool, Fail> {
-    make_file(rt, dir, "x.conf", b"# one\n# two\nsetuid root\n")?;
-    if !checks(rt, dir, "x.conf:3: 2 NotInProfile\n0 jobs, 1 faults\n", 1)? {
-        return Ok(false);
+// Whether a replay of the folder's script prints this, with this status.
+fn replays(rt: &HostRuntime, dir: &str, wanted: (&str, u8)) -> Result<bool, Fail> {
+    let script = below(rt, dir, "up.script")?;
+    let made = replay_dir(rt, dir, script.as_str())?;
+    Ok(is_printed(rt, dir, &made, wanted)?)
+}
+
+static CHECKS: [Step; 3] = [
+    (
+        &[("x.conf", b"# one\n# two\nsetuid root\n")],
+        "x.conf:3: 2 NotInProfile\n0 jobs, 1 faults\n",
+        1,
+    ),
+    (&[("x.conf", b"exec x\n")], "1 jobs, 0 faults\n", 0),
+    (
+        &[("a=b.conf", b"exec x\n"), ("b.conf", b"exec \xff\n")],
+        "a=b.conf:1: 12 BadName\nb.conf:1: 15 NotText\n1 jobs, 2 faults\n",
+        1,
+    ),
+];
+
+fn take_checks(rt: &HostRuntime, dir: &str) -> Result<(), Fail> {
+    for (place, (files, printed, status)) in CHECKS.iter().enumerate() {
+        make_files(rt, dir, files)?;
+        expect(checks(rt, dir, "", (printed, *status))?, printed, place)?;
     }
-    make_file(rt, dir, "x.conf", b"exec x\n")?;
-    if !checks(rt, dir, "1 jobs, 0 faults\n", 0)? {
-        return Ok(false);
-    }
-    make_file(rt, dir, "a=b.conf", b"exec x\n")?;
-    make_file(rt, dir, "b.conf", b"exec \xff\n")?;
-    let faults = "a=b.conf:1: 12 BadName\nb.conf:1: 15 NotText\n1 jobs, 2 faults\n";
-    checks(rt, dir, faults, 1)
-}
-
-fn names_a_missing_folder(rt: &HostRuntime, dir: &str) -> Result<bool, Fail> {
-    let missing = below(rt, dir, "missing")?;
-    let printed = unusable(rt, missing.as_str())?;
-    checks(rt, missing.as_str(), printed.as_str(), 3)
+    let missing = checks(rt, dir, "missing", ("initd: cannot use @/missing\n", 3))?;
+    expect(missing, "a missing folder is named", CHECKS.len())
 }
 
 #[test]
 fn a_folder_is_checked(rt: HostRuntime) -> Result<(), Fail> {
     let dir = scratch(&rt, "check")?;
-    assert!(rt; reports_faults(&rt, dir.as_str())?);
-    assert!(rt; names_a_missing_folder(&rt, dir.as_str())?);
+    take_checks(&rt, dir.as_str())?;
     fs::remove_dir_all(&rt, dir.as_str())?;
     Ok(())
 }
 
-fn names_the_script(rt: &HostRuntime, dir: &str, script: &str) -> Result<bool, Fail> {
-    let printed = unusable(rt, script)?;
-    replays(rt, dir, script, printed.as_str(), 3)
-}
+static REPLAYS: [Step; 4] = [
+    (&[], "initd: cannot use @/up.script\n", 3),
+    (
+        &[
+            ("a.conf", b"start on go\nexec /bin/e \"a  b\" # c\n"),
+            ("up.script", b"emit go\nturn 3\n"),
+        ],
+        "event starting JOB=\"a\" INSTANCE=\"\"\nspawn a main \"/bin/sh\" \"-e\" \"-c\" \"exec /bin/e \\\"a  b\\\"\"\n  UPSTART_EVENTS=\"go\"\n  UPSTART_JOB=\"a\"\n  UPSTART_INSTANCE=\"\"\n",
+        0,
+    ),
+    (
+        &[("a.override", b"manual\nbogus x\n")],
+        "a.override:2: 1 UnknownStanza\nevent starting JOB=\"a\" INSTANCE=\"\"\nspawn a main \"/bin/sh\" \"-e\" \"-c\" \"exec /bin/e \\\"a  b\\\"\"\n  UPSTART_EVENTS=\"go\"\n  UPSTART_JOB=\"a\"\n  UPSTART_INSTANCE=\"\"\n",
+        1,
+    ),
+    (
+        &[("up.script", b"emit go\nturn 3 3\n")],
+        "a.override:2: 1 UnknownStanza\n@/up.script:2: bad step\n",
+        2,
+    ),
+];
 
-fn replays_the_job(rt: &HostRuntime, dir: &str, script: &str) -> Result<bool, Fail> {
-    make_file(
-        rt,
-        dir,
-        "a.conf",
-        b"start on go\nexec /bin/e \"a  b\" # c\n",
-    )?;
-    make_file(rt, dir, "up.script", b"emit go\nturn 3\n")?;
-    replays(rt, dir, script, DONE, 0)
-}
-
-fn reports_the_override(rt: &HostRuntime, dir: &str, script: &str) -> Result<bool, Fail> {
-    make_file(rt, dir, "a.override", b"manual\nbogus x\n")?;
-    let printed = format!(in rt.alloc(); "a.override:2: 1 UnknownStanza\n{DONE}")?;
-    replays(rt, dir, script, printed.as_str(), 1)
-}
-
-fn tells_the_bad_step(rt: &HostRuntime, dir: &str, script: &str) -> Result<bool, Fail> {
-    make_file(rt, dir, "up.script", b"emit go\nturn 3 3\n")?;
-    let printed = format!(in rt.alloc(); "a.override:2: 1 UnknownStanza\n{script}:2: bad step\n")?;
-    replays(rt, dir, script, printed.as_str(), 2)
+fn take_replays(rt: &HostRuntime, dir: &str) -> Result<(), Fail> {
+    for (place, (files, printed, status)) in REPLAYS.iter().enumerate() {
+        make_files(rt, dir, files)?;
+        expect(replays(rt, dir, (printed, *status))?, printed, place)?;
+    }
+    Ok(())
 }
 
 #[test]
 fn a_folder_is_replayed(rt: HostRuntime) -> Result<(), Fail> {
     let dir = scratch(&rt, "replay")?;
-    let script = below(&rt, dir.as_str(), "up.script")?;
-    assert!(rt; names_the_script(&rt, dir.as_str(), script.as_str())?);
-    assert!(rt; replays_the_job(&rt, dir.as_str(), script.as_str())?);
-    assert!(rt; reports_the_override(&rt, dir.as_str(), script.as_str())?);
-    assert!(rt; tells_the_bad_step(&rt, dir.as_str(), script.as_str())?);
+    take_replays(&rt, dir.as_str())?;
     fs::remove_dir_all(&rt, dir.as_str())?;
     Ok(())
 }
 
-fn answers(rt: &HostRuntime, dir: &str, script: &str) -> Result<bool, Fail> {
+fn answers(rt: &HostRuntime, dir: &str) -> Result<bool, Fail> {
     make_file(rt, dir, "a.conf", b"exec x\n")?;
     make_file(rt, dir, "up.script", b"turn 0\n")?;
+    let script = below(rt, dir, "up.script")?;
+    let script = script.as_str();
     let checked = answer(rt, Asked::Check { dir })?;
     let replayed = answer(rt, Asked::Replay { dir, script })?;
     Ok(checked == 0 && replayed == 2)
@@ -119,27 +123,38 @@ fn answers(rt: &HostRuntime, dir: &str, script: &str) -> Result<bool, Fail> {
 #[test]
 fn what_is_asked_for_is_done(rt: HostRuntime) -> Result<(), Fail> {
     let dir = scratch(&rt, "asked")?;
-    let script = below(&rt, dir.as_str(), "up.script")?;
-    assert!(rt; answers(&rt, dir.as_str(), script.as_str())?);
+    expect(answers(&rt, dir.as_str())?, "the statuses are 0 and 2", 0)?;
     fs::remove_dir_all(&rt, dir.as_str())?;
     Ok(())
 }
 
-// A script of so many empty lines.
-fn make_script(rt: &HostRuntime, dir: &str, len: usize) -> Result<(), Fail> {
+// The bytes of a script of empty lines, what its replay prints, and the status.
+static LENGTHS: [(usize, &str, u8); 2] = [
+    (67_108_864, "", 0),
+    (67_108_865, "initd: cannot use @/up.script\n", 3),
+];
+
+fn make_script(rt: &HostRuntime, dir: &str, len: usize) -> io::Result<()> {
     let bytes = vec![in rt.alloc(); b'\n'; len]?;
-    make_file(rt, dir, "long.script", bytes.as_slice())?;
+    make_file(rt, dir, "up.script", bytes.as_slice())
+}
+
+fn take_lengths(rt: &HostRuntime, dir: &str) -> Result<(), Fail> {
+    for (len, printed, status) in &LENGTHS {
+        make_script(rt, dir, *len)?;
+        expect(
+            replays(rt, dir, (printed, *status))?,
+            "it is a script",
+            *len,
+        )?;
+    }
     Ok(())
 }
 
 #[test]
 fn a_script_has_64_mebibytes(rt: HostRuntime) -> Result<(), Fail> {
     let dir = scratch(&rt, "script")?;
-    let script = below(&rt, dir.as_str(), "long.script")?;
-    make_script(&rt, dir.as_str(), 67_108_864)?;
-    assert!(rt; replays(&rt, dir.as_str(), script.as_str(), "", 0)?);
-    make_script(&rt, dir.as_str(), 67_108_865)?;
-    assert!(rt; names_the_script(&rt, dir.as_str(), script.as_str())?);
+    take_lengths(&rt, dir.as_str())?;
     fs::remove_dir_all(&rt, dir.as_str())?;
     Ok(())
 }

@@ -8,7 +8,7 @@ use std::test::Fail;
 use up_conf::Folder;
 use up_engine::{Engine, Run, StepError};
 use up_image::{CompileError, Table, compile};
-use up_model::{Command, Event, How, Input, Order, Output, Process, Request, Step, Who};
+use up_model::{Answer, Command, Event, How, Input, Order, Output, Process, Request, Step, Who};
 use up_text::{Env, Items, Name, Text, TextFault};
 
 /// Why a row couldn't be tried: memory was refused, or its file or a name isn't readable.
@@ -49,6 +49,9 @@ pub(crate) enum Given {
 /// An input, the outputs that it gives, the live events then, and whether a turn would do something.
 pub(crate) type Row<'a> = (Given, &'a str, usize, bool);
 
+/// A worked row: its name, its job file, which is empty where it has none, and its steps.
+pub(crate) type Case<'a> = (&'a str, &'a str, &'a [Row<'a>]);
+
 pub(crate) const STARTING: &'static str = "starting JOB=a INSTANCE=; ";
 
 const STARTED: &'static str = "started JOB=a INSTANCE=; ";
@@ -61,6 +64,14 @@ const SPAWN_TRUE: &'static str =
 const SPAWN_D: &'static str =
     "spawn a() Main [/bin/d ] in / silent=false UPSTART_EVENTS=go UPSTART_JOB=a UPSTART_INSTANCE=; ";
 
+const START_FILE: &'static str = "start on startup\nexec /bin/true x\n";
+
+const EMPTY_FOLDER: [Row; 3] = [
+    (Given::Emit("startup"), "", 1, true),
+    (Given::Turn, "", 1, true),
+    (Given::Turn, "", 0, false),
+];
+
 const STARTUP: [Row; 8] = [
     (Given::Emit("startup"), "", 1, true),
     (Given::Turn, STARTING, 2, true),
@@ -72,25 +83,98 @@ const STARTUP: [Row; 8] = [
     (Given::Turn, "", 0, false),
 ];
 
+const STOP_AND_START: [Row; 15] = [
+    (Given::Emit("go"), "", 1, true),
+    (Given::Turn, STARTING, 2, true),
+    (Given::Turn, "", 2, true),
+    (Given::Turn, SPAWN_D, 1, false),
+    (Given::Spawned(100), STARTED, 2, true),
+    (Given::Turn, "", 1, true),
+    (Given::Turn, "", 1, true),
+    (Given::Turn, "", 0, false),
+    (Given::Emit("go"), "", 1, true),
+    (Given::Turn, STOPPING, 2, true),
+    (Given::Turn, "", 2, true),
+    (Given::Turn, "signal a() 100 15; ", 1, false),
+    (Given::Ended(How::Signal(15)), STARTING, 2, true),
+    (Given::Turn, "", 2, true),
+    (Given::Turn, SPAWN_D, 1, false),
+];
+
+// After the stranger's end the steps are those of `STARTUP`.
+const STRANGER: [Row; 9] = [
+    (Given::Ended(How::Exit(0)), "40 NotExpected", 0, false),
+    (Given::Emit("startup"), "", 1, true),
+    (Given::Turn, STARTING, 2, true),
+    (Given::Turn, "", 2, true),
+    (Given::Turn, SPAWN_TRUE, 1, false),
+    (Given::Spawned(100), STARTED, 2, true),
+    (Given::Turn, "", 1, true),
+    (Given::Turn, "", 1, true),
+    (Given::Turn, "", 0, false),
+];
+
+const REQUESTS: [Row; 7] = [
+    (
+        Given::Start(7),
+        "reply 7 ok=false Not supported: start; ",
+        0,
+        false,
+    ),
+    (Given::Clock(5), "", 0, false),
+    (Given::Emit("startup"), "", 1, true),
+    (Given::Turn, STARTING, 2, true),
+    (Given::Turn, "", 2, true),
+    (Given::Turn, SPAWN_TRUE, 1, false),
+    (Given::Refused, STOPPING, 2, true),
+];
+
+static CASES: [Case; 5] = [
+    ("empty_folder", "", &EMPTY_FOLDER),
+    ("startup", START_FILE, &STARTUP),
+    (
+        "stop_and_start_on_same_event",
+        "start on go\nstop on go\nexec /bin/d\n",
+        &STOP_AND_START,
+    ),
+    ("end_of_a_stranger", START_FILE, &STRANGER),
+    ("requests_clocks_and_refusals", START_FILE, &REQUESTS),
+];
+
 fn who(alloc: Global) -> Result<Who, Untried> {
     let job = Name::new(alloc, "a")?;
     let instance = Text::from_str(alloc, "")?;
     Ok(Who { job, instance })
 }
 
+fn event(alloc: Global, name: &str, vars: Env) -> Result<Input, Untried> {
+    let name = Name::new(alloc, name)?;
+    Ok(Input::Emit(Event { name, vars }))
+}
+
+fn var(alloc: Global, key: &str, value: &str) -> Result<Env, Untried> {
+    let mut vars = Env::new(alloc);
+    vars.set(key, value)?;
+    Ok(vars)
+}
+
+fn start(alloc: Global, id: u64) -> Result<Input, Untried> {
+    let name = Text::from_str(alloc, "a")?;
+    Ok(Input::Request {
+        id,
+        request: Request {
+            command: Command::Start,
+            wait: true,
+            name,
+            vars: Env::new(alloc),
+        },
+    })
+}
+
 fn input(alloc: Global, given: Given) -> Result<Input, Untried> {
     match given {
-        Given::Emit(name) => {
-            let name = Name::new(alloc, name)?;
-            let vars = Env::new(alloc);
-            Ok(Input::Emit(Event { name, vars }))
-        }
-        Given::EmitWith(name, key, value) => {
-            let name = Name::new(alloc, name)?;
-            let mut vars = Env::new(alloc);
-            vars.set(key, value)?;
-            Ok(Input::Emit(Event { name, vars }))
-        }
+        Given::Emit(name) => event(alloc, name, Env::new(alloc)),
+        Given::EmitWith(name, key, value) => event(alloc, name, var(alloc, key, value)?),
         Given::Turn => Ok(Input::Turn),
         Given::Spawned(pid) => Ok(Input::Spawned {
             who: who(alloc)?,
@@ -106,15 +190,7 @@ fn input(alloc: Global, given: Given) -> Result<Input, Untried> {
             process: Process::Main,
             how,
         }),
-        Given::Start(id) => Ok(Input::Request {
-            id,
-            request: Request {
-                command: Command::Start,
-                wait: true,
-                name: Text::from_str(alloc, "a")?,
-                vars: Env::new(alloc),
-            },
-        }),
+        Given::Start(id) => start(alloc, id),
         Given::Clock(reading) => Ok(Input::Clock(reading)),
     }
 }
@@ -133,52 +209,55 @@ fn inputs(alloc: Global, rows: &[Row]) -> Result<Vec<Input>, Untried> {
     Ok(inputs)
 }
 
-fn show_env(text: &mut String, env: &Env) -> Result<(), Untried> {
+fn show_env(text: &mut String, env: &Env) -> Result<(), AllocError> {
     for i in 0..env.len() {
         let (key, value) = env.at(i);
         write!(text, " {key}={value}")?;
     }
-    Ok(())
+    text.push_str("; ")
 }
 
-fn show_who(text: &mut String, who: &Who) -> Result<(), Untried> {
-    let job = who.job.as_str();
-    let instance = who.instance.as_str();
-    write!(text, " {job}({instance})")?;
-    Ok(())
-}
-
-fn show_order(text: &mut String, order: &Order) -> Result<(), Untried> {
-    text.push_str("spawn")?;
-    show_who(text, &order.who)?;
-    write!(text, " {:?} [", order.process)?;
-    for word in order.argv.as_slice() {
-        text.push_str(word.as_str())?;
-        text.push_str(" ")?;
+fn show_words(text: &mut String, words: &[Text]) -> Result<(), AllocError> {
+    for word in words {
+        let word = word.as_str();
+        write!(text, "{word} ")?;
     }
-    write!(text, "] in {} silent={}", order.dir.as_str(), order.silent)?;
+    Ok(())
+}
+
+fn show_order(text: &mut String, order: &Order) -> Result<(), AllocError> {
+    let job = order.who.job.as_str();
+    let instance = order.who.instance.as_str();
+    write!(text, "spawn {job}({instance}) {:?} [", order.process)?;
+    show_words(text, order.argv.as_slice())?;
+    let dir = order.dir.as_str();
+    write!(text, "] in {dir} silent={}", order.silent)?;
     show_env(text, &order.env)
 }
 
-fn show(text: &mut String, output: &Output) -> Result<(), Untried> {
+fn show_signal(text: &mut String, who: &Who, pid: u32, signal: u8) -> Result<(), AllocError> {
+    let job = who.job.as_str();
+    let instance = who.instance.as_str();
+    write!(text, "signal {job}({instance}) {pid} {signal}; ")
+}
+
+fn show_event(text: &mut String, event: &Event) -> Result<(), AllocError> {
+    text.push_str(event.name.as_str())?;
+    show_env(text, &event.vars)
+}
+
+fn show_reply(text: &mut String, id: u64, answer: &Answer) -> Result<(), AllocError> {
+    let reply = answer.text.as_str();
+    write!(text, "reply {id} ok={} {reply}; ", answer.ok)
+}
+
+fn show(text: &mut String, output: &Output) -> Result<(), AllocError> {
     match output {
-        Output::Spawn(order) => show_order(text, order)?,
-        Output::Signal { who, pid, signal } => {
-            text.push_str("signal")?;
-            show_who(text, who)?;
-            write!(text, " {pid} {signal}")?;
-        }
-        Output::Emitted(event) => {
-            text.push_str(event.name.as_str())?;
-            show_env(text, &event.vars)?;
-        }
-        Output::Reply { id, answer } => {
-            let reply = answer.text.as_str();
-            write!(text, "reply {id} ok={} {reply}", answer.ok)?;
-        }
+        Output::Spawn(order) => show_order(text, order),
+        Output::Signal { who, pid, signal } => show_signal(text, who, *pid, *signal),
+        Output::Emitted(event) => show_event(text, event),
+        Output::Reply { id, answer } => show_reply(text, *id, answer),
     }
-    text.push_str("; ")?;
-    Ok(())
 }
 
 fn shown(alloc: Global, outputs: &[Output]) -> Result<String, Untried> {
@@ -200,14 +279,30 @@ fn answer_shown(alloc: Global, answer: Result<Vec<Output>, StepError>) -> Result
     }
 }
 
-fn table(alloc: Global, file: &str) -> Result<Table, Untried> {
+/// Adds a file to a folder.
+pub(crate) fn add_file(
+    alloc: Global,
+    folder: &mut Folder,
+    path: &str,
+    bytes: &[u8],
+) -> Result<(), AllocError> {
+    let path = Text::from_str(alloc, path)?;
+    let bytes = Vec::from_slice(alloc, bytes)?;
+    folder.add(path, Items::new(bytes))
+}
+
+fn folder(alloc: Global, file: &str) -> Result<Folder, AllocError> {
     let mut folder = Folder::new(alloc);
     if !file.is_empty() {
-        let path = Text::from_str(alloc, "a.conf")?;
-        let bytes = Vec::from_slice(alloc, file.as_bytes())?;
-        folder.add(path, Items::new(bytes))?;
+        add_file(alloc, &mut folder, "a.conf", file.as_bytes())?;
     }
-    Ok(compile(alloc, &folder)?.0)
+    Ok(folder)
+}
+
+fn table(alloc: Global, file: &str) -> Result<Table, Untried> {
+    let folder = folder(alloc, file)?;
+    let (table, _) = compile(alloc, &folder)?;
+    Ok(table)
 }
 
 // The engine of a folder with this job file, or with none.
@@ -216,179 +311,131 @@ fn engine(alloc: Global, file: &str) -> Result<Engine, Untried> {
     Ok(Engine::new(alloc, table, Env::new(alloc)))
 }
 
+// A step gives what its row says.
 fn check_row(
     rt: &impl Abort,
     alloc: Global,
     engine: &mut Engine,
-    place: usize,
     row: &Row,
+    of: (&str, usize),
 ) -> Result<(), Untried> {
     let (given, outputs, live, turn) = *row;
     let answer = engine.step(input(alloc, given)?);
     let text = answer_shown(alloc, answer)?;
-    assert_eq!(rt; text.as_str(), outputs, "at row {place}");
-    assert_eq!(rt; engine.live_events(), live, "at row {place}");
-    assert_eq!(rt; engine.has_turn(), turn, "at row {place}");
+    let made = (text.as_str(), engine.live_events(), engine.has_turn());
+    assert_eq!(rt; made, (outputs, live, turn), "at step {} of {}", of.1, of.0);
     Ok(())
 }
 
-fn check_each(
+fn check_rows(
     rt: &impl Abort,
     alloc: Global,
     engine: &mut Engine,
-    rows: &[Row],
+    case: &Case,
 ) -> Result<(), Untried> {
+    let (name, _, rows) = *case;
     for (place, row) in rows.iter().enumerate() {
-        check_row(rt, alloc, engine, place, row)?;
+        check_row(rt, alloc, engine, row, (name, place))?;
     }
     Ok(())
 }
 
-pub(crate) fn check_rows(
-    rt: &impl Abort,
-    alloc: Global,
-    file: &str,
-    rows: &[Row],
-) -> Result<(), Untried> {
-    let mut engine = engine(alloc, file)?;
-    check_each(rt, alloc, &mut engine, rows)
+pub(crate) fn check_case(rt: &impl Abort, alloc: Global, case: &Case) -> Result<(), Untried> {
+    let mut engine = engine(alloc, case.1)?;
+    check_rows(rt, alloc, &mut engine, case)
 }
 
-const START_FILE: &'static str = "start on startup\nexec /bin/true x\n";
-
-#[test]
-fn empty_folder(rt: HostRuntime) -> Result<(), Fail> {
-    let rows = [
-        (Given::Emit("startup"), "", 1, true),
-        (Given::Turn, "", 1, true),
-        (Given::Turn, "", 0, false),
-    ];
-    check_rows(&rt, rt.alloc(), "", &rows)?;
+pub(crate) fn check_cases(rt: &impl Abort, alloc: Global, cases: &[Case]) -> Result<(), Untried> {
+    for case in cases {
+        check_case(rt, alloc, case)?;
+    }
     Ok(())
 }
 
 #[test]
-fn startup(rt: HostRuntime) -> Result<(), Fail> {
-    check_rows(&rt, rt.alloc(), START_FILE, &STARTUP)?;
+fn worked_rows(rt: HostRuntime) -> Result<(), Fail> {
+    check_cases(&rt, rt.alloc(), &CASES)?;
     Ok(())
 }
 
-#[test]
-fn stop_and_start_on_same_event(rt: HostRuntime) -> Result<(), Fail> {
-    let rows = [
-        (Given::Emit("go"), "", 1, true),
-        (Given::Turn, STARTING, 2, true),
-        (Given::Turn, "", 2, true),
-        (Given::Turn, SPAWN_D, 1, false),
-        (Given::Spawned(100), STARTED, 2, true),
-        (Given::Turn, "", 1, true),
-        (Given::Turn, "", 1, true),
-        (Given::Turn, "", 0, false),
-        (Given::Emit("go"), "", 1, true),
-        (Given::Turn, STOPPING, 2, true),
-        (Given::Turn, "", 2, true),
-        (Given::Turn, "signal a() 100 15; ", 1, false),
-        (Given::Ended(How::Signal(15)), STARTING, 2, true),
-        (Given::Turn, "", 2, true),
-        (Given::Turn, SPAWN_D, 1, false),
-    ];
-    check_rows(
-        &rt,
-        rt.alloc(),
-        "start on go\nstop on go\nexec /bin/d\n",
-        &rows,
-    )?;
-    Ok(())
+// What came of a run of the row `startup`. Where memory is refused in its midst, its steps are the first of the row's, and the engine
+// is down; where it is refused before, nothing has happened.
+#[derive(Clone, Copy, Debug, PartialEq, Eq)]
+enum Outcome {
+    Whole,
+    Refused,
+    Otherwise,
 }
 
-#[test]
-fn end_of_a_stranger(rt: HostRuntime) -> Result<(), Fail> {
-    let mut engine = engine(rt.alloc(), START_FILE)?;
-    let stranger = [(Given::Ended(How::Exit(0)), "40 NotExpected", 0, false)];
-    check_each(&rt, rt.alloc(), &mut engine, &stranger)?;
-    check_each(&rt, rt.alloc(), &mut engine, &STARTUP)?;
-    Ok(())
-}
-
-#[test]
-fn requests_clocks_and_refusals(rt: HostRuntime) -> Result<(), Fail> {
-    let rows = [
-        (
-            Given::Start(7),
-            "reply 7 ok=false Not supported: start; ",
-            0,
-            false,
-        ),
-        (Given::Clock(5), "", 0, false),
-        (Given::Emit("startup"), "", 1, true),
-        (Given::Turn, STARTING, 2, true),
-        (Given::Turn, "", 2, true),
-        (Given::Turn, SPAWN_TRUE, 1, false),
-        (Given::Refused, STOPPING, 2, true),
-    ];
-    check_rows(&rt, rt.alloc(), START_FILE, &rows)?;
-    Ok(())
-}
-
-fn is_row(alloc: Global, step: &Step, row: &Row) -> Result<bool, Untried> {
+fn is_step(alloc: Global, step: &Step, outputs: &str) -> Result<bool, Untried> {
     match step {
-        Step::Gave(outputs) => Ok(shown(alloc, outputs.as_slice())?.as_str() == row.1),
+        Step::Gave(gave) => {
+            let text = shown(alloc, gave.as_slice())?;
+            Ok(text.as_str() == outputs)
+        }
         Step::NotExpected => Ok(false),
     }
 }
 
-fn check_left(rt: &impl Abort, engine: &Engine, live: usize, turn: bool) {
-    assert_eq!(rt; engine.live_events(), live);
-    assert_eq!(rt; engine.has_turn(), turn);
-}
-
-// The steps of a run are those of the row `startup`, or the first of them where the engine is down. Answers what the last one leaves.
-fn check_steps(rt: &impl Abort, alloc: Global, run: &Run) -> Result<(usize, bool), Untried> {
-    let steps = run.steps.as_slice();
-    assert!(rt; steps.len() <= STARTUP.len());
-    assert_eq!(rt; run.down, steps.len() < STARTUP.len());
-    let mut left = (0, false);
-    for (step, row) in steps.iter().zip(&STARTUP) {
-        assert!(rt; is_row(alloc, step, row)?);
-        left = (row.2, row.3);
+// Whether the steps are the first of the rows.
+fn are_steps(alloc: Global, steps: &[Step], rows: &[Row]) -> Result<bool, Untried> {
+    for (step, row) in steps.iter().zip(rows) {
+        if !is_step(alloc, step, row.1)? {
+            return Ok(false);
+        }
     }
-    Ok(left)
+    Ok(steps.len() <= rows.len())
 }
 
-// A run of the row `startup`. Where memory is refused in its midst, its steps are the first of the row's, and the engine is down;
-// where it is refused before, nothing has happened. Answers whether memory sufficed.
-fn check_inputs(
-    rt: &impl Abort,
+// Whether an engine has the live events and the turn that the rows leave.
+fn is_left(engine: &Engine, rows: &[Row]) -> bool {
+    match rows.last() {
+        Some(row) => engine.live_events() == row.2 && engine.has_turn() == row.3,
+        None => engine.live_events() == 0 && !engine.has_turn(),
+    }
+}
+
+fn is_down(engine: &mut Engine) -> bool {
+    matches!(engine.step(Input::Turn), Err(StepError::Down))
+}
+
+fn came_of(
     alloc: Global,
     engine: &mut Engine,
-    inputs: Vec<Input>,
-) -> Result<bool, Untried> {
+    run: &Run,
+    rows: &[Row],
+) -> Result<Outcome, Untried> {
+    let steps = run.steps.as_slice();
+    let count = steps.len().min(rows.len());
+    if !are_steps(alloc, steps, rows)? || !is_left(engine, &rows[..count]) {
+        return Ok(Outcome::Otherwise);
+    }
+    if !run.down && count == rows.len() {
+        return Ok(Outcome::Whole);
+    }
+    if run.down && count < rows.len() && is_down(engine) {
+        return Ok(Outcome::Refused);
+    }
+    Ok(Outcome::Otherwise)
+}
+
+fn run_with(alloc: Global, engine: &mut Engine, rows: &[Row]) -> Result<Outcome, Untried> {
+    let inputs = inputs(alloc, rows)?;
     match engine.run(inputs) {
-        Ok(run) => {
-            let (live, turn) = check_steps(rt, alloc, &run)?;
-            check_left(rt, engine, live, turn);
-            if run.down {
-                assert!(rt; matches!(engine.step(Input::Turn), Err(StepError::Down)));
-            }
-            Ok(!run.down)
-        }
-        Err(fault) => {
-            assert_eq!(rt; fault, StepError::Memory);
-            check_left(rt, engine, 0, false);
-            Ok(false)
-        }
+        Ok(run) => came_of(alloc, engine, &run, rows),
+        Err(StepError::Memory) if is_left(engine, &[]) => Ok(Outcome::Refused),
+        Err(_) => Ok(Outcome::Otherwise),
     }
 }
 
-fn check_run(rt: &impl Abort, alloc: Global) -> Result<bool, Untried> {
-    let inputs = inputs(alloc, &STARTUP)?;
-    let mut engine = engine(alloc, START_FILE)?;
-    check_inputs(rt, alloc, &mut engine, inputs)
+fn run_rows(alloc: Global, file: &str, rows: &[Row]) -> Result<Outcome, Untried> {
+    let mut engine = engine(alloc, file)?;
+    run_with(alloc, &mut engine, rows)
 }
 
 #[test]
 fn always_memory(rt: HostRuntime) -> Result<(), Fail> {
-    assert!(rt; check_run(&rt, rt.alloc())?);
+    assert_eq!(rt; run_rows(rt.alloc(), START_FILE, &STARTUP)?, Outcome::Whole);
     Ok(())
 }
 
@@ -396,10 +443,12 @@ fn always_memory(rt: HostRuntime) -> Result<(), Fail> {
 // inputs, its table or the texts to compare were refused memory.
 #[test]
 fn memory_refused(rt: HostRuntime) -> Result<(), Fail> {
-    match check_run(&rt, rt.alloc()) {
-        Ok(true) => println!(rt; "memory sufficed")?,
-        Ok(false) => println!(rt; "the run was refused memory")?,
-        Err(_) => println!(rt; "the test was refused memory")?,
-    }
+    let told = match run_rows(rt.alloc(), START_FILE, &STARTUP) {
+        Ok(Outcome::Whole) => "memory sufficed",
+        Ok(Outcome::Refused) => "the run was refused memory",
+        Ok(Outcome::Otherwise) => return Err(Fail::new("the run is not as the row says")),
+        Err(_) => "the test was refused memory",
+    };
+    println!(rt; "{told}")?;
     Ok(())
 }

@@ -3,7 +3,6 @@ use std::alloc::{Allocator, Global};
 use std::fs::{Files, Metadata, OpenFile, OpenOptions};
 use std::io;
 use std::io::{ErrorKind, Read, Seek, SeekFrom, Write};
-use std::test::Fail;
 use up_command::WalkError;
 use up_command::walk::walk;
 
@@ -54,16 +53,10 @@ struct Bytes {
 
 impl Read for Bytes {
     fn read(&mut self, buf: &mut [u8]) -> io::Result<usize> {
-        if self.left.is_empty() {
-            return match self.failure {
-                Some(kind) => Err(kind.into()),
-                None => Ok(0),
-            };
+        match self.failure {
+            Some(kind) if self.left.is_empty() => Err(kind.into()),
+            _ => self.left.read(buf),
         }
-        let count = buf.len().min(self.left.len());
-        buf[..count].copy_from_slice(&self.left[..count]);
-        self.left = &self.left[count..];
-        Ok(count)
     }
 }
 
@@ -162,68 +155,95 @@ impl Files for Fake {
     }
 }
 
-// The path that a walk of this folder can't use.
-fn unusable(fake: &Fake, dir: &str) -> Option<up_text::Text> {
-    match walk(fake, dir) {
-        Err(WalkError::Unusable(path)) => Some(path),
-        Ok(_) | Err(WalkError::Memory) => None,
-    }
+// What a walk finds: so many job files, what it can't use, or that memory is refused.
+#[derive(Drop)]
+enum Found {
+    Files(usize),
+    Unusable(&'static str),
+    Memory,
 }
 
-fn is_unusable(fake: &Fake, dir: &str, path: &str) -> bool {
-    match unusable(fake, dir) {
-        Some(found) => found.is(path),
-        None => false,
-    }
-}
-
-#[test]
-fn a_failure_is_named(rt: HostRuntime) -> Result<(), Fail> {
-    let cases: [(At, &'static [u8], &str); 8] = [
-        (At::List, b"a.conf\0", "etc"),
-        (At::Name, b"a.conf\0", "etc"),
-        (At::Look, b"a.conf\0", "etc/a.conf"),
-        (At::Look, b"a.override\0", "etc/a.override"),
-        (At::Look, b"a\0", "etc"),
-        (At::Open, b"a.conf\0", "etc/a.conf"),
-        (At::Read, b"a.conf\0", "etc/a.conf"),
-        (At::Nothing, b"a.conf\0\xff\0", "etc"),
-    ];
-    for (at, names, path) in cases {
-        let mut fake = Fake {
-            alloc: rt.alloc(),
-            names,
-            is_file: true,
-            at,
-            kind: ErrorKind::Other,
-        };
-        assert!(rt; is_unusable(&fake, "etc", path));
-        if at != At::Nothing {
-            fake.kind = ErrorKind::OutOfMemory;
-            assert!(rt; matches!(walk(&fake, "etc"), Err(WalkError::Memory)));
+impl Found {
+    fn is_count(&self, count: usize) -> bool {
+        match self {
+            Found::Files(wanted) => count == *wanted,
+            Found::Unusable(_) | Found::Memory => false,
         }
     }
-    Ok(())
+
+    fn is_path(&self, path: &str) -> bool {
+        match self {
+            Found::Unusable(wanted) => path == *wanted,
+            Found::Files(_) | Found::Memory => false,
+        }
+    }
+}
+
+fn finds(fake: &Fake, dir: &str, found: &Found) -> bool {
+    match walk(fake, dir) {
+        Ok(folder) => found.is_count(folder.as_slice().len()),
+        Err(WalkError::Unusable(path)) => found.is_path(path.as_str()),
+        Err(WalkError::Memory) => matches!(found, Found::Memory),
+    }
+}
+
+// What fails, the names in the folder, and the path that is named.
+static FAILURES: [(At, &[u8], &str); 8] = [
+    (At::List, b"a.conf\0", "etc"),
+    (At::Name, b"a.conf\0", "etc"),
+    (At::Look, b"a.conf\0", "etc/a.conf"),
+    (At::Look, b"a.override\0", "etc/a.override"),
+    (At::Look, b"a\0", "etc"),
+    (At::Open, b"a.conf\0", "etc/a.conf"),
+    (At::Read, b"a.conf\0", "etc/a.conf"),
+    (At::Nothing, b"a.conf\0\xff\0", "etc"),
+];
+
+// Whether the path is named; and where what fails does so for want of memory, that is told.
+fn is_named(alloc: Global, at: At, names: &'static [u8], path: &'static str) -> bool {
+    let mut fake = Fake {
+        alloc,
+        names,
+        is_file: true,
+        at,
+        kind: ErrorKind::Other,
+    };
+    let is_named = finds(&fake, "etc", &Found::Unusable(path));
+    fake.kind = ErrorKind::OutOfMemory;
+    is_named && (at == At::Nothing || finds(&fake, "etc", &Found::Memory))
 }
 
 #[test]
-fn a_pipe_is_no_job_file(rt: HostRuntime) -> Result<(), Fail> {
-    let mut fake = Fake {
-        alloc: rt.alloc(),
-        names: b"a\0a.conf\0",
-        is_file: false,
-        at: At::Nothing,
-        kind: ErrorKind::Other,
-    };
-    assert!(rt; is_unusable(&fake, "/", "/a.conf"));
-    fake.is_file = true;
-    let Ok(folder) = walk(&fake, "/") else {
-        return Err(Fail::from("the folder is not read"));
-    };
-    assert_eq!(rt; folder.as_slice().len(), 1);
-    assert!(rt; is_unusable(&fake, "", ""));
-    fake.names = b"a\0b.txt\0";
-    fake.at = At::Open;
-    assert!(rt; walk(&fake, "/").is_ok());
-    Ok(())
+fn a_failure_is_named(rt: HostRuntime) {
+    for (place, (at, names, path)) in FAILURES.iter().enumerate() {
+        assert!(rt; is_named(rt.alloc(), *at, *names, *path), "at case {place}");
+    }
+}
+
+// Names, whether they are those of files, what fails, the folder, and what a walk finds. The path of no folder is empty.
+static PIPES: [(&[u8], bool, At, &str, Found); 4] = [
+    (
+        b"a\0a.conf\0",
+        false,
+        At::Nothing,
+        "/",
+        Found::Unusable("/a.conf"),
+    ),
+    (b"a\0a.conf\0", true, At::Nothing, "/", Found::Files(1)),
+    (b"a\0a.conf\0", true, At::Nothing, "", Found::Unusable("")),
+    (b"a\0b.txt\0", true, At::Open, "/", Found::Files(0)),
+];
+
+#[test]
+fn a_pipe_is_no_job_file(rt: HostRuntime) {
+    for (names, is_file, at, dir, found) in &PIPES {
+        let fake = Fake {
+            alloc: rt.alloc(),
+            names: *names,
+            is_file: *is_file,
+            at: *at,
+            kind: ErrorKind::Other,
+        };
+        assert!(rt; finds(&fake, dir, found), "{names:?} in {dir}");
+    }
 }

@@ -7,17 +7,21 @@ mod rows;
 mod script;
 mod streams;
 
+use std::io::Read;
 use std::process::Abort;
-use std::test::Fail;
 use up_replay::replay::replay;
 
+/// A bundle, with what is printed for it and the status.
 pub struct Case {
     pub bundle: &'static [u8],
     pub printed: &'static str,
     pub status: u8,
 }
 
-const BUNDLES: [Case; 19] = [
+/// Cases on one topic, with its name.
+pub type Topic = (&'static str, &'static [Case]);
+
+static BUNDLES: [Case; 19] = [
     Case {
         bundle: b"",
         printed: "",
@@ -115,30 +119,49 @@ const BUNDLES: [Case; 19] = [
     },
 ];
 
-pub fn check(rt: &(impl Abort + AllocGlobal), case: &Case) -> Result<(), Fail> {
-    let mut reader: &[u8] = case.bundle;
+/// Compares what is printed and the status. A failure is told by the name and the place of the case.
+pub fn check_printed(
+    rt: &impl Abort,
+    made: (&[u8], u8),
+    (printed, status): (&str, u8),
+    (name, place): (&str, usize),
+) {
+    assert_eq!(rt; made, (printed.as_bytes(), status), "at {place} of {name}");
+}
+
+/// Replays what a reader gives.
+pub fn check<R: Read>(
+    rt: &(impl Abort + AllocGlobal),
+    reader: &mut R,
+    wanted: (&str, u8),
+    of: (&str, usize),
+) {
     let mut written: Vec<u8> = Vec::new(rt.alloc());
-    let status = replay(rt.alloc(), &mut reader, &mut written);
-    let bundle = case.bundle;
-    assert_eq!(rt;
-        written.as_slice(),
-        case.printed.as_bytes(),
-        "of {bundle:?}"
-    );
-    assert_eq!(rt; status, case.status, "of {bundle:?}");
-    Ok(())
+    let status = replay(rt.alloc(), reader, &mut written);
+    check_printed(rt, (written.as_slice(), status), wanted, of);
+}
+
+fn check_topic(rt: &(impl Abort + AllocGlobal), topic: &Topic) {
+    let (name, cases) = *topic;
+    for (place, case) in cases.iter().enumerate() {
+        let mut reader: &[u8] = case.bundle;
+        check(rt, &mut reader, (case.printed, case.status), (name, place));
+    }
+}
+
+pub fn check_topics(rt: &(impl Abort + AllocGlobal), topics: &[Topic]) {
+    for topic in topics {
+        check_topic(rt, topic);
+    }
 }
 
 #[test]
-fn bundles(rt: HostRuntime) -> Result<(), Fail> {
-    for case in &BUNDLES {
-        check(&rt, case)?;
-    }
-    Ok(())
+fn bundles(rt: HostRuntime) {
+    check_topic(&rt, &("bundles", &BUNDLES));
 }
 
 /// Lines that are steps, and what the engine answers where it has no job.
-const STEPS: [(&[u8], &str); 33] = [
+static STEPS: [(&[u8], &str); 33] = [
     (b"turn", ""),
     (b"turn 1", ""),
     (b"turn 002", ""),
@@ -223,7 +246,7 @@ const STEPS: [(&[u8], &str); 33] = [
 ];
 
 /// Lines that are no steps.
-const BAD_STEPS: [&[u8]; 52] = [
+static BAD_STEPS: [&[u8]; 52] = [
     b"nonsense",
     b"\"\"",
     b"Turn",
@@ -278,41 +301,24 @@ const BAD_STEPS: [&[u8]; 52] = [
     b"ended a \"\" main killed 9",
 ];
 
-fn script_of(rt: &impl AllocGlobal, line: &[u8]) -> Result<Vec<u8>, Fail> {
-    let mut bundle: Vec<u8> = Vec::new(rt.alloc());
-    bundle.extend_from_slice(b"%script\n")?;
-    bundle.extend_from_slice(line)?;
-    bundle.extend_from_slice(b"\n")?;
-    Ok(bundle)
-}
-
-fn check_line(
-    rt: &(impl Abort + AllocGlobal),
-    line: &[u8],
-    printed: &str,
-    status: u8,
-) -> Result<(), Fail> {
-    let bundle = script_of(rt, line)?;
-    let mut reader: &[u8] = bundle.as_slice();
-    let mut written: Vec<u8> = Vec::new(rt.alloc());
-    let given = replay(rt.alloc(), &mut reader, &mut written);
-    assert_eq!(rt; written.as_slice(), printed.as_bytes(), "of {line:?}");
-    assert_eq!(rt; given, status, "of {line:?}");
-    Ok(())
+// A script of one line, the second of its bundle.
+fn check_line(rt: &(impl Abort + AllocGlobal), line: &[u8], wanted: (&str, u8), of: (&str, usize)) {
+    let header: &[u8] = b"%script\n";
+    let end: &[u8] = b"\n";
+    let mut reader = header.chain(line).chain(end);
+    check(rt, &mut reader, wanted, of);
 }
 
 #[test]
-fn steps(rt: HostRuntime) -> Result<(), Fail> {
-    for (line, printed) in &STEPS {
-        check_line(&rt, line, printed, 0)?;
+fn steps(rt: HostRuntime) {
+    for (place, (line, printed)) in STEPS.iter().enumerate() {
+        check_line(&rt, line, (printed, 0), ("steps", place));
     }
-    Ok(())
 }
 
 #[test]
-fn bad_steps(rt: HostRuntime) -> Result<(), Fail> {
-    for line in &BAD_STEPS {
-        check_line(&rt, line, "-:2: bad step\n", 2)?;
+fn bad_steps(rt: HostRuntime) {
+    for (place, line) in BAD_STEPS.iter().enumerate() {
+        check_line(&rt, line, ("-:2: bad step\n", 2), ("bad_steps", place));
     }
-    Ok(())
 }

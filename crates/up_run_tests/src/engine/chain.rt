@@ -1,5 +1,5 @@
 //! Expressions as deep as a job file may have them.
-use crate::engine::{Given, STARTING, check_rows};
+use crate::engine::{Given, Row, STARTING, check_case};
 use std::alloc::{AllocError, Global};
 use std::test::Fail;
 
@@ -34,33 +34,44 @@ fn spawn(alloc: Global, last: &str) -> Result<String, AllocError> {
     Ok(text)
 }
 
+// The last row gives what is spawned.
+static TRUE_BY_ONE: [Row; 4] = [
+    (Given::Emit("A"), "", 1, true),
+    (Given::Turn, STARTING, 2, true),
+    (Given::Turn, "", 2, true),
+    (Given::Turn, "", 1, false),
+];
+
 #[test]
 fn deepest_chain(rt: HostRuntime) -> Result<(), Fail> {
     let file = chain(rt.alloc(), "A")?;
     let spawn = spawn(rt.alloc(), "A")?;
-    let rows = [
-        (Given::Emit("A"), "", 1, true),
-        (Given::Turn, STARTING, 2, true),
-        (Given::Turn, "", 2, true),
-        (Given::Turn, spawn.as_str(), 1, false),
-    ];
-    check_rows(&rt, rt.alloc(), file.as_str(), &rows)?;
+    let mut rows = TRUE_BY_ONE;
+    rows[3].1 = spawn.as_str();
+    check_case(&rt, rt.alloc(), &("deepest_chain", file.as_str(), &rows))?;
     Ok(())
 }
 
-// The chain keeps A until it is true.
+// The chain keeps A until it is true. The last row gives what is spawned.
+static TRUE_BY_TWO: [Row; 6] = [
+    (Given::Emit("A"), "", 1, true),
+    (Given::Turn, "", 1, false),
+    (Given::Emit("B"), "", 2, true),
+    (Given::Turn, STARTING, 3, true),
+    (Given::Turn, "", 3, true),
+    (Given::Turn, "", 2, false),
+];
+
 #[test]
 fn deepest_chain_keeps_an_event(rt: HostRuntime) -> Result<(), Fail> {
     let file = chain(rt.alloc(), "B")?;
     let spawn = spawn(rt.alloc(), "B")?;
-    let rows = [
-        (Given::Emit("A"), "", 1, true),
-        (Given::Turn, "", 1, false),
-        (Given::Emit("B"), "", 2, true),
-        (Given::Turn, STARTING, 3, true),
-        (Given::Turn, "", 3, true),
-        (Given::Turn, spawn.as_str(), 2, false),
-    ];
-    check_rows(&rt, rt.alloc(), file.as_str(), &rows)?;
+    let mut rows = TRUE_BY_TWO;
+    rows[5].1 = spawn.as_str();
+    check_case(
+        &rt,
+        rt.alloc(),
+        &("deepest_chain_keeps_an_event", file.as_str(), &rows),
+    )?;
     Ok(())
 }

@@ -1,96 +1,102 @@
 //! The worked rows on expressions, step by step.
-use crate::engine::{Given, STARTING, check_rows};
+use crate::engine::{Case, Given, Row, STARTING, check_cases};
 use std::test::Fail;
 
-const NAMED_FILE: &'static str = "start on A and B\nexec /bin/d\n";
+const AND_KEEPS_FIRST: [Row; 9] = [
+    (Given::EmitWith("A", "X", "1"), "", 1, true),
+    (Given::EmitWith("A", "X", "2"), "", 2, true),
+    (Given::Emit("B"), "", 3, true),
+    (Given::Turn, "", 3, true),
+    (Given::Turn, "", 3, true),
+    (Given::Turn, "", 2, true),
+    (Given::Turn, STARTING, 3, true),
+    (Given::Turn, "", 3, true),
+    (
+        Given::Turn,
+        "spawn a() Main [/bin/d ] in / silent=false X=1 UPSTART_EVENTS=A B UPSTART_JOB=a UPSTART_INSTANCE=; ",
+        2,
+        false,
+    ),
+];
 
-#[test]
-fn and_keeps_first(rt: HostRuntime) -> Result<(), Fail> {
-    let spawn =
-        "spawn a() Main [/bin/d ] in / silent=false X=1 UPSTART_EVENTS=A B UPSTART_JOB=a UPSTART_INSTANCE=; ";
-    let rows = [
-        (Given::EmitWith("A", "X", "1"), "", 1, true),
-        (Given::EmitWith("A", "X", "2"), "", 2, true),
-        (Given::Emit("B"), "", 3, true),
-        (Given::Turn, "", 3, true),
-        (Given::Turn, "", 3, true),
-        (Given::Turn, "", 2, true),
-        (Given::Turn, STARTING, 3, true),
-        (Given::Turn, "", 3, true),
-        (Given::Turn, spawn, 2, false),
-    ];
-    check_rows(&rt, rt.alloc(), NAMED_FILE, &rows)?;
-    Ok(())
-}
+const AND_OF_SAME_EVENT: [Row; 4] = [
+    (Given::Emit("A"), "", 1, true),
+    (Given::Turn, STARTING, 2, true),
+    (Given::Turn, "", 2, true),
+    (
+        Given::Turn,
+        "spawn a() Main [/bin/d ] in / silent=false UPSTART_EVENTS=A A UPSTART_JOB=a UPSTART_INSTANCE=; ",
+        1,
+        false,
+    ),
+];
 
-#[test]
-fn and_of_same_event(rt: HostRuntime) -> Result<(), Fail> {
-    let spawn =
-        "spawn a() Main [/bin/d ] in / silent=false UPSTART_EVENTS=A A UPSTART_JOB=a UPSTART_INSTANCE=; ";
-    let rows = [
-        (Given::Emit("A"), "", 1, true),
-        (Given::Turn, STARTING, 2, true),
-        (Given::Turn, "", 2, true),
-        (Given::Turn, spawn, 1, false),
-    ];
-    check_rows(&rt, rt.alloc(), "start on A and A\nexec /bin/d\n", &rows)?;
-    Ok(())
-}
+const OR_AFTER_HALF_AN_AND: [Row; 7] = [
+    (Given::Emit("A"), "", 1, true),
+    (Given::Emit("B"), "", 2, true),
+    (Given::Turn, "", 2, true),
+    (Given::Turn, STARTING, 3, true),
+    (Given::Turn, "", 2, true),
+    (Given::Turn, "", 2, true),
+    (
+        Given::Turn,
+        "spawn a() Main [/bin/d ] in / silent=false UPSTART_EVENTS=B UPSTART_JOB=a UPSTART_INSTANCE=; ",
+        1,
+        false,
+    ),
+];
 
-#[test]
-fn or_after_half_an_and(rt: HostRuntime) -> Result<(), Fail> {
-    let spawn =
-        "spawn a() Main [/bin/d ] in / silent=false UPSTART_EVENTS=B UPSTART_JOB=a UPSTART_INSTANCE=; ";
-    let rows = [
-        (Given::Emit("A"), "", 1, true),
-        (Given::Emit("B"), "", 2, true),
-        (Given::Turn, "", 2, true),
-        (Given::Turn, STARTING, 3, true),
-        (Given::Turn, "", 2, true),
-        (Given::Turn, "", 2, true),
-        (Given::Turn, spawn, 1, false),
-    ];
-    check_rows(
-        &rt,
-        rt.alloc(),
-        "start on (A and D) or B\nexec /bin/d\n",
-        &rows,
-    )?;
-    Ok(())
-}
-
-#[test]
-fn job_blocks_itself(rt: HostRuntime) -> Result<(), Fail> {
-    let rows = [
-        (Given::Emit("go"), "", 1, true),
-        (Given::Turn, STARTING, 2, true),
-        (Given::Turn, "", 2, true),
-        (Given::Turn, "", 1, false),
-        (Given::Turn, "", 1, false),
-        (Given::Turn, "", 1, false),
-        (Given::Turn, "", 1, false),
-        (Given::Turn, "", 1, false),
-        (Given::Turn, "", 1, false),
-    ];
-    check_rows(
-        &rt,
-        rt.alloc(),
-        "start on go\nstop on starting JOB=a\nexec /bin/d\n",
-        &rows,
-    )?;
-    Ok(())
-}
+const JOB_BLOCKS_ITSELF: [Row; 9] = [
+    (Given::Emit("go"), "", 1, true),
+    (Given::Turn, STARTING, 2, true),
+    (Given::Turn, "", 2, true),
+    (Given::Turn, "", 1, false),
+    (Given::Turn, "", 1, false),
+    (Given::Turn, "", 1, false),
+    (Given::Turn, "", 1, false),
+    (Given::Turn, "", 1, false),
+    (Given::Turn, "", 1, false),
+];
 
 // A value that is an expansion, of which the base environment has no key.
+const VALUE_BY_DEFAULT: [Row; 5] = [
+    (Given::EmitWith("A", "X", "2"), "", 1, true),
+    (Given::Turn, "", 1, true),
+    (Given::Turn, "", 0, false),
+    (Given::EmitWith("A", "X", "1"), "", 1, true),
+    (Given::Turn, STARTING, 2, true),
+];
+
+static CASES: [Case; 5] = [
+    (
+        "and_keeps_first",
+        "start on A and B\nexec /bin/d\n",
+        &AND_KEEPS_FIRST,
+    ),
+    (
+        "and_of_same_event",
+        "start on A and A\nexec /bin/d\n",
+        &AND_OF_SAME_EVENT,
+    ),
+    (
+        "or_after_half_an_and",
+        "start on (A and D) or B\nexec /bin/d\n",
+        &OR_AFTER_HALF_AN_AND,
+    ),
+    (
+        "job_blocks_itself",
+        "start on go\nstop on starting JOB=a\nexec /bin/d\n",
+        &JOB_BLOCKS_ITSELF,
+    ),
+    (
+        "value_by_default",
+        "start on A X=${Z-1}\nexec /bin/d\n",
+        &VALUE_BY_DEFAULT,
+    ),
+];
+
 #[test]
-fn value_by_default(rt: HostRuntime) -> Result<(), Fail> {
-    let rows = [
-        (Given::EmitWith("A", "X", "2"), "", 1, true),
-        (Given::Turn, "", 1, true),
-        (Given::Turn, "", 0, false),
-        (Given::EmitWith("A", "X", "1"), "", 1, true),
-        (Given::Turn, STARTING, 2, true),
-    ];
-    check_rows(&rt, rt.alloc(), "start on A X=${Z-1}\nexec /bin/d\n", &rows)?;
+fn worked_rows(rt: HostRuntime) -> Result<(), Fail> {
+    check_cases(&rt, rt.alloc(), &CASES)?;
     Ok(())
 }

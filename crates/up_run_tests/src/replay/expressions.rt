@@ -1,7 +1,5 @@
 //! The worked rows on expressions, as bundles.
-use crate::replay::{Case, check};
-use std::process::Abort;
-use std::test::Fail;
+use crate::replay::{Case, Topic, check_topics};
 
 const AND_KEEPS_FIRST: Case = Case {
     bundle: b"%file a.conf\nstart on A and B\nexec /bin/d\n%script\nemit A X=1\nemit A X=2\nemit B\nturn 3\nturn\nturn 2\n",
@@ -51,42 +49,18 @@ const BAD_EXPRESSIONS: Case = Case {
     status: 1,
 };
 
-#[test]
-fn and_keeps_first(rt: HostRuntime) -> Result<(), Fail> {
-    check(&rt, &AND_KEEPS_FIRST)
-}
+static TOPICS: [Topic; 8] = [
+    ("and_keeps_first", &[AND_KEEPS_FIRST]),
+    ("and_of_same_event", &[AND_OF_SAME_EVENT]),
+    ("or_after_half_an_and", &[OR_AFTER_HALF_AN_AND]),
+    ("job_blocks_itself", &[JOB_BLOCKS_ITSELF]),
+    ("start_while_starting", &[START_WHILE_STARTING]),
+    ("self_restarting_job", &[SELF_RESTARTING_JOB]),
+    ("value_by_default", &[VALUE_BY_DEFAULT]),
+    ("bad_expressions", &[BAD_EXPRESSIONS]),
+];
 
 #[test]
-fn and_of_same_event(rt: HostRuntime) -> Result<(), Fail> {
-    check(&rt, &AND_OF_SAME_EVENT)
-}
-
-#[test]
-fn or_after_half_an_and(rt: HostRuntime) -> Result<(), Fail> {
-    check(&rt, &OR_AFTER_HALF_AN_AND)
-}
-
-#[test]
-fn job_blocks_itself(rt: HostRuntime) -> Result<(), Fail> {
-    check(&rt, &JOB_BLOCKS_ITSELF)
-}
-
-#[test]
-fn start_while_starting(rt: HostRuntime) -> Result<(), Fail> {
-    check(&rt, &START_WHILE_STARTING)
-}
-
-#[test]
-fn self_restarting_job(rt: HostRuntime) -> Result<(), Fail> {
-    check(&rt, &SELF_RESTARTING_JOB)
-}
-
-#[test]
-fn value_by_default(rt: HostRuntime) -> Result<(), Fail> {
-    check(&rt, &VALUE_BY_DEFAULT)
-}
-
-#[test]
-fn bad_expressions(rt: HostRuntime) -> Result<(), Fail> {
-    check(&rt, &BAD_EXPRESSIONS)
+fn worked_rows(rt: HostRuntime) {
+    check_topics(&rt, &TOPICS);
 }

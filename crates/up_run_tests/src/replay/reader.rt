@@ -1,13 +1,13 @@
 //! Whole job files: what runs, overrides, and checks of folders.
+use crate::engine::add_file;
 use crate::replay::distribution::{BUNDLE, REPORT};
-use crate::replay::{Case, check};
-use std::alloc::Global;
+use crate::replay::{Case, Topic, check_printed, check_topics};
+use std::alloc::{AllocError, Global};
 use std::process::Abort;
 use std::test::Fail;
 use up_conf::Folder;
-use up_replay::check::check as check_folder;
+use up_replay::check::check;
 use up_replay::read_bundle;
-use up_text::{Items, Text};
 
 const INVALID_OVERRIDE: Case = Case {
     bundle: b"%file a.conf\nstart on go\nexec /bin/d\n%file a.override\nmanual\nbogus x\n%script\nemit go\nturn\n",
@@ -39,85 +39,117 @@ const SCRIPT: Case = Case {
     status: 0,
 };
 
-#[test]
-fn overrides(rt: HostRuntime) -> Result<(), Fail> {
-    check(&rt, &INVALID_OVERRIDE)?;
-    check(&rt, &MANUAL_OVERRIDE)
-}
+static TOPICS: [Topic; 2] = [
+    ("overrides", &[INVALID_OVERRIDE, MANUAL_OVERRIDE]),
+    ("commands", &[WORDS, SHELL, SCRIPT]),
+];
 
 #[test]
-fn commands(rt: HostRuntime) -> Result<(), Fail> {
-    check(&rt, &WORDS)?;
-    check(&rt, &SHELL)?;
-    check(&rt, &SCRIPT)
+fn job_files(rt: HostRuntime) {
+    check_topics(&rt, &TOPICS);
 }
 
-fn add(alloc: Global, folder: &mut Folder, path: &str, bytes: &[u8]) -> Result<(), Fail> {
-    let path = Text::from_str(alloc, path)?;
-    let bytes = Vec::from_slice(alloc, bytes)?;
-    folder.add(path, Items::new(bytes))?;
-    Ok(())
-}
-
-fn check_prints(
+// A check of a folder prints this, with this status.
+fn check_folder(
     rt: &impl Abort,
     alloc: Global,
     folder: &Folder,
-    printed: &str,
-    status: u8,
-) -> Result<(), Fail> {
-    let made = check_folder(alloc, folder)?;
-    assert_eq!(rt; made.text.as_slice(), printed.as_bytes());
-    assert_eq!(rt; made.status, status);
+    wanted: (&str, u8),
+    of: (&str, usize),
+) -> Result<(), AllocError> {
+    let made = check(alloc, folder)?;
+    check_printed(rt, (made.text.as_slice(), made.status), wanted, of);
+    Ok(())
+}
+
+// Files that a folder gets, what a check of it prints then, and the status.
+type Step = (&'static [(&'static str, &'static [u8])], &'static str, u8);
+
+static CHECKS: [Step; 4] = [
+    (&[], "0 jobs, 0 faults\n", 0),
+    (
+        &[("x.conf", b"# one\n# two\nsetuid root\n")],
+        "x.conf:3: 2 NotInProfile\n0 jobs, 1 faults\n",
+        1,
+    ),
+    (
+        &[("net/a.conf", b"exec /bin/a\n"), ("a.txt", b"nonsense\n")],
+        "x.conf:3: 2 NotInProfile\n1 jobs, 1 faults\n",
+        1,
+    ),
+    (&[("x.conf", b"")], "initd: 21 SameName\n", 3),
+];
+
+fn add_files(
+    alloc: Global,
+    folder: &mut Folder,
+    files: &[(&str, &[u8])],
+) -> Result<(), AllocError> {
+    for (path, bytes) in files {
+        add_file(alloc, folder, path, bytes)?;
+    }
+    Ok(())
+}
+
+fn check_steps(rt: &impl Abort, alloc: Global, folder: &mut Folder) -> Result<(), AllocError> {
+    for (place, (files, printed, status)) in CHECKS.iter().enumerate() {
+        add_files(alloc, folder, files)?;
+        check_folder(rt, alloc, folder, (printed, *status), ("checks", place))?;
+    }
     Ok(())
 }
 
 #[test]
 fn checks(rt: HostRuntime) -> Result<(), Fail> {
-    let alloc = rt.alloc();
-    let mut folder = Folder::new(alloc);
-    check_prints(&rt, alloc, &folder, "0 jobs, 0 faults\n", 0)?;
-    add(alloc, &mut folder, "x.conf", b"# one\n# two\nsetuid root\n")?;
-    check_prints(
-        &rt,
-        alloc,
-        &folder,
-        "x.conf:3: 2 NotInProfile\n0 jobs, 1 faults\n",
-        1,
-    )?;
-    add(alloc, &mut folder, "net/a.conf", b"exec /bin/a\n")?;
-    add(alloc, &mut folder, "a.txt", b"nonsense\n")?;
-    check_prints(
-        &rt,
-        alloc,
-        &folder,
-        "x.conf:3: 2 NotInProfile\n1 jobs, 1 faults\n",
-        1,
-    )?;
-    add(alloc, &mut folder, "x.conf", b"")?;
-    check_prints(&rt, alloc, &folder, "initd: 21 SameName\n", 3)?;
+    let mut folder = Folder::new(rt.alloc());
+    check_steps(&rt, rt.alloc(), &mut folder)?;
+    Ok(())
+}
+
+// A count of files, what a check of their folder prints, and the status.
+static COUNTS: [(usize, &str, u8); 2] = [
+    (1024, "1024 jobs, 0 faults\n", 0),
+    (1025, "initd: 20 TooManyJobs\n", 3),
+];
+
+fn add_numbered(alloc: Global, folder: &mut Folder, n: usize) -> Result<(), AllocError> {
+    let path = format!(in alloc; "{n}.conf")?;
+    add_file(alloc, folder, path.as_str(), b"exec x\n")
+}
+
+fn check_counts(rt: &impl Abort, alloc: Global, folder: &mut Folder) -> Result<(), AllocError> {
+    for (count, printed, status) in &COUNTS {
+        for n in folder.as_slice().len()..*count {
+            add_numbered(alloc, folder, n)?;
+        }
+        check_folder(rt, alloc, folder, (printed, *status), ("files", *count))?;
+    }
     Ok(())
 }
 
 #[test]
 fn checks_of_many_files(rt: HostRuntime) -> Result<(), Fail> {
-    let alloc = rt.alloc();
-    let mut folder = Folder::new(alloc);
-    for n in 0..1024u32 {
-        let path = format!(in alloc; "{n}.conf")?;
-        add(alloc, &mut folder, path.as_str(), b"exec x\n")?;
-    }
-    check_prints(&rt, alloc, &folder, "1024 jobs, 0 faults\n", 0)?;
-    add(alloc, &mut folder, "1024.conf", b"exec x\n")?;
-    check_prints(&rt, alloc, &folder, "initd: 20 TooManyJobs\n", 3)?;
+    let mut folder = Folder::new(rt.alloc());
+    check_counts(&rt, rt.alloc(), &mut folder)?;
     Ok(())
+}
+
+// The folder of the example; `None` where its text is too long to be read.
+fn distribution(alloc: Global) -> Result<Option<Folder>, AllocError> {
+    let text = BUNDLE.as_bytes();
+    if text.len() < 65_536 {
+        return Ok(Some(read_bundle(alloc, text)?.folder));
+    }
+    Ok(None)
 }
 
 #[test]
 fn a_distribution_is_checked(rt: HostRuntime) -> Result<(), Fail> {
-    let alloc = rt.alloc();
-    let text = BUNDLE.as_bytes();
-    assert!(rt; text.len() < 65_536);
-    let bundle = read_bundle(alloc, text)?;
-    check_prints(&rt, alloc, &bundle.folder, REPORT, 1)
+    match distribution(rt.alloc())? {
+        Some(folder) => {
+            check_folder(&rt, rt.alloc(), &folder, (REPORT, 1), ("distribution", 0))?;
+            Ok(())
+        }
+        None => Err(Fail::new("the text is too long")),
+    }
 }

@@ -1,7 +1,5 @@
 //! The worked rows, as bundles.
-use crate::replay::{Case, check};
-use std::process::Abort;
-use std::test::Fail;
+use crate::replay::{Case, Topic, check_topics};
 
 const EMPTY_FOLDER: Case = Case {
     bundle: b"%script\nemit startup\nturn 2\n",
@@ -27,22 +25,14 @@ const STRANGER: Case = Case {
     status: 0,
 };
 
-#[test]
-fn empty_folder(rt: HostRuntime) -> Result<(), Fail> {
-    check(&rt, &EMPTY_FOLDER)
-}
+static TOPICS: [Topic; 4] = [
+    ("empty_folder", &[EMPTY_FOLDER]),
+    ("startup", &[STARTUP]),
+    ("stop_and_start_on_same_event", &[STOP_AND_START]),
+    ("end_of_a_stranger", &[STRANGER]),
+];
 
 #[test]
-fn startup(rt: HostRuntime) -> Result<(), Fail> {
-    check(&rt, &STARTUP)
-}
-
-#[test]
-fn stop_and_start_on_same_event(rt: HostRuntime) -> Result<(), Fail> {
-    check(&rt, &STOP_AND_START)
-}
-
-#[test]
-fn end_of_a_stranger(rt: HostRuntime) -> Result<(), Fail> {
-    check(&rt, &STRANGER)
+fn worked_rows(rt: HostRuntime) {
+    check_topics(&rt, &TOPICS);
 }

@@ -1,7 +1,5 @@
 //! Scripts whose steps and comments span lines.
-use crate::replay::{Case, check};
-use std::process::Abort;
-use std::test::Fail;
+use crate::replay::{Case, Topic, check_topics};
 
 const SPAWNED: &str =
     "event starting JOB=\"a\" INSTANCE=\"\"\nspawn a main \"/bin/d\"\n  X=\"b c\"\n  UPSTART_EVENTS=\"A\"\n  UPSTART_JOB=\"a\"\n  UPSTART_INSTANCE=\"\"\n";
@@ -221,42 +219,15 @@ const COMMENTS: [Case; 11] = [
     },
 ];
 
-#[test]
-fn quoted_pieces_span_lines(rt: HostRuntime) -> Result<(), Fail> {
-    for case in &QUOTED {
-        check(&rt, case)?;
-    }
-    Ok(())
-}
+static TOPICS: [Topic; 5] = [
+    ("quoted_pieces_span_lines", &QUOTED),
+    ("backslashes_join_lines", &JOINED),
+    ("a_bad_step_is_told_where_it_begins", &BAD),
+    ("lines_that_are_no_text", &NO_TEXT),
+    ("comments_have_any_bytes", &COMMENTS),
+];
 
 #[test]
-fn backslashes_join_lines(rt: HostRuntime) -> Result<(), Fail> {
-    for case in &JOINED {
-        check(&rt, case)?;
-    }
-    Ok(())
-}
-
-#[test]
-fn a_bad_step_is_told_where_it_begins(rt: HostRuntime) -> Result<(), Fail> {
-    for case in &BAD {
-        check(&rt, case)?;
-    }
-    Ok(())
-}
-
-#[test]
-fn lines_that_are_no_text(rt: HostRuntime) -> Result<(), Fail> {
-    for case in &NO_TEXT {
-        check(&rt, case)?;
-    }
-    Ok(())
-}
-
-#[test]
-fn comments_have_any_bytes(rt: HostRuntime) -> Result<(), Fail> {
-    for case in &COMMENTS {
-        check(&rt, case)?;
-    }
-    Ok(())
+fn scripts(rt: HostRuntime) {
+    check_topics(&rt, &TOPICS);
 }

@@ -1,17 +1,18 @@
 //! Streams that fail, and the limits of a bundle.
+use crate::replay::check;
+use std::alloc::Global;
 use std::io;
 use std::io::{ErrorKind, Read, Write};
 use std::process::Abort;
-use std::test::Fail;
 use up_replay::replay::replay;
 
 const STARTUP: &[u8] =
     b"%file a.conf\nstart on startup\nexec /bin/true x\n%script\nemit startup\nturn\nturn\nturn\nspawned a \"\" main 100\nturn\nturn 2\n";
 
-const PRINTED: &[u8] =
-    b"event starting JOB=\"a\" INSTANCE=\"\"\nspawn a main \"/bin/true\" \"x\"\n  UPSTART_EVENTS=\"startup\"\n  UPSTART_JOB=\"a\"\n  UPSTART_INSTANCE=\"\"\nevent started JOB=\"a\" INSTANCE=\"\"\n";
+const PRINTED: &str =
+    "event starting JOB=\"a\" INSTANCE=\"\"\nspawn a main \"/bin/true\" \"x\"\n  UPSTART_EVENTS=\"startup\"\n  UPSTART_JOB=\"a\"\n  UPSTART_INSTANCE=\"\"\nevent started JOB=\"a\" INSTANCE=\"\"\n";
 
-const UNREADABLE: &[u8] = b"initd: cannot use -\n";
+const UNREADABLE: &str = "initd: cannot use -\n";
 
 // Gives at most one byte a call, and fails for good after `before` bytes.
 #[derive(Drop)]
@@ -33,30 +34,6 @@ impl Read for Broken {
         buf[0] = self.bytes[0];
         self.bytes = &self.bytes[1..];
         Ok(1)
-    }
-}
-
-// Gives the header of a script, and then empty lines.
-#[derive(Drop)]
-struct EmptyLines {
-    header: &'static [u8],
-    left: usize,
-}
-
-impl Read for EmptyLines {
-    fn read(&mut self, buf: &mut [u8]) -> io::Result<usize> {
-        if buf.is_empty() {
-            return Ok(0);
-        }
-        if !self.header.is_empty() {
-            buf[0] = self.header[0];
-            self.header = &self.header[1..];
-            return Ok(1);
-        }
-        let count = buf.len().min(self.left);
-        buf[..count].fill(b'\n');
-        self.left = self.left.saturating_sub(count);
-        Ok(count)
     }
 }
 
@@ -83,88 +60,106 @@ impl Write for Full {
     }
 }
 
-// Replays what the reader gives, and looks at what is written and at the status.
-fn check<R: Read>(
+// A case, how many bytes come before the failure, its kind, what is printed, and the status.
+static READERS: [(&str, usize, ErrorKind, &str, u8); 2] = [
+    ("reader_wants_memory", 10, ErrorKind::OutOfMemory, "", 4),
+    (
+        "reader_gives_single_bytes",
+        1000,
+        ErrorKind::Other,
+        PRINTED,
+        0,
+    ),
+];
+
+fn check_reader(
     rt: &(impl Abort + AllocGlobal),
-    reader: &mut R,
-    printed: &[u8],
-    status: u8,
-) -> Result<(), Fail> {
-    let mut written: Vec<u8> = Vec::new(rt.alloc());
-    let given = replay(rt.alloc(), reader, &mut written);
-    assert_eq!(rt; written.as_slice(), printed);
-    assert_eq!(rt; given, status);
-    Ok(())
+    before: usize,
+    kind: ErrorKind,
+    wanted: (&str, u8),
+    name: &str,
+) {
+    let mut reader = Broken {
+        bytes: STARTUP,
+        before,
+        kind,
+    };
+    check(rt, &mut reader, wanted, (name, before));
 }
 
 #[test]
-fn reader_fails(rt: HostRuntime) -> Result<(), Fail> {
+fn reader_fails(rt: HostRuntime) {
     for before in 0..STARTUP.len() {
-        let mut reader = Broken {
-            bytes: STARTUP,
+        check_reader(
+            &rt,
             before,
-            kind: ErrorKind::Other,
-        };
-        check(&rt, &mut reader, UNREADABLE, 3)?;
+            ErrorKind::Other,
+            (UNREADABLE, 3),
+            "reader_fails",
+        );
     }
-    Ok(())
 }
 
 #[test]
-fn reader_wants_memory(rt: HostRuntime) -> Result<(), Fail> {
-    let mut reader = Broken {
-        bytes: STARTUP,
-        before: 10,
-        kind: ErrorKind::OutOfMemory,
+fn readers(rt: HostRuntime) {
+    for (name, before, kind, printed, status) in &READERS {
+        check_reader(&rt, *before, *kind, (printed, *status), name);
+    }
+}
+
+// Whether a writer with this room gets the first bytes that it has room for.
+fn is_cut(alloc: Global, room: usize) -> bool {
+    let mut reader: &[u8] = STARTUP;
+    let mut writer = Full {
+        got: Vec::new(alloc),
+        room,
     };
-    check(&rt, &mut reader, b"", 4)
+    let status = replay(alloc, &mut reader, &mut writer);
+    status == 3 && PRINTED.as_bytes().get(..room) == Some(writer.got.as_slice())
 }
 
 #[test]
-fn reader_gives_single_bytes(rt: HostRuntime) -> Result<(), Fail> {
-    let mut reader = Broken {
-        bytes: STARTUP,
-        before: 1000,
-        kind: ErrorKind::Other,
-    };
-    check(&rt, &mut reader, PRINTED, 0)
-}
-
-#[test]
-fn writer_fails(rt: HostRuntime) -> Result<(), Fail> {
+fn writer_fails(rt: HostRuntime) {
     for room in 0..PRINTED.len() {
-        let mut reader: &[u8] = STARTUP;
-        let mut writer = Full {
-            got: Vec::new(rt.alloc()),
-            room,
-        };
-        let status = replay(rt.alloc(), &mut reader, &mut writer);
-        assert_eq!(rt; status, 3);
-        assert_eq!(rt; writer.got.as_slice(), &PRINTED[..room]);
+        assert!(rt; is_cut(rt.alloc(), room), "with room for {room} bytes");
     }
-    Ok(())
+}
+
+// A bundle of this start and so many empty lines behind it.
+fn check_long(
+    rt: &(impl Abort + AllocGlobal),
+    start: &[u8],
+    count: u64,
+    wanted: (&str, u8),
+    name: &str,
+) {
+    let mut reader = start.chain(io::repeat(b'\n').take(count));
+    check(rt, &mut reader, wanted, (name, 0));
 }
 
 #[test]
-fn million_turns(rt: HostRuntime) -> Result<(), Fail> {
-    let mut reader: &[u8] = b"%script\nturn 1000000\n";
-    check(&rt, &mut reader, b"", 0)
+fn million_turns(rt: HostRuntime) {
+    check_long(&rt, b"%script\nturn 1000000\n", 0, ("", 0), "million_turns");
 }
 
 #[test]
-fn greatest_bundle(rt: HostRuntime) -> Result<(), Fail> {
-    let mut reader = EmptyLines {
-        header: b"%script\n",
-        left: 67_108_864 - 8,
-    };
-    check(&rt, &mut reader, b"", 0)
+fn greatest_bundle(rt: HostRuntime) {
+    check_long(
+        &rt,
+        b"%script\n",
+        67_108_864 - 8,
+        ("", 0),
+        "greatest_bundle",
+    );
 }
 
 #[test]
-fn bundle_too_long(rt: HostRuntime) -> Result<(), Fail> {
-    let mut reader = EmptyLines {
-        header: b"%script\n",
-        left: 67_108_864 - 7,
-    };
-    check(&rt, &mut reader, UNREADABLE, 3)
+fn bundle_too_long(rt: HostRuntime) {
+    check_long(
+        &rt,
+        b"%script\n",
+        67_108_864 - 7,
+        (UNREADABLE, 3),
+        "bundle_too_long",
+    );
 }
