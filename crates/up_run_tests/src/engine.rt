@@ -428,14 +428,16 @@ fn run_with(alloc: Global, engine: &mut Engine, rows: &[Row]) -> Result<Outcome,
     }
 }
 
-fn run_rows(alloc: Global, file: &str, rows: &[Row]) -> Result<Outcome, Untried> {
-    let mut engine = engine(alloc, file)?;
-    run_with(alloc, &mut engine, rows)
+static RUN: Case = ("startup", START_FILE, &STARTUP);
+
+fn run_case(alloc: Global, case: &Case) -> Result<Outcome, Untried> {
+    let mut engine = engine(alloc, case.1)?;
+    run_with(alloc, &mut engine, case.2)
 }
 
 #[test]
 fn always_memory(rt: HostRuntime) -> Result<(), Fail> {
-    assert_eq!(rt; run_rows(rt.alloc(), START_FILE, &STARTUP)?, Outcome::Whole);
+    assert_eq!(rt; run_case(rt.alloc(), &RUN)?, Outcome::Whole);
     Ok(())
 }
 
@@ -443,7 +445,7 @@ fn always_memory(rt: HostRuntime) -> Result<(), Fail> {
 // inputs, its table or the texts to compare were refused memory.
 #[test]
 fn memory_refused(rt: HostRuntime) -> Result<(), Fail> {
-    let told = match run_rows(rt.alloc(), START_FILE, &STARTUP) {
+    let told = match run_case(rt.alloc(), &RUN) {
         Ok(Outcome::Whole) => "memory sufficed",
         Ok(Outcome::Refused) => "the run was refused memory",
         Ok(Outcome::Otherwise) => return Err(Fail::new("the run is not as the row says")),

@@ -236,7 +236,7 @@ static PIPES: [(&[u8], bool, At, &str, Found); 4] = [
 
 #[test]
 fn a_pipe_is_no_job_file(rt: HostRuntime) {
-    for (names, is_file, at, dir, found) in &PIPES {
+    for (place, (names, is_file, at, dir, found)) in PIPES.iter().enumerate() {
         let fake = Fake {
             alloc: rt.alloc(),
             names: *names,
@@ -244,6 +244,6 @@ fn a_pipe_is_no_job_file(rt: HostRuntime) {
             at: *at,
             kind: ErrorKind::Other,
         };
-        assert!(rt; finds(&fake, dir, found), "{names:?} in {dir}");
+        assert!(rt; finds(&fake, dir, found), "at case {place}");
     }
 }
