@@ -273,7 +273,7 @@ fn answer_shown(alloc: Global, answer: Result<Vec<Output>, StepError>) -> Result
     match answer {
         Ok(outputs) => shown(alloc, outputs.as_slice()),
         Err(fault) => {
-            let printed = format!(in alloc; "{} {}", fault.number(), fault.name())?;
+            let printed = format!(in alloc; "{} {fault}", fault.number())?;
             Ok(printed)
         }
     }
