@@ -88,7 +88,7 @@ print("//! What fnmatch(3) says: in each row a pattern, a text, and whether they
 print("//!")
 print("//! Written by oracle/fnmatch.py from the C library of Debian 12 (glibc 2.36); it says which patterns are left out.")
 print()
-print('pub const ROWS: &str = "\\')
+print('pub(crate) const ROWS: &str = "\\')
 for pattern, text, fits in itertools.islice(rows(), ROWS):
     print(escaped(pattern), escaped(text), str(fits).lower())
 print('";')

@@ -23,6 +23,15 @@ pub(crate) fn add(
     folder.add(path, Items::new(bytes))
 }
 
+// The folder of these files.
+pub(crate) fn folder_of(alloc: Global, files: &[(&str, &[u8])]) -> Result<Folder, AllocError> {
+    let mut folder = Folder::new(alloc);
+    for (path, bytes) in files {
+        add(alloc, &mut folder, *path, *bytes)?;
+    }
+    Ok(folder)
+}
+
 // Whether an expression is an event without values.
 fn is_event(condition: &Option<Condition>, name: &str) -> bool {
     let Some(condition) = condition else {

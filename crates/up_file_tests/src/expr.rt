@@ -1,6 +1,7 @@
 //! Expressions, and the events that their leaves match.
 ghost use Rattle.std.specs.Prelude.{◌≡◌, ◌<◌, length};
 
+use crate::text::env_of;
 use std::alloc::{AllocError, Global};
 use std::test::Fail;
 use up_expr::{Condition, Expr, ExprFault, Leaf, Test, leaf_matches, parse_expr};
@@ -501,14 +502,6 @@ const ENVIRONMENT: &'static [(&'static str, &'static str)] = &[
     ("J", "y"),
     ("P", "[[:x]"),
 ];
-
-fn env_of(alloc: Global, pairs: &[(&str, &str)]) -> Result<Env, Fail> {
-    let mut env = Env::new(alloc);
-    for (key, value) in pairs {
-        env.set(key, value)?;
-    }
-    Ok(env)
-}
 
 // Where one allocation is made to fail, the next call answers the same.
 fn matches(

@@ -1,5 +1,5 @@
 //! Folders that are compiled, and those that are refused.
-use crate::conf::add;
+use crate::conf::{add, folder_of};
 use std::alloc::{AllocError, Global};
 use std::test::Fail;
 use up_conf::{Folder, Report};
@@ -58,15 +58,6 @@ const ONCE: &'static [&'static [&'static str]] = &[
 fn a_path_that_is_not_read_may_stand_twice(rt: HostRuntime) -> Result<(), Fail> {
     assert_eq!(rt; first_other(rt.alloc(), ONCE, false)?, None);
     Ok(())
-}
-
-// The folder of these files.
-fn folder_of(alloc: Global, files: &[(&str, &[u8])]) -> Result<Folder, AllocError> {
-    let mut folder = Folder::new(alloc);
-    for (path, bytes) in files {
-        add(alloc, &mut folder, path, bytes)?;
-    }
-    Ok(folder)
 }
 
 // Whether a table lends at its places jobs of these names, each a task or not.

@@ -43,10 +43,10 @@ fn refuses_names(rt: HostRuntime) {
     }
 }
 
-pub type Pair = (&'static str, &'static str);
+pub(crate) type Pair = (&'static str, &'static str);
 
 // The environment where these keys were set, one after the other.
-pub fn env_of(alloc: Global, pairs: &[Pair]) -> Result<Env, TextFault> {
+pub(crate) fn env_of(alloc: Global, pairs: &[Pair]) -> Result<Env, TextFault> {
     let mut env = Env::new(alloc);
     for (key, value) in pairs {
         env.set(key, value)?;

@@ -28,7 +28,7 @@ def in_literal(line):
 
 def constant(name, text):
     lines = "".join(in_literal(line) for line in text.splitlines(keepends=True))
-    return f'pub const {name}: &str = "\\\n{lines}";\n'
+    return f'pub(crate) const {name}: &str = "\\\n{lines}";\n'
 
 
 def files():

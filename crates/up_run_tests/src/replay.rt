@@ -12,14 +12,14 @@ use std::process::Abort;
 use up_replay::replay::replay;
 
 /// A bundle, with what is printed for it and the status.
-pub struct Case {
-    pub bundle: &'static [u8],
-    pub printed: &'static str,
-    pub status: u8,
+pub(crate) struct Case {
+    pub(crate) bundle: &'static [u8],
+    pub(crate) printed: &'static str,
+    pub(crate) status: u8,
 }
 
 /// Cases on one topic, with its name.
-pub type Topic = (&'static str, &'static [Case]);
+pub(crate) type Topic = (&'static str, &'static [Case]);
 
 static BUNDLES: [Case; 19] = [
     Case {
@@ -120,7 +120,7 @@ static BUNDLES: [Case; 19] = [
 ];
 
 /// Compares what is printed and the status. A failure is told by the name and the place of the case.
-pub fn check_printed(
+pub(crate) fn check_printed(
     rt: &impl Abort,
     made: (&[u8], u8),
     (printed, status): (&str, u8),
@@ -130,7 +130,7 @@ pub fn check_printed(
 }
 
 /// Replays what a reader gives.
-pub fn check<R: Read>(
+pub(crate) fn check<R: Read>(
     rt: &(impl Abort + AllocGlobal),
     reader: &mut R,
     wanted: (&str, u8),
@@ -149,7 +149,7 @@ fn check_topic(rt: &(impl Abort + AllocGlobal), topic: &Topic) {
     }
 }
 
-pub fn check_topics(rt: &(impl Abort + AllocGlobal), topics: &[Topic]) {
+pub(crate) fn check_topics(rt: &(impl Abort + AllocGlobal), topics: &[Topic]) {
     for topic in topics {
         check_topic(rt, topic);
     }

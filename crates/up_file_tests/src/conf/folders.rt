@@ -1,6 +1,6 @@
 //! What a folder says.
-use crate::conf::add;
 use crate::conf::jobs::{Fact, first_unstated};
+use crate::conf::{add, folder_of};
 use std::alloc::{AllocError, Global};
 use std::test::Fail;
 use up_conf::{ConfFault, Folder, JobDef, Report, read_folder};
@@ -73,15 +73,6 @@ const FAULTY_OVERRIDE: &'static Case = &Case {
     ],
     faults: &[("a.override", 2, 1, Some("UnknownStanza"))],
 };
-
-// The folder of these files.
-fn folder_of(alloc: Global, files: &[(&str, &[u8])]) -> Result<Folder, AllocError> {
-    let mut folder = Folder::new(alloc);
-    for (path, bytes) in files {
-        add(alloc, &mut folder, *path, *bytes)?;
-    }
-    Ok(folder)
-}
 
 // Whether the job at a place has this name and says this.
 fn is_job(jobs: &[JobDef], place: usize, name: &str, facts: &[Fact]) -> bool {

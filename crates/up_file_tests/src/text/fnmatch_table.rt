@@ -2,7 +2,7 @@
 //!
 //! Written by oracle/fnmatch.py from the C library of Debian 12 (glibc 2.36); it says which patterns are left out.
 
-pub const ROWS: &str = "\
+pub(crate) const ROWS: &str = "\
 *b !b^b true
 *b !b^a false
 ]a]? ]a]^ true

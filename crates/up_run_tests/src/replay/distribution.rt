@@ -2,7 +2,7 @@
 //!
 //! Written by oracle/distribution.py.
 
-pub const BUNDLE: &str = "\
+pub(crate) const BUNDLE: &str = "\
 %file README\n\
 Thirty job files and three overrides, written the way distributions write theirs.\n\
 \n\
@@ -549,7 +549,7 @@ start on control-alt-delete\n\
 task\n\
 exec /sbin/shutdown -r now \"Control, Alt and Delete were pressed\"";
 
-pub const REPORT: &str = "\
+pub(crate) const REPORT: &str = "\
 backup.override:3: 2 NotInProfile\n\
 database.conf:11: 2 NotInProfile\n\
 mail-relay.conf:14: 2 NotInProfile\n\
