@@ -1,0 +1,5 @@
+use Rattle.std.proofs.Common.{rules}
+use Rattle.up_command.proofs.walk.Found.take_path.Goals as goal
+
+pub returns-clause-refused : goal.returns-clause-refused
+returns-clause-refused c = search rules

@@ -1,0 +1,5 @@
+use Rattle.std.proofs.Common.{rules}
+use Rattle.up_conf.proofs.meaning.apply_override.Goals as goal
+
+pub returns : goal.returns
+returns c = search rules

@@ -1,0 +1,8 @@
+use Rattle.std.proofs.Common.{rules}
+use Rattle.up_engine.proofs.engine.Engine.has_turn.Goals as goal
+
+pub returns-clause-up : goal.returns-clause-up
+returns-clause-up c = search rules
+
+pub returns-clause-down : goal.returns-clause-down
+returns-clause-down c = search rules

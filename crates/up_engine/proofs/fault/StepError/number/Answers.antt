@@ -1,0 +1,5 @@
+use Rattle.std.proofs.Common.{rules}
+use Rattle.up_engine.proofs.fault.StepError.number.Goals as goal
+
+pub returns-in-Down : goal.returns-in-Down
+returns-in-Down c = search rules

@@ -1,0 +1,5 @@
+use Rattle.std.proofs.Common.{rules}
+use Rattle.up_engine.proofs.reading.seen.first_after.Goals as goal
+
+pub returns-in-Fired : goal.returns-in-Fired
+returns-in-Fired c = search rules

@@ -1,0 +1,5 @@
+use Rattle.std.proofs.Common.{rules}
+use Rattle.up_expr.proofs.fault.ExprFault.number.Goals as goal
+
+pub returns-in-BadExpansion : goal.returns-in-BadExpansion
+returns-in-BadExpansion c = search rules

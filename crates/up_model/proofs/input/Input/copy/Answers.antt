@@ -1,0 +1,5 @@
+use Rattle.std.proofs.Common.{rules}
+use Rattle.up_model.proofs.input.Input.copy.Goals as goal
+
+pub returns-in-Turn : goal.returns-in-Turn
+returns-in-Turn c = search rules

@@ -1,0 +1,5 @@
+use Rattle.std.proofs.Common.{rules}
+use Rattle.up_replay.proofs.lines.push_step.Goals as goal
+
+pub returns-in-NotExpected : goal.returns-in-NotExpected
+returns-in-NotExpected c = search rules

@@ -1,0 +1,5 @@
+use Rattle.std.proofs.Common.{rules}
+use Rattle.up_replay.proofs.script.step_inputs.Goals as goal
+
+pub returns-in-Some-clause-inputs : goal.returns-in-Some-clause-inputs
+returns-in-Some-clause-inputs c = search rules

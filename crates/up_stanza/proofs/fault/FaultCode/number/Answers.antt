@@ -1,0 +1,5 @@
+use Rattle.std.proofs.Common.{rules}
+use Rattle.up_stanza.proofs.fault.FaultCode.number.Goals as goal
+
+pub returns-in-BadSignal : goal.returns-in-BadSignal
+returns-in-BadSignal c = search rules

@@ -1,0 +1,5 @@
+use Rattle.std.proofs.Common.{rules}
+use Rattle.up_text.proofs.lexer.script.is_script.Goals as goal
+
+pub returns : goal.returns
+returns c = search rules
