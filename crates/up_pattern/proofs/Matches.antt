@@ -81,8 +81,6 @@ fits-matches (item ∷ items) bytes =
     (splits bytes)
     ∙ splits-item item (items_match items) bytes
 
-pub ruleset one_at_a_time = (fits-matches)
-
 -- a run that succeeds at an end of the bytes succeeds at them
 star-drop : (test : List ℕ → Bool) (count : ℕ) (bytes : List ℕ) → star_from test (drop count bytes) ≡ true → star_from test bytes ≡ true
 star-drop test zero bytes passes = passes

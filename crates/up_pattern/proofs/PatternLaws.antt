@@ -71,7 +71,3 @@ pub run-glob : (bytes : List ℕ) → glob (42 ∷ []) bytes ≡ true
 run-glob bytes =
     let sound : supported (42 ∷ []) ≡ true = supported-is (42 ∷ []) ∙ ap (λ read. not (list_any is_class read)) items-run in
     glob-supported (42 ∷ []) bytes sound ∙ ap (λ read. items_match read bytes) items-run ∙ star-nil bytes
-
-pub ruleset literals = (literal-supported, literal-glob)
-
-pub ruleset runs = (run-glob)

@@ -4,7 +4,6 @@ ghost use Rattle.std.specs.List.{list_all};
 ghost use Rattle.up_text.specs.Expansion.{Expands, expand};
 
 /// A text without `$` expands to itself, whatever is set.
-#[tactic(auto, using(crate::proofs::Literal::expand_literal))]
 pub fn literal()
     ensures { (text : List ℕ) (env : List (List ℕ × List ℕ)) → list_all (λ byte. not (byte == 36)) text ≡ true → expand text env ≡ Expands text }
 {}
