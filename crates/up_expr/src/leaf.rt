@@ -67,6 +67,34 @@ fn nth_value(vars: &Env, k: usize) -> Option<&str>
     }
 }
 
+// Whether a value is a pattern, behind its expansion, that a variable matches.
+fn value_meets(
+    alloc: Global,
+    value: &Text,
+    env: &Env,
+    found: Option<&str>,
+) -> Result<bool, ExprFault>
+    ensures holds { IfOk result (λ holds. holds ≡ meets (pattern_of (expand value.now env.now)) (option_map (λ text. text.now) found.entry)) }
+    ensures memory { OnErr result (result ≡ Err Memory) }
+{
+    let pattern = pattern_of(alloc, value, env)?;
+    Ok(meets(&pattern, found))
+}
+
+// Whether a value is a pattern, behind its expansion, and no variable matches it.
+fn value_misses(
+    alloc: Global,
+    value: &Text,
+    env: &Env,
+    found: Option<&str>,
+) -> Result<bool, ExprFault>
+    ensures holds { IfOk result (λ holds. holds ≡ misses (pattern_of (expand value.now env.now)) (option_map (λ text. text.now) found.entry)) }
+    ensures memory { OnErr result (result ≡ Err Memory) }
+{
+    let pattern = pattern_of(alloc, value, env)?;
+    Ok(misses(&pattern, found))
+}
+
 // Whether the test at a place holds.
 fn test_holds(
     alloc: Global,
@@ -79,18 +107,9 @@ fn test_holds(
     ensures memory { OnErr result (result ≡ Err Memory) }
 {
     match test {
-        Test::Place(value) => {
-            let pattern = pattern_of(alloc, value, env)?;
-            Ok(meets(&pattern, nth_value(vars, k)))
-        }
-        Test::Same(key, value) => {
-            let pattern = pattern_of(alloc, value, env)?;
-            Ok(meets(&pattern, vars.get(key.as_str())))
-        }
-        Test::Differs(key, value) => {
-            let pattern = pattern_of(alloc, value, env)?;
-            Ok(misses(&pattern, vars.get(key.as_str())))
-        }
+        Test::Place(value) => value_meets(alloc, value, env, nth_value(vars, k)),
+        Test::Same(key, value) => value_meets(alloc, value, env, vars.get(key.as_str())),
+        Test::Differs(key, value) => value_misses(alloc, value, env, vars.get(key.as_str())),
     }
 }
 
