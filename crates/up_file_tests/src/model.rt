@@ -134,16 +134,21 @@ fn is_input(kind: u8, input: &Input) -> bool {
     }
 }
 
-fn input_is_copied(kind: u8, input: Input) -> Result<bool, AllocError> {
-    let copied = input.copy()?;
+// In a box, since a local value of so many kinds takes the prover long.
+fn boxed(alloc: Global, input: Input) -> Result<Box<Input>, AllocError> {
+    Ok(Box::new(alloc, input)?)
+}
+
+fn input_is_copied(alloc: Global, kind: u8) -> Result<bool, TextFault> {
+    let input = boxed(alloc, input(alloc, kind)?)?;
+    let copied = boxed(alloc, input.copy()?)?;
     Ok(is_input(kind, &copied))
 }
 
 #[test]
 fn copies_of_inputs(rt: HostRuntime) -> Result<(), Fail> {
     for kind in 0..7u8 {
-        let input = input(rt.alloc(), kind)?;
-        assert!(rt; input_is_copied(kind, input)?, "kind {kind}");
+        assert!(rt; input_is_copied(rt.alloc(), kind)?, "kind {kind}");
     }
     Ok(())
 }
