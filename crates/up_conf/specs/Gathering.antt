@@ -1,5 +1,11 @@
--- What stanzas make of a job, the keys apart, and what a map gathers of these.
-use Rattle.std.specs.Prelude.{ℕ, List, [], map, Option, option_copied, unwrap_or}
+-- What stanzas make of a job, the keys apart, and where these are found.
+use Rattle.std.specs.Prelude.{◌≡◌, ℕ, suc, if◌then◌else◌, List, [], ◌∷◌, Option, None, Some, option_copied, option_map, unwrap_or}
+use Rattle.std.specs.BTreeMap.{BTreeMap, get_by}
+use Rattle.std.specs.BTreeSet.{BTreeSet, contains_by}
+use Rattle.std.specs.Cmp.Lexicographic.{slice_cmp}
+use Rattle.std.specs.List.{list_any}
+use Rattle.std.specs.Ordering.{nat_cmp}
+use Rattle.std.specs.Str.{bytes_eq}
 use denote.Ref.{Bor}
 use Rattle.up_conf.specs.declared.job.JobDef.{JobDef}
 use Rattle.up_conf.specs.declared.outline.Outline.TheInside.{Inside}
@@ -7,9 +13,18 @@ use Rattle.up_stanza.specs.declared.setting.Setting.{Setting}
 use Rattle.up_stanza.specs.declared.stanza.Stanza.{Stanza}
 use Rattle.up_conf.specs.Jobs.{job_after}
 
--- the settings that the entries of a map stand for
-abbrev pub settings_in : List (Bor (List ℕ) × Bor (Option (List ℕ))) → List Setting
-settings_in entries = map (λ entry. record { key = entry.0.now; value = entry.1.now }) entries
+-- the place of a key among settings
+abbrev pub place_in : List ℕ → List Setting → Option ℕ
+place_in key [] = None
+place_in key (setting ∷ settings) = if bytes_eq setting.key key then Some 0 else option_map (λ place. suc place) (place_in key settings)
+
+-- a map from keys to their places among settings
+abbrev pub AreIndexed : BTreeMap (Bor (List ℕ)) ℕ → List Setting → Type 0
+AreIndexed places settings = (key : List ℕ) → get_by (λ k. slice_cmp nat_cmp key k.now) places ≡ place_in key settings
+
+-- a set of these keys
+abbrev pub AreSeen : BTreeSet (Bor (List ℕ)) → List (List ℕ) → Type 0
+AreSeen seen keys = (key : List ℕ) → contains_by (λ k. slice_cmp nat_cmp key k.now) seen ≡ list_any (bytes_eq key) keys
 
 -- what stanzas make of a job whose keys stay as they are
 abbrev pub others_after : JobDef → List Stanza → JobDef

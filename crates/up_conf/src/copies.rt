@@ -1,5 +1,5 @@
 //! Equal copies of what stanzas say.
-ghost use Rattle.std.specs.Prelude.{◌≡◌, IfOk, map};
+ghost use Rattle.std.specs.Prelude.{◌≡◌, IfOk};
 
 use std::alloc::{AllocError, Global};
 use up_stanza::{Action, Setting};
@@ -39,26 +39,11 @@ fn copy_value(value: &Option<Text>) -> Result<Option<Text>, AllocError>
     }
 }
 
-/// A setting of its own with this key and this value.
-pub(crate) fn copy_setting(
-    alloc: Global,
-    key: &str,
-    value: &Option<Text>,
-) -> Result<Setting, AllocError>
-    ensures { IfOk result (λ copied. copied ≡ record { key = key.now; value = value.now }) }
+/// An equal setting in memory of its own.
+pub(crate) fn copy_setting(alloc: Global, setting: &Setting) -> Result<Setting, AllocError>
+    ensures { IfOk result (λ copied. copied ≡ setting.now) }
 {
-    let key = Text::from_str(alloc, key)?;
-    let value = copy_value(value)?;
+    let key = Text::from_str(alloc, setting.key.as_str())?;
+    let value = copy_value(&setting.value)?;
     Ok(Setting { key, value })
-}
-
-/// Texts of their own with these bytes.
-pub(crate) fn copy_keys(alloc: Global, keys: &[&str]) -> Result<Items<Text>, AllocError>
-    ensures { IfOk result (λ copied. copied ≡ map (λ key. key.now) keys.now) }
-{
-    let mut copied: Vec<Text> = Vec::new(alloc);
-    for key in keys {
-        copied.push(Text::from_str(alloc, *key)?)?;
-    }
-    Ok(Items::new(copied))
 }

@@ -1,96 +1,118 @@
-//! Gathers the keys that stanzas set and export. A job may have many, so they are looked up in a map.
-ghost use Rattle.std.specs.Prelude.{◌≡◌, ◌<◌, ◌++◌, [], IfOk, OnOk, Some, length, map, slice_get};
+//! Gathers the keys that stanzas set and export. A job may have many, so each is found by a tree: keys chosen by whoever writes a file
+//! cost no more than others.
+ghost use Rattle.std.specs.Prelude.{◌≡◌, ◌<◌, ◌++◌, ◌∷◌, [], List, ℕ, IfOk, OnOk, Some, not, if◌then◌else◌, length, slice_set};
+ghost use Rattle.std.specs.List.{list_any};
+ghost use Rattle.std.specs.BTreeMap.{get_by};
+ghost use Rattle.std.specs.Cmp.Lexicographic.{slice_cmp};
+ghost use Rattle.std.specs.Ordering.{nat_cmp};
 ghost use Rattle.std.specs.Str.{bytes_eq};
-ghost use Rattle.up_conf.specs.Gathering.{settings_in};
+ghost use Rattle.up_conf.specs.Gathering.{AreIndexed, AreSeen};
 ghost use Rattle.up_conf.specs.Jobs.{all_added, added, env_with, export_with, put, summed};
 
-use crate::copies::{copy_keys, copy_setting};
-use indexmap::{IndexMap, IndexSet};
+use crate::copies::copy_setting;
 use std::alloc::{AllocError, Global};
+use std::collections::{BTreeMap, BTreeSet};
 use up_stanza::{Setting, Stanza};
 use up_text::{Items, Text};
 
+/// Where the keys stand that are gathered so far.
+type Places<'a> = BTreeMap<&'a str, usize>;
+
+fn find(places: &Places, key: &str) -> Option<usize>
+    ensures { result ≡ get_by (λ k. slice_cmp nat_cmp key.now k.now) places.now }
+{
+    match places.get(key) {
+        Some(place) => Some(*place),
+        None => None,
+    }
+}
+
+// Notes where a key stands.
+fn index<'a>(places: &mut Places<'a>, key: &'a str, place: usize) -> Result<(), AllocError>
+    ensures { OnOk result ((other : List ℕ) → get_by (λ k. slice_cmp nat_cmp other k.now) places.new ≡ (if bytes_eq key.now other then Some place else get_by (λ k. slice_cmp nat_cmp other k.now) places.old)) }
+{
+    places.insert(key, place)?;
+    Ok(())
+}
+
+fn replace(settings: &mut Vec<Setting>, place: usize, setting: Setting)
+    requires { place < length settings.old.items }
+    ensures { settings.new.items ≡ slice_set settings.old.items place setting }
+{
+    settings[place] = setting;
+}
+
+// Adds a setting whose key isn't there.
+fn add<'a>(
+    settings: &mut Vec<Setting>,
+    places: &mut Places<'a>,
+    key: &'a str,
+    setting: Setting,
+) -> Result<(), AllocError>
+    ensures settings { OnOk result (settings.new.items ≡ settings.old.items ++ setting ∷ []) }
+    ensures places { OnOk result ((other : List ℕ) → get_by (λ k. slice_cmp nat_cmp other k.now) places.new ≡ (if bytes_eq key.now other then Some (length settings.old.items) else get_by (λ k. slice_cmp nat_cmp other k.now) places.old)) }
+{
+    index(places, key, settings.len())?;
+    settings.push(setting)?;
+    Ok(())
+}
+
 // Sets a key.
 fn put<'a>(
-    map: &mut IndexMap<&'a str, &'a Option<Text>>,
+    settings: &mut Vec<Setting>,
+    places: &mut Places<'a>,
+    alloc: Global,
     setting: &'a Setting,
 ) -> Result<(), AllocError>
-    ensures { OnOk result (settings_in map.new.entries ≡ put setting.now (settings_in map.old.entries)) }
+    requires { AreIndexed places.old settings.old.items }
+    ensures put { OnOk result (settings.new.items ≡ put setting.now settings.old.items) }
+    ensures indexed { OnOk result (AreIndexed places.new settings.new.items) }
 {
-    match map.insert(setting.key.as_str(), &setting.value) {
-        Ok(_) => Ok(()),
-        Err(_) => Err(AllocError),
+    let copied = copy_setting(alloc, setting)?;
+    let key = setting.key.as_str();
+    match find(places, key) {
+        Some(place) => replace(settings, place, copied),
+        None => add(settings, places, key, copied)?,
     }
+    Ok(())
 }
 
 // Sets what a stanza sets.
 fn put_stanza<'a>(
-    map: &mut IndexMap<&'a str, &'a Option<Text>>,
+    settings: &mut Vec<Setting>,
+    places: &mut Places<'a>,
+    alloc: Global,
     stanza: &'a Stanza,
 ) -> Result<(), AllocError>
-    ensures { OnOk result (settings_in map.new.entries ≡ env_with (settings_in map.old.entries) stanza.now) }
+    requires { AreIndexed places.old settings.old.items }
+    ensures put { OnOk result (settings.new.items ≡ env_with settings.old.items stanza.now) }
+    ensures indexed { OnOk result (AreIndexed places.new settings.new.items) }
 {
     match stanza {
-        Stanza::Env(setting) => put(map, setting),
+        Stanza::Env(setting) => put(settings, places, alloc, setting),
         _ => Ok(()),
     }
 }
 
 // Sets what stanzas set.
 fn put_stanzas<'a>(
-    map: &mut IndexMap<&'a str, &'a Option<Text>>,
+    settings: &mut Vec<Setting>,
+    places: &mut Places<'a>,
+    alloc: Global,
     stanzas: &'a [Stanza],
 ) -> Result<(), AllocError>
-    ensures { OnOk result (settings_in map.new.entries ≡ summed env_with (settings_in map.old.entries) stanzas.now) }
+    requires { AreIndexed places.old settings.old.items }
+    ensures put { OnOk result (settings.new.items ≡ summed env_with settings.old.items stanzas.now) }
+    ensures indexed { OnOk result (AreIndexed places.new settings.new.items) }
 {
     for stanza in stanzas {
-        put_stanza(map, stanza)?;
+        put_stanza(settings, places, alloc, stanza)?;
     }
     Ok(())
 }
 
-// The setting at a place.
-fn setting_at(
-    alloc: Global,
-    map: &IndexMap<&str, &Option<Text>>,
-    i: usize,
-) -> Result<Setting, AllocError>
-    requires { i < length map.now.entries }
-    ensures { IfOk result (λ setting. slice_get (settings_in map.now.entries) i ≡ Some setting) }
-{
-    let (key, value) = map.get_index(i).unwrap();
-    let setting = copy_setting(alloc, *key, *value)?;
-    Ok(setting)
-}
-
-// All settings in order.
-fn list_settings(
-    alloc: Global,
-    map: &IndexMap<&str, &Option<Text>>,
-) -> Result<Items<Setting>, AllocError>
-    ensures { IfOk result (λ settings. settings ≡ settings_in map.now.entries) }
-{
-    let mut settings: Vec<Setting> = Vec::new(alloc);
-    for i in 0..map.len() {
-        settings.push(setting_at(alloc, map, i)?)?;
-    }
-    Ok(Items::new(settings))
-}
-
-// Sets what the stanzas of two files set.
-#[tactic(auto, using(crate::proofs::Gathers::summed_both))]
-fn put_both<'a>(
-    map: &mut IndexMap<&'a str, &'a Option<Text>>,
-    conf: &'a [Stanza],
-    over: &'a [Stanza],
-) -> Result<(), AllocError>
-    ensures { OnOk result (settings_in map.new.entries ≡ summed env_with (settings_in map.old.entries) (conf.now ++ over.now)) }
-{
-    put_stanzas(map, conf)?;
-    put_stanzas(map, over)
-}
-
 /// What the stanzas of two files set.
+#[tactic(auto, using(crate::proofs::Gathers::summed_both))]
 pub(crate) fn gather_env(
     alloc: Global,
     conf: &[Stanza],
@@ -98,68 +120,93 @@ pub(crate) fn gather_env(
 ) -> Result<Items<Setting>, AllocError>
     ensures { IfOk result (λ env. env ≡ summed env_with [] (conf.now ++ over.now)) }
 {
-    let mut map: IndexMap<&str, &Option<Text>> = IndexMap::new(alloc);
-    let settings = match put_both(&mut map, conf, over) {
-        Ok(()) => list_settings(alloc, &map),
-        Err(error) => Err(error),
-    };
-    drop(map);
-    settings
+    let mut settings: Vec<Setting> = Vec::new(alloc);
+    let mut places: Places = BTreeMap::new(alloc);
+    put_stanzas(&mut settings, &mut places, alloc, conf)?;
+    put_stanzas(&mut settings, &mut places, alloc, over)?;
+    Ok(Items::new(settings))
 }
 
-// Adds a key, where it isn't there.
-fn add_key<'a>(keys: &mut IndexSet<&'a str>, key: &'a str) -> Result<(), AllocError>
-    ensures { OnOk result (map (λ k. k.now) keys.new.keys ≡ added bytes_eq (map (λ k. k.now) keys.old.keys) key.now) }
+// Notes a key, and whether it is new.
+fn note<'a>(seen: &mut BTreeSet<&'a str>, key: &'a str) -> Result<bool, AllocError>
+    ensures new { IfOk result (λ new. (keys : List (List ℕ)) → AreSeen seen.old keys → new ≡ not (list_any (bytes_eq key.now) keys)) }
+    ensures seen { OnOk result ((keys : List (List ℕ)) → AreSeen seen.old keys → AreSeen seen.new (added bytes_eq keys key.now)) }
 {
-    match keys.insert(key) {
-        Ok(_) => Ok(()),
-        Err(_) => Err(AllocError),
-    }
+    let new = seen.insert(key)?;
+    Ok(new)
 }
 
-fn add_keys<'a>(keys: &mut IndexSet<&'a str>, others: &'a [Text]) -> Result<(), AllocError>
-    ensures { OnOk result (map (λ k. k.now) keys.new.keys ≡ all_added bytes_eq (map (λ k. k.now) keys.old.keys) others.now) }
+// Adds a key, if it isn't there.
+fn add_key<'a>(
+    keys: &mut Vec<Text>,
+    seen: &mut BTreeSet<&'a str>,
+    alloc: Global,
+    key: &'a str,
+) -> Result<(), AllocError>
+    requires { AreSeen seen.old keys.old.items }
+    ensures added { OnOk result (keys.new.items ≡ added bytes_eq keys.old.items key.now) }
+    ensures seen { OnOk result (AreSeen seen.new keys.new.items) }
+{
+    let new = note(seen, key)?;
+    if new {
+        let copied = Text::from_str(alloc, key)?;
+        keys.push(copied)?;
+    }
+    Ok(())
+}
+
+fn add_keys<'a>(
+    keys: &mut Vec<Text>,
+    seen: &mut BTreeSet<&'a str>,
+    alloc: Global,
+    others: &'a [Text],
+) -> Result<(), AllocError>
+    requires { AreSeen seen.old keys.old.items }
+    ensures added { OnOk result (keys.new.items ≡ all_added bytes_eq keys.old.items others.now) }
+    ensures seen { OnOk result (AreSeen seen.new keys.new.items) }
 {
     for other in others {
-        add_key(keys, other.as_str())?;
+        add_key(keys, seen, alloc, other.as_str())?;
     }
     Ok(())
 }
 
 // Adds what a stanza exports.
-fn add_stanza<'a>(keys: &mut IndexSet<&'a str>, stanza: &'a Stanza) -> Result<(), AllocError>
-    ensures { OnOk result (map (λ k. k.now) keys.new.keys ≡ export_with (map (λ k. k.now) keys.old.keys) stanza.now) }
+fn add_stanza<'a>(
+    keys: &mut Vec<Text>,
+    seen: &mut BTreeSet<&'a str>,
+    alloc: Global,
+    stanza: &'a Stanza,
+) -> Result<(), AllocError>
+    requires { AreSeen seen.old keys.old.items }
+    ensures added { OnOk result (keys.new.items ≡ export_with keys.old.items stanza.now) }
+    ensures seen { OnOk result (AreSeen seen.new keys.new.items) }
 {
     match stanza {
-        Stanza::Export(others) => add_keys(keys, others.as_slice()),
+        Stanza::Export(others) => add_keys(keys, seen, alloc, others.as_slice()),
         _ => Ok(()),
     }
 }
 
 // Adds what stanzas export.
-fn add_stanzas<'a>(keys: &mut IndexSet<&'a str>, stanzas: &'a [Stanza]) -> Result<(), AllocError>
-    ensures { OnOk result (map (λ k. k.now) keys.new.keys ≡ summed export_with (map (λ k. k.now) keys.old.keys) stanzas.now) }
+fn add_stanzas<'a>(
+    keys: &mut Vec<Text>,
+    seen: &mut BTreeSet<&'a str>,
+    alloc: Global,
+    stanzas: &'a [Stanza],
+) -> Result<(), AllocError>
+    requires { AreSeen seen.old keys.old.items }
+    ensures added { OnOk result (keys.new.items ≡ summed export_with keys.old.items stanzas.now) }
+    ensures seen { OnOk result (AreSeen seen.new keys.new.items) }
 {
     for stanza in stanzas {
-        add_stanza(keys, stanza)?;
+        add_stanza(keys, seen, alloc, stanza)?;
     }
     Ok(())
 }
 
-// Adds what the stanzas of two files export.
-#[tactic(auto, using(crate::proofs::Gathers::summed_both))]
-fn add_both<'a>(
-    keys: &mut IndexSet<&'a str>,
-    conf: &'a [Stanza],
-    over: &'a [Stanza],
-) -> Result<(), AllocError>
-    ensures { OnOk result (map (λ k. k.now) keys.new.keys ≡ summed export_with (map (λ k. k.now) keys.old.keys) (conf.now ++ over.now)) }
-{
-    add_stanzas(keys, conf)?;
-    add_stanzas(keys, over)
-}
-
 /// The keys that the stanzas of two files export.
+#[tactic(auto, using(crate::proofs::Gathers::summed_both))]
 pub(crate) fn gather_export(
     alloc: Global,
     conf: &[Stanza],
@@ -167,11 +214,9 @@ pub(crate) fn gather_export(
 ) -> Result<Items<Text>, AllocError>
     ensures { IfOk result (λ export. export ≡ summed export_with [] (conf.now ++ over.now)) }
 {
-    let mut keys: IndexSet<&str> = IndexSet::new(alloc);
-    let export = match add_both(&mut keys, conf, over) {
-        Ok(()) => copy_keys(alloc, keys.as_slice()),
-        Err(error) => Err(error),
-    };
-    drop(keys);
-    export
+    let mut keys: Vec<Text> = Vec::new(alloc);
+    let mut seen: BTreeSet<&str> = BTreeSet::new(alloc);
+    add_stanzas(&mut keys, &mut seen, alloc, conf)?;
+    add_stanzas(&mut keys, &mut seen, alloc, over)?;
+    Ok(Items::new(keys))
 }

@@ -1,5 +1,5 @@
 //! Reads the files of a folder, each with its override.
-ghost use Rattle.std.specs.Prelude.{◌≡◌, ◌++◌, [], IfOk, None, Some, option_map, option_and_then, option_copied, if◌then◌else◌, string_bytes};
+ghost use Rattle.std.specs.Prelude.{◌≡◌, ◌++◌, [], IfOk, OnErr, true, None, Some, option_map, option_and_then, option_copied, if◌then◌else◌, string_bytes};
 ghost use Rattle.std.specs.Result.{result_ok, result_err};
 ghost use Rattle.up_text.specs.Names.{is_name};
 ghost use Rattle.up_conf.specs.Folders.{bytes_at, has_conf, job_name, overridden_name, override_of, job_in, job_of_file, spot_in, spot_of_file};
@@ -20,7 +20,8 @@ const MAX_NUMBER: u8 = 16;
 
 // The name with these bytes, where they are a name.
 fn make_name(alloc: Global, text: &str) -> Result<Option<Name>, AllocError>
-    ensures { IfOk result (λ name. name ≡ (if is_name text.now then Some text.now else None)) }
+    ensures name { IfOk result (λ name. name ≡ (if is_name text.now then Some text.now else None)) }
+    ensures memory { OnErr result (is_name text.now ≡ true) }
 {
     match Name::new(alloc, text) {
         Ok(name) => Ok(Some(name)),

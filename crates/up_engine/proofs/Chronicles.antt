@@ -2,12 +2,12 @@
 use Rattle.std.proofs.Common.{◌≡◌, ℕ, zero, suc, ◌+◌, ◌<◌, ◌==◌, Bool, true, false, List, [], ◌∷◌, ◌++◌, length, take, get_or, slice_get, Some, option_map, refl, ◌∙◌, ap, arith, length-append, length-take}
 use Rattle.std.proofs.lemmas.List.{take_more}
 use Rattle.std.proofs.lemmas.Bool.{ne_eqb, eq-eqb, eqb-true, eqb-false}
-use Rattle.up_model.specs.Chronicle.{Entry}
+use Rattle.up_model.specs.Chronicle.{Chronicle, Entry}
 use Rattle.up_model.specs.Readings.{entry_at}
 use Rattle.up_engine.specs.declared.record.Record.{Record}
 use Rattle.up_engine.specs.Records.{chronicle, entry_of}
 
--- a record more is an entry in front
+-- a record more is an entry more
 pub chronicle_push : (records : List Record) (last : Record) → chronicle (records ++ last ∷ []) ≡ entry_of last ∷ chronicle records
 chronicle_push [] last = refl
 chronicle_push (first ∷ records) last = ap (λ c. c ++ entry_of first ∷ []) (chronicle_push records last)
@@ -22,7 +22,7 @@ length-chronicle [] = refl
 length-chronicle (first ∷ records) = omega (arith, length-append (chronicle records) (entry_of first ∷ []), length-chronicle records)
 
 -- the last of a list has the place 0
-oldest : (c : List Entry) (entry : Entry) → entry_at 0 (c ++ entry ∷ []) ≡ Some entry
+oldest : (c : Chronicle) (entry : Entry) → entry_at 0 (c ++ entry ∷ []) ≡ Some entry
 oldest [] entry = refl
 oldest (newer ∷ c) entry =
     let longer : (length (c ++ entry ∷ []) == 0) ≡ false = ne_eqb _ _ (λ e. omega (arith, length-append c (entry ∷ []))) in
@@ -36,7 +36,7 @@ shifted n place m e = by_case (n == place) refl
     by_case false differ = ne_eqb m (suc place) (λ h. eqb-false n place differ (omega arith))
 
 -- and the others have one more than without it
-younger : (c : List Entry) (entry : Entry) (place : ℕ) → entry_at (suc place) (c ++ entry ∷ []) ≡ entry_at place c
+younger : (c : Chronicle) (entry : Entry) (place : ℕ) → entry_at (suc place) (c ++ entry ∷ []) ≡ entry_at place c
 younger [] entry place = let differ : (0 == suc place) ≡ false = ne_eqb 0 (suc place) (λ e. omega arith) in rw differ refl
 younger (newer ∷ c) entry place =
     let same : (length (c ++ entry ∷ []) == suc place) ≡ (length c == place) = shifted (length c) place (length (c ++ entry ∷ [])) (omega (arith, length-append c (entry ∷ []))) in

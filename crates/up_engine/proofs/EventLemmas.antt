@@ -1,10 +1,21 @@
--- The events at the places that are left, one place on.
-use Rattle.std.proofs.Common.{◌≡◌, ℕ, ◌+◌, ◌<◌, List, ◌∷◌, length, drop, get_or, ap, add-one, drop-cons}
-use Rattle.up_model.specs.Chronicle.{Entry}
+-- The events that are left, one on.
+use Rattle.std.proofs.Common.{◌≡◌, ℕ, suc, ◌+◌, ◌<◌, List, [], ◌∷◌, Bor, Option, length, drop, get_or, map, refl, sym, ◌∙◌, ap, add-one, drop-cons}
+use Rattle.up_engine.specs.declared.keys.EventKey.{EventKey}
+use Rattle.up_engine.proofs.Slots.{KeyThere}
+use Rattle.up_model.specs.declared.event.Event.{Event}
+use Rattle.up_model.specs.Chronicle.{Chronicle}
 use Rattle.up_model.specs.Events.{events_at, with_event}
 use Rattle.up_model.specs.Readings.{event_at}
 
-pub events_left : (places : List ℕ) (i : ℕ) (c : List Entry) → i < length places → events_at (drop i places) c ≡ with_event (event_at (get_or places i 0) c) (events_at (drop (i + 1) places) c)
-events_left places i c within =
-    let one : drop i places ≡ get_or places i 0 ∷ drop (i + 1) places = rw add-one (drop-cons places i 0 within) in
-    ap (λ rest. events_at rest c) one
+pub events_left : (events : List (Bor Event)) (i : ℕ) (d : Bor Event) → i < length events
+    → map (λ event. event.now) (drop i events) ≡ (get_or events i d).now ∷ map (λ event. event.now) (drop (i + 1) events)
+events_left events i d within =
+    let one : drop i events ≡ get_or events i d ∷ drop (i + 1) events = rw add-one (drop-cons events i d within) in
+    ap (map (λ event. event.now)) one
+
+-- the events at the places that are left, one on
+pub key_events : (places : EventKey → Option ℕ) (key : EventKey) (events : List ℕ) (n : ℕ) (c : Chronicle) (found : Option Event)
+    → (there : KeyThere places key events n) → found ≡ event_at there.place c → with_event found (events_at (drop (n + 1) events) c) ≡ events_at (drop n events) c
+key_events places key events n c found there is =
+    let first : events_at (drop n events) c ≡ with_event (event_at there.place c) (events_at (drop (suc n) events) c) = ap (λ left. events_at left c) there.rest in
+    rw (add-one, is) (sym first)

@@ -1,6 +1,8 @@
+pub mod Entries
+pub mod Slots
 pub mod Chronicles
-pub mod DueLemmas
 pub mod EventLemmas
+pub mod GroupLemmas
 pub mod HeldLemmas
 pub mod MoveLemmas
 pub mod OfferLemmas

@@ -1,34 +1,76 @@
--- A search for a move, one job on.
-use Rattle.std.proofs.Common.{◌≡◌, ℕ, ◌+◌, ◌<◌, false, List, [], ◌∷◌, Option, None, Some, length, drop, get_or, refl, ap, add-one, drop-cons}
+-- A search for a move.
+use Rattle.std.proofs.Common.{◌≡◌, ℕ, suc, Bool, ◌+◌, ◌<◌, ◌&&◌, false, true, List, [], ◌∷◌, ◌++◌, length, drop, get_or, refl, sym, ◌∙◌, ap, add-one, drop-cons, Option, Some, None}
 use Rattle.up_conf.specs.declared.job.JobDef.{JobDef}
-use Rattle.up_model.specs.Chronicle.{Entry}
-use Rattle.up_model.specs.Moves.{or_else, move_of, move_in, move_from}
-use Rattle.up_model.specs.Readings.{instance_at, instances_of}
+use Rattle.up_engine.specs.declared.keys.InstanceKey.{InstanceKey}
+use Rattle.up_engine.specs.declared.keys.Slot.{Slot}
+use Rattle.up_engine.specs.Keys.{instance_at, FindsMove}
+use Rattle.up_engine.proofs.Entries.{or_else-some, or_else-none, filled_five}
+use Rattle.up_engine.proofs.Slots.{SlotThere}
+use Rattle.up_model.specs.declared.life.Entry as life
+use Rattle.up_model.specs.declared.state.State.{State}
+use Rattle.up_model.specs.declared.who.Who.{Who}
+use Rattle.up_stanza.specs.declared.process.Process.TheVariants.{Main}
+use Rattle.up_model.specs.Chronicle.{Chronicle, Entry, Entered, Signalled}
+use Rattle.up_model.specs.Instances.{Instance, instances_of}
+use Rattle.up_model.specs.Moves.{may_leave, move, move_of, move_in, move_first, enter, who_of, next_of, releasing, kill_signal, emitting, ordering}
+use Rattle.up_model.specs.Life.{entering}
+use Rattle.up_model.specs.Readings.{state_of, failure, lives}
+use Rattle.up_model.specs.Tests.{entries_if, or_else}
 use Rattle.up_text.specs.Scripts.{is_filled}
 
-pub or_else-nil : (entries : List Entry) → or_else entries [] ≡ entries
-or_else-nil [] = refl
-or_else-nil (entry ∷ entries) = refl
-
-pub or_else-none : (entries others : List Entry) → is_filled entries ≡ false → or_else entries others ≡ others
-or_else-none [] others none = refl
-or_else-none (entry ∷ entries) others none = cc
-
-pub none_nil : (entries : List Entry) → is_filled entries ≡ false → entries ≡ []
-none_nil [] none = refl
-none_nil (entry ∷ entries) none = cc
-
-abbrev pub move_found : JobDef → List Entry → Option ℕ → List Entry
-move_found job c None = []
-move_found job c (Some place) = move_of job (record { place = place; name = [] }) c
-
--- a job has its one instance, or none
-pub move_in_one : (job : JobDef) (c : List Entry) (found : Option ℕ) → move_in job (instance_at [] found) c ≡ move_found job c found
-move_in_one job c None = refl
-move_in_one job c (Some place) = or_else-nil (move_of job (record { place = place; name = [] }) c)
-
--- the jobs from a place on
-pub move_left : (jobs : List JobDef) (i : ℕ) (d : JobDef) (c : List Entry) → i < length jobs → move_from (drop i jobs) i c ≡ or_else (move_in (get_or jobs i d) (instances_of i c) c) (move_from (drop (i + 1) jobs) (i + 1) c)
+-- the jobs from one on
+pub move_left : (jobs : List JobDef) (i : ℕ) (d : JobDef) (c : Chronicle) → i < length jobs
+    → move_first (drop i jobs) c ≡ or_else (move_in (get_or jobs i d) (instances_of (get_or jobs i d).name c) c) (move_first (drop (i + 1) jobs) c)
 move_left jobs i d c within =
     let one : drop i jobs ≡ get_or jobs i d ∷ drop (i + 1) jobs = rw add-one (drop-cons jobs i d within) in
-    ap (λ left. move_from left i c) one
+    ap (λ left. move_first left c) one
+
+-- the same for the job that is there
+move_at : (jobs : List JobDef) (i : ℕ) (job : JobDef) (c : Chronicle) → i < length jobs → job ≡ get_or jobs i job
+    → move_first (drop i jobs) c ≡ or_else (move_in job (instances_of job.name c) c) (move_first (drop (i + 1) jobs) c)
+move_at jobs i job c within is = move_left jobs i job c within ∙ ap (λ j. or_else (move_in j (instances_of j.name c) c) (move_first (drop (i + 1) jobs) c)) (sym is)
+
+-- the move is the one of this job
+pub move_here : (jobs : List JobDef) (i : ℕ) (job : JobDef) (c : Chronicle) → i < length jobs → job ≡ get_or jobs i job
+    → true ≡ is_filled (move_in job (instances_of job.name c) c) → move_first (drop i jobs) c ≡ move_first jobs c → move_in job (instances_of job.name c) c ≡ move_first jobs c
+move_here jobs i job c within is some left = sym (or_else-some _ _ (sym some)) ∙ sym (move_at jobs i job c within is) ∙ left
+
+-- or of one after it
+pub move_past : (jobs : List JobDef) (i : ℕ) (job : JobDef) (c : Chronicle) → i < length jobs → job ≡ get_or jobs i job
+    → false ≡ is_filled (move_in job (instances_of job.name c) c) → move_first (drop i jobs) c ≡ move_first jobs c → move_first (drop (i + 1) jobs) c ≡ move_first jobs c
+move_past jobs i job c within is none left = sym (or_else-none _ _ (sym none)) ∙ sym (move_at jobs i job c within is) ∙ left
+
+pub filled_move : (job : JobDef) (instance : Instance) (c : Chronicle) → is_filled (move job instance c) ≡ true
+filled_move job instance c =
+    filled_five (entries_if table.releases (releasing instance.place false (enter job who instance.place to table c ++ c))) (entries_if (table.kills && lives instance.place Main c) (Signalled instance.place kill_signal false ∷ []))
+    (emitting who instance.place to table.emits (failure instance.place c)) (ordering job instance.place table.orders) (Entered instance.place to)
+  where
+    who : Who
+    who = who_of job instance
+
+    to : State
+    to = next_of job instance.place c
+
+    table : life.Entry
+    table = entering to (state_of instance.place c) false
+
+moves : (job : JobDef) (instance : Instance) (c : Chronicle) → may_leave job instance.place c ≡ true → move_of job instance c ≡ move job instance c
+moves job instance c may = ap (λ (b : Bool). entries_if b (move job instance c)) may
+
+stays : (job : JobDef) (instance : Instance) (c : Chronicle) → may_leave job instance.place c ≡ false → move_of job instance c ≡ []
+stays job instance c may = ap (λ (b : Bool). entries_if b (move job instance c)) may
+
+-- the search ends at an instance that may leave its state
+pub finds_here : (places : InstanceKey → Option ℕ) (slot : Slot) (job : JobDef) (instances : List Instance) (n : ℕ) (c : Chronicle) → (there : SlotThere places slot instances n)
+    → true ≡ may_leave job there.place c → move_in job (drop n instances) c ≡ move_in job instances c → FindsMove places (Some slot) job instances c
+finds_here places slot job instances n c there some left =
+    let it = instance_at there.place slot.name in
+    let first : move_of job it c ≡ move job it c = moves job it c (sym some) in
+    let filled : is_filled (move_of job it c) ≡ true = ap is_filled first ∙ filled_move job it c in
+    (there.place, (there.is, sym left ∙ ap (λ is. move_in job is c) there.rest ∙ or_else-some _ _ filled ∙ first))
+
+pub finds_past : (places : InstanceKey → Option ℕ) (slot : Slot) (job : JobDef) (instances : List Instance) (n : ℕ) (c : Chronicle) → (there : SlotThere places slot instances n)
+    → false ≡ may_leave job there.place c → move_in job (drop n instances) c ≡ move_in job instances c → move_in job (drop (n + 1) instances) c ≡ move_in job instances c
+finds_past places slot job instances n c there none left =
+    let it = instance_at there.place slot.name in
+    rw add-one (sym (ap (λ entries. or_else entries (move_in job (drop (suc n) instances) c)) (stays job it c (sym none))) ∙ sym (ap (λ is. move_in job is c) there.rest) ∙ left)

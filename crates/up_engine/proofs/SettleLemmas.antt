@@ -1,37 +1,37 @@
--- One more thing done of what is due.
-use Rattle.std.proofs.Common.{◌≡◌, ℕ, ◌+◌, ◌<◌, Bool, true, false, cond, List, [], ◌∷◌, ◌++◌, refl, sym, ◌∙◌, ap, arith}
-use Rattle.up_conf.specs.declared.job.JobDef.{JobDef}
-use Rattle.up_model.specs.Chronicle.{Entry}
+-- What is due is done so many times.
+use Rattle.std.proofs.Common.{◌≡◌, ℕ, zero, suc, ◌+◌, ◌≤◌, ◌<◌, ◌-◌, List, [], ◌∷◌, ◌++◌, refl, sym, ◌∙◌, ap, arith}
+use Rattle.up_model.specs.Chronicle.{Chronicle}
+use Rattle.up_model.specs.Configuration.{Configuration}
 use Rattle.up_model.specs.Due.{due}
 use Rattle.up_model.specs.Work.{work, settle}
-use Rattle.up_model.proofs.Settling.{settle_next, due_falls}
-use Rattle.up_text.specs.Scripts.{is_filled}
-use Rattle.up_engine.proofs.MoveLemmas.{none_nil}
+use Rattle.up_model.proofs.Settling.{settle_still, settle_enough}
 
-filled : (entries : List Entry) → is_filled entries ≡ true → entries ≡ [] → ⊥
-filled [] any empty = cc
-filled (entry ∷ entries) any empty = cc
+-- once more
+pub settle_more : (n : ℕ) (config : Configuration) (c : Chronicle) → due config (settle n config c) ++ settle n config c ≡ settle (suc n) config c
+unfolding settle
+settle_more zero config c = refl
+settle_more (suc n) config c = settle_more n config (due config c ++ c)
 
--- each thing done leaves less to do, and where there was none the loop ends
-pub settle_smaller : (base : List (List ℕ × List ℕ)) (jobs : List JobDef) (c d : List Entry) (done : Bool) → d ≡ due base jobs c ++ c → done ≡ is_filled (due base jobs c)
-    → work jobs d + cond done 1 0 < work jobs c + 1
-settle_smaller base jobs c d done next any = by_case (is_filled (due base jobs c)) refl
+pub settle_none : (config : Configuration) (c : Chronicle) → settle 0 config c ≡ c
+unfolding settle
+settle_none config c = refl
+
+-- first so many times, then so many times
+settle_split : (m n : ℕ) (config : Configuration) (c : Chronicle) → settle (m + n) config c ≡ settle n config (settle m config c)
+unfolding settle
+settle_split zero n config c = let same : zero + n ≡ n = omega arith in ap (λ k. settle k config c) same
+settle_split (suc m) n config c = ap (λ k. settle k config c) (unary m n) ∙ settle_split m n config (due config c ++ c)
   where
-    by_case : (b : Bool) → is_filled (due base jobs c) ≡ b → work jobs d + cond done 1 0 < work jobs c + 1
-    by_case true some =
-        let less = due_falls base jobs c (filled (due base jobs c) some) in
-        rw (next, any, some) (omega (arith, less))
-    by_case false none =
-        rw (next, any, none, none_nil (due base jobs c) none) (omega arith)
+    unary : (m n : ℕ) → suc m + n ≡ suc (m + n)
+    unary m n = omega arith
 
--- where nothing was due, nothing is
-pub settle_over : (base : List (List ℕ × List ℕ)) (jobs : List JobDef) (c d : List Entry) (done : Bool) → d ≡ due base jobs c ++ c → done ≡ is_filled (due base jobs c) → done ≡ false
-    → due base jobs d ≡ []
-settle_over base jobs c d done next any over =
-    let none = none_nil (due base jobs c) (sym any ∙ over) in
-    let same : d ≡ c = next ∙ ap (λ entries. entries ++ c) none in
-    rw same none
+-- more than enough is enough
+pub settle_most : (most : ℕ) (config : Configuration) (c : Chronicle) → work config c ≤ most → settle most config c ≡ settle (work config c) config c
+settle_most most config c enough = settle_enough most (work config c) config c enough (omega arith)
 
--- what is left to be done leads to the same end
-pub settle_same : (base : List (List ℕ × List ℕ)) (jobs : List JobDef) (c d : List Entry) → d ≡ due base jobs c ++ c → settle (work jobs d) base jobs d ≡ settle (work jobs c) base jobs c
-settle_same base jobs c d next = rw next (settle_next base jobs c)
+-- no more is done once nothing is due
+pub settle_over : (n most : ℕ) (config : Configuration) (c : Chronicle) → n ≤ most → work config c ≤ most → due config (settle n config c) ≡ []
+    → settle (work config c) config c ≡ settle n config c
+settle_over n most config c within enough none =
+    let count : most ≡ n + (most - n) = omega arith in
+    sym (settle_most most config c enough) ∙ ap (λ k. settle k config c) count ∙ settle_split n (most - n) config c ∙ settle_still (most - n) config (settle n config c) none

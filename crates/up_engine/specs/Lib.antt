@@ -1,6 +1,9 @@
 pub mod Faults
-pub mod Moved
-pub mod Queues
+pub mod Keys
+pub mod Setups
 pub mod Records
-pub mod Stands
+pub mod Groups
+pub mod Queues
 pub mod Verdicts
+pub mod Stored
+pub mod Stands

@@ -1,218 +1,284 @@
-//! The engine's memory: what happened, in order, and the queue of events beside it.
-ghost use Rattle.std.specs.Prelude.{◌≡◌, List, ◌∷◌, [], length, map, IfOk, OnOk, OnErr};
-ghost use Rattle.std.specs.Option.{option_copied, option_map_or};
-ghost use Rattle.up_expr.specs.Truth as truth;
-ghost use Rattle.up_model.specs.Chronicle.{Entry};
+//! What an engine keeps of the past, whatever that is.
+ghost use Rattle.std.specs.Prelude.{◌≡◌, ◌≤◌, ℕ, true, false, List, ◌∷◌, [], map, length, Option, None, Some, is_some, option_map, OnOk, IfOk};
+ghost use Rattle.std.specs.Option.{option_copied};
+ghost use Rattle.up_engine.specs.declared.keys.EventKey.{EventKey as EventKeyValue};
+ghost use Rattle.up_engine.specs.declared.keys.InstanceKey.{InstanceKey as InstanceKeyValue};
+ghost use Rattle.up_engine.specs.Keys.{Mode, Resting, Stepping, is_waiting, slot_at, live_at};
+ghost use Rattle.up_engine.specs.Setups.{config_of};
+ghost use Rattle.up_model.specs.declared.input.Input.{Input as InputValue};
+ghost use Rattle.up_model.specs.declared.input.Input.TheVariants as given_as;
+ghost use Rattle.up_model.specs.declared.state.Goal.TheVariants.{Stop as goal_stop};
+ghost use Rattle.up_model.specs.declared.state.State.TheVariants as entered;
+ghost use Rattle.up_model.specs.Chronicle.{Chronicle};
+ghost use Rattle.up_model.specs.Chronicle as entry;
+ghost use Rattle.up_model.specs.Configuration.{Configuration};
+ghost use Rattle.up_model.specs.Due.{turn_event};
+ghost use Rattle.up_model.specs.Instances.{existing, instances_of};
+ghost use Rattle.up_model.specs.Offers as offer;
+ghost use Rattle.up_model.specs.Outputs.{outputs_of};
+ghost use Rattle.up_model.specs.Queue as queue;
 ghost use Rattle.up_model.specs.Readings as read;
 ghost use Rattle.up_model.specs.Seen as seen;
-ghost use Rattle.up_model.specs.Offers as offer;
-ghost use Rattle.up_model.specs.Queue as model;
-ghost use Rattle.up_engine.specs.Records.{entry_of, expression_of, chronicle};
-ghost use Rattle.up_engine.specs.Queues.{live_of};
 
-use crate::queue::{Live, mark_handled, remove};
-use crate::reading::{environment, life, place, process, seen};
-use crate::record::{Expression, Record};
+use crate::keys::{EventKey, InstanceKey, Live, Slot};
+use crate::setup::Setup;
 use std::alloc::{AllocError, Global};
-use std::marker::Model;
-use up_expr::Leaf;
-use up_model::{Event, Goal, Process, State};
-use up_text::{Env, Name};
+use up_model::{Answer, Event, Failure, Goal, Input, JobDef, Output, Process, State};
+use up_text::{Env, Items, Name};
 
-/// The stored chronicle, seen by contracts as the list of its entries, newest first.
-#[derive(Drop)]
-pub struct Book {
-    records: Vec<Record>,
-    queue: Vec<Live>,
-}
+/// What an engine keeps of the past: what it must still know, and what a step asks for. An engine takes an input in by `given`, then
+/// tells what comes of it, entry by entry, and ends the step by `rest`.
+pub trait Book: Drop {
+    ghost stands: { Self → Mode → Configuration → Chronicle → Type 0 };
 
-impl Model for Book {
-    ghost use Rattle.std.specs.Prelude.{◌≡◌, List, map};
-    ghost use Rattle.up_model.specs.Chronicle.{Entry};
-    ghost use Rattle.up_model.specs.Queue as model;
-    ghost use Rattle.up_engine.specs.Records.{chronicle};
-    ghost use Rattle.up_engine.specs.Queues.{live_of};
+    // the place of the event of a key
+    ghost event_place: { Self → Chronicle → EventKeyValue → Option ℕ };
 
-    ghost Value = { List Entry };
+    // the place of the instance of a key
+    ghost instance_place: { Self → Chronicle → InstanceKeyValue → Option ℕ };
 
-    ghost view = { λ b. chronicle b.records.items };
-
-    ghost invariant = { λ b. map live_of b.queue.items ≡ model.queue (chronicle b.records.items) };
-}
-
-// The room for the record is there already.
-fn update(queue: &mut Vec<Live>, next: &Record, place: usize) -> Result<(), AllocError>
-    ensures ok { OnOk result ((c : List Entry) → length c ≡ place → map live_of queue.old.items ≡ model.queue c → map live_of queue.new.items ≡ model.queue (entry_of next.now ∷ c)) }
-    ensures unchanged { OnErr result (queue.new.items ≡ queue.old.items) }
-{
-    match next {
-        Record::Queued { .. } => {
-            queue.push(Live {
-                place,
-                handled: false,
-            })?;
-        }
-        Record::Handled(event) => mark_handled(queue, *event),
-        Record::Finished(event) => remove(queue, *event),
-        _ => {}
-    }
-    Ok(())
-}
-
-// A record is dropped by a call: at the end of a scope its drop takes the prover twenty seconds.
-fn append(records: &mut Vec<Record>, queue: &mut Vec<Live>, next: Record) -> Result<(), AllocError>
-    ensures entry { OnOk result (chronicle records.new.items ≡ entry_of next ∷ chronicle records.old.items) }
-    ensures kept { map live_of queue.old.items ≡ model.queue (chronicle records.old.items) → map live_of queue.new.items ≡ model.queue (chronicle records.new.items) }
-{
-    if let Err(error) = records.reserve(1) {
-        drop(next);
-        return Err(error);
-    }
-    match update(queue, &next, records.len()) {
-        Ok(()) => {
-            records.push(next).unwrap();
-            Ok(())
-        }
-        Err(error) => {
-            drop(next);
-            Err(error)
-        }
-    }
-}
-
-fn count_live(queue: &Vec<Live>) -> usize
-    ensures { result ≡ length (map live_of queue.now.items) }
-{
-    queue.len()
-}
-
-fn count(records: &Vec<Record>) -> usize
-    ensures { result ≡ length (chronicle records.now.items) }
-{
-    records.len()
-}
-
-impl Book {
     /// Nothing has happened.
-    pub(crate) fn new(alloc: Global) -> Self
-        ensures { result ≡ [] }
-    {
-        Book {
-            records: Vec::new(alloc),
-            queue: Vec::new(alloc),
-        }
-    }
+    fn new(alloc: Global) -> Self
+        ensures { (config : Configuration) → stands result Resting config [] };
 
-    /// One entry more.
-    pub(crate) fn add(&mut self, next: Record) -> Result<(), AllocError>
-        ensures { OnOk result (self.new ≡ entry_of next ∷ self.old) }
-    {
-        append(&mut self.records, &mut self.queue, next)
-    }
+    fn goal(&self, key: InstanceKey) -> Goal
+        ensures { (mode : Mode) (config : Configuration) (c : Chronicle) (i : ℕ) → stands self.now mode config c
+            → instance_place self.now c key ≡ Some i → result ≡ read.goal i c };
 
-    /// What happened, oldest first.
-    pub(crate) fn records(&self) -> &[Record]
-        ensures { chronicle result.now ≡ self.now }
-    {
-        self.records.as_slice()
-    }
+    fn state_of(&self, key: InstanceKey) -> State
+        ensures { (mode : Mode) (config : Configuration) (c : Chronicle) (i : ℕ) → stands self.now mode config c
+            → instance_place self.now c key ≡ Some i → result ≡ read.state_of i c };
 
-    /// The events that haven't finished, by age.
-    pub(crate) fn queue(&self) -> &[Live]
-        ensures { map live_of result.now ≡ model.queue self.now }
-    {
-        self.queue.as_slice()
-    }
+    /// Why an instance failed since it entered starting last.
+    fn failure(&self, key: InstanceKey) -> Option<Failure>
+        ensures { (mode : Mode) (config : Configuration) (c : Chronicle) (i : ℕ) → stands self.now mode config c
+            → instance_place self.now c key ≡ Some i → result ≡ read.failure i c };
+
+    /// Whether an instance waits for its own event.
+    fn is_blocked(&self, key: InstanceKey) -> bool
+        ensures { (mode : Mode) (config : Configuration) (c : Chronicle) (i : ℕ) → stands self.now mode config c
+            → instance_place self.now c key ≡ Some i → result ≡ is_some (read.blocker i c) };
+
+    /// Whether a process was ordered and not answered since.
+    fn awaits(&self, key: InstanceKey, process: Process) -> bool
+        ensures { (mode : Mode) (config : Configuration) (c : Chronicle) (i : ℕ) → stands self.now mode config c
+            → instance_place self.now c key ≡ Some i → result ≡ read.awaited i process c };
+
+    /// Whether a process lives.
+    fn lives(&self, key: InstanceKey, process: Process) -> bool
+        ensures { (mode : Mode) (config : Configuration) (c : Chronicle) (i : ℕ) → stands self.now mode config c
+            → instance_place self.now c key ≡ Some i → result ≡ read.lives i process c };
+
+    /// The instances of a job, in byte order of their names.
+    fn instances(&self, job: &Name) -> &[Slot]
+        ensures { (mode : Mode) (config : Configuration) (c : Chronicle) → stands self.now mode config c
+            → map (slot_at (instance_place self.now c)) result.now ≡ map Some (instances_of job.now c) };
+
+    fn event_at(&self, key: EventKey) -> Option<&Event>
+        ensures { (mode : Mode) (config : Configuration) (c : Chronicle) (e : ℕ) → stands self.now mode config c
+            → event_place self.now c key ≡ Some e → option_copied result ≡ read.event_at e c };
+
+    /// The event that this step handles.
+    fn offering(&self) -> Option<EventKey>
+        ensures { (mode : Mode) (config : Configuration) (c : Chronicle) → stands self.now mode config c
+            → option_map (event_place self.now c) result ≡ option_map Some (offer.offering c) };
+
+    /// Whether an instance was made in this step.
+    fn is_newborn(&self, key: InstanceKey) -> bool
+        ensures { (mode : Mode) (config : Configuration) (c : Chronicle) (i : ℕ) → stands self.now mode config c
+            → instance_place self.now c key ≡ Some i → result ≡ offer.is_newborn i c };
+
+    /// Whether an instance's `stop on` was offered the event of this step.
+    fn was_offered_stop(&self, key: InstanceKey) -> bool
+        ensures { (mode : Mode) (config : Configuration) (c : Chronicle) (i : ℕ) → stands self.now mode config c
+            → instance_place self.now c key ≡ Some i → result ≡ seen.was_offered (entry.StopOn i) c };
+
+    /// Whether a job's `start on` was.
+    fn was_offered_start(&self, job: &Name) -> bool
+        ensures { (mode : Mode) (config : Configuration) (c : Chronicle) → stands self.now mode config c
+            → result ≡ seen.was_offered (entry.StartOn job.now) c };
+
+    /// No fewer than the instances that exist.
+    fn most_instances(&self) -> usize
+        ensures { (mode : Mode) (config : Configuration) (c : Chronicle) → stands self.now mode config c → length (existing c) ≤ result };
 
     /// How many events haven't finished.
-    pub(crate) fn live_events(&self) -> usize
-        ensures { result ≡ length (model.queue self.now) }
-    {
-        count_live(&self.queue)
-    }
+    fn live_events(&self) -> usize
+        ensures { (mode : Mode) (config : Configuration) (c : Chronicle) → stands self.now mode config c → result ≡ length (queue.queue c) };
 
-    /// How many entries there are: the place of the next one.
-    pub(crate) fn len(&self) -> usize
-        ensures { result ≡ length self.now }
-    {
-        count(&self.records)
-    }
+    /// The event that a turn would take, between two steps.
+    fn turn(&self) -> Option<Live>
+        ensures { (config : Configuration) (c : Chronicle) → stands self.now Resting config c
+            → option_map (live_at (event_place self.now c)) result ≡ option_map Some (turn_event config (queue.queue c) c) };
 
-    pub(crate) fn goal(&self, instance: usize) -> Goal
-        ensures { result ≡ read.goal instance self.now }
-    {
-        life::goal(self.records.as_slice(), instance)
-    }
+    /// A step begins with an input.
+    fn given(&mut self, input: Input) -> Result<(), AllocError>
+        ensures after { OnOk result ((config : Configuration) (c : Chronicle) → stands self.old Resting config c
+            → stands self.new Stepping config (entry.Given input ∷ c)) }
+        ensures instances { OnOk result ((config : Configuration) (c : Chronicle) (k : InstanceKeyValue) (j : ℕ) → stands self.old Resting config c
+            → instance_place self.old c k ≡ Some j → instance_place self.new (entry.Given input ∷ c) k ≡ Some j) }
+        ensures events { OnOk result ((config : Configuration) (c : Chronicle) (k : EventKeyValue) (j : ℕ) → stands self.old Resting config c
+            → event_place self.old c k ≡ Some j → event_place self.new (entry.Given input ∷ c) k ≡ Some j) };
 
-    pub(crate) fn state_of(&self, instance: usize) -> State
-        ensures { result ≡ read.state_of instance self.now }
-    {
-        life::state_of(self.records.as_slice(), instance)
-    }
+    /// The input was an event from outside: it goes to the end of the queue.
+    fn emit(&mut self, event: Event) -> Result<(), AllocError>
+        ensures { OnOk result ((config : Configuration) (c : Chronicle) (input : InputValue) → stands self.old Stepping config (entry.Given input ∷ c)
+            → stands self.new Stepping config (entry.Queued (entry.Outside (length c)) event ∷ entry.Given input ∷ c)) };
 
-    pub(crate) fn holders(&self, instance: usize) -> &[usize]
-        ensures { result.now ≡ read.holders instance self.now }
-    {
-        life::holders(self.records.as_slice(), instance)
-    }
+    /// The input was a request: it is answered.
+    fn reply(&mut self, answer: Answer) -> Result<(), AllocError>
+        ensures { OnOk result ((config : Configuration) (c : Chronicle) (input : InputValue) → stands self.old Stepping config (entry.Given input ∷ c)
+            → stands self.new Stepping config (entry.Replied (length c) answer ∷ entry.Given input ∷ c)) };
 
-    pub(crate) fn blocker(&self, instance: usize) -> Option<usize>
-        ensures { result ≡ read.blocker instance self.now }
-    {
-        life::blocker(self.records.as_slice(), instance)
-    }
+    /// A turn takes an event up.
+    fn handle(&mut self, key: EventKey) -> Result<(), AllocError>
+        ensures { OnOk result ((config : Configuration) (c : Chronicle) (e : ℕ) → stands self.old Stepping config c
+            → event_place self.old c key ≡ Some e → stands self.new Stepping config (entry.Handled e ∷ c)) };
 
-    pub(crate) fn instance_of(&self, job: usize, name: &str) -> Option<usize>
-        ensures { result ≡ read.instance_of job name.now self.now }
-    {
-        life::instance_of(self.records.as_slice(), job, name)
-    }
+    /// An event leaves the queue.
+    fn finish(&mut self, key: EventKey) -> Result<(), AllocError>
+        ensures { OnOk result ((config : Configuration) (c : Chronicle) (e : ℕ) → stands self.old Stepping config c
+            → event_place self.old c key ≡ Some e → stands self.new Stepping config (entry.Finished e ∷ c)) };
 
-    pub(crate) fn awaited(&self, instance: usize, job: &Name, name: &str, process: Process) -> bool
-        ensures { result ≡ read.awaited instance (record { job = job.now; instance = name.now }) process self.now }
-    {
-        process::awaited(self.records.as_slice(), instance, job, name, process)
-    }
+    /// An instance enters a state other than waiting.
+    fn enter(&mut self, key: InstanceKey, state: State) -> Result<(), AllocError>
+        ensures after { OnOk result ((config : Configuration) (c : Chronicle) (i : ℕ) → stands self.old Stepping config c
+            → instance_place self.old c key ≡ Some i → is_waiting state ≡ false → stands self.new Stepping config (entry.Entered i state ∷ c)) }
+        ensures instances { OnOk result ((config : Configuration) (c : Chronicle) (i : ℕ) → stands self.old Stepping config c
+            → instance_place self.old c key ≡ Some i → is_waiting state ≡ false → instance_place self.new (entry.Entered i state ∷ c) key ≡ Some i) };
 
-    pub(crate) fn pid_of(&self, job: &Name, name: &str, process: Process) -> Option<u32>
-        ensures { result ≡ read.pid_of (record { job = job.now; instance = name.now }) process self.now }
-    {
-        process::pid_of(self.records.as_slice(), job, name, process)
-    }
+    /// An instance enters waiting, with its last event, and is gone.
+    fn leave(&mut self, key: InstanceKey, event: Event) -> Result<(), AllocError>
+        ensures { OnOk result ((config : Configuration) (c : Chronicle) (i : ℕ) → stands self.old Stepping config c
+            → instance_place self.old c key ≡ Some i
+            → stands self.new Stepping config (entry.Released i false ∷ entry.Queued (entry.Entering i entered.Waiting) event ∷ entry.Entered i entered.Waiting ∷ c)) };
 
-    pub(crate) fn event_at(&self, place: usize) -> Option<&Event>
-        ensures { option_copied result ≡ read.event_at place self.now }
-    {
-        place::event_at(self.records.as_slice(), place)
-    }
+    /// A process of an instance is to be started.
+    fn order(&mut self, setup: &Setup, key: InstanceKey, process: Process) -> Result<(), AllocError>
+        ensures after { OnOk result ((c : Chronicle) (i : ℕ) → stands self.old Stepping (config_of setup.now) c
+            → instance_place self.old c key ≡ Some i → stands self.new Stepping (config_of setup.now) (entry.Ordered i process ∷ c)) }
+        ensures instances { OnOk result ((c : Chronicle) (i : ℕ) → stands self.old Stepping (config_of setup.now) c
+            → instance_place self.old c key ≡ Some i → instance_place self.new (entry.Ordered i process ∷ c) key ≡ Some i) };
 
-    pub(crate) fn first(
-        &self,
-        alloc: Global,
-        base: &Env,
-        expression: Expression,
-        leaf: &Leaf,
-    ) -> Result<Option<usize>, AllocError>
-        ensures { IfOk result (λ found. found ≡ truth.first leaf.now (seen.seen base.now (expression_of expression) self.now)) }
-    {
-        seen::first(alloc, base, self.records.as_slice(), expression, leaf)
-    }
+    /// An instance emits an event on entering a state.
+    fn announce(&mut self, key: InstanceKey, state: State, event: Event) -> Result<(), AllocError>
+        ensures after { OnOk result ((config : Configuration) (c : Chronicle) (i : ℕ) → stands self.old Stepping config c
+            → instance_place self.old c key ≡ Some i → stands self.new Stepping config (entry.Queued (entry.Entering i state) event ∷ c)) }
+        ensures instances { OnOk result ((config : Configuration) (c : Chronicle) (i : ℕ) → stands self.old Stepping config c
+            → instance_place self.old c key ≡ Some i → instance_place self.new (entry.Queued (entry.Entering i state) event ∷ c) key ≡ Some i) };
 
-    pub(crate) fn was_offered(&self, expression: Expression) -> bool
-        ensures { result ≡ seen.was_offered (expression_of expression) self.now }
-    {
-        seen::was_offered(self.records.as_slice(), expression)
-    }
+    /// Main of an instance is sent a signal.
+    fn signal(&mut self, key: InstanceKey, signal: u8) -> Result<(), AllocError>
+        ensures after { OnOk result ((config : Configuration) (c : Chronicle) (i : ℕ) → stands self.old Stepping config c
+            → instance_place self.old c key ≡ Some i → stands self.new Stepping config (entry.Signalled i signal false ∷ c)) }
+        ensures instances { OnOk result ((config : Configuration) (c : Chronicle) (i : ℕ) → stands self.old Stepping config c
+            → instance_place self.old c key ≡ Some i → instance_place self.new (entry.Signalled i signal false ∷ c) key ≡ Some i) };
 
-    pub(crate) fn is_newborn(&self, instance: usize) -> bool
-        ensures { result ≡ offer.is_newborn instance self.now }
-    {
-        seen::is_newborn(self.records.as_slice(), instance)
-    }
+    /// An instance lets its holders go.
+    fn release(&mut self, key: InstanceKey) -> Result<(), AllocError>
+        ensures after { OnOk result ((config : Configuration) (c : Chronicle) (i : ℕ) → stands self.old Stepping config c
+            → instance_place self.old c key ≡ Some i → stands self.new Stepping config (entry.Released i false ∷ c)) }
+        ensures instances { OnOk result ((config : Configuration) (c : Chronicle) (i : ℕ) → stands self.old Stepping config c
+            → instance_place self.old c key ≡ Some i → instance_place self.new (entry.Released i false ∷ c) key ≡ Some i) }
+        ensures events { OnOk result ((config : Configuration) (c : Chronicle) (i : ℕ) (ks : List EventKeyValue) (js : List ℕ)
+            → stands self.old Stepping config c → instance_place self.old c key ≡ Some i → map (event_place self.old c) ks ≡ map Some js
+            → map (event_place self.new (entry.Released i false ∷ c)) ks ≡ map Some js) };
 
-    pub(crate) fn offering(&self) -> Option<usize>
-        ensures { result ≡ offer.offering self.now }
-    {
-        seen::offering(self.records.as_slice())
-    }
+    /// An instance's goal changes, with the environment and the holders that go with it.
+    fn aim(
+        &mut self,
+        key: InstanceKey,
+        goal: Goal,
+        environment: Env,
+        holders: Items<EventKey>,
+    ) -> Result<(), AllocError>
+        ensures { OnOk result ((config : Configuration) (c : Chronicle) (i : ℕ) (events : List ℕ) → stands self.old Stepping config c
+            → instance_place self.old c key ≡ Some i → map (event_place self.old c) holders ≡ map Some events
+            → stands self.new Stepping config (entry.Aimed i goal environment events ∷ c)) };
+
+    /// An instance's goal becomes stop by itself; its holders stay.
+    fn end_itself(&mut self, key: InstanceKey) -> Result<(), AllocError>
+        ensures after { OnOk result ((config : Configuration) (c : Chronicle) (i : ℕ) → stands self.old Stepping config c
+            → instance_place self.old c key ≡ Some i → stands self.new Stepping config (entry.Aimed i goal_stop [] (read.holders i c) ∷ c)) }
+        ensures instances { OnOk result ((config : Configuration) (c : Chronicle) (i : ℕ) → stands self.old Stepping config c
+            → instance_place self.old c key ≡ Some i → instance_place self.new (entry.Aimed i goal_stop [] (read.holders i c) ∷ c) key ≡ Some i) };
+
+    /// An instance fails: that is kept, and it lets its holders go as failed.
+    fn fail(&mut self, key: InstanceKey, failure: Failure) -> Result<(), AllocError>
+        ensures { OnOk result ((config : Configuration) (c : Chronicle) (i : ℕ) → stands self.old Stepping config c
+            → instance_place self.old c key ≡ Some i → stands self.new Stepping config (entry.Released i true ∷ entry.Failed i failure ∷ c)) };
+
+    /// A job gets an instance of this name.
+    fn make(&mut self, job: &Name, name: &str) -> Result<InstanceKey, AllocError>
+        ensures after { OnOk result ((config : Configuration) (c : Chronicle) → stands self.old Stepping config c
+            → stands self.new Stepping config (entry.Made job.now name.now ∷ c)) }
+        ensures made { IfOk result (λ key. (config : Configuration) (c : Chronicle) → stands self.old Stepping config c
+            → instance_place self.new (entry.Made job.now name.now ∷ c) key ≡ Some (length c)) }
+        ensures events { OnOk result ((config : Configuration) (c : Chronicle) (ks : List EventKeyValue) (js : List ℕ)
+            → stands self.old Stepping config c → map (event_place self.old c) ks ≡ map Some js
+            → map (event_place self.new (entry.Made job.now name.now ∷ c)) ks ≡ map Some js) };
+
+    /// An event is offered to an instance's `stop on`; returns whether that is true then.
+    fn offer_stop(
+        &mut self,
+        setup: &Setup,
+        job: &JobDef,
+        key: InstanceKey,
+        event: EventKey,
+    ) -> Result<bool, AllocError>
+        ensures after { OnOk result ((c : Chronicle) (i e : ℕ) → stands self.old Stepping (config_of setup.now) c
+            → instance_place self.old c key ≡ Some i → event_place self.old c event ≡ Some e
+            → stands self.new Stepping (config_of setup.now) (entry.Offered (entry.StopOn i) e ∷ c)) }
+        ensures holds { IfOk result (λ holds. (c : Chronicle) (i e : ℕ) → stands self.old Stepping (config_of setup.now) c
+            → instance_place self.old c key ≡ Some i → event_place self.old c event ≡ Some e
+            → holds ≡ seen.holds job.now.stop_on (seen.seen (config_of setup.now) (entry.StopOn i) (entry.Offered (entry.StopOn i) e ∷ c))) }
+        ensures instances { OnOk result ((c : Chronicle) (i e : ℕ) → stands self.old Stepping (config_of setup.now) c
+            → instance_place self.old c key ≡ Some i → event_place self.old c event ≡ Some e
+            → instance_place self.new (entry.Offered (entry.StopOn i) e ∷ c) key ≡ Some i) };
+
+    /// An event is offered to a job's `start on`; returns whether that is true then.
+    fn offer_start(
+        &mut self,
+        setup: &Setup,
+        job: &JobDef,
+        event: EventKey,
+    ) -> Result<bool, AllocError>
+        ensures after { OnOk result ((c : Chronicle) (e : ℕ) → stands self.old Stepping (config_of setup.now) c
+            → event_place self.old c event ≡ Some e
+            → stands self.new Stepping (config_of setup.now) (entry.Offered (entry.StartOn job.now.name) e ∷ c)) }
+        ensures holds { IfOk result (λ holds. (c : Chronicle) (e : ℕ) → stands self.old Stepping (config_of setup.now) c
+            → event_place self.old c event ≡ Some e
+            → holds ≡ seen.holds job.now.start_on (seen.seen (config_of setup.now) (entry.StartOn job.now.name) (entry.Offered (entry.StartOn job.now.name) e ∷ c))) };
+
+    /// An instance's `stop on` fires; returns the events that it takes, from left to right.
+    fn fire_stop(
+        &mut self,
+        setup: &Setup,
+        job: &JobDef,
+        key: InstanceKey,
+    ) -> Result<Items<EventKey>, AllocError>
+        ensures after { OnOk result ((c : Chronicle) (i : ℕ) → stands self.old Stepping (config_of setup.now) c
+            → instance_place self.old c key ≡ Some i
+            → stands self.new Stepping (config_of setup.now) (entry.Fired (entry.StopOn i) (seen.taken job.now.stop_on (seen.seen (config_of setup.now) (entry.StopOn i) c)) ∷ c)) }
+        ensures instances { OnOk result ((c : Chronicle) (i : ℕ) → stands self.old Stepping (config_of setup.now) c
+            → instance_place self.old c key ≡ Some i
+            → instance_place self.new (entry.Fired (entry.StopOn i) (seen.taken job.now.stop_on (seen.seen (config_of setup.now) (entry.StopOn i) c)) ∷ c) key ≡ Some i) }
+        ensures taken { IfOk result (λ taken. (c : Chronicle) (i : ℕ) → stands self.old Stepping (config_of setup.now) c
+            → instance_place self.old c key ≡ Some i
+            → map (event_place self.new (entry.Fired (entry.StopOn i) (seen.taken job.now.stop_on (seen.seen (config_of setup.now) (entry.StopOn i) c)) ∷ c)) taken
+            ≡ map Some (seen.taken job.now.stop_on (seen.seen (config_of setup.now) (entry.StopOn i) c))) };
+
+    /// A job's `start on` fires; returns the events that it takes, from left to right.
+    fn fire_start(&mut self, setup: &Setup, job: &JobDef) -> Result<Items<EventKey>, AllocError>
+        ensures after { OnOk result ((c : Chronicle) → stands self.old Stepping (config_of setup.now) c
+            → stands self.new Stepping (config_of setup.now) (entry.Fired (entry.StartOn job.now.name) (seen.taken job.now.start_on (seen.seen (config_of setup.now) (entry.StartOn job.now.name) c)) ∷ c)) }
+        ensures taken { IfOk result (λ taken. (c : Chronicle) → stands self.old Stepping (config_of setup.now) c
+            → map (event_place self.new (entry.Fired (entry.StartOn job.now.name) (seen.taken job.now.start_on (seen.seen (config_of setup.now) (entry.StartOn job.now.name) c)) ∷ c)) taken
+            ≡ map Some (seen.taken job.now.start_on (seen.seen (config_of setup.now) (entry.StartOn job.now.name) c))) };
+
+    /// The step is over; returns what it asks for, in order.
+    fn rest(&mut self, setup: &Setup) -> Result<Vec<Output>, AllocError>
+        ensures after { OnOk result ((c : Chronicle) → stands self.old Stepping (config_of setup.now) c → stands self.new Resting (config_of setup.now) c) }
+        ensures outputs { IfOk result (λ outputs. (c : Chronicle) → stands self.old Stepping (config_of setup.now) c
+            → outputs.items ≡ outputs_of (config_of setup.now) c) };
 }

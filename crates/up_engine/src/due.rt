@@ -1,98 +1,76 @@
 //! What is due, the effect of an input, and whether it is expected.
-ghost use Rattle.std.specs.Prelude.{◌≡◌, ◌++◌, ◌∷◌, [], List, ℕ, Option, map, IfOk, OnOk, option_map};
+ghost use Rattle.std.specs.Prelude.{◌≡◌, ℕ, List, ◌∷◌, [], ◌++◌, map, Option, Some, option_map, IfOk, OnOk};
+ghost use Rattle.up_engine.specs.Keys.{Mode, Resting, Stepping, live_at};
+ghost use Rattle.up_engine.specs.Setups.{config_of};
+ghost use Rattle.up_model.specs.declared.input.Input.TheVariants as given_as;
 ghost use Rattle.up_model.specs.Answers as answer;
+ghost use Rattle.up_model.specs.Chronicle.{Chronicle};
 ghost use Rattle.up_model.specs.Chronicle as entry;
+ghost use Rattle.up_model.specs.Configuration.{Configuration};
 ghost use Rattle.up_model.specs.Due as model;
-ghost use Rattle.up_model.specs.Queue.{queue};
-ghost use Rattle.up_model.specs.Tests as test;
+ghost use Rattle.up_model.specs.Instances.{instance_named};
+ghost use Rattle.up_model.specs.Queue as queue;
 ghost use Rattle.up_model.specs.Requests as request;
 ghost use Rattle.up_text.specs.Scripts.{is_filled};
-ghost use Rattle.up_engine.specs.Records.{entries_of};
-ghost use Rattle.up_engine.specs.Queues.{live_of};
 
 use crate::book::Book;
-use crate::goal::is_start;
+use crate::judgement::{conclude, verdict_on};
+use crate::keys::Live;
 use crate::moves::move_first;
-use crate::offers::offer_next;
-use crate::queue::Live;
-use crate::record::{Origin, Record};
+use crate::offers::{instance_named, offer_next};
+use crate::setup::Setup;
 use std::alloc::{AllocError, Global};
-use up_model::{Answer, Command, Goal, Input, JobDef, Process, State, Who};
-use up_text::{Env, Items, Text};
+use up_model::{Answer, Command, End, Event, How, Input, Process, Request, Who};
+use up_text::Text;
 
-/// Does the first thing that is due, and answers whether anything was.
-#[tactic(auto, using(crate::proofs::MoveLemmas::none_nil), unfolding(up_model::specs::Due::due))]
-pub(crate) fn do_next(
+/// Does the first thing that is due; returns whether anything was.
+#[tactic(auto, unfolding(up_model::specs::Due::due))]
+pub(crate) fn do_next<B: Book>(
     alloc: Global,
-    base: &Env,
-    jobs: &[JobDef],
-    book: &mut Book,
+    setup: &Setup,
+    book: &mut B,
 ) -> Result<bool, AllocError>
-    ensures entries { OnOk result (book.new ≡ model.due base.now jobs.now book.old ++ book.old) }
-    ensures any { IfOk result (λ done. done ≡ is_filled (model.due base.now jobs.now book.old)) }
+    ensures entries { OnOk result ((c : Chronicle) → B.stands book.old Stepping (config_of setup.now) c
+        → B.stands book.new Stepping (config_of setup.now) (model.due (config_of setup.now) c ++ c)) }
+    ensures any { IfOk result (λ done. (c : Chronicle) → B.stands book.old Stepping (config_of setup.now) c
+        → done ≡ is_filled (model.due (config_of setup.now) c)) }
 {
-    if move_first(alloc, book, jobs)? {
+    if move_first(alloc, setup, book, setup.jobs())? {
         return Ok(true);
     }
-    offer_next(alloc, base, book, jobs)
+    offer_next(alloc, setup, book, setup.jobs())
 }
 
-/// The instance of this name, and the job that it is of.
-#[tactic(auto, using(crate::proofs::DueLemmas::named_left))]
-fn instance_named(book: &Book, jobs: &[JobDef], who: &Who) -> Option<usize>
-    ensures { result ≡ model.instance_named jobs.now 0 who.now book.now }
+fn awaits<B: Book>(book: &B, who: &Who, process: Process) -> bool
+    ensures { (mode : Mode) (config : Configuration) (c : Chronicle) → B.stands book.now mode config c
+        → result ≡ answer.awaits (instance_named who.now c) process c }
 {
-    for (place, job) in jobs.iter().enumerate() {
-        if job.name.is(&who.job) {
-            return book.instance_of(place, who.instance.as_str());
-        }
-    }
-    None
-}
-
-fn is_main(process: Process) -> bool
-    ensures { result ≡ test.is_main process }
-{
-    match process {
-        Process::Main => true,
-        Process::PreStart | Process::PostStart | Process::PreStop | Process::PostStop => false,
+    match instance_named(book, &who.job, who.instance.as_str()) {
+        Some(key) => book.awaits(key, process),
+        None => false,
     }
 }
 
-fn is_running(state: State) -> bool
-    ensures { result ≡ model.is_running state }
+fn has_living<B: Book>(book: &B, who: &Who, process: Process) -> bool
+    ensures { (mode : Mode) (config : Configuration) (c : Chronicle) → B.stands book.now mode config c
+        → result ≡ answer.has_living (instance_named who.now c) process c }
 {
-    match state {
-        State::Running => true,
-        State::Waiting
-        | State::Starting
-        | State::PreStart
-        | State::Spawned
-        | State::PostStart
-        | State::PreStop
-        | State::Stopping
-        | State::Killed
-        | State::PostStop => false,
+    match instance_named(book, &who.job, who.instance.as_str()) {
+        Some(key) => book.lives(key, process),
+        None => false,
     }
 }
 
 /// Whether an input is expected: the answer for a process that is ordered and unanswered, the end of one that lives, or any other.
 #[tactic(auto, unfolding(up_model::specs::Answers::is_expected))]
-pub(crate) fn is_expected(book: &Book, jobs: &[JobDef], given: &Input) -> bool
-    ensures { result ≡ answer.is_expected jobs.now given.now book.now }
+pub(crate) fn is_expected<B: Book>(book: &B, input: &Input) -> bool
+    ensures { (mode : Mode) (config : Configuration) (c : Chronicle) → B.stands book.now mode config c → result ≡ answer.is_expected input.now c }
 {
-    match given {
-        Input::Spawned { who, process, .. } | Input::Refused { who, process } =>
-            match instance_named(book, jobs, who) {
-                Some(instance) => book.awaited(instance, &who.job, who.instance.as_str(), *process),
-                None => false,
-            },
-        Input::Ended { who, process, .. } => match instance_named(book, jobs, who) {
-            Some(_) => book
-                .pid_of(&who.job, who.instance.as_str(), *process)
-                .is_some(),
-            None => false,
-        },
+    match input {
+        Input::Spawned { who, process, .. } | Input::Refused { who, process } => awaits(
+            book, who, *process,
+        ),
+        Input::Ended { who, process, .. } => has_living(book, who, *process),
         Input::Emit(_) | Input::Request { .. } | Input::Clock(_) | Input::Turn => true,
     }
 }
@@ -107,145 +85,94 @@ fn not_supported(alloc: Global, command: Command) -> Result<Answer, AllocError>
     Ok(Answer { ok: false, text })
 }
 
-// The record by which an instance's goal becomes stop, where it is start; the holders stay.
-fn give_up(alloc: Global, book: &Book, instance: usize) -> Result<Option<Record>, AllocError>
-    ensures { IfOk result (λ found. entries_of found ≡ model.give_up instance book.now) }
-{
-    if !is_start(book.goal(instance)) {
-        return Ok(None);
-    }
-    let holders = Items::new(Vec::from_slice(alloc, book.holders(instance))?);
-    let environment = Env::new(alloc);
-    let goal = Goal::Stop;
-    Ok(Some(Record::Aimed {
-        instance,
-        goal,
-        environment,
-        holders,
-    }))
-}
-
-// What a refused process does to its instance.
-fn refused(
-    alloc: Global,
-    book: &Book,
-    found: Option<usize>,
-    process: Process,
-) -> Result<Option<Record>, AllocError>
-    ensures { IfOk result (λ next. entries_of next ≡ model.refused found process book.now) }
-{
-    match found {
-        Some(instance) if is_main(process) => give_up(alloc, book, instance),
-        _ => Ok(None),
-    }
-}
-
-// What a process that ended does to its instance.
-fn ended(
-    alloc: Global,
-    book: &Book,
-    found: Option<usize>,
-    process: Process,
-) -> Result<Option<Record>, AllocError>
-    ensures { IfOk result (λ next. entries_of next ≡ model.ended found process book.now) }
-{
-    match found {
-        Some(instance) if is_main(process) && is_running(book.state_of(instance)) => give_up(
-            alloc, book, instance,
-        ),
-        _ => Ok(None),
-    }
-}
-
-// What a turn does to its event.
-fn turned(found: Option<Live>) -> Option<Record>
-    ensures { entries_of result ≡ model.turned (option_map live_of found) }
-{
-    match found {
-        Some(live) if live.handled => Some(Record::Finished(live.place)),
-        Some(live) => Some(Record::Handled(live.place)),
-        None => None,
-    }
-}
-
-// What an input does beside being given, where that is one entry at most.
 #[tactic(auto, unfolding(up_model::specs::Due::effect))]
-fn effect(
+fn take_event<B: Book>(book: &mut B, event: Event) -> Result<(), AllocError>
+    ensures { OnOk result ((config : Configuration) (c : Chronicle) → B.stands book.old Resting config c
+        → B.stands book.new Stepping config (model.effect config (given_as.Emit event) c ++ c)) }
+{
+    let copy = event.copy()?;
+    book.given(Input::Emit(event))?;
+    book.emit(copy)?;
+    Ok(())
+}
+
+#[tactic(auto, unfolding(up_model::specs::Due::effect))]
+fn take_request<B: Book>(
     alloc: Global,
-    jobs: &[JobDef],
-    book: &Book,
-    given: &Input,
-    turn: Option<Live>,
-) -> Result<Option<Record>, AllocError>
-    ensures { IfOk result (λ next. (base : List (List ℕ × List ℕ)) → option_map live_of turn ≡ model.turn_event base jobs.now (queue book.now) book.now → model.effect base jobs.now given.now book.now ≡ entries_of next ++ entry.Given given.now ∷ []) }
-{
-    match given {
-        Input::Emit(event) => {
-            let event = event.copy()?;
-            let origin = Origin::Outside;
-            Ok(Some(Record::Queued { origin, event }))
-        }
-        Input::Request { request, .. } => {
-            let answer = not_supported(alloc, request.command)?;
-            Ok(Some(Record::Replied {
-                request: book.len(),
-                answer,
-            }))
-        }
-        Input::Refused { who, process } => refused(
-            alloc,
-            book,
-            instance_named(book, jobs, who),
-            *process,
-        ),
-        Input::Ended { who, process, .. } => ended(
-            alloc,
-            book,
-            instance_named(book, jobs, who),
-            *process,
-        ),
-        Input::Turn => Ok(turned(turn)),
-        Input::Spawned { .. } | Input::Clock(_) => Ok(None),
-    }
-}
-
-fn add_found(book: &mut Book, found: Option<Record>) -> Result<(), AllocError>
-    ensures { OnOk result (book.new ≡ entries_of found ++ book.old) }
-{
-    match found {
-        Some(next) => book.add(next),
-        None => Ok(()),
-    }
-}
-
-// Adds an input, and behind it what it does.
-fn add_given(book: &mut Book, given: Input, found: Option<Record>) -> Result<(), AllocError>
-    ensures { OnOk result (book.new ≡ entries_of found ++ entry.Given given ∷ book.old) }
-{
-    match book.add(Record::Given(given)) {
-        Ok(()) => add_found(book, found),
-        Err(error) => {
-            drop(found);
-            Err(error)
-        }
-    }
-}
-
-/// Takes an input in, with its own effect, where `turn` is the event that a turn would take.
-pub(crate) fn act(
-    alloc: Global,
-    jobs: &[JobDef],
-    book: &mut Book,
-    given: Input,
-    turn: Option<Live>,
+    book: &mut B,
+    id: u64,
+    request: Request,
 ) -> Result<(), AllocError>
-    ensures { OnOk result ((base : List (List ℕ × List ℕ)) → option_map live_of turn ≡ model.turn_event base jobs.now (queue book.old) book.old → book.new ≡ model.effect base jobs.now given book.old ++ book.old) }
+    ensures { OnOk result ((config : Configuration) (c : Chronicle) → B.stands book.old Resting config c
+        → B.stands book.new Stepping config (model.effect config (given_as.Request id request) c ++ c)) }
 {
-    match effect(alloc, jobs, book, &given, turn) {
-        Ok(found) => add_given(book, given, found),
-        Err(error) => {
-            drop(given);
-            Err(error)
-        }
+    let answer = not_supported(alloc, request.command)?;
+    book.given(Input::Request { id, request })?;
+    book.reply(answer)?;
+    Ok(())
+}
+
+#[tactic(auto, unfolding(up_model::specs::Due::effect), using(crate::proofs::Entries::one_last))]
+fn take_refusal<B: Book>(book: &mut B, who: Who, process: Process) -> Result<(), AllocError>
+    ensures { OnOk result ((config : Configuration) (c : Chronicle) → B.stands book.old Resting config c
+        → B.stands book.new Stepping config (model.effect config (given_as.Refused who process) c ++ c)) }
+{
+    let judged = verdict_on(book, &who, process, End::Refused);
+    conclude(book, Input::Refused { who, process }, judged)?;
+    Ok(())
+}
+
+#[tactic(auto, unfolding(up_model::specs::Due::effect), using(crate::proofs::Entries::one_last))]
+fn take_end<B: Book>(book: &mut B, who: Who, process: Process, how: How) -> Result<(), AllocError>
+    ensures { OnOk result ((config : Configuration) (c : Chronicle) → B.stands book.old Resting config c
+        → B.stands book.new Stepping config (model.effect config (given_as.Ended who process how) c ++ c)) }
+{
+    let judged = verdict_on(book, &who, process, End::Ended(how));
+    conclude(book, Input::Ended { who, process, how }, judged)?;
+    Ok(())
+}
+
+// Handles an unhandled event, and finishes a handled one.
+fn turn_by<B: Book>(book: &mut B, live: Live) -> Result<(), AllocError>
+    ensures { OnOk result ((config : Configuration) (c : Chronicle) (e : ℕ) → B.stands book.old Stepping config c
+        → B.event_place book.old c live.key ≡ Some e → B.stands book.new Stepping config (model.turn_of (Some (queue.live_at e live.handled)) ++ c)) }
+{
+    if live.handled {
+        book.finish(live.key)?;
+    } else {
+        book.handle(live.key)?;
     }
+    Ok(())
+}
+
+#[tactic(auto, unfolding(up_model::specs::Due::effect))]
+fn take_turn<B: Book>(book: &mut B) -> Result<(), AllocError>
+    ensures { OnOk result ((config : Configuration) (c : Chronicle) → B.stands book.old Resting config c
+        → B.stands book.new Stepping config (model.effect config given_as.Turn c ++ c)) }
+{
+    let turn = book.turn();
+    book.given(Input::Turn)?;
+    match turn {
+        Some(live) => turn_by(book, live)?,
+        None => {}
+    }
+    Ok(())
+}
+
+/// Takes an input in, with its own effect.
+#[tactic(auto, unfolding(up_model::specs::Due::effect))]
+pub(crate) fn act<B: Book>(alloc: Global, book: &mut B, input: Input) -> Result<(), AllocError>
+    ensures { OnOk result ((config : Configuration) (c : Chronicle) → B.stands book.old Resting config c
+        → B.stands book.new Stepping config (model.effect config input c ++ c)) }
+{
+    match input {
+        Input::Emit(event) => take_event(book, event)?,
+        Input::Request { id, request } => take_request(alloc, book, id, request)?,
+        Input::Spawned { who, process, pid } => book.given(Input::Spawned { who, process, pid })?,
+        Input::Refused { who, process } => take_refusal(book, who, process)?,
+        Input::Ended { who, process, how } => take_end(book, who, process, how)?,
+        Input::Clock(reading) => book.given(Input::Clock(reading))?,
+        Input::Turn => take_turn(book)?,
+    }
+    Ok(())
 }

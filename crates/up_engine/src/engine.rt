@@ -1,19 +1,22 @@
 //! The engine: one step for one input, and a run over a list of them.
-ghost use Rattle.std.specs.Prelude.{◌≡◌, List, ℕ, Ok, Err, [], length, is_some};
-ghost use Rattle.up_conf.specs.declared.job.JobDef.{JobDef as JobValue};
-ghost use Rattle.up_model.specs.Chronicle.{Entry};
+ghost use Rattle.std.specs.Prelude.{◌≡◌, List, ℕ, Ok, Err, [], length, is_some, IfOk, OnOk};
+ghost use Rattle.up_engine.specs.Setups.{config_of};
+ghost use Rattle.up_engine.specs.Keys.{Resting};
+ghost use Rattle.up_model.specs.Answers as answer;
+ghost use Rattle.up_model.specs.Chronicle.{Chronicle};
+ghost use Rattle.up_model.specs.Configuration.{Configuration};
 ghost use Rattle.up_model.specs.Due as due;
+ghost use Rattle.up_model.specs.Outputs.{outputs_of};
 ghost use Rattle.up_model.specs.Queue as queue;
 
 use crate::book::Book;
 use crate::due::is_expected;
 use crate::fault::StepError;
-use crate::outputs::outputs;
-use crate::queue::Live;
 use crate::run::Run;
 use crate::settle::run_step;
-use crate::turn::turn_event;
-use std::alloc::Global;
+use crate::setup::Setup;
+use crate::stored::StoringBook;
+use std::alloc::{AllocError, Global};
 use up_image::Table;
 use up_model::{Input, Output, Step};
 use up_text::{Env, Items};
@@ -24,14 +27,29 @@ use up_text::{Env, Items};
 #[derive(Drop)]
 pub struct Engine {
     alloc: Global,
-    table: Table,
-    base: Env,
-    book: Book,
-    // The event that a turn would take.
-    turn: Option<Live>,
-    // A step was refused memory in its midst; what the engine tells of its events is then what held before that step.
+    setup: Setup,
+    book: StoringBook,
+    // A step ran out of memory; what the engine tells of its events is then what held before that step.
     down: bool,
     live: usize,
+    turns: bool,
+}
+
+// One whole step.
+fn step_book<B: Book>(
+    alloc: Global,
+    setup: &Setup,
+    book: &mut B,
+    given: Input,
+) -> Result<Vec<Output>, AllocError>
+    ensures after { OnOk result ((c : Chronicle) → B.stands book.old Resting (config_of setup.now) c
+        → B.stands book.new Resting (config_of setup.now) (answer.after (config_of setup.now) c given)) }
+    ensures outputs { IfOk result (λ outputs. (c : Chronicle) → B.stands book.old Resting (config_of setup.now) c
+        → outputs.items ≡ outputs_of (config_of setup.now) (answer.after (config_of setup.now) c given)) }
+{
+    run_step(alloc, setup, book, given)?;
+    let outputs = book.rest(setup)?;
+    Ok(outputs)
 }
 
 impl Engine {
@@ -39,23 +57,22 @@ impl Engine {
 
     /// An engine to which nothing has happened. Each process gets its environment on top of `base`.
     pub fn new(alloc: Global, table: Table, base: Env) -> Self
-        ensures { Stands result base table [] }
+        ensures { Stands result (record { base = base; jobs = table }) [] }
     {
         Engine {
             alloc,
-            table,
-            base,
-            book: Book::new(alloc),
-            turn: None,
+            setup: Setup { base, table },
+            book: StoringBook::new(alloc),
             down: false,
             live: 0,
+            turns: false,
         }
     }
 
     /// How many events were queued and haven't finished. Takes no memory.
     pub fn live_events(&self) -> usize
-        ensures up { (base : List (List ℕ × List ℕ)) (jobs : List JobValue) (c : List Entry) → Stands self.now base jobs c → result ≡ length (queue.queue c) }
-        ensures down { (base : List (List ℕ × List ℕ)) (jobs : List JobValue) (c : List Entry) → DownAt self.now base jobs c → result ≡ length (queue.queue c) }
+        ensures up { (config : Configuration) (c : Chronicle) → Stands self.now config c → result ≡ length (queue.queue c) }
+        ensures down { (config : Configuration) (c : Chronicle) → DownAt self.now config c → result ≡ length (queue.queue c) }
     {
         if self.down {
             return self.live;
@@ -65,53 +82,44 @@ impl Engine {
 
     /// Whether a turn would handle or finish an event. Takes no memory.
     pub fn has_turn(&self) -> bool
-        ensures up { (base : List (List ℕ × List ℕ)) (jobs : List JobValue) (c : List Entry) → Stands self.now base jobs c → result ≡ is_some (due.turn_event base jobs (queue.queue c) c) }
-        ensures down { (base : List (List ℕ × List ℕ)) (jobs : List JobValue) (c : List Entry) → DownAt self.now base jobs c → result ≡ is_some (due.turn_event base jobs (queue.queue c) c) }
+        ensures up { (config : Configuration) (c : Chronicle) → Stands self.now config c → result ≡ is_some (due.turn_event config (queue.queue c) c) }
+        ensures down { (config : Configuration) (c : Chronicle) → DownAt self.now config c → result ≡ is_some (due.turn_event config (queue.queue c) c) }
     {
-        self.turn.is_some()
+        if self.down {
+            return self.turns;
+        }
+        self.book.turn().is_some()
     }
 
     /// Takes one input, and answers what it asks for, in order. Refused with `NotExpected` for the answer or the end of a process
-    /// that isn't expected, which changes nothing; with `Memory`, after which the engine is down; and with `Down` where it is.
+    /// that isn't expected, which changes nothing; with `Memory`, after which the engine is down; and with `Down` if it is.
     pub fn step(&mut self, given: Input) -> Result<Vec<Output>, StepError>
-        ensures meaning { (base : List (List ℕ × List ℕ)) (jobs : List JobValue) (c : List Entry) → Stands self.old base jobs c → StepMeans (result_map (λ outputs. outputs.items) result) self.new base jobs c given }
+        ensures meaning { (config : Configuration) (c : Chronicle) → Stands self.old config c → StepMeans (result_map (λ outputs. outputs.items) result) self.new config c given }
         ensures down { IsDown self.old → (result ≡ Err StepError.Down) × (self.new ≡ self.old) }
     {
         if self.down {
             drop(given);
             return Err(StepError::Down);
         }
-        if !is_expected(&self.book, self.table.as_slice(), &given) {
+        if !is_expected(&self.book, &given) {
             drop(given);
             return Err(StepError::NotExpected);
         }
         self.live = self.book.live_events();
+        self.turns = self.book.turn().is_some();
         self.down = true;
-        run_step(
-            self.alloc,
-            &self.base,
-            self.table.as_slice(),
-            &mut self.book,
-            given,
-            self.turn,
-        )?;
-        let found = outputs(self.alloc, self.table.as_slice(), self.book.records())?;
-        match turn_event(self.alloc, &self.base, &self.book, self.table.as_slice()) {
-            Ok(turn) => {
-                self.turn = turn;
+        match step_book(self.alloc, &self.setup, &mut self.book, given) {
+            Ok(outputs) => {
                 self.down = false;
-                Ok(found)
+                Ok(outputs)
             }
-            Err(error) => {
-                drop(found);
-                Err(error.into())
-            }
+            Err(_) => Err(StepError::Memory),
         }
     }
 
-    // The answer to one input of a run, or none where memory was refused.
+    // The answer to one input of a run, or none if memory ran out.
     fn answer(&mut self, given: Input) -> Option<Step>
-        ensures { (base : List (List ℕ × List ℕ)) (jobs : List JobValue) (c : List Entry) → Stands self.old base jobs c → AnswerMeans result self.new base jobs c given }
+        ensures { (config : Configuration) (c : Chronicle) → Stands self.old config c → AnswerMeans result self.new config c given }
     {
         match self.step(given) {
             Ok(outputs) => Some(Step::Gave(Items::new(outputs))),
@@ -122,9 +130,9 @@ impl Engine {
     }
 
     /// Takes inputs one after another, and answers each. The room for all answers is taken first: refused there with `Memory`, the
-    /// engine has taken none of them. It stops at the first input for which memory is refused. Refused with `Down` where it is.
+    /// engine has taken none of them. It stops at the first input that runs out of memory. Refused with `Down` if it is.
     pub fn run(&mut self, inputs: Vec<Input>) -> Result<Run, StepError>
-        ensures meaning { (base : List (List ℕ × List ℕ)) (jobs : List JobValue) (c : List Entry) → Stands self.old base jobs c → RunMeans result self.new base jobs c inputs.items }
+        ensures meaning { (config : Configuration) (c : Chronicle) → Stands self.old config c → RunMeans result self.new config c inputs.items }
         ensures down { IsDown self.old → (result ≡ Err StepError.Down) × (self.new ≡ self.old) }
     {
         if self.down {

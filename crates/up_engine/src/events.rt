@@ -1,16 +1,23 @@
-//! The events that an instance gives, and the environment that a start gives it.
-ghost use Rattle.std.specs.Prelude.{◌≡◌, List, ◌++◌, IfOk, OnOk, string_bytes, if◌then◌else◌};
-ghost use Rattle.up_text.specs.Bindings.{set_in};
-ghost use Rattle.up_model.specs.Events as model;
-ghost use Rattle.up_model.specs.declared.event.Event.{Event as EventValue};
+//! The events that an instance emits, and the environments of a start and of a stop.
+ghost use Rattle.std.specs.Prelude.{◌≡◌, List, ℕ, [], ◌∷◌, ◌++◌, Some, map, IfOk, OnOk, string_bytes, if◌then◌else◌, codes};
+ghost use Rattle.std.specs.Fmt.{decimal};
 ghost use Rattle.std.specs.Option.{option_copied};
+ghost use Rattle.up_text.specs.Bindings.{set_in, set_all};
+ghost use Rattle.up_engine.specs.Keys.{Mode};
+ghost use Rattle.up_model.specs.declared.event.Event.{Event as EventValue};
+ghost use Rattle.up_model.specs.Chronicle.{Chronicle};
+ghost use Rattle.up_model.specs.Configuration.{Configuration};
+ghost use Rattle.up_model.specs.Events as model;
+ghost use Rattle.up_model.specs.Signals.{signal_text};
 
 use crate::book::Book;
+use crate::keys::EventKey;
 use std::alloc::{AllocError, Global};
-use up_model::Event;
+use up_conf::signal_name;
+use up_model::{Cause, Event, Failure, How, JobEvent, process_name};
 use up_text::{Env, Name};
 
-// The keys and values here are ones that an environment takes, so that memory alone refuses them.
+// The keys and values here are ones that an environment takes, so that it refuses them only if it is out of memory.
 fn put(vars: &mut Env, key: &str, value: &str) -> Result<(), AllocError>
     ensures { OnOk result (vars.new ≡ set_in key.now value.now vars.old) }
 {
@@ -29,15 +36,70 @@ fn about(alloc: Global, job: &Name, name: &str) -> Result<Env, AllocError>
     Ok(vars)
 }
 
-fn about_with_result(alloc: Global, job: &Name, name: &str) -> Result<Env, AllocError>
-    ensures { IfOk result (λ vars. vars ≡ model.about (record { job = job.now; instance = name.now }) ++ model.result) }
+fn cause_name(cause: Cause) -> &'static str
+    ensures { result.now ≡ model.cause_name cause }
+{
+    match cause {
+        Cause::Process(process) => process_name(process),
+        Cause::Respawn => "respawn",
+    }
+}
+
+fn put_number(vars: &mut Env, alloc: Global, key: &str, number: u8) -> Result<(), AllocError>
+    ensures { OnOk result (vars.new ≡ set_in key.now (decimal number) vars.old) }
+{
+    let digits = number.to_string(alloc)?;
+    put(vars, key, digits.as_str())
+}
+
+fn put_signal(vars: &mut Env, alloc: Global, signal: u8) -> Result<(), AllocError>
+    ensures { OnOk result (vars.new ≡ set_in (codes "EXIT_SIGNAL") (signal_text signal) vars.old) }
+{
+    match signal_name(signal) {
+        Some(name) => put(vars, "EXIT_SIGNAL", name),
+        None => put_number(vars, alloc, "EXIT_SIGNAL", signal),
+    }
+}
+
+// How the process ended that failed.
+fn put_ending(vars: &mut Env, alloc: Global, how: Option<How>) -> Result<(), AllocError>
+    ensures { OnOk result (vars.new ≡ set_all vars.old (model.ending how)) }
+{
+    match how {
+        Some(How::Exit(status)) => put_number(vars, alloc, "EXIT_STATUS", status),
+        Some(How::Signal(signal)) => put_signal(vars, alloc, signal),
+        None => Ok(()),
+    }
+}
+
+// How a life went.
+fn put_result(vars: &mut Env, alloc: Global, failure: Option<Failure>) -> Result<(), AllocError>
+    ensures { OnOk result (vars.new ≡ set_all vars.old (model.result failure)) }
+{
+    match failure {
+        Some(failure) => {
+            put(vars, "RESULT", "failed")?;
+            put(vars, "PROCESS", cause_name(failure.cause))?;
+            put_ending(vars, alloc, failure.how)
+        }
+        None => put(vars, "RESULT", "ok"),
+    }
+}
+
+fn about_with_result(
+    alloc: Global,
+    job: &Name,
+    name: &str,
+    failure: Option<Failure>,
+) -> Result<Env, AllocError>
+    ensures { IfOk result (λ vars. vars ≡ model.about (record { job = job.now; instance = name.now }) ++ model.result failure) }
 {
     let mut vars = about(alloc, job, name)?;
-    put(&mut vars, "RESULT", "ok")?;
+    put_result(&mut vars, alloc, failure)?;
     Ok(vars)
 }
 
-fn event(alloc: Global, name: &str, vars: Env) -> Result<Event, AllocError>
+fn event_of(alloc: Global, name: &str, vars: Env) -> Result<Event, AllocError>
     ensures { IfOk result (λ event. event ≡ record { name = name.now; vars = vars }) }
 {
     match Name::new(alloc, name) {
@@ -46,117 +108,160 @@ fn event(alloc: Global, name: &str, vars: Env) -> Result<Event, AllocError>
     }
 }
 
-/// An instance enters starting (starting(7)).
-pub(crate) fn starting(alloc: Global, job: &Name, name: &str) -> Result<Event, AllocError>
-    ensures { IfOk result (λ event. event ≡ model.starting (record { job = job.now; instance = name.now })) }
+/// An event of an instance's life, which may have failed (starting(7), started(7), stopping(7), stopped(7)).
+pub(crate) fn job_event(
+    alloc: Global,
+    kind: JobEvent,
+    job: &Name,
+    name: &str,
+    failure: Option<Failure>,
+) -> Result<Event, AllocError>
+    ensures { IfOk result (λ event. event ≡ model.job_event kind (record { job = job.now; instance = name.now }) failure) }
 {
-    let vars = about(alloc, job, name)?;
-    event(alloc, "starting", vars)
-}
-
-/// An instance enters running (started(7)).
-pub(crate) fn started(alloc: Global, job: &Name, name: &str) -> Result<Event, AllocError>
-    ensures { IfOk result (λ event. event ≡ model.started (record { job = job.now; instance = name.now })) }
-{
-    let vars = about(alloc, job, name)?;
-    event(alloc, "started", vars)
-}
-
-/// An instance enters stopping (stopping(7)).
-pub(crate) fn stopping(alloc: Global, job: &Name, name: &str) -> Result<Event, AllocError>
-    ensures { IfOk result (λ event. event ≡ model.stopping (record { job = job.now; instance = name.now })) }
-{
-    let vars = about_with_result(alloc, job, name)?;
-    event(alloc, "stopping", vars)
-}
-
-/// An instance enters waiting (stopped(7)).
-pub(crate) fn stopped(alloc: Global, job: &Name, name: &str) -> Result<Event, AllocError>
-    ensures { IfOk result (λ event. event ≡ model.stopped (record { job = job.now; instance = name.now })) }
-{
-    let vars = about_with_result(alloc, job, name)?;
-    event(alloc, "stopped", vars)
-}
-
-fn set_vars(env: &mut Env, found: Option<&Event>) -> Result<(), AllocError>
-    ensures { OnOk result ((events : List EventValue) → model.collected env.new events ≡ model.collected env.old (model.with_event (option_copied found.entry) events)) }
-{
-    match found {
-        Some(event) => env.append(&event.vars),
-        None => Ok(()),
+    match kind {
+        JobEvent::Starting => event_of(alloc, "starting", about(alloc, job, name)?),
+        JobEvent::Started => event_of(alloc, "started", about(alloc, job, name)?),
+        JobEvent::Stopping => {
+            let vars = about_with_result(alloc, job, name, failure)?;
+            event_of(alloc, "stopping", vars)
+        }
+        JobEvent::Stopped => {
+            let vars = about_with_result(alloc, job, name, failure)?;
+            event_of(alloc, "stopped", vars)
+        }
     }
 }
 
-#[tactic(auto, using(crate::proofs::EventLemmas::events_left))]
-fn collect(env: &mut Env, book: &Book, places: &[usize]) -> Result<(), AllocError>
-    ensures { OnOk result (env.new ≡ model.collected env.old (model.events_at places.now book.now)) }
+fn push_event<'a>(events: &mut Vec<&'a Event>, found: Option<&'a Event>) -> Result<(), AllocError>
+    ensures { OnOk result ((rest : List EventValue) → map (λ event. event.now) events.new.items ++ rest
+        ≡ map (λ event. event.now) events.old.items ++ model.with_event (option_copied found.entry) rest) }
 {
-    for place in places {
-        set_vars(env, book.event_at(*place))?;
+    match found {
+        Some(event) => events.push(event)?,
+        None => {}
     }
     Ok(())
 }
 
-// Answers whether the next name is still the first.
-fn push_name(text: &mut String, is_first: bool, found: Option<&Event>) -> Result<bool, AllocError>
-    ensures { IfOk result (λ still_first. (events : List EventValue) →
-        string_bytes text.new ++ (if still_first then model.names_of events else model.more_names events)
-        ≡ string_bytes text.old ++ (if is_first then model.names_of (model.with_event (option_copied found.entry) events) else model.more_names (model.with_event (option_copied found.entry) events))) }
+// The events of these keys.
+fn events_of<'a, B: Book>(
+    alloc: Global,
+    book: &'a B,
+    keys: &[EventKey],
+) -> Result<Vec<&'a Event>, AllocError>
+    ensures { IfOk result (λ events. (mode : Mode) (config : Configuration) (c : Chronicle) (places : List ℕ) → B.stands book.now mode config c
+        → map (B.event_place book.now c) keys.now ≡ map Some places → map (λ event. event.now) events.items ≡ model.events_at places c) }
 {
-    let Some(event) = found else {
-        return Ok(is_first);
-    };
-    if is_first {
-        text.push_str(event.name.as_str())?;
-        return Ok(false);
+    let mut events = Vec::new(alloc);
+    for key in keys {
+        push_event(&mut events, book.event_at(*key))?;
     }
-    text.push_str(" ")?;
-    text.push_str(event.name.as_str())?;
-    Ok(false)
+    Ok(events)
 }
 
 #[tactic(auto, using(crate::proofs::EventLemmas::events_left))]
-fn names_of(alloc: Global, book: &Book, places: &[usize]) -> Result<String, AllocError>
-    ensures { IfOk result (λ text. string_bytes text ≡ model.names_of (model.events_at places.now book.now)) }
+fn collect(env: &mut Env, events: &[&Event]) -> Result<(), AllocError>
+    ensures { OnOk result (env.new ≡ model.collected env.old (map (λ event. event.now) events.now)) }
+{
+    for event in events {
+        env.append(&event.vars)?;
+    }
+    Ok(())
+}
+
+// Adds a name, after a space if it isn't the first.
+fn push_name(text: &mut String, is_first: bool, event: &Event) -> Result<(), AllocError>
+    ensures { OnOk result ((events : List EventValue) → string_bytes text.new ++ model.more_names events
+        ≡ string_bytes text.old ++ (if is_first then model.names_of (event.now ∷ events) else model.more_names (event.now ∷ events))) }
+{
+    if !is_first {
+        text.push_str(" ")?;
+    }
+    text.push_str(event.name.as_str())?;
+    Ok(())
+}
+
+#[tactic(auto, using(crate::proofs::EventLemmas::events_left))]
+fn names_of(alloc: Global, events: &[&Event]) -> Result<String, AllocError>
+    ensures { IfOk result (λ text. string_bytes text ≡ model.names_of (map (λ event. event.now) events.now)) }
 {
     let mut text = String::new(alloc);
     let mut is_first = true;
-    for place in places {
-        is_first = push_name(&mut text, is_first, book.event_at(*place))?;
+    for event in events {
+        push_name(&mut text, is_first, event)?;
+        is_first = false;
     }
     Ok(text)
 }
 
-// Puts behind the base environment what a start by these events tells.
+// Adds to the base environment what a start by these events tells.
 fn add_start(
     env: &mut Env,
-    book: &Book,
-    places: &[usize],
+    events: &[&Event],
     names: &str,
     job: &Name,
     name: &str,
 ) -> Result<(), AllocError>
-    ensures { OnOk result (names.now ≡ model.names_of (model.events_at places.now book.now) → env.new ≡ model.start_env env.old (model.events_at places.now book.now) (record { job = job.now; instance = name.now })) }
+    ensures { OnOk result (names.now ≡ model.names_of (map (λ event. event.now) events.now)
+        → env.new ≡ model.start_env env.old (map (λ event. event.now) events.now) (record { job = job.now; instance = name.now })) }
 {
-    collect(env, book, places)?;
+    collect(env, events)?;
     put(env, "UPSTART_EVENTS", names)?;
     put(env, "UPSTART_JOB", job.as_str())?;
     put(env, "UPSTART_INSTANCE", name)
 }
 
-/// The environment of a start by the events at these places.
-pub(crate) fn start_env(
+fn env_by(
     alloc: Global,
     base: &Env,
-    book: &Book,
-    places: &[usize],
+    events: &[&Event],
     job: &Name,
     name: &str,
 ) -> Result<Env, AllocError>
-    ensures { IfOk result (λ env. env ≡ model.start_env base.now (model.events_at places.now book.now) (record { job = job.now; instance = name.now })) }
+    ensures { IfOk result (λ env. env ≡ model.start_env base.now (map (λ event. event.now) events.now) (record { job = job.now; instance = name.now })) }
 {
-    let names = names_of(alloc, book, places)?;
+    let names = names_of(alloc, events)?;
     let mut env = base.copy()?;
-    add_start(&mut env, book, places, names.as_str(), job, name)?;
+    add_start(&mut env, events, names.as_str(), job, name)?;
     Ok(env)
+}
+
+/// The environment of a start by the events of these keys.
+pub(crate) fn start_env<B: Book>(
+    alloc: Global,
+    base: &Env,
+    book: &B,
+    keys: &[EventKey],
+    job: &Name,
+    name: &str,
+) -> Result<Env, AllocError>
+    ensures { IfOk result (λ env. (mode : Mode) (config : Configuration) (c : Chronicle) (places : List ℕ) → B.stands book.now mode config c
+        → map (B.event_place book.now c) keys.now ≡ map Some places
+        → env ≡ model.start_env base.now (model.events_at places c) (record { job = job.now; instance = name.now })) }
+{
+    let events = events_of(alloc, book, keys)?;
+    env_by(alloc, base, events.as_slice(), job, name)
+}
+
+fn stop_env_by(alloc: Global, events: &[&Event]) -> Result<Env, AllocError>
+    ensures { IfOk result (λ env. env ≡ model.stopped_by (map (λ event. event.now) events.now)) }
+{
+    let names = names_of(alloc, events)?;
+    let mut env = Env::new(alloc);
+    collect(&mut env, events)?;
+    put(&mut env, "UPSTART_STOP_EVENTS", names.as_str())?;
+    Ok(env)
+}
+
+/// What a stop by the events of these keys adds for pre-stop and post-stop.
+pub(crate) fn stop_env<B: Book>(
+    alloc: Global,
+    book: &B,
+    keys: &[EventKey],
+) -> Result<Env, AllocError>
+    ensures { IfOk result (λ env. (mode : Mode) (config : Configuration) (c : Chronicle) (places : List ℕ) → B.stands book.now mode config c
+        → map (B.event_place book.now c) keys.now ≡ map Some places → env ≡ model.stopped_by (model.events_at places c)) }
+{
+    let events = events_of(alloc, book, keys)?;
+    stop_env_by(alloc, events.as_slice())
 }

@@ -1,258 +1,345 @@
 //! The moves of instances from state to state.
-ghost use Rattle.std.specs.Prelude.{◌≡◌, ◌++◌, ◌∷◌, [], not, false, is_some, IfOk, OnOk};
-ghost use Rattle.up_model.specs.declared.state.State.TheVariants as state;
+ghost use Rattle.std.specs.Prelude.{◌≡◌, ℕ, false, not, ◌&&◌, ◌||◌, List, ◌∷◌, [], ◌++◌, map, Option, Some, IfOk, OnOk};
+ghost use Rattle.std.specs.Option.{option_copied};
+ghost use Rattle.up_conf.specs.declared.job.JobDef.{JobDef as JobValue};
+ghost use Rattle.up_engine.specs.Keys.{Mode, Stepping, is_waiting, instance_at, slot_at, FindsMove};
+ghost use Rattle.up_engine.specs.Setups.{config_of};
+ghost use Rattle.up_model.specs.declared.state.State.TheVariants as entered;
+ghost use Rattle.up_model.specs.Chronicle.{Chronicle};
 ghost use Rattle.up_model.specs.Chronicle as entry;
-ghost use Rattle.up_stanza.specs.declared.process.Process.TheVariants as process;
-ghost use Rattle.up_model.specs.Events as event;
+ghost use Rattle.up_model.specs.Configuration.{Configuration};
+ghost use Rattle.up_model.specs.Instances as model_instances;
 ghost use Rattle.up_model.specs.Life as life;
 ghost use Rattle.up_model.specs.Moves as model;
 ghost use Rattle.up_model.specs.Readings as read;
+ghost use Rattle.up_model.specs.Tests.{entries_if};
+ghost use Rattle.up_stanza.specs.declared.process.Process.TheVariants as process;
 ghost use Rattle.up_text.specs.Scripts.{is_filled};
 
 use crate::book::Book;
-use crate::events::{started, starting, stopped, stopping};
-use crate::goal::is_start;
-use crate::record::{Origin, Record};
+use crate::events::job_event;
+use crate::keys::{InstanceKey, Slot};
+use crate::life::{has_process, is_start, is_waiting};
+use crate::setup::Setup;
 use std::alloc::{AllocError, Global};
 use up_conf::Signal;
-use up_model::{Event, Goal, JobDef, Process, State};
-use up_text::Text;
+use up_job::{entering, next_state};
+use up_model::{Entry, Failure, Goal, JobDef, JobEvent, Process, State};
 
-fn whole_or_gone(has_main: bool, lives: bool) -> State
-    ensures { result ≡ life.if_whole has_main lives }
+// Whether an order was answered, if the job has the process.
+fn is_answered<B: Book>(book: &B, job: &JobDef, key: InstanceKey, process: Process) -> bool
+    ensures { (mode : Mode) (config : Configuration) (c : Chronicle) (i : ℕ) → B.stands book.now mode config c
+        → B.instance_place book.now c key ≡ Some i → result ≡ model.is_over job.now i (life.ForAnswer process) c }
 {
-    if !has_main || lives {
-        State::Running
-    } else {
-        State::Stopping
+    !has_process(job, process) || !book.awaits(key, process)
+}
+
+fn is_at_work<B: Book>(book: &B, key: InstanceKey, process: Process) -> bool
+    ensures { (mode : Mode) (config : Configuration) (c : Chronicle) (i : ℕ) → B.stands book.now mode config c
+        → B.instance_place book.now c key ≡ Some i → result ≡ (read.awaited i process c || read.lives i process c) }
+{
+    book.awaits(key, process) || book.lives(key, process)
+}
+
+// Whether a process was refused or has ended, if the job has it.
+fn is_through<B: Book>(book: &B, job: &JobDef, key: InstanceKey, process: Process) -> bool
+    ensures { (mode : Mode) (config : Configuration) (c : Chronicle) (i : ℕ) → B.stands book.now mode config c
+        → B.instance_place book.now c key ≡ Some i → result ≡ model.is_over job.now i (life.ForProcess process) c }
+{
+    !has_process(job, process) || !is_at_work(book, key, process)
+}
+
+fn is_main_gone<B: Book>(book: &B, job: &JobDef, key: InstanceKey) -> bool
+    ensures { (mode : Mode) (config : Configuration) (c : Chronicle) (i : ℕ) → B.stands book.now mode config c
+        → B.instance_place book.now c key ≡ Some i → result ≡ (model.has_process job.now process.Main && not (read.lives i process.Main c)) }
+{
+    has_process(job, Process::Main) && !book.lives(key, Process::Main)
+}
+
+// Whether there is a reason to leave running.
+fn is_changed<B: Book>(book: &B, job: &JobDef, key: InstanceKey) -> bool
+    ensures { (mode : Mode) (config : Configuration) (c : Chronicle) (i : ℕ) → B.stands book.now mode config c
+        → B.instance_place book.now c key ≡ Some i → result ≡ model.is_over job.now i life.ForChange c }
+{
+    !is_start(book.goal(key)) || is_main_gone(book, job, key)
+}
+
+// Whether what an instance waits for in a state has come.
+fn is_over<B: Book>(book: &B, job: &JobDef, key: InstanceKey, from: State) -> bool
+    ensures { (mode : Mode) (config : Configuration) (c : Chronicle) (i : ℕ) → B.stands book.now mode config c
+        → B.instance_place book.now c key ≡ Some i → result ≡ model.is_over job.now i (life.wait_in from) c }
+{
+    match from {
+        State::Waiting => is_start(book.goal(key)),
+        State::Starting => !book.is_blocked(key),
+        State::PreStart => is_through(book, job, key, Process::PreStart),
+        State::Spawned => is_answered(book, job, key, Process::Main),
+        State::PostStart => is_through(book, job, key, Process::PostStart),
+        State::Running => is_changed(book, job, key),
+        State::PreStop => is_through(book, job, key, Process::PreStop),
+        State::Stopping => !book.is_blocked(key),
+        State::Killed => !book.lives(key, Process::Main),
+        State::PostStop => is_through(book, job, key, Process::PostStop),
     }
 }
 
-fn next_state(goal: Goal, from: State, has_main: bool, lives: bool) -> State
+fn may_leave<B: Book>(book: &B, job: &JobDef, key: InstanceKey) -> bool
+    ensures { (mode : Mode) (config : Configuration) (c : Chronicle) (i : ℕ) → B.stands book.now mode config c
+        → B.instance_place book.now c key ≡ Some i → result ≡ model.may_leave job.now i c }
+{
+    let from = book.state_of(key);
+    is_over(book, job, key, from)
+}
+
+// The state that follows; an instance that waits and isn't to start stays.
+fn following(goal: Goal, from: State, has_main: bool, lives: bool) -> State
     ensures { result ≡ life.next_state goal from has_main lives }
 {
     match (goal, from) {
-        (Goal::Start, State::Waiting) => State::Starting,
-        (Goal::Start, State::Starting) => State::PreStart,
-        (Goal::Start, State::PreStart) => State::Spawned,
-        (Goal::Start, State::Spawned) => State::PostStart,
-        (Goal::Start, State::PostStart) => whole_or_gone(has_main, lives),
-        (Goal::Start, State::Running) => State::Stopping,
-        (Goal::Start, State::PreStop) => whole_or_gone(has_main, lives),
-        (Goal::Start, State::Stopping) => State::Killed,
-        (Goal::Start, State::Killed) => State::PostStop,
-        (Goal::Start, State::PostStop) => State::Starting,
         (Goal::Stop, State::Waiting) => State::Waiting,
-        (Goal::Stop, State::Starting) => State::Stopping,
-        (Goal::Stop, State::PreStart) => State::Stopping,
-        (Goal::Stop, State::Spawned) => State::Stopping,
-        (Goal::Stop, State::PostStart) => State::Stopping,
-        (Goal::Stop, State::Running) => {
-            if lives {
-                State::PreStop
-            } else {
-                State::Stopping
+        _ => next_state(goal, from, has_main, lives),
+    }
+}
+
+// The state that an instance enters next.
+fn next_of<B: Book>(book: &B, job: &JobDef, key: InstanceKey) -> State
+    ensures { (mode : Mode) (config : Configuration) (c : Chronicle) (i : ℕ) → B.stands book.now mode config c
+        → B.instance_place book.now c key ≡ Some i → result ≡ model.next_of job.now i c }
+{
+    let goal = book.goal(key);
+    let from = book.state_of(key);
+    let lives = book.lives(key, Process::Main);
+    following(goal, from, has_process(job, Process::Main), lives)
+}
+
+// Orders a process, if the job has it.
+fn order<B: Book>(
+    setup: &Setup,
+    book: &mut B,
+    job: &JobDef,
+    key: InstanceKey,
+    orders: Option<Process>,
+) -> Result<(), AllocError>
+    ensures after { OnOk result ((c : Chronicle) (i : ℕ) → B.stands book.old Stepping (config_of setup.now) c
+        → B.instance_place book.old c key ≡ Some i → B.stands book.new Stepping (config_of setup.now) (model.ordering job.now i orders ++ c)) }
+    ensures instances { OnOk result ((c : Chronicle) (i : ℕ) → B.stands book.old Stepping (config_of setup.now) c
+        → B.instance_place book.old c key ≡ Some i → B.instance_place book.new (model.ordering job.now i orders ++ c) key ≡ Some i) }
+{
+    match orders {
+        Some(process) => {
+            if has_process(job, process) {
+                book.order(setup, key, process)?;
             }
         }
-        (Goal::Stop, State::PreStop) => State::Stopping,
-        (Goal::Stop, State::Stopping) => State::Killed,
-        (Goal::Stop, State::Killed) => State::PostStop,
-        (Goal::Stop, State::PostStop) => State::Waiting,
+        None => {}
     }
-}
-
-fn may_leave(
-    goal: Goal,
-    from: State,
-    blocked: bool,
-    has_main: bool,
-    awaited: bool,
-    lives: bool,
-) -> bool
-    ensures { result ≡ life.may_leave goal from blocked has_main awaited lives }
-{
-    match from {
-        State::Waiting => is_start(goal),
-        State::Starting | State::Stopping => !blocked,
-        State::Spawned => !has_main || !awaited,
-        State::Running => !is_start(goal) || (has_main && !lives),
-        State::Killed => !lives,
-        State::PreStart | State::PostStart | State::PreStop | State::PostStop => true,
-    }
-}
-
-fn is_pre_stop(from: State) -> bool
-    ensures { result ≡ life.is_pre_stop from }
-{
-    match from {
-        State::PreStop => true,
-        State::Waiting
-        | State::Starting
-        | State::PreStart
-        | State::Spawned
-        | State::PostStart
-        | State::Running
-        | State::Stopping
-        | State::Killed
-        | State::PostStop => false,
-    }
-}
-
-// An instance enters a state and gives its event.
-fn announce(book: &mut Book, instance: usize, state: State, event: Event) -> Result<(), AllocError>
-    ensures { OnOk result (book.new ≡ entry.Queued (entry.Entering instance state) event ∷ entry.Entered instance state ∷ book.old) }
-{
-    book.add(Record::Entered { instance, state })?;
-    let origin = Origin::Entering { instance, state };
-    book.add(Record::Queued { origin, event })?;
     Ok(())
 }
 
-fn enter_waiting(
+// Emits an event of an instance's life.
+fn emit<B: Book>(
     alloc: Global,
-    book: &mut Book,
+    book: &mut B,
     job: &JobDef,
-    instance: usize,
-) -> Result<(), AllocError>
-    ensures { OnOk result (book.new ≡ entry.Released instance false ∷ entry.Queued (entry.Entering instance state.Waiting) (event.stopped (record { job = job.now.name; instance = [] })) ∷ entry.Entered instance state.Waiting ∷ book.old) }
-{
-    let event = stopped(alloc, &job.name, "")?;
-    announce(book, instance, State::Waiting, event)?;
-    book.add(Record::Released(instance))?;
-    Ok(())
-}
-
-fn enter_spawned(book: &mut Book, job: &JobDef, instance: usize) -> Result<(), AllocError>
-    ensures { OnOk result (book.new ≡ model.where_true (is_some job.now.main) (entry.Ordered instance process.Main ∷ []) ++ entry.Entered instance state.Spawned ∷ book.old) }
-{
-    book.add(Record::Entered {
-        instance,
-        state: State::Spawned,
-    })?;
-    if job.main.is_some() {
-        let process = Process::Main;
-        book.add(Record::Ordered { instance, process })?;
-    }
-    Ok(())
-}
-
-fn enter_running(
-    alloc: Global,
-    book: &mut Book,
-    job: &JobDef,
-    instance: usize,
-    from: State,
-) -> Result<(), AllocError>
-    ensures { OnOk result (book.new ≡ entry.Released instance false ∷ model.where_true (not (life.is_pre_stop from)) (entry.Queued (entry.Entering instance state.Running) (event.started (record { job = job.now.name; instance = [] })) ∷ []) ++ entry.Entered instance state.Running ∷ book.old) }
-{
-    if is_pre_stop(from) {
-        book.add(Record::Entered {
-            instance,
-            state: State::Running,
-        })?;
-    } else {
-        let event = started(alloc, &job.name, "")?;
-        announce(book, instance, State::Running, event)?;
-    }
-    book.add(Record::Released(instance))?;
-    Ok(())
-}
-
-fn enter_killed(book: &mut Book, instance: usize, lives: bool) -> Result<(), AllocError>
-    ensures { OnOk result (book.new ≡ model.where_true lives (entry.Signalled instance model.kill_signal false ∷ []) ++ entry.Entered instance state.Killed ∷ book.old) }
-{
-    book.add(Record::Entered {
-        instance,
-        state: State::Killed,
-    })?;
-    if lives {
-        let signal = Signal::term().number();
-        book.add(Record::Signalled { instance, signal })?;
-    }
-    Ok(())
-}
-
-fn enter(
-    alloc: Global,
-    book: &mut Book,
-    job: &JobDef,
-    instance: usize,
-    lives: bool,
-    from: State,
+    slot: &Slot,
     to: State,
+    emits: Option<JobEvent>,
+    failed: Option<Failure>,
 ) -> Result<(), AllocError>
-    ensures { OnOk result (book.new ≡ model.entering job.now (record { job = job.now.name; instance = [] }) instance lives from to ++ book.old) }
+    ensures after { OnOk result ((config : Configuration) (c : Chronicle) (i : ℕ) → B.stands book.old Stepping config c
+        → B.instance_place book.old c slot.now.key ≡ Some i
+        → B.stands book.new Stepping config (model.emitting (model.who_of job.now (instance_at i slot.now.name)) i to emits failed ++ c)) }
+    ensures instances { OnOk result ((config : Configuration) (c : Chronicle) (i : ℕ) → B.stands book.old Stepping config c
+        → B.instance_place book.old c slot.now.key ≡ Some i
+        → B.instance_place book.new (model.emitting (model.who_of job.now (instance_at i slot.now.name)) i to emits failed ++ c) slot.now.key ≡ Some i) }
 {
-    match to {
-        State::Waiting => enter_waiting(alloc, book, job, instance),
-        State::Starting => {
-            let event = starting(alloc, &job.name, "")?;
-            announce(book, instance, to, event)
+    match emits {
+        Some(kind) => {
+            let event = job_event(alloc, kind, &job.name, slot.name.as_str(), failed)?;
+            book.announce(slot.key, to, event)?;
         }
-        State::Spawned => enter_spawned(book, job, instance),
-        State::Running => enter_running(alloc, book, job, instance, from),
-        State::Stopping => {
-            let event = stopping(alloc, &job.name, "")?;
-            announce(book, instance, to, event)
-        }
-        State::Killed => enter_killed(book, instance, lives),
-        State::PreStart | State::PostStart | State::PreStop | State::PostStop => {
-            book.add(Record::Entered {
-                instance,
-                state: to,
-            })
-        }
+        None => {}
     }
+    Ok(())
 }
 
-// Moves an instance that may leave its state, and answers whether it did.
-fn move_one(
+// Sends main its signal.
+fn kill<B: Book>(book: &mut B, key: InstanceKey, kills: bool) -> Result<(), AllocError>
+    ensures after { OnOk result ((config : Configuration) (c : Chronicle) (i : ℕ) → B.stands book.old Stepping config c
+        → B.instance_place book.old c key ≡ Some i
+        → B.stands book.new Stepping config (entries_if kills (entry.Signalled i model.kill_signal false ∷ []) ++ c)) }
+    ensures instances { OnOk result ((config : Configuration) (c : Chronicle) (i : ℕ) → B.stands book.old Stepping config c
+        → B.instance_place book.old c key ≡ Some i
+        → B.instance_place book.new (entries_if kills (entry.Signalled i model.kill_signal false ∷ []) ++ c) key ≡ Some i) }
+{
+    if kills {
+        book.signal(key, Signal::term().number())?;
+    }
+    Ok(())
+}
+
+fn release<B: Book>(book: &mut B, key: InstanceKey, releases: bool) -> Result<(), AllocError>
+    ensures { OnOk result ((config : Configuration) (c : Chronicle) (i : ℕ) → B.stands book.old Stepping config c
+        → B.instance_place book.old c key ≡ Some i → B.stands book.new Stepping config (entries_if releases (model.releasing i false c) ++ c)) }
+{
+    if releases {
+        book.release(key)?;
+    }
+    Ok(())
+}
+
+// Enters a state, and orders and emits what that asks for.
+fn enter_with<B: Book>(
     alloc: Global,
-    book: &mut Book,
+    setup: &Setup,
+    book: &mut B,
     job: &JobDef,
-    instance: usize,
-) -> Result<bool, AllocError>
-    ensures entries { OnOk result (book.new ≡ model.move_of job.now (record { place = instance; name = [] }) book.old ++ book.old) }
-    ensures any { IfOk result (λ moved. moved ≡ is_filled (model.move_of job.now (record { place = instance; name = [] }) book.old)) }
+    slot: &Slot,
+    to: State,
+    table: Entry,
+    failed: Option<Failure>,
+) -> Result<(), AllocError>
+    ensures after { OnOk result ((c : Chronicle) (i : ℕ) → B.stands book.old Stepping (config_of setup.now) c
+        → B.instance_place book.old c slot.now.key ≡ Some i → is_waiting to ≡ false
+        → B.stands book.new Stepping (config_of setup.now)
+        (model.emitting (model.who_of job.now (instance_at i slot.now.name)) i to table.emits failed ++ (model.ordering job.now i table.orders ++ entry.Entered i to ∷ c))) }
+    ensures instances { OnOk result ((c : Chronicle) (i : ℕ) → B.stands book.old Stepping (config_of setup.now) c
+        → B.instance_place book.old c slot.now.key ≡ Some i → is_waiting to ≡ false
+        → B.instance_place book.new
+        (model.emitting (model.who_of job.now (instance_at i slot.now.name)) i to table.emits failed ++ (model.ordering job.now i table.orders ++ entry.Entered i to ∷ c)) slot.now.key ≡ Some i) }
 {
-    let goal = book.goal(instance);
-    let from = book.state_of(instance);
-    let blocked = book.blocker(instance).is_some();
-    let has_main = job.main.is_some();
-    let awaited = book.awaited(instance, &job.name, "", Process::Main);
-    let lives = book.pid_of(&job.name, "", Process::Main).is_some();
-    if !may_leave(goal, from, blocked, has_main, awaited, lives) {
-        return Ok(false);
-    }
-    let to = next_state(goal, from, has_main, lives);
-    enter(alloc, book, job, instance, lives, from, to)?;
-    Ok(true)
+    book.enter(slot.key, to)?;
+    order(setup, book, job, slot.key, table.orders)?;
+    emit(alloc, book, job, slot, to, table.emits, failed)?;
+    Ok(())
 }
 
-// Moves the job's instance, if it may leave its state.
-#[tactic(auto, using(crate::proofs::MoveLemmas::move_in_one))]
-fn move_in(alloc: Global, book: &mut Book, job: &JobDef, place: usize) -> Result<bool, AllocError>
-    ensures entries { OnOk result (book.new ≡ model.move_in job.now (read.instances_of place book.old) book.old ++ book.old) }
-    ensures any { IfOk result (λ moved. moved ≡ is_filled (model.move_in job.now (read.instances_of place book.old) book.old)) }
+// Enters a state other than waiting, with all that the table says of that.
+fn enter_other<B: Book>(
+    alloc: Global,
+    setup: &Setup,
+    book: &mut B,
+    job: &JobDef,
+    slot: &Slot,
+    to: State,
+    table: Entry,
+) -> Result<(), AllocError>
+    ensures { OnOk result ((c : Chronicle) (i : ℕ) → B.stands book.old Stepping (config_of setup.now) c
+        → B.instance_place book.old c slot.now.key ≡ Some i → is_waiting to ≡ false
+        → B.stands book.new Stepping (config_of setup.now) (model.enter_whole job.now (model.who_of job.now (instance_at i slot.now.name)) i to table c ++ c)) }
 {
-    match book.instance_of(place, "") {
-        Some(instance) => move_one(alloc, book, job, instance),
+    let lives = book.lives(slot.key, Process::Main);
+    let failed = book.failure(slot.key);
+    enter_with(alloc, setup, book, job, slot, to, table, failed)?;
+    kill(book, slot.key, table.kills && lives)?;
+    release(book, slot.key, table.releases)?;
+    Ok(())
+}
+
+// Enters waiting, with which the instance is gone.
+fn enter_waiting<B: Book>(
+    alloc: Global,
+    book: &mut B,
+    job: &JobDef,
+    slot: &Slot,
+    from: State,
+) -> Result<(), AllocError>
+    ensures { OnOk result ((config : Configuration) (c : Chronicle) (i : ℕ) → B.stands book.old Stepping config c
+        → B.instance_place book.old c slot.now.key ≡ Some i
+        → B.stands book.new Stepping config
+        (model.enter_whole job.now (model.who_of job.now (instance_at i slot.now.name)) i entered.Waiting (life.entering entered.Waiting from false) c ++ c)) }
+{
+    let failed = book.failure(slot.key);
+    let event = job_event(alloc, JobEvent::Stopped, &job.name, slot.name.as_str(), failed)?;
+    book.leave(slot.key, event)?;
+    Ok(())
+}
+
+// Moves an instance on.
+fn move_on<B: Book>(
+    alloc: Global,
+    setup: &Setup,
+    book: &mut B,
+    job: &JobDef,
+    slot: &Slot,
+) -> Result<(), AllocError>
+    ensures { OnOk result ((c : Chronicle) (i : ℕ) → B.stands book.old Stepping (config_of setup.now) c
+        → B.instance_place book.old c slot.now.key ≡ Some i
+        → B.stands book.new Stepping (config_of setup.now) (model.move job.now (instance_at i slot.now.name) c ++ c)) }
+{
+    let from = book.state_of(slot.key);
+    let to = next_of(book, job, slot.key);
+    if is_waiting(to) {
+        enter_waiting(alloc, book, job, slot, from)?;
+    } else {
+        enter_other(alloc, setup, book, job, slot, to, entering(to, from, false))?;
+    }
+    Ok(())
+}
+
+// The first of these instances that may leave its state.
+fn first_moving<'a, B: Book>(book: &B, job: &JobDef, slots: &'a [Slot]) -> Option<&'a Slot>
+    ensures { (mode : Mode) (config : Configuration) (c : Chronicle) (its : List model_instances.Instance) → B.stands book.now mode config c
+        → map (slot_at (B.instance_place book.now c)) slots.now ≡ map Some its
+        → FindsMove (B.instance_place book.now c) (option_copied result) job.now its c }
+{
+    for slot in slots {
+        if may_leave(book, job, slot.key) {
+            return Some(slot);
+        }
+    }
+    None
+}
+
+// A copy of the first of a job's instances that may leave its state.
+fn copy_of_moving<B: Book>(book: &B, job: &JobDef) -> Result<Option<Slot>, AllocError>
+    ensures { IfOk result (λ slot. (mode : Mode) (config : Configuration) (c : Chronicle) → B.stands book.now mode config c
+        → FindsMove (B.instance_place book.now c) slot job.now (model_instances.instances_of job.now.name c) c) }
+{
+    match first_moving(book, job, book.instances(&job.name)) {
+        Some(slot) => {
+            let copy = slot.copy()?;
+            Ok(Some(copy))
+        }
+        None => Ok(None),
+    }
+}
+
+// Moves the first of a job's instances that may leave its state; returns whether there was one.
+fn move_in<B: Book>(
+    alloc: Global,
+    setup: &Setup,
+    book: &mut B,
+    job: &JobDef,
+) -> Result<bool, AllocError>
+    ensures entries { OnOk result ((c : Chronicle) → B.stands book.old Stepping (config_of setup.now) c
+        → B.stands book.new Stepping (config_of setup.now) (model.move_in job.now (model_instances.instances_of job.now.name c) c ++ c)) }
+    ensures any { IfOk result (λ moved. (c : Chronicle) → B.stands book.old Stepping (config_of setup.now) c
+        → moved ≡ is_filled (model.move_in job.now (model_instances.instances_of job.now.name c) c)) }
+{
+    match copy_of_moving(book, job)? {
+        Some(slot) => {
+            move_on(alloc, setup, book, job, &slot)?;
+            Ok(true)
+        }
         None => Ok(false),
     }
 }
 
-/// Moves the first instance, job by job, that may leave its state, and answers whether there was one.
-#[tactic(auto, using(crate::proofs::MoveLemmas::move_left))]
-pub(crate) fn move_first(
+/// Moves the first instance, job by job, that may leave its state; returns whether there was one.
+pub(crate) fn move_first<B: Book>(
     alloc: Global,
-    book: &mut Book,
+    setup: &Setup,
+    book: &mut B,
     jobs: &[JobDef],
 ) -> Result<bool, AllocError>
-    ensures entries { OnOk result (book.new ≡ model.move_from jobs.now 0 book.old ++ book.old) }
-    ensures any { IfOk result (λ moved. moved ≡ is_filled (model.move_from jobs.now 0 book.old)) }
+    ensures entries { OnOk result ((c : Chronicle) → B.stands book.old Stepping (config_of setup.now) c
+        → B.stands book.new Stepping (config_of setup.now) (model.move_first jobs.now c ++ c)) }
+    ensures any { IfOk result (λ moved. (c : Chronicle) → B.stands book.old Stepping (config_of setup.now) c
+        → moved ≡ is_filled (model.move_first jobs.now c)) }
 {
-    for (place, job) in jobs.iter().enumerate() {
-        if move_in(alloc, book, job, place)? {
+    for job in jobs {
+        if move_in(alloc, setup, book, job)? {
             return Ok(true);
         }
     }

@@ -1,224 +1,313 @@
 //! How the event of a turn is offered to the expressions, and what one does that fires.
-ghost use Rattle.std.specs.Prelude.{◌≡◌, ◌++◌, ◌∷◌, [], List, ℕ, not, false, ◌||◌, is_some, IfOk, OnOk, length};
-ghost use Rattle.std.specs.Option.{option_to_list};
+ghost use Rattle.std.specs.Prelude.{◌≡◌, ℕ, false, not, List, ◌∷◌, [], ◌++◌, map, Option, None, Some, option_map, IfOk, OnOk};
+ghost use Rattle.up_conf.specs.declared.job.JobDef.{JobDef as JobValue};
+ghost use Rattle.up_engine.specs.declared.keys.InstanceKey.{InstanceKey as InstanceKeyValue};
+ghost use Rattle.up_engine.specs.Keys.{Mode, Stepping, slot_at, FindsOpen};
+ghost use Rattle.up_engine.specs.Setups.{config_of};
+ghost use Rattle.up_model.specs.Chronicle.{Chronicle};
 ghost use Rattle.up_model.specs.Chronicle as entry;
-ghost use Rattle.up_model.specs.Events as event;
-ghost use Rattle.up_model.specs.Moves.{where_true};
+ghost use Rattle.up_model.specs.Configuration.{Configuration};
+ghost use Rattle.up_model.specs.Instances as model_instances;
 ghost use Rattle.up_model.specs.Offers as model;
-ghost use Rattle.up_model.specs.Readings as read;
-ghost use Rattle.up_model.specs.declared.state.Goal.TheVariants.{Stop as goal_stop};
-ghost use Rattle.up_engine.specs.Moved.{offer_of_job};
-ghost use Rattle.up_model.specs.Tests as test;
+ghost use Rattle.up_model.specs.Seen.{seen, taken};
 ghost use Rattle.up_text.specs.Scripts.{is_filled};
-ghost use Rattle.up_engine.specs.Records.{expression_of};
 
 use crate::book::Book;
-use crate::events::start_env;
-use crate::goal::is_start;
-use crate::record::{Expression, Record};
-use crate::truth::{Verdict, verdict_of};
+use crate::events::{start_env, stop_env};
+use crate::keys::{EventKey, InstanceKey, Slot};
+use crate::life::is_start;
+use crate::setup::Setup;
 use std::alloc::{AllocError, Global};
 use up_model::{Goal, JobDef};
-use up_text::{Env, Items, Text};
+use up_text::{Env, Items, Name};
 
-fn copy_of_places(alloc: Global, places: &Items<usize>) -> Result<Items<usize>, AllocError>
-    ensures { IfOk result (λ copy. copy ≡ places.now) }
+// The goal becomes stop by these events, if it is start.
+fn stop_by<B: Book>(
+    alloc: Global,
+    book: &mut B,
+    key: InstanceKey,
+    holders: Items<EventKey>,
+) -> Result<(), AllocError>
+    ensures { OnOk result ((config : Configuration) (c : Chronicle) (i : ℕ) (events : List ℕ) → B.stands book.old Stepping config c
+        → B.instance_place book.old c key ≡ Some i → map (B.event_place book.old c) holders ≡ map Some events
+        → B.stands book.new Stepping config (model.stop_by i events c ++ c)) }
 {
-    Ok(Items::new(Vec::from_slice(alloc, places.as_slice())?))
+    if is_start(book.goal(key)) {
+        let environment = stop_env(alloc, book, holders.as_slice())?;
+        book.release(key)?;
+        book.aim(key, Goal::Stop, environment, holders)?;
+    }
+    Ok(())
 }
 
-// The goal becomes stop by these events, where it is start.
-fn stop_by(
+// An instance's `stop on` fires.
+fn stop_fires<B: Book>(
     alloc: Global,
-    book: &mut Book,
-    instance: usize,
-    holders: Items<usize>,
-    goal: Goal,
+    setup: &Setup,
+    book: &mut B,
+    job: &JobDef,
+    key: InstanceKey,
 ) -> Result<(), AllocError>
-    ensures { OnOk result (book.new ≡ where_true (test.is_start goal) (entry.Aimed instance goal_stop [] holders ∷ entry.Released instance false ∷ []) ++ book.old) }
+    ensures { OnOk result ((c : Chronicle) (i : ℕ) → B.stands book.old Stepping (config_of setup.now) c
+        → B.instance_place book.old c key ≡ Some i
+        → B.stands book.new Stepping (config_of setup.now)
+        (model.stop_by i (taken job.now.stop_on (seen (config_of setup.now) (entry.StopOn i) c))
+        (entry.Fired (entry.StopOn i) (taken job.now.stop_on (seen (config_of setup.now) (entry.StopOn i) c)) ∷ c)
+        ++ entry.Fired (entry.StopOn i) (taken job.now.stop_on (seen (config_of setup.now) (entry.StopOn i) c)) ∷ c)) }
 {
-    if is_start(goal) {
-        book.add(Record::Released(instance))?;
-        let environment = Env::new(alloc);
-        let goal = Goal::Stop;
-        book.add(Record::Aimed {
-            instance,
-            goal,
-            environment,
-            holders,
-        })?;
-    }
+    let holders = book.fire_stop(setup, job, key)?;
+    stop_by(alloc, book, key, holders)?;
     Ok(())
 }
 
 // Offers the event to an instance's `stop on`.
-fn offer_stop(
+fn offer_stop<B: Book>(
     alloc: Global,
-    base: &Env,
-    book: &mut Book,
+    setup: &Setup,
+    book: &mut B,
     job: &JobDef,
-    instance: usize,
-    event: usize,
+    key: InstanceKey,
+    event: EventKey,
 ) -> Result<(), AllocError>
-    ensures { OnOk result (book.new ≡ model.stop_offer base.now job.now instance event book.old ++ book.old) }
+    ensures { OnOk result ((c : Chronicle) (i e : ℕ) → B.stands book.old Stepping (config_of setup.now) c
+        → B.instance_place book.old c key ≡ Some i → B.event_place book.old c event ≡ Some e
+        → B.stands book.new Stepping (config_of setup.now) (model.stop_offer (config_of setup.now) job.now i e c ++ c)) }
 {
-    let goal = book.goal(instance);
-    let expression = Expression::StopOn(instance);
-    book.add(Record::Offered { expression, event })?;
-    let Verdict { holds, taken } = verdict_of(alloc, base, book, expression, &job.stop_on)?;
+    let holds = book.offer_stop(setup, job, key, event)?;
     if holds {
-        let holders = copy_of_places(alloc, &taken)?;
-        book.add(Record::Fired { expression, taken })?;
-        stop_by(alloc, book, instance, holders, goal)?;
+        stop_fires(alloc, setup, book, job, key)?;
     }
     Ok(())
 }
 
-// Offers the event to the `stop on` of the job's instance, unless it was, or the event made the instance.
-#[tactic(auto, using(crate::proofs::OfferLemmas::stop_offer_in_one))]
-fn offer_stop_in(
-    alloc: Global,
-    base: &Env,
-    book: &mut Book,
-    job: &JobDef,
-    place: usize,
-    event: usize,
-) -> Result<bool, AllocError>
-    ensures entries { OnOk result (book.new ≡ model.stop_offer_in base.now job.now (read.instances_of place book.old) event book.old ++ book.old) }
-    ensures any { IfOk result (λ offered. offered ≡ is_filled (model.stop_offer_in base.now job.now (read.instances_of place book.old) event book.old)) }
+fn is_settled<B: Book>(book: &B, key: InstanceKey) -> bool
+    ensures { (mode : Mode) (config : Configuration) (c : Chronicle) (i : ℕ) → B.stands book.now mode config c
+        → B.instance_place book.now c key ≡ Some i → not result ≡ model.is_open i c }
 {
-    let Some(instance) = book.instance_of(place, "") else {
-        return Ok(false);
-    };
-    if book.is_newborn(instance) || book.was_offered(Expression::StopOn(instance)) {
-        return Ok(false);
-    }
-    offer_stop(alloc, base, book, job, instance, event)?;
-    Ok(true)
+    book.is_newborn(key) || book.was_offered_stop(key)
 }
 
-// The goal becomes start by these events: of the instance, where its goal is stop, or of a new one.
-fn start_by(
-    alloc: Global,
-    base: &Env,
-    book: &mut Book,
-    job: &JobDef,
-    from: usize,
-    holders: Items<usize>,
-    found: Option<usize>,
-) -> Result<(), AllocError>
-    ensures { OnOk result (book.new ≡ model.start_by base.now job.now from holders found book.old ++ book.old) }
+// Whether an instance's `stop on` is still to be offered the event of this step.
+fn is_open<B: Book>(book: &B, key: InstanceKey) -> bool
+    ensures { (mode : Mode) (config : Configuration) (c : Chronicle) (i : ℕ) → B.stands book.now mode config c
+        → B.instance_place book.now c key ≡ Some i → result ≡ model.is_open i c }
 {
-    if let Some(instance) = found
-        && is_start(book.goal(instance))
-    {
-        return Ok(());
-    }
-    let environment = start_env(alloc, base, book, holders.as_slice(), &job.name, "")?;
-    let goal = Goal::Start;
-    match found {
-        Some(instance) => {
-            book.add(Record::Released(instance))?;
-            book.add(Record::Aimed {
-                instance,
-                goal,
-                environment,
-                holders,
-            })
-        }
-        None => {
-            let instance = book.len();
-            let name = Text::new(String::new(alloc));
-            book.add(Record::Made { job: from, name })?;
-            book.add(Record::Aimed {
-                instance,
-                goal,
-                environment,
-                holders,
-            })
+    !is_settled(book, key)
+}
+
+// The first of these instances whose `stop on` is still to be offered the event.
+fn first_open<B: Book>(book: &B, slots: &[Slot]) -> Option<InstanceKey>
+    ensures { (mode : Mode) (config conf : Configuration) (job : JobValue) (e : ℕ) (c : Chronicle) (its : List model_instances.Instance)
+        → B.stands book.now mode config c → map (slot_at (B.instance_place book.now c)) slots.now ≡ map Some its
+        → FindsOpen (B.instance_place book.now c) result conf job its e c }
+{
+    for slot in slots {
+        if is_open(book, slot.key) {
+            return Some(slot.key);
         }
     }
+    None
+}
+
+// The goal of an instance becomes start by these events, if it is stop.
+fn start_old<B: Book>(
+    alloc: Global,
+    setup: &Setup,
+    book: &mut B,
+    job: &JobDef,
+    key: InstanceKey,
+    holders: Items<EventKey>,
+) -> Result<(), AllocError>
+    ensures { OnOk result ((c : Chronicle) (i : ℕ) (events : List ℕ) → B.stands book.old Stepping (config_of setup.now) c
+        → B.instance_place book.old c key ≡ Some i → map (B.event_place book.old c) holders ≡ map Some events
+        → B.stands book.new Stepping (config_of setup.now) (model.start_by (config_of setup.now) (model.started_by job.now) events (Some i) c ++ c)) }
+{
+    if !is_start(book.goal(key)) {
+        let environment = start_env(alloc, &setup.base, book, holders.as_slice(), &job.name, "")?;
+        book.release(key)?;
+        book.aim(key, Goal::Start, environment, holders)?;
+    }
+    Ok(())
+}
+
+// A job gets an instance, whose goal becomes start by these events.
+fn start_new<B: Book>(
+    alloc: Global,
+    setup: &Setup,
+    book: &mut B,
+    job: &JobDef,
+    holders: Items<EventKey>,
+) -> Result<(), AllocError>
+    ensures { OnOk result ((c : Chronicle) (events : List ℕ) → B.stands book.old Stepping (config_of setup.now) c
+        → map (B.event_place book.old c) holders ≡ map Some events
+        → B.stands book.new Stepping (config_of setup.now) (model.start_by (config_of setup.now) (model.started_by job.now) events None c ++ c)) }
+{
+    let environment = start_env(alloc, &setup.base, book, holders.as_slice(), &job.name, "")?;
+    let key = book.make(&job.name, "")?;
+    book.aim(key, Goal::Start, environment, holders)?;
+    Ok(())
+}
+
+// The one of these instances that has a name.
+fn named(slots: &[Slot], name: &str) -> Option<InstanceKey>
+    ensures { (places : InstanceKeyValue → Option ℕ) (its : List model_instances.Instance) → map (slot_at places) slots.now ≡ map Some its
+        → option_map places result ≡ option_map Some (model_instances.place_named name.now its) }
+{
+    for slot in slots {
+        if slot.name.is(name) {
+            return Some(slot.key);
+        }
+    }
+    None
+}
+
+/// The instance of a job that has a name.
+pub(crate) fn instance_named<B: Book>(book: &B, job: &Name, name: &str) -> Option<InstanceKey>
+    ensures { (mode : Mode) (config : Configuration) (c : Chronicle) → B.stands book.now mode config c
+        → option_map (B.instance_place book.now c) result ≡ option_map Some (model_instances.instance_named (record { job = job.now; instance = name.now }) c) }
+{
+    named(book.instances(job), name)
+}
+
+// The goal becomes start by these events.
+fn start_by<B: Book>(
+    alloc: Global,
+    setup: &Setup,
+    book: &mut B,
+    job: &JobDef,
+    holders: Items<EventKey>,
+) -> Result<(), AllocError>
+    ensures { OnOk result ((c : Chronicle) (events : List ℕ) → B.stands book.old Stepping (config_of setup.now) c
+        → map (B.event_place book.old c) holders ≡ map Some events
+        → B.stands book.new Stepping (config_of setup.now)
+        (model.start_by (config_of setup.now) (model.started_by job.now) events (model_instances.instance_named (model.started_by job.now) c) c ++ c)) }
+{
+    match instance_named(book, &job.name, "") {
+        Some(key) => start_old(alloc, setup, book, job, key, holders)?,
+        None => start_new(alloc, setup, book, job, holders)?,
+    }
+    Ok(())
+}
+
+// A job's `start on` fires.
+fn start_fires<B: Book>(
+    alloc: Global,
+    setup: &Setup,
+    book: &mut B,
+    job: &JobDef,
+) -> Result<(), AllocError>
+    ensures { OnOk result ((c : Chronicle) → B.stands book.old Stepping (config_of setup.now) c
+        → B.stands book.new Stepping (config_of setup.now)
+        (model.start_by (config_of setup.now) (model.started_by job.now) (taken job.now.start_on (seen (config_of setup.now) (entry.StartOn job.now.name) c))
+        (model_instances.instance_named (model.started_by job.now) c)
+        (entry.Fired (entry.StartOn job.now.name) (taken job.now.start_on (seen (config_of setup.now) (entry.StartOn job.now.name) c)) ∷ c)
+        ++ entry.Fired (entry.StartOn job.now.name) (taken job.now.start_on (seen (config_of setup.now) (entry.StartOn job.now.name) c)) ∷ c)) }
+{
+    let holders = book.fire_start(setup, job)?;
+    start_by(alloc, setup, book, job, holders)?;
+    Ok(())
 }
 
 // Offers the event to a job's `start on`.
-fn offer_start(
+fn offer_start<B: Book>(
     alloc: Global,
-    base: &Env,
-    book: &mut Book,
+    setup: &Setup,
+    book: &mut B,
     job: &JobDef,
-    from: usize,
-    event: usize,
+    event: EventKey,
 ) -> Result<(), AllocError>
-    ensures { OnOk result (book.new ≡ model.start_offer base.now job.now from event book.old ++ book.old) }
+    ensures { OnOk result ((c : Chronicle) (e : ℕ) → B.stands book.old Stepping (config_of setup.now) c → B.event_place book.old c event ≡ Some e
+        → B.stands book.new Stepping (config_of setup.now) (model.start_offer (config_of setup.now) job.now e c ++ c)) }
 {
-    let found = book.instance_of(from, "");
-    let expression = Expression::StartOn(from);
-    book.add(Record::Offered { expression, event })?;
-    let Verdict { holds, taken } = verdict_of(alloc, base, book, expression, &job.start_on)?;
+    let holds = book.offer_start(setup, job, event)?;
     if holds {
-        let holders = copy_of_places(alloc, &taken)?;
-        book.add(Record::Fired { expression, taken })?;
-        start_by(alloc, base, book, job, from, holders, found)?;
+        start_fires(alloc, setup, book, job)?;
     }
     Ok(())
 }
 
-// Offers the event to the first expression of a job that it wasn't offered to.
-#[tactic(auto, using(crate::proofs::MoveLemmas::none_nil))]
-fn offer_in(
+// Offers the event to the `stop on` of the first of the job's instances that it is still to be offered to.
+fn offer_stop_in<B: Book>(
     alloc: Global,
-    base: &Env,
-    book: &mut Book,
+    setup: &Setup,
+    book: &mut B,
     job: &JobDef,
-    from: usize,
-    event: usize,
+    event: EventKey,
 ) -> Result<bool, AllocError>
-    ensures entries { OnOk result (book.new ≡ offer_of_job base.now job.now from event book.old ++ book.old) }
-    ensures any { IfOk result (λ offered. offered ≡ is_filled (offer_of_job base.now job.now from event book.old)) }
+    ensures entries { OnOk result ((c : Chronicle) (e : ℕ) → B.stands book.old Stepping (config_of setup.now) c → B.event_place book.old c event ≡ Some e
+        → B.stands book.new Stepping (config_of setup.now) (model.stop_offer_in (config_of setup.now) job.now (model_instances.instances_of job.now.name c) e c ++ c)) }
+    ensures any { IfOk result (λ offered. (c : Chronicle) (e : ℕ) → B.stands book.old Stepping (config_of setup.now) c
+        → offered ≡ is_filled (model.stop_offer_in (config_of setup.now) job.now (model_instances.instances_of job.now.name c) e c)) }
+    ensures same { IfOk result (λ offered. offered ≡ false → book.new ≡ book.old) }
 {
-    if offer_stop_in(alloc, base, book, job, from, event)? {
+    match first_open(book, book.instances(&job.name)) {
+        Some(key) => {
+            offer_stop(alloc, setup, book, job, key, event)?;
+            Ok(true)
+        }
+        None => Ok(false),
+    }
+}
+
+// Offers the event to the first expression of a job that it is still to be offered to.
+fn offer_in<B: Book>(
+    alloc: Global,
+    setup: &Setup,
+    book: &mut B,
+    job: &JobDef,
+    event: EventKey,
+) -> Result<bool, AllocError>
+    ensures entries { OnOk result ((c : Chronicle) (e : ℕ) → B.stands book.old Stepping (config_of setup.now) c → B.event_place book.old c event ≡ Some e
+        → B.stands book.new Stepping (config_of setup.now) (model.offer_in (config_of setup.now) job.now e c ++ c)) }
+    ensures any { IfOk result (λ offered. (c : Chronicle) (e : ℕ) → B.stands book.old Stepping (config_of setup.now) c
+        → offered ≡ is_filled (model.offer_in (config_of setup.now) job.now e c)) }
+    ensures same { IfOk result (λ offered. offered ≡ false → book.new ≡ book.old) }
+{
+    if offer_stop_in(alloc, setup, book, job, event)? {
         return Ok(true);
     }
-    if book.was_offered(Expression::StartOn(from)) {
+    if book.was_offered_start(&job.name) {
         return Ok(false);
     }
-    offer_start(alloc, base, book, job, from, event)?;
+    offer_start(alloc, setup, book, job, event)?;
     Ok(true)
 }
 
-/// Offers the event that this step handles to the first expression that it wasn't offered to, and answers whether there was one.
-#[tactic(auto, using(crate::proofs::OfferLemmas::offer_left, crate::proofs::MoveLemmas::none_nil))]
-fn offer_first(
+// Offers the event to the first expression, job by job, that it is still to be offered to; returns whether there was one.
+fn offer_first<B: Book>(
     alloc: Global,
-    base: &Env,
-    book: &mut Book,
+    setup: &Setup,
+    book: &mut B,
     jobs: &[JobDef],
-    event: usize,
+    event: EventKey,
 ) -> Result<bool, AllocError>
-    ensures entries { OnOk result (book.new ≡ model.offer_from base.now jobs.now 0 event book.old ++ book.old) }
-    ensures any { IfOk result (λ offered. offered ≡ is_filled (model.offer_from base.now jobs.now 0 event book.old)) }
+    ensures entries { OnOk result ((c : Chronicle) (e : ℕ) → B.stands book.old Stepping (config_of setup.now) c → B.event_place book.old c event ≡ Some e
+        → B.stands book.new Stepping (config_of setup.now) (model.offer_first (config_of setup.now) jobs.now e c ++ c)) }
+    ensures any { IfOk result (λ offered. (c : Chronicle) (e : ℕ) → B.stands book.old Stepping (config_of setup.now) c
+        → offered ≡ is_filled (model.offer_first (config_of setup.now) jobs.now e c)) }
 {
-    for (place, job) in jobs.iter().enumerate() {
-        if offer_in(alloc, base, book, job, place, event)? {
+    for job in jobs {
+        if offer_in(alloc, setup, book, job, event)? {
             return Ok(true);
         }
     }
     Ok(false)
 }
 
-/// Offers the event that this step handles, where it handles one, to the first expression that it wasn't offered to, and answers
-/// whether there was one.
-pub(crate) fn offer_next(
+/// Offers the event that this step handles to the first expression that it is still to be offered to; returns whether there was one.
+pub(crate) fn offer_next<B: Book>(
     alloc: Global,
-    base: &Env,
-    book: &mut Book,
+    setup: &Setup,
+    book: &mut B,
     jobs: &[JobDef],
 ) -> Result<bool, AllocError>
-    ensures entries { OnOk result (book.new ≡ model.offer_next base.now jobs.now (model.offering book.old) book.old ++ book.old) }
-    ensures any { IfOk result (λ offered. offered ≡ is_filled (model.offer_next base.now jobs.now (model.offering book.old) book.old)) }
+    ensures entries { OnOk result ((c : Chronicle) → jobs.now ≡ (config_of setup.now).jobs → B.stands book.old Stepping (config_of setup.now) c
+        → B.stands book.new Stepping (config_of setup.now) (model.offer_next (config_of setup.now) (model.offering c) c ++ c)) }
+    ensures any { IfOk result (λ offered. (c : Chronicle) → jobs.now ≡ (config_of setup.now).jobs → B.stands book.old Stepping (config_of setup.now) c
+        → offered ≡ is_filled (model.offer_next (config_of setup.now) (model.offering c) c)) }
 {
     match book.offering() {
-        Some(event) => offer_first(alloc, base, book, jobs, event),
+        Some(event) => offer_first(alloc, setup, book, jobs, event),
         None => Ok(false),
     }
 }

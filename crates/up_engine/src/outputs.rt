@@ -1,35 +1,37 @@
 //! What the entries of a step ask for.
-ghost use Rattle.std.specs.Prelude.{◌≡◌, ◌≤◌, ◌<◌, ◌+◌, ◌-◌, ◌^◌, if◌then◌else◌, List, ◌∷◌, [], length, take, IfOk, OnOk, option_map, codes};
-ghost use Rattle.std.specs.Option.{option_map_or};
-ghost use Rattle.up_conf.specs.declared.job.JobDef.{JobDef as JobValue};
+ghost use Rattle.std.specs.Prelude.{◌≡◌, ◌≤◌, ◌<◌, ◌+◌, ◌-◌, ◌^◌, if◌then◌else◌, List, ◌∷◌, [], length, take, IfOk, OnOk, option_map, Some, codes};
+ghost use Rattle.std.specs.Option.{option_copied};
+ghost use Rattle.up_engine.specs.Setups.{config_of};
+ghost use Rattle.up_model.specs.declared.output.Output.TheVariants as output;
+ghost use Rattle.up_model.specs.Configuration.{Configuration, job_named};
+ghost use Rattle.up_model.specs.Moves.{action_of};
 ghost use Rattle.up_model.specs.Outputs as model;
+ghost use Rattle.up_stanza.specs.declared.process.Process.TheVariants as process;
 ghost use Rattle.up_model.specs.Readings as read;
-ghost use Rattle.up_engine.specs.Records.{entry_of, chronicle, outputs_of, gave_more, behind_given, is_given};
+ghost use Rattle.up_engine.specs.Records.{entry_of, chronicle, listed_output, with_outputs, after_given, is_given};
 
-use crate::reading::environment::env;
+use crate::life::action_of;
+use crate::reading::environment::process_env;
 use crate::reading::place::{id_at, made_at};
 use crate::reading::process::pid_of;
 use crate::record::{Origin, Record};
+use crate::setup::Setup;
 use std::alloc::{AllocError, Global};
 use up_conf::Action;
 use up_model::{Answer, JobDef, Order, Output, Process, Who};
 use up_text::{Env, Items, Name, Text};
 
-/// The job and the name of an instance, by where it was made.
-fn known<'a>(
-    jobs: &'a [JobDef],
-    records: &'a [Record],
-    instance: usize,
-) -> Option<(&'a JobDef, &'a str)>
-    ensures { option_map (λ known. (known.0.now, record { job = known.0.now.name; instance = known.1.now })) result ≡ model.who_made jobs.now (read.made_at instance (chronicle records.now)) }
+// The job of this name.
+#[tactic(auto, using(crate::proofs::OutputLemmas::jobs_left))]
+fn job_named<'a>(jobs: &'a [JobDef], name: &Name) -> Option<&'a JobDef>
+    ensures { option_copied result ≡ job_named name.now jobs.now }
 {
-    match made_at(records, instance) {
-        Some((job, name)) => match jobs.get(job) {
-            Some(job) => Some((job, name)),
-            None => None,
-        },
-        None => None,
+    for job in jobs {
+        if job.name.is(name) {
+            return Some(job);
+        }
     }
+    None
 }
 
 fn who(alloc: Global, job: &Name, name: &str) -> Result<Who, AllocError>
@@ -48,15 +50,6 @@ fn copy_of_words(alloc: Global, words: &[Text]) -> Result<Items<Text>, AllocErro
         copied.push(word.copy()?)?;
     }
     Ok(Items::new(copied))
-}
-
-fn env_or_empty(alloc: Global, found: Option<&Env>) -> Result<Env, AllocError>
-    ensures { IfOk result (λ env. env ≡ option_map_or (λ env. env.now) found.entry []) }
-{
-    match found {
-        Some(env) => env.copy(),
-        None => Ok(Env::new(alloc)),
-    }
 }
 
 // The words with which the shell gets a text.
@@ -91,62 +84,83 @@ fn dir_of(alloc: Global, dir: &Text) -> Result<Text, AllocError>
     dir.copy()
 }
 
-// The order for a job's main process, where it has one.
-fn order(
+// The order for a process that runs this.
+fn order_for(
     alloc: Global,
     job: &JobDef,
+    made: &Name,
     name: &str,
-    found: Option<&Env>,
-) -> Result<Option<Output>, AllocError>
-    ensures { IfOk result (λ output. outputs_of output ≡ model.order_of_main job.now (record { job = job.now.name; instance = name.now }) job.now.main (option_map_or (λ env. env.now) found.entry [])) }
+    process: Process,
+    action: &Action,
+    env: Env,
+) -> Result<Order, AllocError>
+    ensures { IfOk result (λ order. output.Spawn order ∷ [] ≡ model.order_for job.now (record { job = made.now; instance = name.now }) process (Some action.now) env) }
 {
-    match &job.main {
+    let argv = argv_of(alloc, action)?;
+    let who = who(alloc, made, name)?;
+    let dir = dir_of(alloc, &job.dir)?;
+    Ok(Order {
+        who,
+        process,
+        argv,
+        dir,
+        silent: job.silent,
+        env,
+    })
+}
+
+fn order_by(
+    alloc: Global,
+    job: &JobDef,
+    made: &Name,
+    name: &str,
+    process: Process,
+    env: Env,
+) -> Result<Option<Output>, AllocError>
+    ensures { IfOk result (λ output. listed_output output ≡ model.order_for job.now (record { job = made.now; instance = name.now }) process (action_of job.now process) env) }
+{
+    match action_of(job, process) {
         Some(action) => {
-            let argv = argv_of(alloc, action)?;
-            let who = who(alloc, &job.name, name)?;
-            let dir = dir_of(alloc, &job.dir)?;
-            let env = env_or_empty(alloc, found)?;
-            let silent = job.silent;
-            Ok(Some(Output::Spawn(Order {
-                who,
-                process: Process::Main,
-                argv,
-                dir,
-                silent,
-                env,
-            })))
+            let order = order_for(alloc, job, made, name, process, action, env)?;
+            Ok(Some(Output::Spawn(order)))
         }
         None => Ok(None),
     }
 }
 
-fn ordered(
+fn order_of(
     alloc: Global,
-    jobs: &[JobDef],
+    setup: &Setup,
     records: &[Record],
     instance: usize,
+    process: Process,
 ) -> Result<Option<Output>, AllocError>
-    ensures { IfOk result (λ output. outputs_of output ≡ model.order_of (model.who_made jobs.now (read.made_at instance (chronicle records.now))) (read.env instance (chronicle records.now))) }
+    ensures { IfOk result (λ output. listed_output output ≡ model.order_of (config_of setup.now) (read.made_at instance (chronicle records.now)) process (read.process_env instance process (chronicle records.now))) }
 {
-    match known(jobs, records, instance) {
-        Some((job, name)) => order(alloc, job, name, env(records, instance)),
+    match made_at(records, instance) {
+        Some((job, name)) => match job_named(setup.jobs(), job) {
+            Some(found) => {
+                let env = process_env(alloc, records, instance, process)?;
+                order_by(alloc, found, job, name, process, env)
+            }
+            None => Ok(None),
+        },
         None => Ok(None),
     }
 }
 
-fn signalled(
+fn signal_of(
     alloc: Global,
-    jobs: &[JobDef],
     records: &[Record],
     instance: usize,
     signal: u8,
 ) -> Result<Option<Output>, AllocError>
-    ensures { IfOk result (λ output. outputs_of output ≡ model.signal_of (model.who_made jobs.now (read.made_at instance (chronicle records.now))) signal (chronicle records.now)) }
+    ensures { IfOk result (λ output. listed_output output ≡ model.signal_of (read.made_at instance (chronicle records.now)) signal (read.pid_of instance process.Main (chronicle records.now))) }
 {
-    match known(jobs, records, instance) {
-        Some((job, name)) => match pid_of(records, &job.name, name, Process::Main) {
+    match made_at(records, instance) {
+        Some((job, name)) => match pid_of(records, instance, Process::Main) {
             Some(pid) => {
-                let who = who(alloc, &job.name, name)?;
+                let who = who(alloc, job, name)?;
                 Ok(Some(Output::Signal { who, pid, signal }))
             }
             None => Ok(None),
@@ -155,12 +169,12 @@ fn signalled(
     }
 }
 
-fn replied(
+fn reply_of(
     records: &[Record],
     request: usize,
     answer: &Answer,
 ) -> Result<Option<Output>, AllocError>
-    ensures { IfOk result (λ output. outputs_of output ≡ model.reply_of (read.id_at request (chronicle records.now)) answer.now) }
+    ensures { IfOk result (λ output. listed_output output ≡ model.reply_of (read.id_at request (chronicle records.now)) answer.now) }
 {
     match id_at(records, request) {
         Some(id) => {
@@ -175,15 +189,15 @@ fn replied(
     }
 }
 
-// What a record asks for, behind those before it in its step.
-#[tactic(auto, unfolding(up_model::specs::Outputs::gave))]
+// What a record asks for, after those before it in its step.
+#[tactic(auto, unfolding(up_model::specs::Outputs::outputs_of))]
 fn output_of(
     alloc: Global,
-    jobs: &[JobDef],
+    setup: &Setup,
     earlier: &[Record],
     next: &Record,
 ) -> Result<Option<Output>, AllocError>
-    ensures { IfOk result (λ output. model.gave jobs.now (entry_of next.now ∷ chronicle earlier.now) ≡ gave_more (entry_of next.now) (model.gave jobs.now (chronicle earlier.now)) (outputs_of output)) }
+    ensures { IfOk result (λ output. model.outputs_of (config_of setup.now) (entry_of next.now ∷ chronicle earlier.now) ≡ with_outputs (entry_of next.now) (model.outputs_of (config_of setup.now) (chronicle earlier.now)) (listed_output output)) }
 {
     match next {
         Record::Queued {
@@ -193,11 +207,11 @@ fn output_of(
             let event = event.copy()?;
             Ok(Some(Output::Emitted(event)))
         }
-        Record::Ordered { instance, .. } => ordered(alloc, jobs, earlier, *instance),
-        Record::Signalled { instance, signal } => signalled(
-            alloc, jobs, earlier, *instance, *signal,
+        Record::Ordered { instance, process } => order_of(
+            alloc, setup, earlier, *instance, *process,
         ),
-        Record::Replied { request, answer } => replied(earlier, *request, answer),
+        Record::Signalled { instance, signal } => signal_of(alloc, earlier, *instance, *signal),
+        Record::Replied { request, answer } => reply_of(earlier, *request, answer),
         _ => Ok(None),
     }
 }
@@ -209,32 +223,32 @@ fn is_given(next: &Record) -> bool
 }
 
 // What a step asks for, with what one record more does.
-#[tactic(auto, unfolding(up_model::specs::Outputs::gave))]
+#[tactic(auto, unfolding(up_model::specs::Outputs::outputs_of))]
 fn add_output(
     alloc: Global,
-    jobs: &[JobDef],
+    setup: &Setup,
     earlier: &[Record],
     next: &Record,
     outputs: &mut Vec<Output>,
 ) -> Result<(), AllocError>
-    ensures { OnOk result (outputs.old.items ≡ model.gave jobs.now (chronicle earlier.now) → outputs.new.items ≡ model.gave jobs.now (entry_of next.now ∷ chronicle earlier.now)) }
+    ensures { OnOk result (outputs.old.items ≡ model.outputs_of (config_of setup.now) (chronicle earlier.now) → outputs.new.items ≡ model.outputs_of (config_of setup.now) (entry_of next.now ∷ chronicle earlier.now)) }
 {
     if is_given(next) {
         outputs.clear();
         return Ok(());
     }
-    if let Some(output) = output_of(alloc, jobs, earlier, next)? {
+    if let Some(output) = output_of(alloc, setup, earlier, next)? {
         outputs.push(output)?;
     }
     Ok(())
 }
 
-// The place behind the last input, sought from the newest record back.
-#[tactic(auto, using(crate::proofs::OutputLemmas::given_more, crate::proofs::OutputLemmas::given_last, crate::proofs::OutputLemmas::other_last), unfolding(up_model::specs::Outputs::gave))]
+// The place after the last input, sought from the newest record back.
+#[tactic(auto, using(crate::proofs::OutputLemmas::given_more, crate::proofs::OutputLemmas::given_last, crate::proofs::OutputLemmas::other_last), unfolding(up_model::specs::Outputs::outputs_of))]
 fn step_start(records: &[Record]) -> usize
     ensures within { result ≤ length records.now }
-    ensures start { (jobs : List JobValue) → model.gave jobs (chronicle (take result records.now)) ≡ [] }
-    ensures last { result ≡ behind_given (chronicle records.now) }
+    ensures start { (config : Configuration) → model.outputs_of config (chronicle (take result records.now)) ≡ [] }
+    ensures last { result ≡ after_given (chronicle records.now) }
 {
     let mut left = records.len();
     'back: while left > 0 {
@@ -250,14 +264,14 @@ fn step_start(records: &[Record]) -> usize
 #[tactic(auto, using(crate::proofs::Chronicles::chronicle_more))]
 pub(crate) fn outputs(
     alloc: Global,
-    jobs: &[JobDef],
+    setup: &Setup,
     records: &[Record],
 ) -> Result<Vec<Output>, AllocError>
-    ensures { IfOk result (λ outputs. outputs.items ≡ model.gave jobs.now (chronicle records.now)) }
+    ensures { IfOk result (λ outputs. outputs.items ≡ model.outputs_of (config_of setup.now) (chronicle records.now)) }
 {
     let mut found = Vec::new(alloc);
     for place in step_start(records)..records.len() {
-        add_output(alloc, jobs, &records[..place], &records[place], &mut found)?;
+        add_output(alloc, setup, &records[..place], &records[place], &mut found)?;
     }
     Ok(found)
 }

@@ -1,21 +1,16 @@
 //! The queue of events beside the records, so that a turn finds its event without reading them all.
 ghost use Rattle.std.specs.Prelude.{◌≡◌, ◌==◌, not, map, filter};
-ghost use Rattle.up_model.specs.Queue as model;
 ghost use Rattle.up_engine.specs.Queues.{live_of, marked_of};
+ghost use Rattle.up_model.specs.Queue as model;
 
-/// An event that hasn't finished, by the place of its record.
-#[derive(Clone, Copy, Debug)]
-pub struct Live {
-    pub place: usize,
-    pub handled: bool,
-}
+use crate::keys::Live;
 
 fn marked(live: Live, event: usize) -> Live
     ensures { result ≡ marked_of event live }
 {
-    if live.place == event {
+    if live.key.place == event {
         Live {
-            place: live.place,
+            key: live.key,
             handled: true,
         }
     } else {
@@ -33,9 +28,9 @@ pub(crate) fn mark_handled(queue: &mut [Live], event: usize)
 }
 
 fn keep_others(queue: &mut Vec<Live>, event: usize)
-    ensures { queue.new.items ≡ filter (λ live. not (live.place == event)) queue.old.items }
+    ensures { queue.new.items ≡ filter (λ live. not (live.key.place == event)) queue.old.items }
 {
-    queue.retain(|live| live.place != event);
+    queue.retain(|live| live.key.place != event);
 }
 
 /// Takes an event out.

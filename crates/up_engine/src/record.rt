@@ -1,19 +1,27 @@
-//! What the engine stores of the chronicle: one record for each entry.
-use up_model::{Answer, Event, Goal, Input, Process, State};
-use up_text::{Env, Items, Text};
+//! What the storing book keeps of the chronicle: one record for each entry.
+use crate::keys::EventKey;
+use up_model::{Answer, Event, Failure, Goal, Input, Process, State};
+use up_text::{Env, Items, Name, Text};
 
-/// Whose expression it is: a job's `start on`, or the `stop on` of an instance. Jobs are named by their place in the table,
-/// instances by the place of the record where they were made.
-#[derive(Clone, Copy, Debug)]
+/// Whose expression it is: a job's `start on`, or the `stop on` of an instance. Instances are named by the place of the record where they
+/// were made.
+#[derive(Drop)]
 pub enum Expression {
-    StartOn(usize),
+    StartOn(Name),
     StopOn(usize),
 }
 
-/// What an event comes from.
+/// An expression that is asked for.
+#[derive(Clone, Copy)]
+pub enum Wanted<'a> {
+    StartOn(&'a Name),
+    StopOn(usize),
+}
+
+/// What an event comes from: the input that was given at a place, or an instance that entered a state.
 #[derive(Clone, Copy, Debug)]
 pub enum Origin {
-    Outside,
+    Outside(usize),
     Entering { instance: usize, state: State },
 }
 
@@ -36,16 +44,23 @@ pub enum Record {
     },
     Finished(usize),
     Made {
-        job: usize,
+        job: Name,
         name: Text,
     },
     Aimed {
         instance: usize,
         goal: Goal,
         environment: Env,
-        holders: Items<usize>,
+        holders: Items<EventKey>,
     },
-    Released(usize),
+    Released {
+        instance: usize,
+        failed: bool,
+    },
+    Failed {
+        instance: usize,
+        failure: Failure,
+    },
     Entered {
         instance: usize,
         state: State,

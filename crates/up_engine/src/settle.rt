@@ -1,41 +1,49 @@
 //! What is due is done until nothing is.
-ghost use Rattle.std.specs.Prelude.{◌≡◌, OnOk, option_map};
+ghost use Rattle.std.specs.Prelude.{◌≡◌, ◌≤◌, OnOk};
+ghost use Rattle.up_engine.specs.Keys.{Mode, Resting, Stepping};
+ghost use Rattle.up_engine.specs.Setups.{config_of};
 ghost use Rattle.up_model.specs.Answers as answer;
-ghost use Rattle.up_model.specs.Due as due;
-ghost use Rattle.up_model.specs.Queue.{queue};
+ghost use Rattle.up_model.specs.Chronicle.{Chronicle};
 ghost use Rattle.up_model.specs.Work as model;
-ghost use Rattle.up_engine.specs.Queues.{live_of};
 
 use crate::book::Book;
 use crate::due::{act, do_next};
-use crate::queue::Live;
+use crate::setup::Setup;
 use std::alloc::{AllocError, Global};
-use up_model::{Input, JobDef};
-use up_text::Env;
+use up_model::Input;
 
-fn settle(alloc: Global, base: &Env, jobs: &[JobDef], book: &mut Book) -> Result<(), AllocError>
-    ensures { OnOk result (book.new ≡ model.settle (model.work jobs.now book.old) base.now jobs.now book.old) }
+// No more can be due one after another than this.
+fn most_due<B: Book>(setup: &Setup, book: &B) -> u128
+    ensures { (c : Chronicle) → B.stands book.now Stepping (config_of setup.now) c → model.work (config_of setup.now) c ≤ result }
 {
-    let mut more = true;
-    while more {
-        more = do_next(alloc, base, jobs, book)?;
+    11 * (book.most_instances() as u128) + 6 * (setup.jobs().len() as u128)
+}
+
+fn settle<B: Book>(alloc: Global, setup: &Setup, book: &mut B) -> Result<(), AllocError>
+    ensures { OnOk result ((c : Chronicle) → B.stands book.old Stepping (config_of setup.now) c
+        → B.stands book.new Stepping (config_of setup.now) (model.settle (model.work (config_of setup.now) c) (config_of setup.now) c)) }
+{
+    let most = most_due(setup, book);
+    for turn in 0..most {
+        if !do_next(alloc, setup, book)? {
+            return Ok(());
+        }
     }
     Ok(())
 }
 
-/// Takes an input in, and then does what is due until nothing is. `turn` is the event that a turn would take.
+/// Takes an input in, and then does what is due until nothing is.
 #[tactic(auto, unfolding(up_model::specs::Answers::after))]
-pub(crate) fn run_step(
+pub(crate) fn run_step<B: Book>(
     alloc: Global,
-    base: &Env,
-    jobs: &[JobDef],
-    book: &mut Book,
-    given: Input,
-    turn: Option<Live>,
+    setup: &Setup,
+    book: &mut B,
+    input: Input,
 ) -> Result<(), AllocError>
-    ensures { OnOk result (option_map live_of turn ≡ due.turn_event base.now jobs.now (queue book.old) book.old → book.new ≡ answer.after base.now jobs.now book.old given) }
+    ensures { OnOk result ((c : Chronicle) → B.stands book.old Resting (config_of setup.now) c
+        → B.stands book.new Stepping (config_of setup.now) (answer.after (config_of setup.now) c input)) }
 {
-    act(alloc, jobs, book, given, turn)?;
-    settle(alloc, base, jobs, book)?;
+    act(alloc, book, input)?;
+    settle(alloc, setup, book)?;
     Ok(())
 }

@@ -5,14 +5,16 @@ ghost use Rattle.up_expr.specs.Trees.{tree_of};
 ghost use Rattle.up_expr.specs.Truth as truth;
 ghost use Rattle.up_model.specs.Held as held;
 ghost use Rattle.up_model.specs.Seen as seen;
-ghost use Rattle.up_engine.specs.Records.{expression_of};
+ghost use Rattle.up_engine.specs.Records.{wanted_of, chronicle};
+ghost use Rattle.up_engine.specs.Setups.{config_of};
 ghost use Rattle.up_engine.specs.Verdicts.{verdict_of_tree, verdict, both, either};
 
-use crate::book::Book;
-use crate::record::Expression;
+use crate::reading::seen::first;
+use crate::record::{Record, Wanted};
+use crate::setup::Setup;
 use std::alloc::{AllocError, Global};
 use up_expr::{Condition, Expr};
-use up_text::{Env, Items};
+use up_text::Items;
 
 /// Whether an expression is true, and by which events, from left to right.
 #[derive(Drop)]
@@ -64,47 +66,47 @@ fn either(left: Verdict, right: Verdict) -> Result<Verdict, AllocError>
 
 fn judge(
     alloc: Global,
-    base: &Env,
-    book: &Book,
-    expression: Expression,
+    setup: &Setup,
+    records: &[Record],
+    wanted: Wanted,
     expr: &Expr,
 ) -> Result<Verdict, AllocError>
-    ensures { IfOk result (λ said. said ≡ verdict_of_tree (tree_of expr.now) (seen.seen base.now (expression_of expression) book.now)) }
+    ensures { IfOk result (λ said. said ≡ verdict_of_tree (tree_of expr.now) (seen.seen (config_of setup.now) (wanted_of wanted.entry) (chronicle records.now))) }
 {
     match expr {
         Expr::Leaf(leaf) => {
-            let found = book.first(alloc, base, expression, leaf)?;
+            let found = first(alloc, setup, records, wanted, leaf)?;
             let verdict = leaf_verdict(alloc, found)?;
             Ok(verdict)
         }
         Expr::And(left, right) => {
-            let left = judge(alloc, base, book, expression, left)?;
-            let right = judge(alloc, base, book, expression, right)?;
+            let left = judge(alloc, setup, records, wanted, left)?;
+            let right = judge(alloc, setup, records, wanted, right)?;
             let verdict = both(alloc, left, right)?;
             Ok(verdict)
         }
         Expr::Or(left, right) => {
-            let left = judge(alloc, base, book, expression, left)?;
-            let right = judge(alloc, base, book, expression, right)?;
+            let left = judge(alloc, setup, records, wanted, left)?;
+            let right = judge(alloc, setup, records, wanted, right)?;
             let verdict = either(left, right)?;
             Ok(verdict)
         }
     }
 }
 
-/// What an expression says of what it has seen, where the job file has it.
+/// What an expression says of what it has seen, if the job file has it.
 pub(crate) fn verdict_of(
     alloc: Global,
-    base: &Env,
-    book: &Book,
-    expression: Expression,
+    setup: &Setup,
+    records: &[Record],
+    wanted: Wanted,
     condition: &Option<Condition>,
 ) -> Result<Verdict, AllocError>
-    ensures { IfOk result (λ said. said ≡ verdict condition.now (seen.seen base.now (expression_of expression) book.now)) }
+    ensures { IfOk result (λ said. said ≡ verdict condition.now (seen.seen (config_of setup.now) (wanted_of wanted.entry) (chronicle records.now))) }
 {
     match condition {
         Some(condition) => {
-            let verdict = judge(alloc, base, book, expression, condition.expr())?;
+            let verdict = judge(alloc, setup, records, wanted, condition.expr())?;
             Ok(verdict)
         }
         None => {
@@ -130,46 +132,46 @@ fn is_kept(found: Option<usize>, event: usize) -> bool
 #[tactic(auto, using(crate::proofs::HeldLemmas::has_append))]
 fn has_leaf_of(
     alloc: Global,
-    base: &Env,
-    book: &Book,
-    expression: Expression,
+    setup: &Setup,
+    records: &[Record],
+    wanted: Wanted,
     expr: &Expr,
     event: usize,
 ) -> Result<bool, AllocError>
-    ensures { IfOk result (λ keeps. keeps ≡ held.has event (truth.kept (tree_of expr.now) (seen.seen base.now (expression_of expression) book.now))) }
+    ensures { IfOk result (λ keeps. keeps ≡ held.has event (truth.kept (tree_of expr.now) (seen.seen (config_of setup.now) (wanted_of wanted.entry) (chronicle records.now)))) }
 {
     match expr {
         Expr::Leaf(leaf) => {
-            let found = book.first(alloc, base, expression, leaf)?;
+            let found = first(alloc, setup, records, wanted, leaf)?;
             Ok(is_kept(found, event))
         }
         Expr::And(left, right) => {
-            let left = has_leaf_of(alloc, base, book, expression, left, event)?;
-            let right = has_leaf_of(alloc, base, book, expression, right, event)?;
+            let left = has_leaf_of(alloc, setup, records, wanted, left, event)?;
+            let right = has_leaf_of(alloc, setup, records, wanted, right, event)?;
             Ok(left || right)
         }
         Expr::Or(left, right) => {
-            let left = has_leaf_of(alloc, base, book, expression, left, event)?;
-            let right = has_leaf_of(alloc, base, book, expression, right, event)?;
+            let left = has_leaf_of(alloc, setup, records, wanted, left, event)?;
+            let right = has_leaf_of(alloc, setup, records, wanted, right, event)?;
             Ok(left || right)
         }
     }
 }
 
-/// Whether a leaf of the expression, where the job file has it, keeps the event.
+/// Whether a leaf of the expression, if the job file has it, keeps the event.
 pub(crate) fn keeps(
     alloc: Global,
-    base: &Env,
-    book: &Book,
-    expression: Expression,
+    setup: &Setup,
+    records: &[Record],
+    wanted: Wanted,
     condition: &Option<Condition>,
     event: usize,
 ) -> Result<bool, AllocError>
-    ensures { IfOk result (λ keeps. keeps ≡ held.has event (seen.kept condition.now (seen.seen base.now (expression_of expression) book.now))) }
+    ensures { IfOk result (λ keeps. keeps ≡ held.has event (seen.kept condition.now (seen.seen (config_of setup.now) (wanted_of wanted.entry) (chronicle records.now)))) }
 {
     match condition {
         Some(condition) => {
-            let keeps = has_leaf_of(alloc, base, book, expression, condition.expr(), event)?;
+            let keeps = has_leaf_of(alloc, setup, records, wanted, condition.expr(), event)?;
             Ok(keeps)
         }
         None => Ok(false),

@@ -8,6 +8,7 @@ use Rattle.up_expr.specs.Trees.{Tree}
 use Rattle.up_expr.specs.Syntax.{Syntax, Bare, Group, Joined, tokens_of, is_item, is_right, with_both, tree_in, leaves, Writes}
 use Rattle.up_expr.specs.Values.{is_open, is_close, is_and, is_or, is_operator, is_symbol, leaf_of}
 use Rattle.up_expr.specs.Parsing.{operators, begin, outcome}
+use Rattle.up_expr.specs.Parts.{Keeps}
 use Rattle.up_expr.proofs.Complete.{bare_leaf, plainly_apart, reads}
 use Rattle.up_expr.proofs.Sound.{HasRead, sound}
 
@@ -85,3 +86,15 @@ same_tree tokens tree other writes also =
     let ends : outcome tokens begin ≡ Some tree = (complete tokens tree writes).0 in
     let ends_too : outcome tokens begin ≡ Some other = (complete tokens other also).0 in
     cc
+
+-- tokens that end in no tree write none
+pub none_written : (tokens : List Token) (tree : Tree) → outcome tokens begin ≡ None → Writes tokens tree → ⊥
+none_written tokens tree none writes = clash tree (sym none ∙ (complete tokens tree writes).0)
+  where
+    clash : (tree : Tree) → None ≡ Some tree → ⊥
+    clash tree same = cc
+
+-- a tree that was kept is the one that is meant
+pub kept_is : (kept : Option Tree) (held tree : Tree) → kept ≡ Some held → Keeps kept tree → held ≡ tree
+kept_is None held tree is keeps = cc
+kept_is (Some other) held tree is keeps = let same : other ≡ held = cc in sym same ∙ keeps

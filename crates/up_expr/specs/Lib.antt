@@ -1,6 +1,7 @@
 pub mod Fault
 pub mod Matching
 pub mod Parsing
+pub mod Parts
 pub mod Syntax
 pub mod TreeCode
 pub mod Trees

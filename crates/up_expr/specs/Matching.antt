@@ -5,6 +5,7 @@ use Rattle.std.specs.Str.{bytes_eq}
 use Rattle.up_text.specs.Bindings.{value_of}
 use Rattle.up_text.specs.Expansion.{Expansion, Expands, Lacks, Malformed, expand}
 use Rattle.up_text.specs.Pattern.{glob, supported}
+use Rattle.up_expr.specs.Values.{is_positional}
 use Rattle.up_expr.specs.declared.expr.Leaf.{Leaf}
 use Rattle.up_expr.specs.declared.expr.Test.{Test}
 use Rattle.up_expr.specs.declared.expr.Test.TheVariants.{Place, Same, Differs}
@@ -37,10 +38,14 @@ test_holds vars env k (Place value) = meets (pattern_of (expand value env)) (nth
 test_holds vars env k (Same key value) = meets (pattern_of (expand value env)) (value_of key vars)
 test_holds vars env k (Differs key value) = misses (pattern_of (expand value env)) (value_of key vars)
 
--- whether all of these tests hold, the first of which stands at this place
+-- the place of the next positional value after a test, where a positional one stands at place k
+abbrev pub next_place : ℕ → Test → ℕ
+next_place k test = if is_positional test then k + 1 else k
+
+-- whether all of these tests hold, where the first positional one stands at place k: keyed ones aren't counted
 abbrev pub tests_hold : List (List ℕ × List ℕ) → List (List ℕ × List ℕ) → ℕ → List Test → Bool
 tests_hold vars env k [] = true
-tests_hold vars env k (test ∷ tests) = if test_holds vars env k test then tests_hold vars env (k + 1) tests else false
+tests_hold vars env k (test ∷ tests) = if test_holds vars env k test then tests_hold vars env (next_place k test) tests else false
 
 -- a leaf matches an event of its name where all its values do
 abbrev pub matches : Leaf → List ℕ → List (List ℕ × List ℕ) → List (List ℕ × List ℕ) → Bool

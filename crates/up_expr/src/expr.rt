@@ -23,7 +23,7 @@ pub struct Leaf {
 /// What one variable of an event must be. Each value is expanded and then matched as a pattern, fnmatch(3).
 #[derive(Debug, Drop)]
 pub enum Test {
-    /// The variable at the same place as this test has such a value.
+    /// The variable at the place that this test has among the positional ones has such a value.
     Place(Text),
     /// The variable of this key has such a value.
     Same(Text, Text),

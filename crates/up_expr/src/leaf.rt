@@ -4,6 +4,7 @@ ghost use Rattle.up_text.specs.Bindings.{value_of};
 ghost use Rattle.up_text.specs.Expansion.{expand};
 ghost use Rattle.up_expr.specs.declared.fault.ExprFault.TheVariants.{Memory};
 ghost use Rattle.up_expr.specs.Matching.{pattern_of, meets, misses, nth_value, test_holds, tests_hold, matches};
+ghost use Rattle.up_expr.specs.Values.{is_positional};
 
 use crate::expr::{Leaf, Test};
 use crate::fault::ExprFault;
@@ -113,14 +114,27 @@ fn test_holds(
     }
 }
 
-// Whether all tests hold, the first of which stands at the first place.
+fn is_positional(test: &Test) -> bool
+    ensures { result ≡ is_positional test.now }
+{
+    match test {
+        Test::Place(_) => true,
+        Test::Same(_, _) | Test::Differs(_, _) => false,
+    }
+}
+
+// Whether all tests hold, where the first positional value is for the first variable.
 fn tests_hold(alloc: Global, tests: &[Test], vars: &Env, env: &Env) -> Result<bool, ExprFault>
     ensures holds { IfOk result (λ holds. holds ≡ tests_hold vars.now env.now 0 tests.now) }
     ensures memory { OnErr result (result ≡ Err Memory) }
 {
-    for (k, test) in tests.iter().enumerate() {
+    let mut k = 0;
+    for test in tests {
         if !test_holds(alloc, test, k, vars, env)? {
             return Ok(false);
+        }
+        if is_positional(test) {
+            k += 1;
         }
     }
     Ok(true)

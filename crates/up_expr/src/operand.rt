@@ -1,13 +1,14 @@
 //! Reads a leaf.
-ghost use Rattle.std.specs.Prelude.{◌≡◌, ◌⊎◌, ◌<◌, Err, IfOk, OnErr, Some, None, true, false, length, map};
+ghost use Rattle.std.specs.Prelude.{◌≡◌, IfErr, IfOk, OnErr, Some, true, false, is_some};
 ghost use Rattle.std.specs.List.{list_all, list_any};
-ghost use Rattle.up_text.specs.Names.{is_name};
+ghost use Rattle.up_expr.specs.Parts.{IsFaultOf};
 ghost use Rattle.up_expr.specs.Values as values;
+ghost use Rattle.up_value.specs.declared.fault.TextFault.TheVariants as text;
 ghost use Rattle.up_expr.specs.declared.fault.ExprFault.TheVariants.{Memory};
 
 use crate::expr::{Leaf, Test};
 use crate::fault::ExprFault;
-use crate::value::{check_test, is_positional, read_test};
+use crate::value::{check_test, is_positional, make_test, parts_of};
 use std::alloc::{AllocError, Global};
 use up_text::{Items, Name, TextFault, Token};
 
@@ -19,65 +20,92 @@ fn read_tests(alloc: Global, tokens: &[Token]) -> Result<Vec<Test>, AllocError>
 {
     let mut tests = Vec::with_capacity(alloc, tokens.len())?;
     for token in tokens {
-        tests.push(read_test(alloc, token.text.as_str())?)?;
+        tests.push(make_test(alloc, parts_of(token.text.as_str()))?)?;
     }
     Ok(tests)
 }
 
-// Refuses tests of which one may not stand in a job file.
-fn check_tests(tests: &[Test]) -> Result<(), ExprFault>
-    ensures ok { IfOk result (λ done. list_all values.is_good tests.now ≡ true) }
-    ensures refused { OnErr result (list_all values.is_good tests.now ≡ false) }
+// Refuses values of which one may not stand in a job file.
+fn check_tests(tokens: &[Token]) -> Result<(), ExprFault>
+    ensures ok { IfOk result (λ done. list_all values.is_good (values.values_of tokens.now) ≡ true) }
+    ensures refused { OnErr result (list_all values.is_good (values.values_of tokens.now) ≡ false) }
+    ensures fault { IfErr result (λ fault. fault ≡ Memory → ⊥) }
 {
-    for test in tests {
-        check_test(test)?;
+    for token in tokens {
+        check_test(parts_of(token.text.as_str()))?;
     }
     Ok(())
 }
 
-fn has_positional(tests: &[Test]) -> bool
-    ensures { result ≡ list_any values.is_positional tests.now }
+fn is_value(token: &Token) -> bool
+    ensures { result ≡ values.is_positional (values.test_of token.now.text) }
 {
-    tests.iter().any(|test| is_positional(test))
+    is_positional(parts_of(token.text.as_str()))
 }
 
-// Whether no positional value stands behind a keyed one.
-fn is_ordered(tests: &[Test]) -> bool
-    ensures { result ≡ values.is_ordered tests.now }
+fn has_positional(tokens: &[Token]) -> bool
+    ensures { result ≡ list_any values.is_positional (values.values_of tokens.now) }
 {
-    for (place, test) in tests.iter().enumerate() {
-        if !is_positional(test) {
-            return !has_positional(&tests[place + 1..]);
+    for token in tokens {
+        if is_value(token) {
+            return true;
+        }
+    }
+    false
+}
+
+// Whether no positional value stands after a keyed one.
+fn is_ordered(tokens: &[Token]) -> bool
+    ensures { result ≡ values.is_ordered (values.values_of tokens.now) }
+{
+    for (place, token) in tokens.iter().enumerate() {
+        if !is_value(token) {
+            return !has_positional(&tokens[place + 1..]);
         }
     }
     true
 }
 
+// Refuses tokens that aren't the values of a leaf. Takes no memory.
+fn check_values(tokens: &[Token]) -> Result<(), ExprFault>
+    ensures ok { IfOk result (λ done. values.are_values (values.values_of tokens.now) ≡ true) }
+    ensures refused { OnErr result (values.are_values (values.values_of tokens.now) ≡ false) }
+    ensures fault { IfErr result (λ fault. fault ≡ Memory → ⊥) }
+{
+    check_tests(tokens)?;
+    if !is_ordered(tokens) {
+        return Err(ExprFault::ValueBeforeKey);
+    }
+    if tokens.len() > MAX_VALUES {
+        return Err(ExprFault::TooLarge);
+    }
+    Ok(())
+}
+
 fn read_values(alloc: Global, tokens: &[Token]) -> Result<Items<Test>, ExprFault>
     ensures values { IfOk result (λ tests. tests ≡ values.values_of tokens.now) }
     ensures good { IfOk result (λ tests. values.are_values (values.values_of tokens.now) ≡ true) }
-    ensures refused { OnErr result ((result ≡ Err Memory) ⊎ (values.are_values (values.values_of tokens.now) ≡ false)) }
+    ensures refused { IfErr result (IsFaultOf (values.are_values (values.values_of tokens.now))) }
 {
+    check_values(tokens)?;
     let tests = read_tests(alloc, tokens)?;
-    check_tests(tests.as_slice())?;
-    if !is_ordered(tests.as_slice()) {
-        return Err(ExprFault::ValueBeforeKey);
-    }
-    if tests.len() > MAX_VALUES {
-        return Err(ExprFault::TooLarge);
-    }
     Ok(Items::new(tests))
 }
 
-// The name of a leaf's event.
-fn read_name(alloc: Global, token: &Token) -> Result<Name, ExprFault>
-    ensures name { IfOk result (λ name. (name ≡ token.now.text) × (is_name token.now.text ≡ true)) }
-    ensures refused { OnErr result ((result ≡ Err Memory) ⊎ (is_name token.now.text ≡ false)) }
+// The fault of a leaf whose event has no name: of its name, or of its values.
+fn fault_of(fault: TextFault, others: &[Token]) -> ExprFault
+    ensures memory { fault ≡ text.Memory → IsFaultOf (values.are_values (values.values_of others.now)) result }
+    ensures other { (fault ≡ text.Memory → ⊥) → result ≡ Memory → ⊥ }
 {
-    match Name::new(alloc, token.text.as_str()) {
-        Ok(name) => Ok(name),
-        Err(TextFault::Memory) => Err(ExprFault::Memory),
-        Err(_) => Err(ExprFault::BadName),
+    match fault {
+        TextFault::Memory => match check_values(others) {
+            Ok(()) => ExprFault::Memory,
+            Err(fault) => fault,
+        },
+        TextFault::UnterminatedQuote
+        | TextFault::TrailingBackslash
+        | TextFault::BadName
+        | TextFault::BadExpansion => ExprFault::BadName,
     }
 }
 
@@ -85,12 +113,16 @@ fn read_name(alloc: Global, token: &Token) -> Result<Name, ExprFault>
 pub(crate) fn read_leaf(alloc: Global, tokens: &[Token]) -> Result<Leaf, ExprFault>
     requires { list_any values.is_symbol tokens.now ≡ false }
     ensures leaf { IfOk result (λ leaf. values.leaf_of tokens.now ≡ Some leaf) }
-    ensures refused { OnErr result ((result ≡ Err Memory) ⊎ (values.leaf_of tokens.now ≡ None)) }
+    ensures refused { IfErr result (IsFaultOf (is_some (values.leaf_of tokens.now))) }
 {
     let Some((first, others)) = tokens.split_first() else {
         return Err(ExprFault::BadExpression);
     };
-    let event = read_name(alloc, first)?;
-    let values = read_values(alloc, others)?;
-    Ok(Leaf { event, values })
+    match Name::new(alloc, first.text.as_str()) {
+        Ok(event) => {
+            let values = read_values(alloc, others)?;
+            Ok(Leaf { event, values })
+        }
+        Err(fault) => Err(fault_of(fault, others)),
+    }
 }

@@ -1,9 +1,12 @@
 //! Reads an expression from its tokens.
-ghost use Rattle.std.specs.Prelude.{◌≡◌, ◌⊎◌, ◌≤◌, ◌<◌, ◌+◌, ◌∷◌, List, ℕ, Err, Some, None, IfOk, OnErr, MatchOption, true, false, length, drop};
+ghost use Rattle.std.specs.Prelude.{◌≡◌, ◌≤◌, ◌<◌, ◌+◌, ◌∷◌, List, ℕ, Some, None, IfErr, IfOk, OnErr, MatchOption, true, false, length, drop};
+ghost use Rattle.std.specs.List.{list_any};
 ghost use Rattle.up_expr.specs.Parsing.{Pending, at, Before, Behind, outcome, operators, begin};
 ghost use Rattle.up_text.specs.Lists.{begins};
 ghost use Rattle.up_expr.specs.Syntax.{Writes};
-ghost use Rattle.up_expr.specs.Trees.{Tree};
+ghost use Rattle.up_expr.specs.Trees.{Tree, One};
+ghost use Rattle.up_expr.specs.Parts.{Keeps};
+ghost use Rattle.up_expr.specs.declared.expr.Leaf.{Leaf};
 ghost use Rattle.up_expr.specs.Values as values;
 ghost use Rattle.up_expr.specs.declared.fault.ExprFault.TheVariants.{Memory};
 
@@ -39,16 +42,53 @@ fn joined(
     }
 }
 
+// The same of trees that may be out of memory: then nothing is kept, and what stands after them is still read, so that a fault there
+// comes before the refusal of memory.
+fn join(
+    alloc: Global,
+    left: Option<Condition>,
+    operator: &Token,
+    right: Option<Condition>,
+) -> Option<Condition>
+    ensures { (l r : Tree) → Keeps left l → Keeps right r → Keeps result (Rattle.up_expr.specs.Syntax.joined operator.now l r) }
+{
+    match left {
+        Some(left) => match right {
+            Some(right) => match joined(alloc, left, operator, right) {
+                Ok(both) => Some(both),
+                Err(_) => None,
+            },
+            None => None,
+        },
+        None => None,
+    }
+}
+
+// The leaf that the tokens write, unless memory is refused.
+fn keep_leaf(alloc: Global, tokens: &[Token]) -> Result<Option<Condition>, ExprFault>
+    requires { list_any values.is_symbol tokens.now ≡ false }
+    ensures read { IfOk result (λ kept. (leaf : Leaf) × (values.leaf_of tokens.now ≡ Some leaf) × Keeps kept (One leaf)) }
+    ensures refused { OnErr result (values.leaf_of tokens.now ≡ None) }
+    ensures fault { IfErr result (λ fault. fault ≡ Memory → ⊥) }
+{
+    match read_leaf(alloc, tokens) {
+        Ok(leaf) => Ok(Some(Condition::new(Expr::Leaf(leaf)))),
+        Err(ExprFault::Memory) => Ok(None),
+        Err(fault) => Err(fault),
+    }
+}
+
 // The leaf in front, and what stands behind it.
-fn read_operand(alloc: Global, tokens: &[Token]) -> Result<(Condition, &[Token]), ExprFault>
+fn read_operand(alloc: Global, tokens: &[Token]) -> Result<(Option<Condition>, &[Token]), ExprFault>
     requires { begins values.is_open tokens.now ≡ false }
-    ensures read { IfOk result (λ found. (outer : List Pending) (left : Pending) → outcome tokens.now (at outer left Before) ≡ outcome found.1.now (at outer left (Behind found.0))) }
-    ensures refused { OnErr result ((result ≡ Err Memory) ⊎ ((outer : List Pending) (left : Pending) → outcome tokens.now (at outer left Before) ≡ None)) }
+    ensures read { IfOk result (λ found. (tree : Tree) × Keeps found.0 tree × ((outer : List Pending) (left : Pending) → outcome tokens.now (at outer left Before) ≡ outcome found.1.now (at outer left (Behind tree)))) }
+    ensures refused { OnErr result ((outer : List Pending) (left : Pending) → outcome tokens.now (at outer left Before) ≡ None) }
+    ensures fault { IfErr result (λ fault. fault ≡ Memory → ⊥) }
     ensures shorter { IfOk result (λ found. length found.1.now < length tokens.now) }
 {
     let (own, behind) = tokens.split_at(leaf_len(tokens));
-    match read_leaf(alloc, own) {
-        Ok(leaf) => Ok((Condition::new(Expr::Leaf(leaf)), behind)),
+    match keep_leaf(alloc, own) {
+        Ok(leaf) => Ok((leaf, behind)),
         Err(fault) => Err(fault),
     }
 }
@@ -64,6 +104,7 @@ fn behind_open(tokens: &[Token]) -> Option<(&Token, &[Token])>
 fn behind_close(tokens: &[Token]) -> Result<&[Token], ExprFault>
     ensures ok { IfOk result (λ behind. (begins values.is_close tokens.now ≡ true) × (behind.now ≡ drop 1 tokens.now) × (0 < length tokens.now)) }
     ensures refused { OnErr result (begins values.is_close tokens.now ≡ false) }
+    ensures fault { IfErr result (λ fault. fault ≡ Memory → ⊥) }
 {
     match tokens.split_first() {
         Some((token, behind)) if is_close(token) => Ok(behind),
@@ -84,9 +125,10 @@ fn parse_item(
     alloc: Global,
     tokens: &[Token],
     depth: usize,
-) -> Result<(Condition, &[Token]), ExprFault>
-    ensures read { IfOk result (λ found. (outer : List Pending) (left : Pending) → length outer ≡ depth → outcome tokens.now (at outer left Before) ≡ outcome found.1.now (at outer left (Behind found.0))) }
-    ensures refused { OnErr result ((result ≡ Err Memory) ⊎ ((outer : List Pending) (left : Pending) → length outer ≡ depth → outcome tokens.now (at outer left Before) ≡ None)) }
+) -> Result<(Option<Condition>, &[Token]), ExprFault>
+    ensures read { IfOk result (λ found. (tree : Tree) × Keeps found.0 tree × ((outer : List Pending) (left : Pending) → length outer ≡ depth → outcome tokens.now (at outer left Before) ≡ outcome found.1.now (at outer left (Behind tree)))) }
+    ensures refused { OnErr result ((outer : List Pending) (left : Pending) → length outer ≡ depth → outcome tokens.now (at outer left Before) ≡ None) }
+    ensures fault { IfErr result (λ fault. fault ≡ Memory → ⊥) }
     ensures shorter { IfOk result (λ found. length found.1.now < length tokens.now) }
 {
     let Some((_, inner)) = behind_open(tokens) else {
@@ -110,10 +152,11 @@ fn parse_items(
     alloc: Global,
     tokens: &[Token],
     depth: usize,
-) -> Result<(Condition, &[Token]), ExprFault>
-    ensures read { IfOk result (λ found. (outer : List Pending) → length outer ≡ depth → outcome tokens.now (at outer None Before) ≡ outcome found.1.now (at outer None (Behind found.0))) }
+) -> Result<(Option<Condition>, &[Token]), ExprFault>
+    ensures read { IfOk result (λ found. (tree : Tree) × Keeps found.0 tree × ((outer : List Pending) → length outer ≡ depth → outcome tokens.now (at outer None Before) ≡ outcome found.1.now (at outer None (Behind tree)))) }
     ensures ended { IfOk result (λ found. begins values.is_operator found.1.now ≡ false) }
-    ensures refused { OnErr result ((result ≡ Err Memory) ⊎ ((outer : List Pending) → length outer ≡ depth → outcome tokens.now (at outer None Before) ≡ None)) }
+    ensures refused { OnErr result ((outer : List Pending) → length outer ≡ depth → outcome tokens.now (at outer None Before) ≡ None) }
+    ensures fault { IfErr result (λ fault. fault ≡ Memory → ⊥) }
     ensures shorter { IfOk result (λ found. length found.1.now < length tokens.now) }
 {
     let (mut tree, mut rest) = match parse_item(alloc, tokens, depth) {
@@ -123,7 +166,7 @@ fn parse_items(
     'operators: while let Some((operator, behind)) = behind_operator(rest) {
         match parse_item(alloc, behind, depth) {
             Ok((right, others)) => {
-                tree = joined(alloc, tree, operator, right)?;
+                tree = join(alloc, tree, operator, right);
                 rest = others;
             }
             Err(fault) => return Err(fault),
@@ -145,10 +188,11 @@ fn operators(tokens: &[Token]) -> usize
     count
 }
 
-// The expression that all tokens write, however many operators it has.
-fn parse_all(alloc: Global, tokens: &[Token]) -> Result<Condition, ExprFault>
-    ensures tree { IfOk result (λ tree. outcome tokens.now begin ≡ Some tree) }
-    ensures refused { OnErr result ((result ≡ Err Memory) ⊎ (outcome tokens.now begin ≡ None)) }
+// The expression that all tokens write, however many operators it has; nothing if memory was refused.
+fn parse_all(alloc: Global, tokens: &[Token]) -> Result<Option<Condition>, ExprFault>
+    ensures read { IfOk result (λ kept. (tree : Tree) × Keeps kept tree × (outcome tokens.now begin ≡ Some tree)) }
+    ensures refused { OnErr result (outcome tokens.now begin ≡ None) }
+    ensures fault { IfErr result (λ fault. fault ≡ Memory → ⊥) }
 {
     match parse_items(alloc, tokens, 0) {
         Ok((tree, rest)) => {
@@ -162,16 +206,21 @@ fn parse_all(alloc: Global, tokens: &[Token]) -> Result<Condition, ExprFault>
     }
 }
 
-/// The expression that the tokens write (init(5), `start on`). Every fault but `Memory` comes only where they write none.
+/// The expression that the tokens write (init(5), `start on`). Refused with `Memory` only if they write one, and with any other fault
+/// only if they write none.
 pub fn parse_expr(alloc: Global, tokens: &[Token]) -> Result<Condition, ExprFault>
     ensures tree { IfOk result (λ tree. Writes tokens.now tree) }
-    ensures refused { OnErr result ((result ≡ Err Memory) ⊎ ((tree : Tree) → Writes tokens.now tree → ⊥)) }
+    ensures memory { IfErr result (λ fault. fault ≡ Memory → (tree : Tree) × Writes tokens.now tree) }
+    ensures refused { IfErr result (λ fault. (fault ≡ Memory → ⊥) → (tree : Tree) → Writes tokens.now tree → ⊥) }
 {
     if operators(tokens) > MAX_OPERATORS {
         return Err(ExprFault::TooLarge);
     }
     match parse_all(alloc, tokens) {
-        Ok(tree) => Ok(tree),
+        Ok(kept) => match kept {
+            Some(tree) => Ok(tree),
+            None => Err(ExprFault::Memory),
+        },
         Err(fault) => Err(fault),
     }
 }

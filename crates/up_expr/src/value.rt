@@ -1,8 +1,10 @@
 //! What the value tokens of a leaf say.
-ghost use Rattle.std.specs.Prelude.{◌≡◌, IfOk, OnErr, true, false, MatchOption, length, ◌-◌, take};
+ghost use Rattle.std.specs.Prelude.{◌≡◌, IfErr, IfOk, OnErr, true, false, MatchOption, length, ◌-◌, take};
 ghost use Rattle.std.specs.List.{before_first, after_first};
 ghost use Rattle.up_expr.specs.Values as values;
 ghost use Rattle.up_expr.specs.Values.{is_equals};
+ghost use Rattle.up_expr.specs.Parts.{test_in};
+ghost use Rattle.up_expr.specs.declared.fault.ExprFault.TheVariants.{Memory};
 
 use crate::expr::Test;
 use crate::fault::ExprFault;
@@ -27,53 +29,83 @@ fn negated_key(text: &str) -> Option<&str>
     }
 }
 
-/// What a value's text says: KEY=VALUE, KEY!=VALUE, or a positional value.
+/// The parts of a value's text: a positional value, KEY=VALUE, or KEY!=VALUE.
+#[derive(Clone, Copy)]
+pub(crate) enum Parts<'a> {
+    Place(&'a str),
+    Same(&'a str, &'a str),
+    Differs(&'a str, &'a str),
+}
+
+/// What a value's text says, within the text. Takes no memory.
 #[tactic(auto, unfolding(crate::specs::Values::test_of))]
-pub(crate) fn read_test(alloc: Global, text: &str) -> Result<Test, AllocError>
-    ensures { IfOk result (λ test. test ≡ values.test_of text.now) }
+pub(crate) fn parts_of(text: &str) -> Parts<'_>
+    ensures { test_in result ≡ values.test_of text.now }
 {
     if let Some((key, value)) = split_value(text) {
         if is_key(key) {
-            let value = Text::from_str(alloc, value)?;
-            return Ok(Test::Same(Text::from_str(alloc, key)?, value));
+            return Parts::Same(key, value);
         }
         if let Some(key) = negated_key(key) {
-            let value = Text::from_str(alloc, value)?;
-            return Ok(Test::Differs(Text::from_str(alloc, key)?, value));
+            return Parts::Differs(key, value);
         }
     }
-    Ok(Test::Place(Text::from_str(alloc, text)?))
+    Parts::Place(text)
 }
 
-pub(crate) fn is_positional(test: &Test) -> bool
-    ensures { result ≡ values.is_positional test.now }
+/// What the parts of a value's text say, in memory of its own.
+pub(crate) fn make_test(alloc: Global, parts: Parts) -> Result<Test, AllocError>
+    ensures { IfOk result (λ test. test ≡ test_in parts.entry) }
 {
-    match test {
-        Test::Place(_) => true,
-        Test::Same(_, _) | Test::Differs(_, _) => false,
+    match parts {
+        Parts::Place(value) => {
+            let value = Text::from_str(alloc, value)?;
+            Ok(Test::Place(value))
+        }
+        Parts::Same(key, value) => {
+            let value = Text::from_str(alloc, value)?;
+            Ok(Test::Same(Text::from_str(alloc, key)?, value))
+        }
+        Parts::Differs(key, value) => {
+            let value = Text::from_str(alloc, value)?;
+            Ok(Test::Differs(Text::from_str(alloc, key)?, value))
+        }
+    }
+}
+
+pub(crate) fn is_positional(parts: Parts) -> bool
+    ensures { result ≡ values.is_positional (test_in parts.entry) }
+{
+    match parts {
+        Parts::Place(_) => true,
+        Parts::Same(_, _) | Parts::Differs(_, _) => false,
     }
 }
 
 // Refuses a value that is no good expansion or no supported pattern.
-fn check_value(value: &Text) -> Result<(), ExprFault>
+fn check_value(value: &str) -> Result<(), ExprFault>
     ensures ok { IfOk result (λ done. values.is_good_value value.now ≡ true) }
     ensures refused { OnErr result (values.is_good_value value.now ≡ false) }
+    ensures fault { IfErr result (λ fault. fault ≡ Memory → ⊥) }
 {
-    if !is_expandable(value.as_str()) {
+    if !is_expandable(value) {
         return Err(ExprFault::BadExpansion);
     }
-    if !supported(value.as_str().as_bytes()) {
+    if !supported(value.as_bytes()) {
         return Err(ExprFault::BadPattern);
     }
     Ok(())
 }
 
-/// Refuses a test whose value may not stand in a job file.
-pub(crate) fn check_test(test: &Test) -> Result<(), ExprFault>
-    ensures ok { IfOk result (λ done. values.is_good test.now ≡ true) }
-    ensures refused { OnErr result (values.is_good test.now ≡ false) }
+/// Refuses a value that may not stand in a job file.
+pub(crate) fn check_test(parts: Parts) -> Result<(), ExprFault>
+    ensures ok { IfOk result (λ done. values.is_good (test_in parts.entry) ≡ true) }
+    ensures refused { OnErr result (values.is_good (test_in parts.entry) ≡ false) }
+    ensures fault { IfErr result (λ fault. fault ≡ Memory → ⊥) }
 {
-    match test {
-        Test::Place(value) | Test::Same(_, value) | Test::Differs(_, value) => check_value(value),
+    match parts {
+        Parts::Place(value) | Parts::Same(_, value) | Parts::Differs(_, value) => check_value(
+            value,
+        ),
     }
 }

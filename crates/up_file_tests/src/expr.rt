@@ -599,6 +599,40 @@ fn malformed_values_fail(rt: HostRuntime) -> Result<(), Fail> {
     Ok(())
 }
 
+// A leaf of the event e whose variable X must not be b, with this positional value behind: no file says so, but a leaf may.
+fn keyed_first(alloc: Global, value: &str) -> Result<Leaf, Fail> {
+    let key = Text::from_str(alloc, "X")?;
+    let other = Text::from_str(alloc, "b")?;
+    let value = Text::from_str(alloc, value)?;
+    let values = vec![in alloc; Test::Differs(key, other), Test::Place(value)]?;
+    let event = Name::new(alloc, "e")?;
+    Ok(Leaf {
+        event,
+        values: Items::new(values),
+    })
+}
+
+const FIRST_VALUE: &'static Match = &Match {
+    leaf: "",
+    event: "e",
+    vars: &[("X", "a")],
+    matches: true,
+};
+
+fn meets_first(alloc: Global, value: &str) -> Result<bool, Fail> {
+    let leaf = keyed_first(alloc, value)?;
+    let vars = env_of(alloc, FIRST_VALUE.vars)?;
+    is_match(alloc, &leaf, &vars, FIRST_VALUE)
+}
+
+// The first positional value is for the first variable, whatever stands before it.
+#[test]
+fn keyed_values_are_not_counted(rt: HostRuntime) -> Result<(), Fail> {
+    assert!(rt; meets_first(rt.alloc(), "a")?);
+    assert!(rt; !meets_first(rt.alloc(), "c")?);
+    Ok(())
+}
+
 const STOPPED: &'static [Match] = &[Match {
     leaf: "stopped a RESULT!=ok",
     event: "stopped",

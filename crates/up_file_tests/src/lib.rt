@@ -10,5 +10,6 @@ mod expr;
 mod image;
 #[cfg(test)]
 mod model;
+mod signals;
 #[cfg(test)]
 mod text;

@@ -18,12 +18,11 @@ fn vars(alloc: Global) -> Result<Env, TextFault> {
 }
 
 fn request(alloc: Global) -> Result<Request, TextFault> {
-    Ok(Request {
-        command: Command::Start,
-        wait: true,
-        name: Text::from_str(alloc, "a")?,
-        vars: vars(alloc)?,
-    })
+    let name = Text::from_str(alloc, "a")?;
+    match Request::new(Command::Start, true, name, vars(alloc)?) {
+        Some(request) => Ok(request),
+        None => Err(TextFault::BadName),
+    }
 }
 
 fn is_who(who: &Who) -> bool {

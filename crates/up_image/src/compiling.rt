@@ -1,29 +1,48 @@
 //! Compiles a folder of job files.
-ghost use Rattle.std.specs.Prelude.{IfOk, IfErr};
+ghost use Rattle.std.specs.Prelude.{◌≡◌, IfOk, IfErr, Ok, Err, if◌then◌else◌, length, nat_le};
+ghost use Rattle.up_image.specs.declared.refusal.CompileError.TheVariants.{SameName, TooManyJobs};
 ghost use Rattle.up_image.specs.Compiling.{Compiles, MayRefuse};
 
 use crate::refusal::CompileError;
 use crate::table::Table;
 use crate::twice::has_same_path;
 use std::alloc::Global;
-use up_conf::{Folder, Report, read_folder};
+use up_conf::{Folder, JobDef, Report, read_folder};
+use up_text::Items;
 
 /// The most jobs that a table has.
 pub const MAX_JOBS: usize = 1024;
+
+// Refuses a folder in which a path that is read stands twice.
+fn check_apart(twice: bool) -> Result<(), CompileError>
+    ensures { result ≡ (if twice then Err SameName else Ok tt) }
+{
+    if twice {
+        return Err(CompileError::SameName);
+    }
+    Ok(())
+}
+
+// The table of so many jobs.
+fn table_of(jobs: Items<JobDef>) -> Result<Table, CompileError>
+    ensures { result ≡ (if nat_le (length jobs) 1024 then Ok jobs else Err TooManyJobs) }
+{
+    if jobs.as_slice().len() > MAX_JOBS {
+        return Err(CompileError::TooManyJobs);
+    }
+    Ok(Table::new(jobs))
+}
 
 /// Compiles a folder to the table of its jobs. Files that aren't readable are reported, and define no job.
 pub fn compile(alloc: Global, folder: &Folder) -> Result<(Table, Report), CompileError>
     ensures compiled { IfOk result (λ made. Compiles folder.now made.0 made.1) }
     ensures refused { IfErr result (MayRefuse folder.now) }
 {
-    if has_same_path(alloc, folder.as_slice())? {
-        return Err(CompileError::SameName);
-    }
+    let twice = has_same_path(alloc, folder.as_slice())?;
+    check_apart(twice)?;
     let Ok((jobs, report)) = read_folder(alloc, folder) else {
         return Err(CompileError::Memory);
     };
-    if jobs.as_slice().len() > MAX_JOBS {
-        return Err(CompileError::TooManyJobs);
-    }
-    Ok((Table::new(jobs), report))
+    let table = table_of(jobs)?;
+    Ok((table, report))
 }

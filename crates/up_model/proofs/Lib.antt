@@ -1,8 +1,10 @@
+pub mod Places
+pub mod Sparing
+pub mod Sums
 pub mod MoveLaws
 pub mod OfferLaws
-pub mod Places
-pub mod QueueLaws
-pub mod Settling
-pub mod Sparing
-pub mod TurnLaws
 pub mod WorkLaws
+pub mod Settling
+pub mod QueueLaws
+pub mod HeldLaws
+pub mod TurnLaws

@@ -1,8 +1,8 @@
 -- The queue: its events stand by age, and what it says of an event.
 use Rattle.std.proofs.Common.{◌≡◌, ℕ, suc, ◌<◌, ◌==◌, Bool, true, false, ◌||◌, not, List, [], ◌∷◌, ◌++◌, length, Option, None, Some, if◌then◌else◌, refl, ◌∙◌, ap, arith, eqb-true, eq-eqb, ne_eqb, subst}
 use Rattle.std.specs.List.{AllByRecursion}
-use Rattle.up_conf.specs.declared.job.JobDef.{JobDef}
-use Rattle.up_model.specs.Chronicle.{Entry, Queued, Handled, Finished}
+use Rattle.up_model.specs.Configuration.{Configuration}
+use Rattle.up_model.specs.Chronicle.{Chronicle, Queued, Handled, Finished}
 use Rattle.up_model.specs.Queue.{Live, live_at, with_handled, without_event, queue}
 use Rattle.up_model.specs.Held.{is_held}
 use Rattle.up_model.specs.Due.{turn_event}
@@ -67,7 +67,7 @@ AreByAge-without_event n event (live ∷ lives) h = by_case (live.place == event
     by_case false younger rest = (h.0, younger, rest)
 
 -- the queue stands by age
-pub queue_by_age : (c : List Entry) → AreByAge (queue c) (length c)
+pub queue_by_age : (c : Chronicle) → AreByAge (queue c) (length c)
 queue_by_age [] = tt
 queue_by_age (Queued origin event ∷ c) = AreByAge-append (length c) (queue c) (queue_by_age c)
 queue_by_age (Handled event ∷ c) = AreByAge-later (length c) (with_handled event (queue c)) (AreByAge-with_handled (length c) event (queue c) (queue_by_age c))
@@ -147,40 +147,40 @@ status-without_event_other event other (live ∷ lives) h = by_case (live.place 
     by_case false differs ih = ap (λ rest. if live.place == other then Some live.handled else rest) ih
 
 -- what holds of all events of the queue holds of a turn's
-pub turn_event-all : (P : Live → Type 0) (base : List (List ℕ × List ℕ)) (jobs : List JobDef) (lives : List Live) (c : List Entry) (live : Live) → AllByRecursion P lives
-    → turn_event base jobs lives c ≡ Some live → P live
-turn_event-all P base jobs [] c live h e = cc
-turn_event-all P base jobs (first ∷ lives) c live h e = by_case (not first.handled || not (is_held base jobs first.place c)) e (turn_event-all P base jobs lives c live h.1)
+pub turn_event-all : (P : Live → Type 0) (config : Configuration) (lives : List Live) (c : Chronicle) (live : Live) → AllByRecursion P lives
+    → turn_event config lives c ≡ Some live → P live
+turn_event-all P config [] c live h e = cc
+turn_event-all P config (first ∷ lives) c live h e = by_case (not first.handled || not (is_held config first.place c)) e (turn_event-all P config lives c live h.1)
   where
-    by_case : (b : Bool) → (if b then Some first else turn_event base jobs lives c) ≡ Some live → (turn_event base jobs lives c ≡ Some live → P live) → P live
+    by_case : (b : Bool) → (if b then Some first else turn_event config lives c) ≡ Some live → (turn_event config lives c ≡ Some live → P live) → P live
     by_case true e ih = let same : first ≡ live = cc in subst P same h.0
     by_case false e ih = ih e
 
 -- the event of a turn is in the queue
-pub turn_event-status : (n : ℕ) (base : List (List ℕ × List ℕ)) (jobs : List JobDef) (lives : List Live) (c : List Entry) (live : Live) → AreByAge lives n → turn_event base jobs lives c ≡ Some live
+pub turn_event-status : (n : ℕ) (config : Configuration) (lives : List Live) (c : Chronicle) (live : Live) → AreByAge lives n → turn_event config lives c ≡ Some live
     → status live.place lives ≡ Some live.handled
-turn_event-status n base jobs [] c live h e = cc
-turn_event-status n base jobs (first ∷ lives) c live h e = by_case (not first.handled || not (is_held base jobs first.place c)) e (turn_event-status n base jobs lives c live h.2)
+turn_event-status n config [] c live h e = cc
+turn_event-status n config (first ∷ lives) c live h e = by_case (not first.handled || not (is_held config first.place c)) e (turn_event-status n config lives c live h.2)
   where
-    by_case : (b : Bool) → (if b then Some first else turn_event base jobs lives c) ≡ Some live
-        → (turn_event base jobs lives c ≡ Some live → status live.place lives ≡ Some live.handled)
+    by_case : (b : Bool) → (if b then Some first else turn_event config lives c) ≡ Some live
+        → (turn_event config lives c ≡ Some live → status live.place lives ≡ Some live.handled)
         → (if first.place == live.place then Some first.handled else status live.place lives) ≡ Some live.handled
     by_case true e ih = let same : first ≡ live = cc in subst (λ it. (if first.place == it.place then Some first.handled else status it.place lives) ≡ Some it.handled) same (rw (eq-eqb first.place first.place refl) refl)
     by_case false e ih =
-        let younger : first.place < live.place = turn_event-all (λ other. first.place < other.place) base jobs lives c live h.1 e in
+        let younger : first.place < live.place = turn_event-all (λ other. first.place < other.place) config lives c live h.1 e in
         rw (ne_eqb first.place live.place (λ same. omega arith)) (ih e)
 
 -- and isn't held where it was handled
-pub turn_event-held : (base : List (List ℕ × List ℕ)) (jobs : List JobDef) (lives : List Live) (c : List Entry) (live : Live) → turn_event base jobs lives c ≡ Some live → live.handled ≡ true
-    → is_held base jobs live.place c ≡ false
-turn_event-held base jobs [] c live e handled = cc
-turn_event-held base jobs (first ∷ lives) c live e handled =
-    by_case first.handled (is_held base jobs first.place c) refl refl e (λ rest. turn_event-held base jobs lives c live rest handled)
+pub turn_event-held : (config : Configuration) (lives : List Live) (c : Chronicle) (live : Live) → turn_event config lives c ≡ Some live → live.handled ≡ true
+    → is_held config live.place c ≡ false
+turn_event-held config [] c live e handled = cc
+turn_event-held config (first ∷ lives) c live e handled =
+    by_case first.handled (is_held config first.place c) refl refl e (λ rest. turn_event-held config lives c live rest handled)
   where
-    by_case : (b held : Bool) → first.handled ≡ b → is_held base jobs first.place c ≡ held → (if not b || not held then Some first else turn_event base jobs lives c) ≡ Some live
-        → (turn_event base jobs lives c ≡ Some live → is_held base jobs live.place c ≡ false) → is_held base jobs live.place c ≡ false
+    by_case : (b held : Bool) → first.handled ≡ b → is_held config first.place c ≡ held → (if not b || not held then Some first else turn_event config lives c) ≡ Some live
+        → (turn_event config lives c ≡ Some live → is_held config live.place c ≡ false) → is_held config live.place c ≡ false
     by_case true true f g e ih = ih e
-    by_case true false f g e ih = let same : first ≡ live = cc in subst (λ it. is_held base jobs it.place c ≡ false) same g
+    by_case true false f g e ih = let same : first ≡ live = cc in subst (λ it. is_held config it.place c ≡ false) same g
     by_case false held f g e ih =
         let same : first ≡ live = cc in
         let unhandled : live.handled ≡ false = subst (λ it. it.handled ≡ false) same f in

@@ -1,24 +1,32 @@
 -- Each event is handled once, and finishes once, after it was handled.
-use Rattle.std.proofs.Common.{◌≡◌, ℕ, zero, suc, is_some, append_assoc, le_of_eq, ◌&&◌, ◌+◌, ◌<◌, ◌≤◌, ◌==◌, ◌⊎◌, inl, inr, Bool, true, false, List, [], ◌∷◌, ◌++◌, length, Option, None, Some, if◌then◌else◌, refl, sym, ◌∙◌, ap, subst, arith, eqb-true, eq-eqb}
+use Rattle.std.proofs.Common.{◌≡◌, ℕ, zero, suc, is_some, append_assoc, le_of_eq, not, ◌&&◌, ◌+◌, ◌<◌, ◌≤◌, ◌==◌, ◌⊎◌, inl, inr, Bool, true, false, List, [], ◌∷◌, ◌++◌, length, Option, None, Some, if◌then◌else◌, refl, sym, ◌∙◌, ap, subst, arith, eqb-true, eq-eqb}
 use Rattle.std.specs.List.{AllByRecursion}
+use Rattle.up_model.specs.declared.failure.End.{End}
+use Rattle.up_model.specs.declared.failure.End.TheVariants as end
+use Rattle.up_model.specs.declared.failure.Failure.{Failure}
+use Rattle.up_model.specs.declared.failure.Verdict.{Verdict}
+use Rattle.up_model.specs.declared.failure.Verdict.TheVariants as verdict
 use Rattle.up_model.specs.declared.state.Goal.TheVariants.{Stop}
 use Rattle.up_stanza.specs.declared.process.Process.{Process}
 use Rattle.up_model.specs.declared.input.Input.{Input}
 use Rattle.up_model.specs.declared.input.Input.TheVariants as input
-use Rattle.up_conf.specs.declared.job.JobDef.{JobDef}
+use Rattle.up_model.specs.Configuration.{Configuration}
 use Rattle.up_model.specs.Chronicle.{Entry, Given, Aimed, Replied, Queued, Handled, Finished, Outside}
-use Rattle.up_model.specs.Readings.{goal, state_of, holders}
+use Rattle.up_model.specs.Readings.{goal, state_of, failure, holders}
 use Rattle.up_model.specs.Queue.{Live, with_handled, without_event, queue}
 use Rattle.up_model.specs.Held.{is_held}
-use Rattle.up_model.specs.Moves.{where_true}
+use Rattle.up_model.specs.Instances.{instance_named}
+use Rattle.up_model.specs.Judgement.{end_itself, keep_failure, fail, carry_out, judged}
 use Rattle.up_model.specs.Offers.{offering}
 use Rattle.up_model.specs.Requests.{not_supported}
-use Rattle.up_model.specs.Tests.{is_start, is_main}
-use Rattle.up_model.specs.Due.{due, instance_named, give_up, is_running, refused, ended, turn_event, turned, effect}
+use Rattle.up_model.specs.Tests.{is_start, entries_if}
+use Rattle.up_model.specs.Due.{due, end_of, turn_event, turn_of, effect}
+use Rattle.up_model.specs.Values.{Bytes}
 use Rattle.up_model.specs.Work.{work, settle}
 use Rattle.up_model.specs.Answers.{after, next, is_expected, after_all}
 use Rattle.up_model.specs.Laws.{handled_times, finished_times, IsOrderly}
-use Rattle.up_model.proofs.Sparing.{all-weaker, IsOf}
+use Rattle.up_model.proofs.HeldLaws.{held-given}
+use Rattle.up_model.proofs.Sparing.{all-append, all-weaker, all-if, IsOf}
 use Rattle.up_model.proofs.WorkLaws.{Lowers, due-lowers}
 use Rattle.up_model.proofs.QueueLaws.{queue_by_age, status, status-older, first_status, status-append, status-with_handled, status-with_handled_other, status-without_event, status-without_event_other, turn_event-status, turn_event-held}
 
@@ -29,9 +37,9 @@ Standing event c (Some false) = (handled_times event c ≡ 0) × (finished_times
 Standing event c (Some true) = (handled_times event c ≡ 1) × (finished_times event c ≡ 0)
 
 -- so the counts fit the queue, and did so whenever an event was handled or finished
-pub record Keeps (c : List Entry) : Type 0 where
+pub record Keeps (config : Configuration) (c : List Entry) : Type 0 where
   pub standing : (event : ℕ) → Standing event c (status event (queue c))
-  pub orderly : IsOrderly c
+  pub orderly : IsOrderly config c
 
 -- what holds of an event still holds when neither count changed
 standing-later : (event : ℕ) (c d : List Entry) (o : Option Bool) → handled_times event d ≡ handled_times event c → finished_times event d ≡ finished_times event c
@@ -63,26 +71,26 @@ le_suc : (n : ℕ) → n ≤ suc n
 le_suc n = omega arith
 
 -- it leaves the counts fitting
-quiet-keeps : (e : Entry) (c : List Entry) → IsQuiet e → Keeps c → Keeps (e ∷ c)
-quiet-keeps (Handled event) c quiet keeps = absurd quiet
-quiet-keeps (Finished event) c quiet keeps = absurd quiet
-quiet-keeps (Queued origin it) c quiet keeps = record {
+quiet-keeps : (config : Configuration) (e : Entry) (c : List Entry) → IsQuiet e → Keeps config c → Keeps config (e ∷ c)
+quiet-keeps config (Handled event) c quiet keeps = absurd quiet
+quiet-keeps config (Finished event) c quiet keeps = absurd quiet
+quiet-keeps config (Queued origin it) c quiet keeps = record {
   standing = λ event. rw (status-append event (length c) false (queue c)) (standing-queued event c (Queued origin it ∷ c) (status event (queue c)) (length c == event) refl refl refl (le_suc (length c)) (keeps.standing event));
   orderly = keeps.orderly;
 }
-quiet-keeps e c quiet keeps = record {
+quiet-keeps config e c quiet keeps = record {
   standing = λ event. standing-later event c (e ∷ c) (status event (queue c)) refl refl (le_suc (length c)) (keeps.standing event);
   orderly = keeps.orderly;
 }
 
 -- several such entries do
-quiets-keep : (es c : List Entry) → AllByRecursion IsQuiet es → Keeps c → Keeps (es ++ c)
-quiets-keep [] c quiet keeps = keeps
-quiets-keep (e ∷ es) c quiet keeps = quiet-keeps e (es ++ c) quiet.0 (quiets-keep es c quiet.1 keeps)
+quiets-keep : (config : Configuration) (es c : List Entry) → AllByRecursion IsQuiet es → Keeps config c → Keeps config (es ++ c)
+quiets-keep config [] c quiet keeps = keeps
+quiets-keep config (e ∷ es) c quiet keeps = quiet-keeps config e (es ++ c) quiet.0 (quiets-keep config es c quiet.1 keeps)
 
 -- an unhandled event of the queue is handled
-handled-keeps : (event : ℕ) (c : List Entry) → status event (queue c) ≡ Some false → Keeps c → Keeps (Handled event ∷ c)
-handled-keeps event c here keeps = record {
+handled-keeps : (config : Configuration) (event : ℕ) (c : List Entry) → status event (queue c) ≡ Some false → Keeps config c → Keeps config (Handled event ∷ c)
+handled-keeps config event c here keeps = record {
   standing = λ other. by_case other (event == other) refl (keeps.standing other);
   orderly = (now.0, now.1, keeps.orderly);
 }
@@ -98,10 +106,11 @@ handled-keeps event c here keeps = record {
         (rw (status-with_handled event (queue c) false here) (rw (eq-eqb event event refl) (ap (λ n. 1 + n) now.0), now.1))
 
 -- a handled event of the queue finishes
-finished-keeps : (event : ℕ) (c : List Entry) → status event (queue c) ≡ Some true → Keeps c → Keeps (Finished event ∷ c)
-finished-keeps event c here keeps = record {
+finished-keeps : (config : Configuration) (event : ℕ) (c : List Entry) → status event (queue c) ≡ Some true → is_held config event c ≡ false
+    → Keeps config c → Keeps config (Finished event ∷ c)
+finished-keeps config event c here free keeps = record {
   standing = λ other. by_case other (event == other) refl (keeps.standing other);
-  orderly = (now.0, now.1, keeps.orderly);
+  orderly = (now.0, now.1, free, keeps.orderly);
 }
   where
     now : Standing event c (Some true)
@@ -116,100 +125,105 @@ finished-keeps event c here keeps = record {
         (rw (status-without_event event (queue c)) (rw (eq-eqb event event refl) (ap (λ n. 1 + n) now.1 ∙ sym now.0), le_of_eq now.0, λ later. absurd (omega arith)))
 
 -- so a turn leaves the counts fitting
-turned-keeps : (base : List (List ℕ × List ℕ)) (jobs : List JobDef) (c : List Entry) (found : Option Live) → turn_event base jobs (queue c) c ≡ found → Keeps (Given input.Turn ∷ c)
-    → Keeps (turned found ++ Given input.Turn ∷ c)
-turned-keeps base jobs c None found keeps = keeps
-turned-keeps base jobs c (Some live) found keeps = by_case live.handled refl
+turn-keeps : (config : Configuration) (c : List Entry) (found : Option Live) → turn_event config (queue c) c ≡ found → Keeps config (Given input.Turn ∷ c)
+    → Keeps config (turn_of found ++ Given input.Turn ∷ c)
+turn-keeps config c None found keeps = keeps
+turn-keeps config c (Some live) found keeps = by_case live.handled refl
   where
     here : status live.place (queue c) ≡ Some live.handled
-    here = turn_event-status (length c) base jobs (queue c) c live (queue_by_age c) found
+    here = turn_event-status (length c) config (queue c) c live (queue_by_age c) found
 
-    by_case : (b : Bool) → live.handled ≡ b → Keeps ((if b then Finished live.place ∷ [] else Handled live.place ∷ []) ++ Given input.Turn ∷ c)
-    by_case true handled = finished-keeps live.place (Given input.Turn ∷ c) (here ∙ ap (λ b. Some b) handled) keeps
-    by_case false handled = handled-keeps live.place (Given input.Turn ∷ c) (here ∙ ap (λ b. Some b) handled) keeps
+    by_case : (b : Bool) → live.handled ≡ b → Keeps config ((if b then Finished live.place ∷ [] else Handled live.place ∷ []) ++ Given input.Turn ∷ c)
+    by_case true handled =
+        finished-keeps config live.place (Given input.Turn ∷ c) (here ∙ ap (λ b. Some b) handled)
+        (held-given config live.place input.Turn c ∙ turn_event-held config (queue c) c live found handled) keeps
+    by_case false handled = handled-keeps config live.place (Given input.Turn ∷ c) (here ∙ ap (λ b. Some b) handled) keeps
 
 -- what is due neither handles nor finishes an event
-of-quiet : (job p : ℕ) (e : Entry) → IsOf job p e → IsQuiet e
+of-quiet : (job : Bytes) (p : ℕ) (e : Entry) → IsOf job p e → IsQuiet e
 of-quiet job p (Handled event) of = of
 of-quiet job p (Finished event) of = of
 of-quiet job p e of = tt
 
 -- so all that is due is quiet
-pub due-quiet : (base : List (List ℕ × List ℕ)) (jobs : List JobDef) (c : List Entry) → AllByRecursion IsQuiet (due base jobs c)
-due-quiet base jobs c = by_case (due base jobs c) (due-lowers base jobs c)
+pub due-quiet : (config : Configuration) (c : List Entry) → AllByRecursion IsQuiet (due config c)
+due-quiet config c = by_case (due config c) (due-lowers config c)
   where
-    by_case : (es : List Entry) → (es ≡ []) ⊎ Lowers (is_some (offering c)) jobs 0 c es → AllByRecursion IsQuiet es
+    by_case : (es : List Entry) → (es ≡ []) ⊎ Lowers (is_some (offering c)) config.jobs c es → AllByRecursion IsQuiet es
     by_case es (inl none) = subst (AllByRecursion IsQuiet) (sym none) tt
     by_case es (inr lowers) = all-weaker (IsOf lowers.whose lowers.place) IsQuiet (of-quiet lowers.whose lowers.place) es lowers.of
 
 -- doing what is due leaves the counts fitting
-pub settle-keeps : (n : ℕ) (base : List (List ℕ × List ℕ)) (jobs : List JobDef) (c : List Entry) → Keeps c → Keeps (settle n base jobs c)
+pub settle-keeps : (n : ℕ) (config : Configuration) (c : List Entry) → Keeps config c → Keeps config (settle n config c)
 unfolding settle
-settle-keeps zero base jobs c keeps = keeps
-settle-keeps (suc n) base jobs c keeps = settle-keeps n base jobs (due base jobs c ++ c) (quiets-keep (due base jobs c) c (due-quiet base jobs c) keeps)
+settle-keeps zero config c keeps = keeps
+settle-keeps (suc n) config c keeps = settle-keeps n config (due config c ++ c) (quiets-keep config (due config c) c (due-quiet config c) keeps)
 
--- a test lets only quiet entries through
-where_true-quiet : (b : Bool) (es : List Entry) → AllByRecursion IsQuiet es → AllByRecursion IsQuiet (where_true b es)
-where_true-quiet true es quiet = quiet
-where_true-quiet false es quiet = tt
+-- that an instance ends itself is quiet
+end_itself-quiet : (instance : ℕ) (c : List Entry) → AllByRecursion IsQuiet (end_itself instance c)
+end_itself-quiet instance c = all-if IsQuiet (is_start (goal instance c)) (Aimed instance Stop [] (holders instance c) ∷ []) (tt, tt)
 
--- giving up is quiet
-give_up-quiet : (instance : ℕ) (c : List Entry) → AllByRecursion IsQuiet (give_up instance c)
-give_up-quiet instance c = where_true-quiet (is_start (goal instance c)) (Aimed instance Stop [] (holders instance c) ∷ []) (tt, tt)
+-- so is that it fails
+fail-quiet : (instance : ℕ) (its : Failure) (c : List Entry) → AllByRecursion IsQuiet (fail instance its c)
+fail-quiet instance its c =
+    all-append IsQuiet (entries_if (not (is_some (failure instance c))) (keep_failure instance its (end_itself instance c ++ c))) (end_itself instance c)
+    (all-if IsQuiet (not (is_some (failure instance c))) (keep_failure instance its (end_itself instance c ++ c)) (tt, (tt, tt))) (end_itself-quiet instance c)
 
--- so is what a refusal does
-refused-quiet : (o : Option ℕ) (process : Process) (c : List Entry) → AllByRecursion IsQuiet (refused o process c)
-refused-quiet None process c = tt
-refused-quiet (Some instance) process c = where_true-quiet (is_main process) (give_up instance c) (give_up-quiet instance c)
+-- so is what a verdict does
+carry_out-quiet : (instance : ℕ) (its : Verdict) (c : List Entry) → AllByRecursion IsQuiet (carry_out instance its c)
+carry_out-quiet instance verdict.Note c = tt
+carry_out-quiet instance verdict.Respawn c = tt
+carry_out-quiet instance verdict.Stop c = end_itself-quiet instance c
+carry_out-quiet instance (verdict.Fail its) c = fail-quiet instance its c
 
--- and an end
-ended-quiet : (o : Option ℕ) (process : Process) (c : List Entry) → AllByRecursion IsQuiet (ended o process c)
-ended-quiet None process c = tt
-ended-quiet (Some instance) process c = where_true-quiet (is_main process && is_running (state_of instance c)) (give_up instance c) (give_up-quiet instance c)
+-- and what an end does
+end_of-quiet : (o : Option ℕ) (process : Process) (its : End) (c : List Entry) → AllByRecursion IsQuiet (end_of o process its c)
+end_of-quiet None process its c = tt
+end_of-quiet (Some instance) process its c = carry_out-quiet instance (judged (goal instance c) (state_of instance c) process its) c
 
 -- the effect of an input leaves the counts fitting
-pub effect-keeps : (base : List (List ℕ × List ℕ)) (jobs : List JobDef) (given : Input) (c : List Entry) → Keeps c → Keeps (effect base jobs given c ++ c)
+pub effect-keeps : (config : Configuration) (given : Input) (c : List Entry) → Keeps config c → Keeps config (effect config given c ++ c)
 unfolding effect
-effect-keeps base jobs (input.Emit event) c keeps = quiets-keep (Queued Outside event ∷ Given (input.Emit event) ∷ []) c (tt, (tt, tt)) keeps
-effect-keeps base jobs (input.Request id request) c keeps = quiets-keep (Replied (length c) (not_supported request.command) ∷ Given (input.Request id request) ∷ []) c (tt, (tt, tt)) keeps
-effect-keeps base jobs (input.Spawned who process pid) c keeps = quiet-keeps (Given (input.Spawned who process pid)) c tt keeps
-effect-keeps base jobs (input.Refused who process) c keeps =
-    rw append_assoc (quiets-keep (refused (instance_named jobs 0 who c) process c) (Given (input.Refused who process) ∷ c) (refused-quiet (instance_named jobs 0 who c) process c) (quiet-keeps (Given (input.Refused who process)) c tt keeps))
-effect-keeps base jobs (input.Ended who process how) c keeps =
-    rw append_assoc (quiets-keep (ended (instance_named jobs 0 who c) process c) (Given (input.Ended who process how) ∷ c) (ended-quiet (instance_named jobs 0 who c) process c) (quiet-keeps (Given (input.Ended who process how)) c tt keeps))
-effect-keeps base jobs (input.Clock reading) c keeps = quiet-keeps (Given (input.Clock reading)) c tt keeps
-effect-keeps base jobs input.Turn c keeps = rw append_assoc (turned-keeps base jobs c (turn_event base jobs (queue c) c) refl (quiet-keeps (Given input.Turn) c tt keeps))
+effect-keeps config (input.Emit event) c keeps = quiets-keep config (Queued (Outside (length c)) event ∷ Given (input.Emit event) ∷ []) c (tt, (tt, tt)) keeps
+effect-keeps config (input.Request id request) c keeps = quiets-keep config (Replied (length c) (not_supported request.command) ∷ Given (input.Request id request) ∷ []) c (tt, (tt, tt)) keeps
+effect-keeps config (input.Spawned who process pid) c keeps = quiet-keeps config (Given (input.Spawned who process pid)) c tt keeps
+effect-keeps config (input.Refused who process) c keeps =
+    rw append_assoc (quiets-keep config (end_of (instance_named who c) process end.Refused c) (Given (input.Refused who process) ∷ c) (end_of-quiet (instance_named who c) process end.Refused c) (quiet-keeps config (Given (input.Refused who process)) c tt keeps))
+effect-keeps config (input.Ended who process how) c keeps =
+    rw append_assoc (quiets-keep config (end_of (instance_named who c) process (end.Ended how) c) (Given (input.Ended who process how) ∷ c) (end_of-quiet (instance_named who c) process (end.Ended how) c) (quiet-keeps config (Given (input.Ended who process how)) c tt keeps))
+effect-keeps config (input.Clock reading) c keeps = quiet-keeps config (Given (input.Clock reading)) c tt keeps
+effect-keeps config input.Turn c keeps = rw append_assoc (turn-keeps config c (turn_event config (queue c) c) refl (quiet-keeps config (Given input.Turn) c tt keeps))
 
 -- so does an input
-pub after-keeps : (base : List (List ℕ × List ℕ)) (jobs : List JobDef) (c : List Entry) (given : Input) → Keeps c → Keeps (after base jobs c given)
+pub after-keeps : (config : Configuration) (c : List Entry) (given : Input) → Keeps config c → Keeps config (after config c given)
 unfolding after
-after-keeps base jobs c given keeps = settle-keeps (work jobs (effect base jobs given c ++ c)) base jobs (effect base jobs given c ++ c) (effect-keeps base jobs given c keeps)
+after-keeps config c given keeps = settle-keeps (work config (effect config given c ++ c)) config (effect config given c ++ c) (effect-keeps config given c keeps)
 
 -- also where it may not be expected
-pub next-keeps : (base : List (List ℕ × List ℕ)) (jobs : List JobDef) (c : List Entry) (given : Input) → Keeps c → Keeps (next base jobs c given)
-next-keeps base jobs c given keeps = by_case (is_expected jobs given c)
+pub next-keeps : (config : Configuration) (c : List Entry) (given : Input) → Keeps config c → Keeps config (next config c given)
+next-keeps config c given keeps = by_case (is_expected given c)
   where
-    by_case : (b : Bool) → Keeps (if b then after base jobs c given else c)
-    by_case true = after-keeps base jobs c given keeps
+    by_case : (b : Bool) → Keeps config (if b then after config c given else c)
+    by_case true = after-keeps config c given keeps
     by_case false = keeps
 
 -- and so do inputs
-pub after_all-keeps : (base : List (List ℕ × List ℕ)) (jobs : List JobDef) (c : List Entry) (inputs : List Input) → Keeps c → Keeps (after_all base jobs c inputs)
+pub after_all-keeps : (config : Configuration) (c : List Entry) (inputs : List Input) → Keeps config c → Keeps config (after_all config c inputs)
 unfolding after_all
-after_all-keeps base jobs c [] keeps = keeps
-after_all-keeps base jobs c (given ∷ inputs) keeps = after_all-keeps base jobs (next base jobs c given) inputs (next-keeps base jobs c given keeps)
+after_all-keeps config c [] keeps = keeps
+after_all-keeps config c (given ∷ inputs) keeps = after_all-keeps config (next config c given) inputs (next-keeps config c given keeps)
 
 -- at the start they fit
-empty-keeps : Keeps []
-empty-keeps = record { standing = λ event. (refl, le_suc 0, λ later. refl); orderly = tt }
+empty-keeps : (config : Configuration) → Keeps config []
+empty-keeps config = record { standing = λ event. (refl, le_suc 0, λ later. refl); orderly = tt }
 
 -- so they fit in every chronicle that is reached
-pub reached-keeps : (base : List (List ℕ × List ℕ)) (jobs : List JobDef) (inputs : List Input) → Keeps (after_all base jobs [] inputs)
-reached-keeps base jobs inputs = after_all-keeps base jobs [] inputs empty-keeps
+pub reached-keeps : (config : Configuration) (inputs : List Input) → Keeps config (after_all config [] inputs)
+reached-keeps config inputs = after_all-keeps config [] inputs (empty-keeps config)
 
 -- where they fit, an event finished no more often than it was handled, and that once at most
-pub orderly_once : (c : List Entry) (event : ℕ) → Keeps c → (finished_times event c ≤ handled_times event c) × (handled_times event c ≤ 1)
-orderly_once c event keeps = by_case (status event (queue c)) (keeps.standing event)
+pub orderly_once : (config : Configuration) (c : List Entry) (event : ℕ) → Keeps config c → (finished_times event c ≤ handled_times event c) × (handled_times event c ≤ 1)
+orderly_once config c event keeps = by_case (status event (queue c)) (keeps.standing event)
   where
     by_case : (o : Option Bool) → Standing event c o → (finished_times event c ≤ handled_times event c) × (handled_times event c ≤ 1)
     by_case None s = (le_of_eq s.0, s.1)
@@ -217,53 +231,18 @@ orderly_once c event keeps = by_case (status event (queue c)) (keeps.standing ev
     by_case (Some true) s = (omega (arith, s.0, s.1), omega (arith, s.0))
 
 -- each event is handled once at most
-pub handled_once : (base : List (List ℕ × List ℕ)) (jobs : List JobDef) (inputs : List Input) (event : ℕ) → handled_times event (after_all base jobs [] inputs) ≤ 1
-handled_once base jobs inputs event = (orderly_once (after_all base jobs [] inputs) event (reached-keeps base jobs inputs)).1
+pub handled_once : (config : Configuration) (inputs : List Input) (event : ℕ) → handled_times event (after_all config [] inputs) ≤ 1
+handled_once config inputs event = (orderly_once config (after_all config [] inputs) event (reached-keeps config inputs)).1
 
 -- it finishes no more often than it was handled
-pub finished_handled : (base : List (List ℕ × List ℕ)) (jobs : List JobDef) (inputs : List Input) (event : ℕ)
-    → finished_times event (after_all base jobs [] inputs) ≤ handled_times event (after_all base jobs [] inputs)
-finished_handled base jobs inputs event = (orderly_once (after_all base jobs [] inputs) event (reached-keeps base jobs inputs)).0
+pub finished_handled : (config : Configuration) (inputs : List Input) (event : ℕ)
+    → finished_times event (after_all config [] inputs) ≤ handled_times event (after_all config [] inputs)
+finished_handled config inputs event = (orderly_once config (after_all config [] inputs) event (reached-keeps config inputs)).0
 
 -- so it finishes once at most
-pub finished_once : (base : List (List ℕ × List ℕ)) (jobs : List JobDef) (inputs : List Input) (event : ℕ) → finished_times event (after_all base jobs [] inputs) ≤ 1
-finished_once base jobs inputs event = omega (arith, finished_handled base jobs inputs event, handled_once base jobs inputs event)
+pub finished_once : (config : Configuration) (inputs : List Input) (event : ℕ) → finished_times event (after_all config [] inputs) ≤ 1
+finished_once config inputs event = omega (arith, finished_handled config inputs event, handled_once config inputs event)
 
 -- and in that order
-pub orderly : (base : List (List ℕ × List ℕ)) (jobs : List JobDef) (inputs : List Input) → IsOrderly (after_all base jobs [] inputs)
-orderly base jobs inputs = (reached-keeps base jobs inputs).orderly
-
--- quiet entries before quiet ones
-quiets-append : (es others : List Entry) → AllByRecursion IsQuiet es → AllByRecursion IsQuiet others → AllByRecursion IsQuiet (es ++ others)
-quiets-append [] others quiet other = other
-quiets-append (e ∷ es) others quiet other = (quiet.0, quiets-append es others quiet.1 other)
-
--- quiet entries finish no event
-quiet-finishes : (es rest : List Entry) (event : ℕ) → AllByRecursion IsQuiet es → es ≡ Finished event ∷ rest → ⊥
-quiet-finishes es rest event quiet e = (subst (AllByRecursion IsQuiet) e quiet).0
-
--- a turn finishes none that is held
-turned-finishes : (base : List (List ℕ × List ℕ)) (jobs : List JobDef) (c rest : List Entry) (event : ℕ) (found : Option Live) → turn_event base jobs (queue c) c ≡ found
-    → turned found ++ Given input.Turn ∷ [] ≡ Finished event ∷ rest → is_held base jobs event c ≡ false
-turned-finishes base jobs c rest event None found e = cc
-turned-finishes base jobs c rest event (Some live) found e = by_case live.handled refl e
-  where
-    by_case : (b : Bool) → live.handled ≡ b → (if b then Finished live.place ∷ [] else Handled live.place ∷ []) ++ Given input.Turn ∷ [] ≡ Finished event ∷ rest
-        → is_held base jobs event c ≡ false
-    by_case true handled e =
-        let same : live.place ≡ event = cc in
-        subst (λ it. is_held base jobs it c ≡ false) same (turn_event-held base jobs (queue c) c live found handled)
-    by_case false handled e = cc
-
--- and no other input finishes one
-pub effect_finishes : (base : List (List ℕ × List ℕ)) (jobs : List JobDef) (given : Input) (c rest : List Entry) (event : ℕ) → effect base jobs given c ≡ Finished event ∷ rest → is_held base jobs event c ≡ false
-unfolding effect
-effect_finishes base jobs (input.Emit it) c rest event e = absurd (quiet-finishes _ rest event (tt, (tt, tt)) e)
-effect_finishes base jobs (input.Request id request) c rest event e = absurd (quiet-finishes _ rest event (tt, (tt, tt)) e)
-effect_finishes base jobs (input.Spawned who process pid) c rest event e = absurd (quiet-finishes _ rest event (tt, tt) e)
-effect_finishes base jobs (input.Refused who process) c rest event e =
-    absurd (quiet-finishes _ rest event (quiets-append (refused (instance_named jobs 0 who c) process c) (Given (input.Refused who process) ∷ []) (refused-quiet (instance_named jobs 0 who c) process c) (tt, tt)) e)
-effect_finishes base jobs (input.Ended who process how) c rest event e =
-    absurd (quiet-finishes _ rest event (quiets-append (ended (instance_named jobs 0 who c) process c) (Given (input.Ended who process how) ∷ []) (ended-quiet (instance_named jobs 0 who c) process c) (tt, tt)) e)
-effect_finishes base jobs (input.Clock reading) c rest event e = absurd (quiet-finishes _ rest event (tt, tt) e)
-effect_finishes base jobs input.Turn c rest event e = turned-finishes base jobs c rest event (turn_event base jobs (queue c) c) refl e
+pub orderly : (config : Configuration) (inputs : List Input) → IsOrderly config (after_all config [] inputs)
+orderly config inputs = (reached-keeps config inputs).orderly

@@ -1,31 +1,27 @@
--- The chronicle: what happened since the start, newest first. It is all that a run keeps beside the jobs and the base environment.
-use Rattle.std.specs.Prelude.{ℕ, Bool, List, Option}
-use Rattle.up_model.specs.declared.state.Goal.{Goal}
-use Rattle.up_model.specs.declared.state.State.{State}
+-- The chronicle: what happened since the start, newest first. It is all that a run keeps beside its configuration.
+use Rattle.std.specs.Prelude.{ℕ, Bool, List}
 use Rattle.up_stanza.specs.declared.process.Process.{Process}
-use Rattle.up_model.specs.declared.process.How.{How}
 use Rattle.up_model.specs.declared.event.Event.{Event}
+use Rattle.up_model.specs.declared.failure.Failure.{Failure}
 use Rattle.up_model.specs.declared.input.Input.{Input}
 use Rattle.up_model.specs.declared.request.Answer.{Answer}
+use Rattle.up_model.specs.declared.state.Goal.{Goal}
+use Rattle.up_model.specs.declared.state.State.{State}
+use Rattle.up_model.specs.Values.{Bytes, Bindings}
 
--- An entry's place is the number of entries behind it: it is known when the entry is added, and never changes. An event, an
--- instance or a request is named by the place where it was queued, made or given. A job is named by its place among the jobs.
+-- An entry's place is the number of entries older than it: it is known when the entry is added, and never changes. An event, an
+-- instance or a request is named by the place where it was queued, made or given. A job is named by its name.
 
 -- whose expression it is: a job's `start on`, or the `stop on` of an instance (init(5))
 pub data Expression : Type 0 where
-  StartOn : (job : ℕ) → Expression
+  StartOn : (job : Bytes) → Expression
   StopOn : (instance : ℕ) → Expression
 
--- what an event comes from: an input, an instance that enters a state, or a spoilt event
+-- what an event comes from: the input that was given at a place, an instance that entered a state, or a spoilt event
 pub data Origin : Type 0 where
-  Outside : Origin
+  Outside : (given : ℕ) → Origin
   Entering : (instance : ℕ) → (state : State) → Origin
   Spoilt : (event : ℕ) → Origin
-
--- why a job failed: a process, and how it ended where it ran, or too many respawns
-pub data Cause : Type 0 where
-  OfProcess : (process : Process) → (how : Option How) → Cause
-  OfRespawn : Cause
 
 pub data Entry : Type 0 where
   -- an input was given
@@ -41,15 +37,15 @@ pub data Entry : Type 0 where
   -- an event left the queue
   Finished : (event : ℕ) → Entry
   -- a job got an instance of this name
-  Made : (job : ℕ) → (name : List ℕ) → Entry
+  Made : (job : Bytes) → (name : Bytes) → Entry
   -- an instance's goal changed, with the environment and the holders that go with it
-  Aimed : (instance : ℕ) → (goal : Goal) → (environment : List (List ℕ × List ℕ)) → (holders : List ℕ) → Entry
+  Aimed : (instance : ℕ) → (goal : Goal) → (environment : Bindings) → (holders : List ℕ) → Entry
   -- a restart was taken
   Restarted : (instance : ℕ) → (holders : List ℕ) → Entry
   -- an instance let its holders go
   Released : (instance : ℕ) → (failed : Bool) → Entry
   -- an instance failed
-  Failed : (instance : ℕ) → (cause : Cause) → Entry
+  Failed : (instance : ℕ) → (failure : Failure) → Entry
   -- main was respawned, at this reading of the clock
   Respawned : (instance : ℕ) → (moment : ℕ) → Entry
   -- an instance entered a state
@@ -60,3 +56,6 @@ pub data Entry : Type 0 where
   Signalled : (instance : ℕ) → (signal : ℕ) → (by_timer : Bool) → Entry
   -- a request was answered
   Replied : (request : ℕ) → (answer : Answer) → Entry
+
+abbrev pub Chronicle : Type 0
+Chronicle = List Entry

@@ -1,68 +1,49 @@
 -- What a step does: the effect of its input, and then what is due until nothing is (the Upstart Cookbook, "Job lifecycle").
 -- Each of these is a list of entries to be put in front of the chronicle, newest first.
-use Rattle.std.specs.Prelude.{ℕ, ◌+◌, Bool, true, false, not, ◌&&◌, ◌||◌, List, [], ◌∷◌, ◌++◌, Option, None, Some, if◌then◌else◌, length}
-use Rattle.std.specs.Str.{bytes_eq}
-use Rattle.up_model.specs.declared.state.Goal.TheVariants.{Stop}
-use Rattle.up_model.specs.declared.state.State.{State}
-use Rattle.up_model.specs.declared.state.State.TheVariants as state
+use Rattle.std.specs.Prelude.{ℕ, not, ◌||◌, List, [], ◌∷◌, ◌++◌, Option, None, Some, if◌then◌else◌, length}
 use Rattle.up_stanza.specs.declared.process.Process.{Process}
-use Rattle.up_model.specs.declared.who.Who.{Who}
+use Rattle.up_model.specs.declared.failure.End.{End}
+use Rattle.up_model.specs.declared.failure.End.TheVariants as end
 use Rattle.up_model.specs.declared.input.Input.{Input}
 use Rattle.up_model.specs.declared.input.Input.TheVariants as input
-use Rattle.up_conf.specs.declared.job.JobDef.{JobDef}
-use Rattle.up_model.specs.Chronicle.{Entry, Given, Queued, Handled, Finished, Aimed, Replied, Outside}
-use Rattle.up_model.specs.Readings.{instance_of, goal, state_of, holders}
-use Rattle.up_model.specs.Queue.{Live, queue}
+use Rattle.up_model.specs.Chronicle.{Chronicle, Entry, Given, Queued, Handled, Finished, Replied, Outside}
+use Rattle.up_model.specs.Configuration.{Configuration}
 use Rattle.up_model.specs.Held.{is_held}
-use Rattle.up_model.specs.Moves.{or_else, where_true, move_from}
+use Rattle.up_model.specs.Instances.{instance_named}
+use Rattle.up_model.specs.Judgement.{judged, carry_out}
+use Rattle.up_model.specs.Moves.{move_first}
 use Rattle.up_model.specs.Offers.{offering, offer_next}
+use Rattle.up_model.specs.Queue.{Live, queue}
+use Rattle.up_model.specs.Readings.{goal, state_of}
 use Rattle.up_model.specs.Requests.{not_supported}
-use Rattle.up_model.specs.Tests.{is_start, is_main}
+use Rattle.up_model.specs.Tests.{or_else}
 
 -- what is due: the first instance that may leave its state moves; else the event of this step is offered to the next expression
-unfoldable pub due : List (List ℕ × List ℕ) → List JobDef → List Entry → List Entry
-due base jobs c = or_else (move_from jobs 0 c) (offer_next base jobs (offering c) c)
+unfoldable pub due : Configuration → Chronicle → List Entry
+due config c = or_else (move_first config.jobs c) (offer_next config (offering c) c)
 
--- the instance of this name, among the jobs from a place on
-abbrev pub instance_named : List JobDef → ℕ → Who → List Entry → Option ℕ
-instance_named [] from who c = None
-instance_named (job ∷ jobs) from who c = if bytes_eq job.name who.job then instance_of from who.instance c else instance_named jobs (from + 1) who c
-
--- the goal becomes stop, where it is start; the holders stay
-abbrev pub give_up : ℕ → List Entry → List Entry
-give_up instance c = where_true (is_start (goal instance c)) (Aimed instance Stop [] (holders instance c) ∷ [])
-
--- whether main's end is judged, so far: in running
-abbrev pub is_running : State → Bool
-is_running state.Running = true
-is_running other = false
-
--- what a refused process, or one that ended, does to its instance (init(5), "normal exit"; which ends fail a job is this project's
--- choice): so far main's end in running, and its refusal, set the goal to stop
-abbrev pub refused : Option ℕ → Process → List Entry → List Entry
-refused None process c = []
-refused (Some instance) process c = where_true (is_main process) (give_up instance c)
-
-abbrev pub ended : Option ℕ → Process → List Entry → List Entry
-ended None process c = []
-ended (Some instance) process c = where_true (is_main process && is_running (state_of instance c)) (give_up instance c)
+-- what the end or the refusal of a process does, if its instance exists
+abbrev pub end_of : Option ℕ → Process → End → Chronicle → List Entry
+end_of None process end c = []
+end_of (Some instance) process end c = carry_out instance (judged (goal instance c) (state_of instance c) process end) c
 
 -- the event of a turn: the oldest that is unhandled, or handled and not held
-abbrev pub turn_event : List (List ℕ × List ℕ) → List JobDef → List Live → List Entry → Option Live
-turn_event base jobs [] c = None
-turn_event base jobs (live ∷ lives) c = if not live.handled || not (is_held base jobs live.place c) then Some live else turn_event base jobs lives c
+abbrev pub turn_event : Configuration → List Live → Chronicle → Option Live
+turn_event config [] c = None
+turn_event config (live ∷ lives) c =
+    if not live.handled || not (is_held config live.place c) then Some live else turn_event config lives c
 
--- an unhandled event is handled, a handled one finishes
-abbrev pub turned : Option Live → List Entry
-turned None = []
-turned (Some live) = if live.handled then Finished live.place ∷ [] else Handled live.place ∷ []
+-- a turn handles an unhandled event, and finishes a handled one
+abbrev pub turn_of : Option Live → List Entry
+turn_of None = []
+turn_of (Some live) = if live.handled then Finished live.place ∷ [] else Handled live.place ∷ []
 
 -- the effect of an input, in front of the input itself
-unfoldable pub effect : List (List ℕ × List ℕ) → List JobDef → Input → List Entry → List Entry
-effect base jobs (input.Emit event) c = Queued Outside event ∷ Given (input.Emit event) ∷ []
-effect base jobs (input.Request id request) c = Replied (length c) (not_supported request.command) ∷ Given (input.Request id request) ∷ []
-effect base jobs (input.Spawned who process pid) c = Given (input.Spawned who process pid) ∷ []
-effect base jobs (input.Refused who process) c = refused (instance_named jobs 0 who c) process c ++ Given (input.Refused who process) ∷ []
-effect base jobs (input.Ended who process how) c = ended (instance_named jobs 0 who c) process c ++ Given (input.Ended who process how) ∷ []
-effect base jobs (input.Clock reading) c = Given (input.Clock reading) ∷ []
-effect base jobs input.Turn c = turned (turn_event base jobs (queue c) c) ++ Given input.Turn ∷ []
+unfoldable pub effect : Configuration → Input → Chronicle → List Entry
+effect config (input.Emit event) c = Queued (Outside (length c)) event ∷ Given (input.Emit event) ∷ []
+effect config (input.Request id request) c = Replied (length c) (not_supported request.command) ∷ Given (input.Request id request) ∷ []
+effect config (input.Spawned who process pid) c = Given (input.Spawned who process pid) ∷ []
+effect config (input.Refused who process) c = end_of (instance_named who c) process end.Refused c ++ Given (input.Refused who process) ∷ []
+effect config (input.Ended who process how) c = end_of (instance_named who c) process (end.Ended how) c ++ Given (input.Ended who process how) ∷ []
+effect config (input.Clock reading) c = Given (input.Clock reading) ∷ []
+effect config input.Turn c = turn_of (turn_event config (queue c) c) ++ Given input.Turn ∷ []

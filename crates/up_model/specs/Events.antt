@@ -1,62 +1,88 @@
--- The events that an instance gives, and the environments that it gets.
+-- The events that an instance emits, and the environment of a start.
 use Rattle.std.specs.Prelude.{ℕ, List, [], ◌∷◌, ◌++◌, codes, Option, None, Some}
+use Rattle.std.specs.Fmt.{decimal}
+use Rattle.up_stanza.specs.declared.process.Process.{Process}
+use Rattle.up_stanza.specs.declared.process.Process.TheVariants as process
 use Rattle.up_text.specs.Bindings.{set_in, set_all}
 use Rattle.up_model.specs.declared.event.Event.{Event}
+use Rattle.up_model.specs.declared.failure.Cause.{Cause}
+use Rattle.up_model.specs.declared.failure.Cause.TheVariants as cause
+use Rattle.up_model.specs.declared.failure.Failure.{Failure}
+use Rattle.up_model.specs.declared.process.How.{How}
+use Rattle.up_model.specs.declared.process.How.TheVariants as how
+use Rattle.up_model.specs.declared.life.JobEvent.{JobEvent}
+use Rattle.up_model.specs.declared.life.JobEvent.TheVariants as kind
 use Rattle.up_model.specs.declared.who.Who.{Who}
-use Rattle.up_model.specs.Chronicle.{Entry}
+use Rattle.up_model.specs.Chronicle.{Chronicle}
 use Rattle.up_model.specs.Readings.{event_at}
+use Rattle.up_model.specs.Signals.{signal_text}
+use Rattle.up_model.specs.Values.{Bytes, Bindings}
 
 -- which instance an event is about (starting(7), started(7))
-abbrev pub about : Who → List (List ℕ × List ℕ)
+abbrev pub about : Who → Bindings
 about who = (codes "JOB", who.job) ∷ (codes "INSTANCE", who.instance) ∷ []
 
--- an instance enters starting
-abbrev pub starting : Who → Event
-starting who = record { name = codes "starting"; vars = about who }
+-- a process as events name it (stopping(7))
+abbrev pub process_name : Process → Bytes
+process_name process.Main = codes "main"
+process_name process.PreStart = codes "pre-start"
+process_name process.PostStart = codes "post-start"
+process_name process.PreStop = codes "pre-stop"
+process_name process.PostStop = codes "post-stop"
 
--- an instance enters running
-abbrev pub started : Who → Event
-started who = record { name = codes "started"; vars = about who }
+abbrev pub cause_name : Cause → Bytes
+cause_name (cause.Process its) = process_name its
+cause_name cause.Respawn = codes "respawn"
 
--- how a life went (stopping(7), stopped(7)): no failure is known so far
-abbrev pub result : List (List ℕ × List ℕ)
-result = (codes "RESULT", codes "ok") ∷ []
+-- how the process ended that failed
+abbrev pub ending : Option How → Bindings
+ending None = []
+ending (Some (how.Exit status)) = (codes "EXIT_STATUS", decimal status) ∷ []
+ending (Some (how.Signal signal)) = (codes "EXIT_SIGNAL", signal_text signal) ∷ []
 
--- an instance enters stopping
-abbrev pub stopping : Who → Event
-stopping who = record { name = codes "stopping"; vars = about who ++ result }
+-- how a life went (stopping(7), stopped(7))
+abbrev pub result : Option Failure → Bindings
+result None = (codes "RESULT", codes "ok") ∷ []
+result (Some failure) = (codes "RESULT", codes "failed") ∷ (codes "PROCESS", cause_name failure.cause) ∷ ending failure.how
 
--- an instance enters waiting
-abbrev pub stopped : Who → Event
-stopped who = record { name = codes "stopped"; vars = about who ++ result }
+-- the event of an instance's life, which may have failed
+abbrev pub job_event : JobEvent → Who → Option Failure → Event
+job_event kind.Starting who failure = record { name = codes "starting"; vars = about who }
+job_event kind.Started who failure = record { name = codes "started"; vars = about who }
+job_event kind.Stopping who failure = record { name = codes "stopping"; vars = about who ++ result failure }
+job_event kind.Stopped who failure = record { name = codes "stopped"; vars = about who ++ result failure }
 
 abbrev pub with_event : Option Event → List Event → List Event
 with_event None events = events
 with_event (Some event) events = event ∷ events
 
 -- the events at these places
-abbrev pub events_at : List ℕ → List Entry → List Event
+abbrev pub events_at : List ℕ → Chronicle → List Event
 events_at [] c = []
 events_at (place ∷ places) c = with_event (event_at place c) (events_at places c)
 
--- the variables of the events are set in turn
-abbrev pub collected : List (List ℕ × List ℕ) → List Event → List (List ℕ × List ℕ)
+-- the variables of the events, set in turn
+abbrev pub collected : Bindings → List Event → Bindings
 collected bindings [] = bindings
 collected bindings (event ∷ events) = collected (set_all bindings event.vars) events
 
 -- the names of further events, each after a space
-abbrev pub more_names : List Event → List ℕ
+abbrev pub more_names : List Event → Bytes
 more_names [] = []
 more_names (event ∷ events) = 32 ∷ event.name ++ more_names events
 
 -- the names of the events, separated by a space
-abbrev pub names_of : List Event → List ℕ
+abbrev pub names_of : List Event → Bytes
 names_of [] = []
 names_of (event ∷ events) = event.name ++ more_names events
 
 -- the environment of a start by these events (init(5), "Job environment")
-abbrev pub start_env : List (List ℕ × List ℕ) → List Event → Who → List (List ℕ × List ℕ)
+abbrev pub start_env : Bindings → List Event → Who → Bindings
 start_env base events who =
     set_in (codes "UPSTART_INSTANCE") who.instance
     (set_in (codes "UPSTART_JOB") who.job
     (set_in (codes "UPSTART_EVENTS") (names_of events) (collected base events)))
+
+-- what a stop by these events adds for pre-stop and post-stop (init(5), "Job environment")
+abbrev pub stopped_by : List Event → Bindings
+stopped_by events = set_in (codes "UPSTART_STOP_EVENTS") (names_of events) (collected [] events)

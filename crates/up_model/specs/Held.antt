@@ -1,26 +1,35 @@
 -- Which events may not finish yet (starting(7), the Upstart Cookbook on blocking events).
-use Rattle.std.specs.Prelude.{ℕ, ◌+◌, Bool, ◌==◌, List, [], ◌∷◌, ◌++◌}
+use Rattle.std.specs.Prelude.{ℕ, Bool, ◌==◌, List, [], ◌∷◌, ◌++◌}
 use Rattle.std.specs.List.{list_any}
 use Rattle.up_conf.specs.declared.job.JobDef.{JobDef}
-use Rattle.up_model.specs.Chronicle.{Entry, StartOn, StopOn}
-use Rattle.up_model.specs.Readings.{Instance, instances_of, holders}
+use Rattle.up_model.specs.Chronicle.{Chronicle, StartOn, StopOn}
+use Rattle.up_model.specs.Configuration.{Configuration}
+use Rattle.up_model.specs.Instances.{Instance, instances_of}
+use Rattle.up_model.specs.Readings.{holders}
 use Rattle.up_model.specs.Seen.{seen, kept}
 
--- what instances of a job hold: the events that their `stop on` keeps, and what started or stopped them
-abbrev pub held_by_instances : List (List ℕ × List ℕ) → JobDef → List Instance → List Entry → List ℕ
-held_by_instances base job [] c = []
-held_by_instances base job (instance ∷ instances) c =
-    (kept job.stop_on (seen base (StopOn instance.place) c) ++ holders instance.place c) ++ held_by_instances base job instances c
+-- what an instance of a job holds: the events that its `stop on` keeps, and what started or stopped it
+abbrev pub held_by : Configuration → JobDef → ℕ → Chronicle → List ℕ
+held_by config job instance c = kept job.stop_on (seen config (StopOn instance) c) ++ holders instance c
 
--- what is held, each as often as it is: by the leaves that keep it, and as a holder of instances. `from` is the place of the first job
-abbrev pub held_from : List (List ℕ × List ℕ) → List JobDef → ℕ → List Entry → List ℕ
-held_from base [] from c = []
-held_from base (job ∷ jobs) from c =
-    (kept job.start_on (seen base (StartOn from) c) ++ held_by_instances base job (instances_of from c) c) ++ held_from base jobs (from + 1) c
+-- the same of several instances
+abbrev pub held_by_instances : Configuration → JobDef → List Instance → Chronicle → List ℕ
+held_by_instances config job [] c = []
+held_by_instances config job (instance ∷ instances) c = held_by config job instance.place c ++ held_by_instances config job instances c
+
+-- what a job holds: the events that its `start on` keeps, and what its instances hold
+abbrev pub held_by_job : Configuration → JobDef → Chronicle → List ℕ
+held_by_job config job c =
+    kept job.start_on (seen config (StartOn job.name) c) ++ held_by_instances config job (instances_of job.name c) c
+
+-- what jobs hold, each event as often as it is held
+abbrev pub held_by_jobs : Configuration → List JobDef → Chronicle → List ℕ
+held_by_jobs config [] c = []
+held_by_jobs config (job ∷ jobs) c = held_by_job config job c ++ held_by_jobs config jobs c
 
 -- whether an event is among these
 abbrev pub has : ℕ → List ℕ → Bool
 has event places = list_any (λ place. place == event) places
 
-abbrev pub is_held : List (List ℕ × List ℕ) → List JobDef → ℕ → List Entry → Bool
-is_held base jobs event c = has event (held_from base jobs 0 c)
+abbrev pub is_held : Configuration → ℕ → Chronicle → Bool
+is_held config event c = has event (held_by_jobs config config.jobs c)

@@ -1,26 +1,33 @@
--- How instances move from state to state, and what they give, order and let go on entering one (the Upstart Cookbook's table of
--- states). Each of these is a list of entries to be put in front of the chronicle, newest first.
-use Rattle.std.specs.Prelude.{ℕ, ◌+◌, Bool, true, false, not, List, [], ◌∷◌, ◌++◌, is_some}
-use Rattle.up_model.specs.declared.state.State.{State}
-use Rattle.up_model.specs.declared.state.State.TheVariants as state
-use Rattle.up_stanza.specs.declared.process.Process.TheVariants.{Main}
-use Rattle.up_model.specs.declared.who.Who.{Who}
+-- How instances move from state to state (the Upstart Cookbook's table of states).
+-- Each of these is a list of entries to be put in front of the chronicle, newest first.
+use Rattle.std.specs.Prelude.{ℕ, Bool, true, false, ◌&&◌, ◌||◌, not, List, [], ◌∷◌, ◌++◌, Option, None, Some, is_some}
+use Rattle.up_stanza.specs.declared.action.Action.{Action}
+use Rattle.up_stanza.specs.declared.process.Process.{Process}
+use Rattle.up_stanza.specs.declared.process.Process.TheVariants as process
 use Rattle.up_conf.specs.declared.job.JobDef.{JobDef}
 use Rattle.up_conf.specs.Signals.{term}
-use Rattle.up_model.specs.Chronicle.{Entry, Queued, Released, Entered, Ordered, Signalled, Entering}
-use Rattle.up_model.specs.Readings.{Instance, instances_of, goal, state_of, blocker, awaited, lives}
-use Rattle.up_model.specs.Life.{next_state, may_leave, is_pre_stop}
-use Rattle.up_model.specs.Events.{starting, started, stopping, stopped}
+use Rattle.up_model.specs.declared.failure.Failure.{Failure}
+use Rattle.up_model.specs.declared.life.Entry as table
+use Rattle.up_model.specs.declared.life.JobEvent.{JobEvent}
+use Rattle.up_model.specs.declared.state.State.{State}
+use Rattle.up_model.specs.declared.who.Who.{Who}
+use Rattle.up_model.specs.Chronicle.{Chronicle, Entry, Queued, Released, Entered, Ordered, Signalled, Entering}
+use Rattle.up_model.specs.Events.{job_event}
+use Rattle.up_model.specs.Instances.{Instance, instances_of}
+use Rattle.up_model.specs.Life.{Wait, ForStart, ForEvent, ForAnswer, ForProcess, ForChange, ForMain, wait_in, next_state, entering}
+use Rattle.up_model.specs.Readings.{goal, state_of, failure, blocker, awaited, lives}
+use Rattle.up_model.specs.Tests.{is_start, entries_if, or_else}
 
--- the first of two lists in which there is anything
-abbrev pub or_else : List Entry → List Entry → List Entry
-or_else [] others = others
-or_else (entry ∷ entries) others = entry ∷ entries
+-- what a process of a job runs
+abbrev pub action_of : JobDef → Process → Option Action
+action_of job process.Main = job.main
+action_of job process.PreStart = job.pre_start
+action_of job process.PostStart = job.post_start
+action_of job process.PreStop = job.pre_stop
+action_of job process.PostStop = job.post_stop
 
--- the entries, where a test is true
-abbrev pub where_true : Bool → List Entry → List Entry
-where_true true entries = entries
-where_true false entries = []
+abbrev pub has_process : JobDef → Process → Bool
+has_process job its = is_some (action_of job its)
 
 -- an instance as it is known outside
 abbrev pub who_of : JobDef → Instance → Who
@@ -30,32 +37,64 @@ who_of job instance = record { job = job.name; instance = instance.name }
 abbrev pub kill_signal : ℕ
 kill_signal = term
 
--- an instance enters a state, coming from another: what it gives, orders and lets go. `lives` tells of its main process
-abbrev pub entering : JobDef → Who → (instance : ℕ) → (lives : Bool) → (from to : State) → List Entry
-entering job who instance lives from state.Waiting = Released instance false ∷ Queued (Entering instance state.Waiting) (stopped who) ∷ Entered instance state.Waiting ∷ []
-entering job who instance lives from state.Starting = Queued (Entering instance state.Starting) (starting who) ∷ Entered instance state.Starting ∷ []
-entering job who instance lives from state.Spawned = where_true (is_some job.main) (Ordered instance Main ∷ []) ++ Entered instance state.Spawned ∷ []
-entering job who instance lives from state.Running = Released instance false ∷ where_true (not (is_pre_stop from)) (Queued (Entering instance state.Running) (started who) ∷ []) ++ Entered instance state.Running ∷ []
-entering job who instance lives from state.Stopping = Queued (Entering instance state.Stopping) (stopping who) ∷ Entered instance state.Stopping ∷ []
-entering job who instance lives from state.Killed = where_true lives (Signalled instance kill_signal false ∷ []) ++ Entered instance state.Killed ∷ []
-entering job who instance lives from to = Entered instance to ∷ []
+-- an instance lets its holders go
+abbrev pub releasing : ℕ → (failed : Bool) → Chronicle → List Entry
+releasing instance failed c = Released instance failed ∷ []
 
--- the move of an instance that may leave its state
-abbrev pub move_of : JobDef → Instance → List Entry → List Entry
-move_of job instance c =
-    let who = who_of job instance in
-    let main_lives = lives who Main c in
-    let from = state_of instance.place c in
-    let aim = goal instance.place c in
-    where_true (may_leave aim from (is_some (blocker instance.place c)) (is_some job.main) (awaited instance.place who Main c) main_lives)
-    (entering job who instance.place main_lives from (next_state aim from (is_some job.main) main_lives))
+-- the event that is emitted on entering a state
+abbrev pub emitting : Who → ℕ → State → Option JobEvent → Option Failure → List Entry
+emitting who instance to None failed = []
+emitting who instance to (Some kind) failed = Queued (Entering instance to) (job_event kind who failed) ∷ []
+
+-- the process that is ordered, if the job has it
+abbrev pub ordering : JobDef → ℕ → Option Process → List Entry
+ordering job instance None = []
+ordering job instance (Some its) = entries_if (has_process job its) (Ordered instance its ∷ [])
+
+-- an instance enters a state, with what the table says of that, but for its release
+abbrev pub enter : JobDef → Who → ℕ → (to : State) → table.Entry → Chronicle → List Entry
+enter job who instance to entry c =
+    entries_if (entry.kills && lives instance process.Main c) (Signalled instance kill_signal false ∷ [])
+    ++ (emitting who instance to entry.emits (failure instance c) ++ (ordering job instance entry.orders ++ Entered instance to ∷ []))
+
+-- and with its release
+abbrev pub enter_whole : JobDef → Who → ℕ → (to : State) → table.Entry → Chronicle → List Entry
+enter_whole job who instance to entry c =
+    let entered = enter job who instance to entry c in
+    entries_if entry.releases (releasing instance false (entered ++ c)) ++ entered
+
+-- whether what an instance waits for has come
+abbrev pub is_over : JobDef → ℕ → Wait → Chronicle → Bool
+is_over job instance ForStart c = is_start (goal instance c)
+is_over job instance ForEvent c = not (is_some (blocker instance c))
+is_over job instance (ForAnswer its) c = not (has_process job its) || not (awaited instance its c)
+is_over job instance (ForProcess its) c = not (has_process job its) || not (awaited instance its c || lives instance its c)
+is_over job instance ForChange c = not (is_start (goal instance c)) || (has_process job process.Main && not (lives instance process.Main c))
+is_over job instance ForMain c = not (lives instance process.Main c)
+
+abbrev pub may_leave : JobDef → ℕ → Chronicle → Bool
+may_leave job instance c = is_over job instance (wait_in (state_of instance c)) c
+
+-- the state that an instance enters next
+abbrev pub next_of : JobDef → ℕ → Chronicle → State
+next_of job instance c = next_state (goal instance c) (state_of instance c) (has_process job process.Main) (lives instance process.Main c)
+
+-- an instance moves on
+abbrev pub move : JobDef → Instance → Chronicle → List Entry
+move job instance c =
+    let to = next_of job instance.place c in
+    enter_whole job (who_of job instance) instance.place to (entering to (state_of instance.place c) false) c
+
+-- the move of an instance, if it may leave its state
+abbrev pub move_of : JobDef → Instance → Chronicle → List Entry
+move_of job instance c = entries_if (may_leave job instance.place c) (move job instance c)
 
 -- the move of the first of a job's instances that may leave its state
-abbrev pub move_in : JobDef → List Instance → List Entry → List Entry
+abbrev pub move_in : JobDef → List Instance → Chronicle → List Entry
 move_in job [] c = []
 move_in job (instance ∷ instances) c = or_else (move_of job instance c) (move_in job instances c)
 
--- the move of the first instance, job by job, that may leave its state. `from` is the place of the first job
-abbrev pub move_from : List JobDef → ℕ → List Entry → List Entry
-move_from [] from c = []
-move_from (job ∷ jobs) from c = or_else (move_in job (instances_of from c) c) (move_from jobs (from + 1) c)
+-- the move of the first instance, job by job, that may leave its state
+abbrev pub move_first : List JobDef → Chronicle → List Entry
+move_first [] c = []
+move_first (job ∷ jobs) c = or_else (move_in job (instances_of job.name c) c) (move_first jobs c)

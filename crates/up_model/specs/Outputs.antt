@@ -1,56 +1,51 @@
 -- What the entries of a step ask for.
-use Rattle.std.specs.Prelude.{ℕ, List, [], ◌∷◌, ◌++◌, Option, None, Some, slice_get, codes}
-use Rattle.up_stanza.specs.declared.process.Process.TheVariants as process
-use Rattle.up_model.specs.declared.who.Who.{Who}
-use Rattle.up_model.specs.declared.request.Answer.{Answer}
-use Rattle.up_model.specs.declared.output.Output.{Output}
-use Rattle.up_model.specs.declared.output.Output.TheVariants as output
+use Rattle.std.specs.Prelude.{ℕ, Bool, List, [], ◌∷◌, ◌++◌, Option, None, Some, codes}
 use Rattle.up_stanza.specs.declared.action.Action.{Action}
 use Rattle.up_stanza.specs.declared.action.Action.TheVariants.{Words, Shell}
+use Rattle.up_stanza.specs.declared.process.Process.{Process}
+use Rattle.up_stanza.specs.declared.process.Process.TheVariants.{Main}
 use Rattle.up_conf.specs.declared.job.JobDef.{JobDef}
-use Rattle.up_model.specs.Chronicle.{Entry, Given, Queued, Ordered, Signalled, Replied, Entering, Spoilt}
-use Rattle.up_model.specs.Readings.{made_at, id_at, env, pid_of}
+use Rattle.up_model.specs.declared.output.Output.{Output}
+use Rattle.up_model.specs.declared.output.Output.TheVariants as output
+use Rattle.up_model.specs.declared.request.Answer.{Answer}
+use Rattle.up_model.specs.declared.who.Who.{Who}
+use Rattle.up_model.specs.Chronicle.{Chronicle, Given, Queued, Ordered, Signalled, Replied, Entering, Spoilt}
+use Rattle.up_model.specs.Configuration.{Configuration, job_named}
+use Rattle.up_model.specs.Moves.{action_of}
+use Rattle.up_model.specs.Readings.{made_at, id_at, process_env, pid_of}
+use Rattle.up_model.specs.Values.{Bytes, Bindings}
 
 -- the words that run an action (init(5), "exec" and "script")
-abbrev pub argv_of : Action → List (List ℕ)
+abbrev pub argv_of : Action → List Bytes
 argv_of (Words words) = words
 argv_of (Shell text) = codes "/bin/sh" ∷ codes "-e" ∷ codes "-c" ∷ text ∷ []
 
--- the folder in which a job's processes run: the root where it names none (init(5), "chdir")
-abbrev pub dir_of : List ℕ → List ℕ
+-- the folder in which a job's processes run: the root if it names none (init(5), "chdir")
+abbrev pub dir_of : Bytes → Bytes
 dir_of [] = codes "/"
 dir_of (byte ∷ dir) = byte ∷ dir
 
--- the order for a job's main process, where it has one (init(5), "exec", "script", "chdir" and "console none")
-abbrev pub order_of_main : JobDef → Who → Option Action → List (List ℕ × List ℕ) → List Output
-order_of_main job who None environment = []
-order_of_main job who (Some action) environment =
-    output.Spawn (record { who = who; process = process.Main; argv = argv_of action; dir = dir_of job.dir; silent = job.silent; env = environment }) ∷ []
+-- the order for a process that runs this (init(5), "exec", "script", "chdir" and "console none")
+abbrev pub order_for : JobDef → Who → Process → Option Action → Bindings → List Output
+order_for job who its None environment = []
+order_for job who its (Some action) environment =
+    output.Spawn (record { who = who; process = its; argv = argv_of action; dir = dir_of job.dir; silent = job.silent; env = environment }) ∷ []
 
--- a job, and an instance of it as it is known outside
-abbrev pub named : List ℕ → Option JobDef → Option (JobDef × Who)
-named name None = None
-named name (Some job) = Some (job, record { job = job.name; instance = name })
+-- the order for a process of an instance, by its job
+abbrev pub order_by : Option JobDef → Who → Process → Bindings → List Output
+order_by None who its environment = []
+order_by (Some job) who its environment = order_for job who its (action_of job its) environment
 
--- the job and the name of an instance, by where it was made
-abbrev pub who_made : List JobDef → Option (ℕ × List ℕ) → Option (JobDef × Who)
-who_made jobs None = None
-who_made jobs (Some made) = named made.1 (slice_get jobs made.0)
+-- the order for a process of the instance that was made at a place
+abbrev pub order_of : Configuration → Option Who → Process → Bindings → List Output
+order_of config None its environment = []
+order_of config (Some who) its environment = order_by (job_named who.job config.jobs) who its environment
 
--- the order that an instance gives
-abbrev pub order_of : Option (JobDef × Who) → List (List ℕ × List ℕ) → List Output
-order_of None environment = []
-order_of (Some known) environment = order_of_main known.0 known.1 known.0.main environment
-
--- a signal to a process, where it lives
-abbrev pub signal_to : Who → ℕ → Option ℕ → List Output
-signal_to who signal None = []
-signal_to who signal (Some pid) = output.Signal who pid signal ∷ []
-
--- the signal that an instance's main process gets
-abbrev pub signal_of : Option (JobDef × Who) → ℕ → List Entry → List Output
-signal_of None signal c = []
-signal_of (Some known) signal c = signal_to known.1 signal (pid_of known.1 process.Main c)
+-- a signal to a process, if it lives
+abbrev pub signal_of : Option Who → (signal : ℕ) → Option ℕ → List Output
+signal_of None signal pid = []
+signal_of (Some who) signal None = []
+signal_of (Some who) signal (Some pid) = output.Signal who pid signal ∷ []
 
 -- the answer to a request, under its number
 abbrev pub reply_of : Option ℕ → Answer → List Output
@@ -58,12 +53,12 @@ reply_of None answer = []
 reply_of (Some id) answer = output.Reply id answer ∷ []
 
 -- the starts, signals, events and replies of the last step, in order. The events of inputs are not among them
-unfoldable pub gave : List JobDef → List Entry → List Output
-gave jobs [] = []
-gave jobs (Given input ∷ c) = []
-gave jobs (Ordered instance process ∷ c) = gave jobs c ++ order_of (who_made jobs (made_at instance c)) (env instance c)
-gave jobs (Signalled instance signal by_timer ∷ c) = gave jobs c ++ signal_of (who_made jobs (made_at instance c)) signal c
-gave jobs (Queued (Entering instance state) event ∷ c) = gave jobs c ++ output.Emitted event ∷ []
-gave jobs (Queued (Spoilt spoilt) event ∷ c) = gave jobs c ++ output.Emitted event ∷ []
-gave jobs (Replied request answer ∷ c) = gave jobs c ++ reply_of (id_at request c) answer
-gave jobs (entry ∷ c) = gave jobs c
+unfoldable pub outputs_of : Configuration → Chronicle → List Output
+outputs_of config [] = []
+outputs_of config (Given input ∷ c) = []
+outputs_of config (Ordered instance its ∷ c) = outputs_of config c ++ order_of config (made_at instance c) its (process_env instance its c)
+outputs_of config (Signalled instance signal by_timer ∷ c) = outputs_of config c ++ signal_of (made_at instance c) signal (pid_of instance Main c)
+outputs_of config (Queued (Entering instance state) event ∷ c) = outputs_of config c ++ output.Emitted event ∷ []
+outputs_of config (Queued (Spoilt spoilt) event ∷ c) = outputs_of config c ++ output.Emitted event ∷ []
+outputs_of config (Replied request answer ∷ c) = outputs_of config c ++ reply_of (id_at request c) answer
+outputs_of config (entry ∷ c) = outputs_of config c

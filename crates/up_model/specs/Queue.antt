@@ -1,6 +1,6 @@
 -- The queue of events, oldest first (starting(7), stopping(7)).
 use Rattle.std.specs.Prelude.{ℕ, Bool, true, false, ◌==◌, List, [], ◌∷◌, ◌++◌, if◌then◌else◌, length}
-use Rattle.up_model.specs.Chronicle.{Entry, Queued, Handled, Finished}
+use Rattle.up_model.specs.Chronicle.{Chronicle, Queued, Handled, Finished}
 
 -- an event in the queue, and whether a turn took it up
 pub record Live : Type 0 where
@@ -21,7 +21,7 @@ without_event event [] = []
 without_event event (live ∷ queue) = if live.place == event then without_event event queue else live ∷ without_event event queue
 
 -- the events that were queued and have not finished, by age
-abbrev pub queue : List Entry → List Live
+abbrev pub queue : Chronicle → List Live
 queue [] = []
 queue (Queued origin event ∷ c) = queue c ++ live_at (length c) false ∷ []
 queue (Handled event ∷ c) = with_handled event (queue c)

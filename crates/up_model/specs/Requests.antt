@@ -1,4 +1,5 @@
-use Rattle.std.specs.Prelude.{ℕ, List, ◌++◌, codes, false}
+use Rattle.std.specs.Prelude.{ℕ, Bool, true, false, ◌&&◌, ◌||◌, List, [], ◌++◌, codes, if◌then◌else◌}
+use Rattle.up_text.specs.Names.{is_name}
 use Rattle.up_model.specs.declared.request.Command.{Command}
 use Rattle.up_model.specs.declared.request.Command.TheVariants as command
 use Rattle.up_model.specs.declared.request.Answer.{Answer}
@@ -15,6 +16,37 @@ command_name command.Reload = codes "reload"
 command_name command.ReloadConfiguration = codes "reload-configuration"
 command_name command.Version = codes "version"
 
+-- whether a client may choose not to wait for the answer (initctl(8), `--no-wait`)
+abbrev pub may_wait : Command → Bool
+may_wait command.Start = true
+may_wait command.Stop = true
+may_wait command.Restart = true
+may_wait command.Emit = true
+may_wait other = false
+
+-- whether the command stands alone, without a name and variables
+abbrev pub is_alone : Command → Bool
+is_alone command.List = true
+is_alone command.ReloadConfiguration = true
+is_alone command.Version = true
+is_alone other = false
+
 -- the answer to a command that nothing carries out
 abbrev pub not_supported : Command → Answer
 not_supported command = record { ok = false; text = codes "Not supported: " ++ command_name command }
+
+-- what a request says, without where it lies in memory
+pub record RequestValue : Type 0 where
+  pub command : Command
+  pub wait : Bool
+  pub name : List ℕ
+  pub vars : List (List ℕ × List ℕ)
+
+-- whether there are neither bytes nor variables
+abbrev pub are_none : List ℕ → List (List ℕ × List ℕ) → Bool
+are_none [] [] = true
+are_none name vars = false
+
+-- a command that stands alone has an empty name and no variables, and any other names a job or an event; only some may not wait
+abbrev pub is_request : Command → Bool → List ℕ → List (List ℕ × List ℕ) → Bool
+is_request command wait name vars = (wait || may_wait command) && (if is_alone command then are_none name vars else is_name name)

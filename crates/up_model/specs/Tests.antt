@@ -1,5 +1,5 @@
 -- Tests on the values of a run, which compute.
-use Rattle.std.specs.Prelude.{ℕ, Bool, true, false, ◌&&◌, ◌==◌}
+use Rattle.std.specs.Prelude.{ℕ, Bool, true, false, ◌&&◌, ◌==◌, List, [], ◌∷◌}
 use Rattle.std.specs.Str.{bytes_eq}
 use Rattle.up_model.specs.declared.state.Goal.{Goal}
 use Rattle.up_model.specs.declared.state.Goal.TheVariants.{Start, Stop}
@@ -10,10 +10,6 @@ use Rattle.up_model.specs.declared.who.Who.{Who}
 abbrev pub is_start : Goal → Bool
 is_start Start = true
 is_start Stop = false
-
-abbrev pub is_main : Process → Bool
-is_main Main = true
-is_main other = false
 
 -- a number for each process
 abbrev pub process_number : Process → ℕ
@@ -29,3 +25,13 @@ same_process process other = process_number process == process_number other
 -- the same job and the same instance of it
 abbrev pub same_who : Who → Who → Bool
 same_who who other = bytes_eq who.job other.job && bytes_eq who.instance other.instance
+
+-- the entries, if a test is true
+abbrev pub entries_if : {X : Type 0} → Bool → List X → List X
+entries_if true entries = entries
+entries_if false entries = []
+
+-- the first of two lists in which there is anything
+abbrev pub or_else : {X : Type 0} → List X → List X → List X
+or_else [] others = others
+or_else (entry ∷ entries) others = entry ∷ entries

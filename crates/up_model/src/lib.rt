@@ -4,21 +4,27 @@
 #![tactic(auto)]
 
 pub mod event;
+pub mod failure;
 pub mod input;
 pub mod laws;
+pub mod life;
 pub mod output;
 pub mod process;
 pub mod request;
 pub mod state;
+pub mod status;
 pub mod step;
 pub mod who;
 
 pub use event::Event;
+pub use failure::{Cause, End, Failure, Verdict};
 pub use input::Input;
+pub use life::{Entry, JobEvent};
 pub use output::{Order, Output};
-pub use process::How;
+pub use process::{How, process_name};
 pub use request::{Answer, Command, Request};
 pub use state::{Goal, State};
+pub use status::status_text;
 pub use step::Step;
 pub use up_conf::{JobDef, Process};
 pub use who::Who;

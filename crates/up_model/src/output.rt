@@ -1,7 +1,10 @@
 //! What an engine asks for.
+ghost use Rattle.std.specs.Prelude.{◌≡◌, IfOk};
+
 use crate::event::Event;
 use crate::request::Answer;
 use crate::who::Who;
+use std::alloc::{AllocError, Global};
 use up_conf::Process;
 use up_text::{Env, Items, Text};
 
@@ -17,6 +20,36 @@ pub struct Order {
     /// Whether the process has no output.
     pub silent: bool,
     pub env: Env,
+}
+
+fn copy_words(alloc: Global, words: &[Text]) -> Result<Items<Text>, AllocError>
+    ensures { IfOk result (λ copied. copied ≡ words.now) }
+{
+    let mut copied: Vec<Text> = Vec::new(alloc);
+    for word in words {
+        copied.push(word.copy()?)?;
+    }
+    Ok(Items::new(copied))
+}
+
+impl Order {
+    /// An equal value in memory of its own.
+    pub fn copy(&self, alloc: Global) -> Result<Self, AllocError>
+        ensures { IfOk result (λ order. order ≡ self.now) }
+    {
+        let who = self.who.copy()?;
+        let argv = copy_words(alloc, self.argv.as_slice())?;
+        let dir = self.dir.copy()?;
+        let env = self.env.copy()?;
+        Ok(Order {
+            who,
+            process: self.process,
+            argv,
+            dir,
+            silent: self.silent,
+            env,
+        })
+    }
 }
 
 /// One output of a step.

@@ -1,8 +1,11 @@
 //! What a client asks, and what it is answered.
-ghost use Rattle.std.specs.Prelude.{◌≡◌, IfOk};
-ghost use Rattle.up_model.specs.Requests.{command_name};
+ghost use Rattle.std.specs.Prelude.{◌≡◌, IfOk, Some, None, if◌then◌else◌};
+ghost use Rattle.std.specs.List.{list_all};
+ghost use Rattle.up_text.specs.Names.{is_name, is_name_byte};
+ghost use Rattle.up_model.specs.Requests.{command_name, may_wait, is_alone, is_request};
 
 use std::alloc::AllocError;
+use std::marker::Model;
 use up_text::{Env, Text};
 
 /// A command of initctl(8).
@@ -36,9 +39,41 @@ impl Command {
             Command::Version => "version",
         }
     }
+
+    /// Whether a client may choose not to wait for the answer.
+    pub fn may_wait(self) -> bool
+        ensures { result ≡ may_wait self }
+    {
+        match self {
+            Command::Start | Command::Stop | Command::Restart | Command::Emit => true,
+            Command::Status
+            | Command::List
+            | Command::Reload
+            | Command::ReloadConfiguration
+            | Command::Version => false,
+        }
+    }
+
+    /// Whether the command stands alone, without a name and variables.
+    pub fn is_alone(self) -> bool
+        ensures { result ≡ is_alone self }
+    {
+        match self {
+            Command::List | Command::ReloadConfiguration | Command::Version => true,
+            Command::Start
+            | Command::Stop
+            | Command::Restart
+            | Command::Status
+            | Command::Emit
+            | Command::Reload => false,
+        }
+    }
 }
 
 /// A client's request: a command about a job or an event, with variables. `wait` asks for the answer once the command is done.
+///
+/// Each has the name of a job or an event, or for `list`, `version` and `reload-configuration` an empty name and no variables; and
+/// only `start`, `stop`, `restart` and `emit` may be without `wait`.
 #[derive(Drop)]
 pub struct Request {
     pub command: Command,
@@ -47,7 +82,70 @@ pub struct Request {
     pub vars: Env,
 }
 
+impl Model for Request {
+    ghost use Rattle.std.specs.Prelude.{◌≡◌, true};
+    ghost use Rattle.up_model.specs.Requests.{RequestValue, is_request};
+
+    ghost Value = { RequestValue };
+
+    ghost view = { λ r. record { command = r.command; wait = r.wait; name = r.name; vars = r.vars } };
+
+    ghost invariant = { λ r. is_request r.command r.wait r.name r.vars ≡ true };
+}
+
+#[tactic(auto, unfolding(up_value::specs::Names::is_name_byte, up_value::specs::Names::is_special))]
+fn is_name_byte(byte: u8) -> bool
+    ensures { result ≡ is_name_byte byte }
+{
+    matches!(byte, 0x21..=0x7E)
+        && !matches!(
+            byte,
+            b'"' | b'\'' | b'\\' | b'(' | b')' | b'#' | b'=' | b'$'
+        )
+}
+
+fn are_name_bytes(bytes: &[u8]) -> bool
+    ensures { result ≡ list_all is_name_byte bytes.now }
+{
+    bytes.iter().all(|byte| is_name_byte(*byte))
+}
+
+fn is_name(text: &Text) -> bool
+    ensures { result ≡ is_name text.now }
+{
+    let bytes = text.as_str().as_bytes();
+    !bytes.is_empty() && are_name_bytes(bytes)
+}
+
+fn is_request(command: Command, wait: bool, name: &Text, vars: &Env) -> bool
+    ensures { result ≡ is_request command wait name.now vars.now }
+{
+    if !wait && !command.may_wait() {
+        false
+    } else if command.is_alone() {
+        name.is("") && vars.is_empty()
+    } else {
+        is_name(name)
+    }
+}
+
 impl Request {
+    /// The request of these parts, if they are one.
+    pub fn new(command: Command, wait: bool, name: Text, vars: Env) -> Option<Self>
+        ensures { result ≡ (if is_request command wait name vars then Some (record { command = command; wait = wait; name = name; vars = vars }) else None) }
+    {
+        if is_request(command, wait, &name, &vars) {
+            Some(Request {
+                command,
+                wait,
+                name,
+                vars,
+            })
+        } else {
+            None
+        }
+    }
+
     /// An equal value in memory of its own.
     pub fn copy(&self) -> Result<Self, AllocError>
         ensures { IfOk result (λ request. request ≡ self.now) }

@@ -1,10 +1,24 @@
 //! Where an instance of a job is, and where it is heading.
+ghost use Rattle.std.specs.Prelude.{◌≡◌};
+ghost use Rattle.up_model.specs.Status.{goal_name, state_name};
 
 /// Where an instance is heading: to run, or to be at rest (initctl(8)).
 #[derive(Clone, Copy, Debug, PartialEq, Eq, Hash)]
 pub enum Goal {
     Start,
     Stop,
+}
+
+impl Goal {
+    /// The goal as a client reads it.
+    pub fn name(self) -> &'static str
+        ensures { result.now ≡ goal_name self }
+    {
+        match self {
+            Goal::Start => "start",
+            Goal::Stop => "stop",
+        }
+    }
 }
 
 /// The ten states of an instance, in the order of a whole life (the Upstart Cookbook's table of states).
@@ -20,4 +34,24 @@ pub enum State {
     Stopping,
     Killed,
     PostStop,
+}
+
+impl State {
+    /// The state as a client reads it.
+    pub fn name(self) -> &'static str
+        ensures { result.now ≡ state_name self }
+    {
+        match self {
+            State::Waiting => "waiting",
+            State::Starting => "starting",
+            State::PreStart => "pre-start",
+            State::Spawned => "spawned",
+            State::PostStart => "post-start",
+            State::Running => "running",
+            State::PreStop => "pre-stop",
+            State::Stopping => "stopping",
+            State::Killed => "killed",
+            State::PostStop => "post-stop",
+        }
+    }
 }

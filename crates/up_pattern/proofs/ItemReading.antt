@@ -1,5 +1,5 @@
 -- How the items of a pattern follow from one another.
-use Rattle.std.proofs.Common.{◌≡◌, ℕ, ◌+◌, ◌≤◌, Bool, true, false, cond, List, [], ◌∷◌, length, drop, zero, suc, refl, sym, ap, ◌∙◌, arith}
+use Rattle.std.proofs.Common.{◌≡◌, ℕ, ◌+◌, ◌≤◌, Bool, true, false, cond, List, [], ◌∷◌, length, drop, map, zero, suc, refl, sym, ap, ◌∙◌, arith}
 use Rattle.std.specs.List.{list_any}
 use Rattle.std.proofs.lemmas.List.{drop-drop}
 use Rattle.std.specs.Prelude.{◌==◌}
@@ -8,7 +8,7 @@ use Rattle.std.proofs.lemmas.Bool.Decides.{nat_tests}
 use Rattle.up_pattern.specs.declared.pattern.Symbol.{Symbol}
 use Rattle.up_pattern.specs.declared.pattern.Symbol.TheVariants.{Bare, Escaped, Trailing}
 use Rattle.up_pattern.specs.declared.pattern.Reading.{Reading}
-use Rattle.up_pattern.specs.Matching.{IsFlat, MeansItem, item_of_part}
+use Rattle.up_pattern.specs.Matching.{IsEnd, IsFlat, MeansItem, item_of_part}
 use Rattle.up_pattern.specs.Pattern.{symbols, is_open, is_close, is_not, before_close, body, inner, is_closed, has_class, Item, Run, Any, Only, Among, ranges, lone_item, set_item, item_of, more, items_from, all_items}
 use Rattle.up_pattern.specs.Lists.{begins}
 
@@ -82,8 +82,13 @@ classless-inner (symbol ∷ after) none = by_case (is_not symbol) refl none
     by_case true is none = rw (not_open symbol is, none) refl
     by_case false is none = none
 
-pub flat-open : (after : List Symbol) → has_class (body (inner after)) ≡ false → is_closed (inner after) ≡ false → IsFlat after
-flat-open after classless unclosed =
+-- symbols in which no set is closed and none has a class
+record NoSets (symbols : List Symbol) : Type 0 where
+  unclosed : list_any is_close (drop 2 symbols) ≡ false
+  classless : has_class symbols ≡ false
+
+sets-open : (after : List Symbol) → has_class (body (inner after)) ≡ false → is_closed (inner after) ≡ false → NoSets after
+sets-open after classless unclosed =
     record {
       unclosed = flat-inner (begins is_not after) after unclosed;
       classless = classless-inner after (ap has_class (sym (body-all (inner after) unclosed)) ∙ classless);
@@ -101,12 +106,12 @@ inner-classless (symbol ∷ after) none = by_case (is_not symbol)
     by_case true = (or_parts _ _ none).1
     by_case false = none
 
-lone-open : (symbol : Symbol) → is_open symbol ≡ true → lone_item symbol ≡ Only 91
+pub lone-open : (symbol : Symbol) → is_open symbol ≡ true → lone_item symbol ≡ Only 91
 lone-open (Bare byte) is = rw (eqb-true byte 91 is) refl
 lone-open (Escaped byte) is = absurd (false≢true is)
 lone-open Trailing is = absurd (false≢true is)
 
-pub item-flat : (symbol : Symbol) (after : List Symbol) → IsFlat (symbol ∷ after) → item_of symbol after ≡ lone_item symbol
+item-flat : (symbol : Symbol) (after : List Symbol) → NoSets (symbol ∷ after) → item_of symbol after ≡ lone_item symbol
 item-flat symbol after flat = by_case (is_open symbol) refl
   where
     by_case : (o : Bool) → is_open symbol ≡ o → cond o (set_item after) (lone_item symbol) ≡ lone_item symbol
@@ -117,6 +122,41 @@ item-flat symbol after flat = by_case (is_open symbol) refl
         let no_class : has_class (body (inner after)) ≡ false = ap has_class whole ∙ classless in
         rw (no_class, unclosed) (sym (lone-open symbol is))
     by_case false is = refl
+
+none-further : (after : List Symbol) → list_any is_close (drop 1 after) ≡ false → list_any is_close (drop 2 after) ≡ false
+none-further [] none = refl
+none-further (symbol ∷ after) none = none-behind after none
+
+-- where an item is that of its symbol, the others are those of the symbols behind it
+pub items-lone : (symbol : Symbol) (after : List Symbol) → item_of symbol after ≡ lone_item symbol → items_from 0 (symbol ∷ after) ≡ lone_item symbol ∷ items_from 0 after
+items-lone symbol after lone =
+    ap (λ item. item ∷ items_from (more item after) after) lone
+    ∙ ap (λ count. lone_item symbol ∷ items_from count after) (more-lone symbol after)
+
+-- without sets each symbol is an item
+all-lone : (symbols : List Symbol) → NoSets symbols → items_from 0 symbols ≡ map lone_item symbols
+all-lone [] flat = refl
+all-lone (symbol ∷ after) flat =
+    items-lone symbol after (item-flat symbol after flat)
+    ∙ ap (λ items. lone_item symbol ∷ items) (all-lone after (record { unclosed = none-further after flat.unclosed; classless = (or_parts _ _ flat.classless).1 }))
+
+pub flat-open : (text : List ℕ) → has_class (body (inner (symbols text))) ≡ false → is_closed (inner (symbols text)) ≡ false → IsFlat text
+unfolding all_items
+flat-open text classless unclosed = all-lone (symbols text) (sets-open (symbols text) classless unclosed)
+
+same-front : {X : Type 0} (x y : X) (xs ys : List X) → x ∷ xs ≡ y ∷ ys → (x ≡ y) × (xs ≡ ys)
+same-front x y xs ys same = (cc, cc)
+
+-- the first of a text's symbols, where each [ stands for itself
+flat-parts : (symbol : Symbol) (after : List Symbol) → items_from 0 (symbol ∷ after) ≡ lone_item symbol ∷ map lone_item after
+    → (item_of symbol after ≡ lone_item symbol) × (items_from 0 after ≡ map lone_item after)
+flat-parts symbol after flat =
+    let first = same-front _ _ _ _ flat in
+    (first.0, (same-front _ _ _ _ (sym (items-lone symbol after first.0) ∙ flat)).1)
+
+pub flat-first : (text rest : List ℕ) (symbol : Symbol) → symbols text ≡ symbol ∷ symbols rest → IsFlat text → (item_of symbol (symbols rest) ≡ lone_item symbol) × IsFlat rest
+unfolding all_items
+flat-first text rest symbol is flat = flat-parts symbol (symbols rest) (rw is at flat)
 
 pub set-open : (after : List Symbol) → has_class (body (inner after)) ≡ false → is_closed (inner after) ≡ false → set_item after ≡ Only 91
 set-open after class unclosed = rw (class, unclosed) refl
@@ -138,7 +178,7 @@ means-open text reading classless unclosed part rest =
     record {
       part = part ∙ sym item;
       rest = rw (item, rest) refl;
-      flat = λ none. rw rest (flat-open (symbols text) classless unclosed);
+      flat = λ none. rw rest (flat-open text classless unclosed);
       shorter = rw rest (omega arith);
     }
 
@@ -170,6 +210,13 @@ reading-set text rest symbol reading is set means =
     let item = item-set symbol (symbols rest) set in
     all_items-first text reading.rest.now symbol (symbols rest) is (means.rest ∙ ap (λ item. drop (more item (symbols rest)) (symbols rest)) (sym item))
     ∙ ap (λ item. item ∷ all_items reading.rest.now) (item ∙ sym means.part)
+
+-- what an item leaves stands at the end
+pub end-set : (text rest : List ℕ) (symbol : Symbol) (reading : Reading) → symbols text ≡ symbol ∷ symbols rest → MeansItem (set_item (symbols rest)) rest reading → IsEnd (symbols reading.rest.now) (symbols text)
+end-set text rest symbol reading is means = (suc (more (set_item (symbols rest)) (symbols rest)), rw is means.rest)
+
+pub end-lone : (text rest : List ℕ) (symbol : Symbol) → symbols text ≡ symbol ∷ symbols rest → IsEnd (symbols rest) (symbols text)
+end-lone text rest symbol is = (1, rw is refl)
 
 pub reading-lone : (text rest : List ℕ) (symbol : Symbol) (part : Item) → symbols text ≡ symbol ∷ symbols rest → part ≡ lone_item symbol → item_of symbol (symbols rest) ≡ lone_item symbol
     → all_items text ≡ part ∷ all_items rest

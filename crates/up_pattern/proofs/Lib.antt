@@ -2,3 +2,4 @@ pub mod ItemReading
 pub mod Matches
 pub mod PatternLaws
 pub mod SetReading
+pub mod Unclosed

@@ -1,11 +1,11 @@
 -- Matching one item at a time: that it is what the ways to cut the bytes say, and why only the last run is made longer.
-use Rattle.std.proofs.Common.{◌≡◌, ℕ, ◌+◌, ◌-◌, Bool, true, false, cond, not, ◌&&◌, ◌||◌, List, [], ◌∷◌, map, length, drop, zero, suc, refl, sym, ap, subst, inl, inr, ◌∙◌, arith}
+use Rattle.std.proofs.Common.{◌≡◌, ℕ, ◌+◌, ◌-◌, ◌≤◌, Bool, true, false, cond, not, ◌&&◌, ◌||◌, List, [], ◌∷◌, map, length, drop, replicate, slice_get, zero, suc, refl, sym, ap, subst, inl, inr, ◌∙◌, arith}
 use Rattle.std.specs.Prelude.{◌==◌, Option, None, Some, is_some}
 use Rattle.std.specs.List.{list_any, flat_map}
 use Rattle.std.proofs.lemmas.List.{drop-drop}
 use Rattle.std.proofs.lemmas.List.Folds.{list_any-append}
 use Rattle.std.proofs.lemmas.Bool.{or_cases, or_left, or_right, and_parts, both_ways, false≢true, not-true, ne_eqb}
-use Rattle.up_pattern.specs.Matching.{star_from, one_from, item_from, is_run, is_nil, items_match, Takes, TakesNone, TakesOne, Leads}
+use Rattle.up_pattern.specs.Matching.{Knows, star_from, one_from, item_from, is_run, is_nil, items_match, Takes, TakesNone, TakesOne, Leads}
 use Rattle.up_pattern.specs.Pattern.{Item, Run, Any, Only, Among, Never, Class, admits_byte, is_byte_of, admits, all_admit, splits, cuts, fits, fits_if, is_class, all_items, items, supported, glob}
 
 -- the cuts
@@ -162,6 +162,9 @@ takes-length : (item : Item) (bytes behind : List ℕ) → TakesOne item bytes b
 takes-length item [] behind takes = absurd takes
 takes-length item (byte ∷ bytes) behind takes = rw takes.1 (omega arith)
 
+pub takes-shorter : (item : Item) (bytes behind : List ℕ) → TakesOne item bytes behind → length behind ≤ length bytes
+takes-shorter item bytes behind takes = let more = takes-length item bytes behind takes in omega (arith, more)
+
 takes-drop : (item : Item) (bytes behind : List ℕ) → TakesOne item bytes behind → behind ≡ drop 1 bytes
 takes-drop item [] behind takes = absurd takes
 takes-drop item (byte ∷ bytes) behind takes = takes.1
@@ -196,6 +199,74 @@ takes-run items bytes now left item later takes is run =
           let before : items_match (item ∷ later) (drop n others) ≡ true = subst (λ read. items_match read (drop n others) ≡ true) is (takes.needs others passes) in
           sym (a_run item (items_match later) (drop n others) run) ∙ before;
     }
+
+pub takes-first : (item : Item) (bytes : List ℕ) (byte : ℕ) (behind : List ℕ) → bytes ≡ byte ∷ behind → admits_byte item byte ≡ true → TakesOne item bytes behind
+takes-first item bytes byte behind is admitted = subst (λ bs. TakesOne item bs behind) (sym is) (admitted, refl)
+
+-- one item more before those that lead up to a run
+pub leads-more : (item : Item) (items : List Item) (bytes behind : List ℕ) (later : List Item) (left : List ℕ)
+    → is_run item ≡ false → TakesOne item bytes behind → length left ≤ length behind → Leads items behind later left → Leads (item ∷ items) bytes later left
+leads-more item items bytes behind later left other one shorter leads =
+    let lengths = takes-length item bytes behind one in
+    let n = length behind - length left in
+    let next : length bytes - length left ≡ 1 + n = omega arith in
+    record {
+      same = no_run item (items_match items) bytes other ∙ one-takes item (items_match items) bytes behind one ∙ leads.same;
+      behind = leads.behind ∙ ap (drop n) (takes-drop item bytes behind one) ∙ drop-drop n 1 bytes ∙ ap (λ k. drop k bytes) (sym next);
+      needs = λ others passes.
+          let one_before = sym (no_run item (items_match items) others other) ∙ passes in
+          let at_later = leads.needs (drop 1 others) (one-needs item (items_match items) others one_before) in
+          subst (λ bs. star_from (items_match later) bs ≡ true) (drop-drop n 1 others ∙ ap (λ k. drop k others) (sym next)) at_later;
+    }
+
+-- a place where the item takes no byte, or the items behind it fail
+pub search-on : (item : Item) (items : List Item) (bytes : List ℕ) (byte : ℕ) (behind : List ℕ) → bytes ≡ byte ∷ behind → is_run item ≡ false
+    → (admits_byte item byte && items_match items behind) ≡ false → star_from (items_match (item ∷ items)) behind ≡ star_from (items_match (item ∷ items)) bytes
+search-on item items bytes byte behind is other fails =
+    let here : items_match (item ∷ items) (byte ∷ behind) ≡ false = no_run item (items_match items) (byte ∷ behind) other ∙ fails in
+    sym (ap (star_from (items_match (item ∷ items))) is ∙ ap (λ b. b || star_from (items_match (item ∷ items)) behind) here)
+
+pub search-end : (item : Item) (items : List Item) (bytes : List ℕ) → length bytes ≡ 0 → is_run item ≡ false → star_from (items_match (item ∷ items)) bytes ≡ false
+search-end item items [] none other = no_run item (items_match items) [] other
+search-end item items (byte ∷ bytes) none other = absurd (omega arith)
+
+pub search-here : (item : Item) (items : List Item) (bytes : List ℕ) (byte : ℕ) (behind : List ℕ) → bytes ≡ byte ∷ behind → is_run item ≡ false
+    → admits_byte item byte ≡ true → items_match items behind ≡ true → star_from (items_match (item ∷ items)) bytes ≡ true
+search-here item items bytes byte behind is other admitted passes =
+    let here : items_match (item ∷ items) (byte ∷ behind) ≡ true = no_run item (items_match items) (byte ∷ behind) other ∙ rw (admitted, passes) refl in
+    rw is (or_left _ _ here)
+
+-- a run behind a run
+star-star : (test : List ℕ → Bool) (bytes : List ℕ) → star_from (star_from test) bytes ≡ star_from test bytes
+star-star test [] = refl
+star-star test (byte ∷ bytes) = ap (λ b. (test (byte ∷ bytes) || star_from test bytes) || b) (star-star test bytes) ∙ by_case (test (byte ∷ bytes)) (star_from test bytes)
+  where
+    by_case : (b c : Bool) → ((b || c) || c) ≡ (b || c)
+    by_case true c = refl
+    by_case false true = refl
+    by_case false false = refl
+
+star-same : (p q : List ℕ → Bool) → ((bytes : List ℕ) → p bytes ≡ q bytes) → (bytes : List ℕ) → star_from p bytes ≡ star_from q bytes
+star-same p q same [] = same []
+star-same p q same (byte ∷ bytes) = ap (λ b. b || star_from p bytes) (same (byte ∷ bytes)) ∙ ap (λ b. q (byte ∷ bytes) || b) (star-same p q same bytes)
+
+pub run-run : (item : Item) (items : List Item) (bytes : List ℕ) → is_run item ≡ true → star_from (items_match items) bytes ≡ star_from (items_match (item ∷ items)) bytes
+run-run item items bytes run =
+    sym (star-same (items_match (item ∷ items)) (star_from (items_match items)) (λ bs. a_run item (items_match items) bs run) bytes ∙ star-star (items_match items) bytes)
+
+-- no items behind a run match the end of the bytes
+pub run-end : (bytes : List ℕ) → star_from (items_match []) bytes ≡ true
+run-end [] = refl
+run-end (byte ∷ bytes) = run-end bytes
+
+nothing : (count byte : ℕ) (admitted : Bool) → slice_get (replicate count None) byte ≡ Some (Some admitted) → ⊥
+nothing zero byte admitted got = cc
+nothing (suc count) zero admitted got = cc
+nothing (suc count) (suc byte) admitted got = nothing count byte admitted got
+
+-- where nothing is known, nothing wrong is
+pub knows-nothing : (known : List (Option Bool)) (item : Item) → known ≡ replicate 256 None → Knows known item
+knows-nothing known item none = λ byte admitted got. absurd (nothing 256 byte admitted (rw none at got))
 
 -- or up to one that fails
 pub takes-fails : (items : List Item) (bytes : List ℕ) (now : List Item) (left : List ℕ) (item : Item) (later : List Item)

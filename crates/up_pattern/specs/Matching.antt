@@ -1,7 +1,8 @@
 -- What the parts of the matching give.
-use Rattle.std.specs.Prelude.{◌≡◌, ℕ, ◌+◌, ◌-◌, ◌<◌, ◌≤◌, ◌==◌, Bool, true, false, ◌&&◌, ◌||◌, not, if◌then◌else◌, List, [], ◌∷◌, length, drop}
+use Rattle.std.specs.Prelude.{◌≡◌, ℕ, ◌+◌, ◌-◌, ◌<◌, ◌≤◌, ◌==◌, Bool, true, false, ◌&&◌, ◌||◌, not, if◌then◌else◌, List, [], ◌∷◌, length, drop, map, slice_get, Option, Some}
 use Rattle.std.specs.List.{list_any}
 use Rattle.up_pattern.specs.declared.pattern.Symbol.{Symbol}
+use Rattle.up_pattern.specs.declared.pattern.Symbol.TheVariants.{Bare, Escaped, Trailing}
 use Rattle.up_pattern.specs.declared.pattern.Part.{Part}
 use Rattle.up_pattern.specs.declared.pattern.Part.TheVariants as part
 use Rattle.up_pattern.specs.declared.pattern.SetEnd.{SetEnd}
@@ -9,7 +10,7 @@ use Rattle.up_pattern.specs.declared.pattern.SetEnd.TheVariants as ending
 use Rattle.up_pattern.specs.declared.pattern.Reading.{Reading}
 use Rattle.up_pattern.specs.declared.pattern.Outcome.{Outcome}
 use Rattle.up_pattern.specs.declared.pattern.Outcome.TheVariants as outcome
-use Rattle.up_pattern.specs.Pattern.{symbols, is_close, is_dash, byte_of, body, is_closed, has_class, ranges, Item, Run, Any, Only, Among, Never, Class, more, all_items, admits_byte}
+use Rattle.up_pattern.specs.Pattern.{symbols, is_close, is_dash, byte_of, body, is_closed, has_class, ranges, Item, Run, Any, Only, Among, Never, Class, is_class, lone_item, more, all_items, admits_byte}
 
 -- the first symbol of a text, and what it leaves
 abbrev pub First : List ℕ → Symbol → List ℕ → Type 0
@@ -59,10 +60,40 @@ items_match (item ∷ items) bytes = item_from item (items_match items) bytes
 abbrev pub is_wild : ℕ → Bool
 is_wild byte = byte == 42 || (byte == 63 || (byte == 91 || byte == 92))
 
--- symbols in which no set is closed and none has a class
-pub record IsFlat (symbols : List Symbol) : Type 0 where
-  pub unclosed : list_any is_close (drop 2 symbols) ≡ false
-  pub classless : has_class symbols ≡ false
+-- a text in which each [ stands for itself
+abbrev pub IsFlat : List ℕ → Type 0
+IsFlat text = all_items text ≡ map lone_item (symbols text)
+
+-- symbols that stand at the end of others
+abbrev pub IsEnd : List Symbol → List Symbol → Type 0
+IsEnd later symbols = (count : ℕ) × (later ≡ drop count symbols)
+
+-- the bytes of a symbol
+abbrev pub width : Symbol → ℕ
+width (Bare byte) = 1
+width (Escaped byte) = 2
+width Trailing = 1
+
+-- the bytes of symbols
+abbrev pub width_of : List Symbol → ℕ
+width_of [] = 0
+width_of (symbol ∷ symbols) = width symbol + width_of symbols
+
+-- the bytes after the last ], or all if there is none
+abbrev pub unclosed_width : List Symbol → ℕ
+unclosed_width [] = 0
+unclosed_width (symbol ∷ symbols) =
+    if list_any is_close symbols then unclosed_width symbols
+    else (if is_close symbol then width_of symbols else width_of (symbol ∷ symbols))
+
+-- a text whose sets have no class, and of which no more than this many bytes stand after the last ]
+pub record Settled (unclosed : ℕ) (text : List ℕ) : Type 0 where
+  pub ends : (later : List Symbol) → IsEnd later (symbols text) → width_of later ≤ unclosed → list_any is_close later ≡ false
+  pub classless : list_any is_class (all_items text) ≡ false
+
+-- what is known of some bytes is whether the item admits them
+abbrev pub Knows : List (Option Bool) → Item → Type 0
+Knows known item = (byte : ℕ) (admitted : Bool) → slice_get known byte ≡ Some (Some admitted) → admits_byte item byte ≡ admitted
 
 -- the last byte of the range that begins with this item, and what stands behind it
 abbrev pub range_end : ℕ → List Symbol → ℕ × List Symbol
@@ -91,7 +122,7 @@ item_of_part part.Class = Class
 pub record MeansItem (item : Item) (text : List ℕ) (reading : Reading) : Type 0 where
   pub part : item_of_part reading.part ≡ item
   pub rest : symbols reading.rest.now ≡ drop (more item (symbols text)) (symbols text)
-  pub flat : reading.ahead ≡ false → IsFlat (symbols reading.rest.now)
+  pub flat : reading.ahead ≡ false → IsFlat reading.rest.now
   pub shorter : length reading.rest.now ≤ length text
 
 -- items take one byte each: these items and these bytes are left
@@ -108,9 +139,17 @@ pub record Leads (items : List Item) (bytes : List ℕ) (later : List Item) (lef
   pub needs : (others : List ℕ) → items_match items others ≡ true → star_from (items_match later) (drop (length bytes - length left) others) ≡ true
 
 -- what the items up to a run of any bytes come to
-abbrev pub RunGives : Outcome → List ℕ → List ℕ → Type 0
-RunGives outcome.Matches text bytes = items_match (all_items text) bytes ≡ true
-RunGives outcome.Fails text bytes = items_match (all_items text) bytes ≡ false
-RunGives (outcome.Run rest ahead left) text bytes =
-    Leads (all_items text) bytes (all_items rest.now) left.now × (ahead ≡ false → IsFlat (symbols rest.now))
+abbrev pub RunGives : ℕ → Outcome → List ℕ → List ℕ → Type 0
+RunGives unclosed outcome.Matches text bytes = items_match (all_items text) bytes ≡ true
+RunGives unclosed outcome.Fails text bytes = items_match (all_items text) bytes ≡ false
+RunGives unclosed (outcome.Run rest left) text bytes =
+    Leads (all_items text) bytes (all_items rest.now) left.now × Settled unclosed rest.now
     × (length rest.now < length text) × (length left.now ≤ length bytes)
+
+-- what an item, and the items of a text after it, come to after a run of any bytes
+abbrev pub SearchGives : ℕ → Outcome → Item → List ℕ → List ℕ → Type 0
+SearchGives unclosed outcome.Matches item text bytes = star_from (items_match (item ∷ all_items text)) bytes ≡ true
+SearchGives unclosed outcome.Fails item text bytes = star_from (items_match (item ∷ all_items text)) bytes ≡ false
+SearchGives unclosed (outcome.Run rest left) item text bytes =
+    (star_from (items_match (item ∷ all_items text)) bytes ≡ star_from (items_match (all_items rest.now)) left.now)
+    × Settled unclosed rest.now × (length rest.now < length text) × (length left.now ≤ length bytes)

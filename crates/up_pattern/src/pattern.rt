@@ -1,9 +1,9 @@
 //! Patterns over bytes, by fnmatch(3).
-ghost use Rattle.std.specs.Prelude.{◌≡◌, ◌<◌, ◌≤◌, ◌≢◌, ◌&&◌, nat_le, [], ◌∷◌, length, false, MatchOption, IfSome};
+ghost use Rattle.std.specs.Prelude.{◌≡◌, ◌<◌, ◌≤◌, ◌≢◌, ◌&&◌, nat_le, [], ◌∷◌, length, false, MatchOption, IfSome, None, replicate};
 ghost use Rattle.up_pattern.specs.declared.pattern.Symbol.TheVariants.{Bare};
-ghost use Rattle.up_pattern.specs.Pattern.{symbols, is_bare, is_class_mark, is_not, is_open, byte_of, body, inner, ranges, is_among, lone_item, set_item, more, all_items, admits_byte, is_class, supported, glob};
+ghost use Rattle.up_pattern.specs.Pattern.{symbols, is_bare, is_class_mark, is_not, is_open, is_close, byte_of, body, inner, ranges, is_among, lone_item, set_item, more, all_items, admits_byte, is_class, supported, glob};
 ghost use Rattle.up_pattern.specs.Lists.{begins};
-ghost use Rattle.up_pattern.specs.Matching.{First, items_match, EndsSo, IsFlat, MeansItem, RunGives, TakesNone, TakesOne, range_end, item_of_part, is_run, star_from};
+ghost use Rattle.up_pattern.specs.Matching.{First, items_match, EndsSo, IsFlat, MeansItem, RunGives, SearchGives, Settled, IsEnd, Knows, TakesNone, TakesOne, range_end, item_of_part, is_run, star_from, unclosed_width};
 
 pub mod laws;
 
@@ -42,16 +42,12 @@ struct Reading<'a> {
     ahead: bool,
 }
 
-/// What the items up to the next run of any bytes come to: they are the last and match, they fail, or this is left behind the run.
+/// What the items up to the next run of any bytes come to: they are the last and match, they fail, or this is left after the run.
 #[derive(Clone, Copy)]
 enum Outcome<'a, 'b> {
     Matches,
     Fails,
-    Run {
-        rest: &'a [u8],
-        ahead: bool,
-        left: &'b [u8],
-    },
+    Run { rest: &'a [u8], left: &'b [u8] },
 }
 
 #[tactic(auto, using(crate::proofs::SetReading::firsts))]
@@ -110,6 +106,32 @@ fn is_open(symbol: Symbol) -> bool
         Symbol::Escaped(_) => false,
         Symbol::Trailing => false,
     }
+}
+
+fn is_close(symbol: Symbol) -> bool
+    ensures { result ≡ is_close symbol }
+{
+    match symbol {
+        Symbol::Bare(byte) => byte == b']',
+        Symbol::Escaped(_) => false,
+        Symbol::Trailing => false,
+    }
+}
+
+// How many bytes stand after the pattern's last bare `]`, all of them if it has none. No set is closed among these bytes.
+#[tactic(auto, using(crate::proofs::Unclosed::unclosed_lengths))]
+fn unclosed_length(pattern: &[u8]) -> usize
+    ensures { result ≡ unclosed_width (symbols pattern.now) }
+{
+    let mut length = pattern.len();
+    let mut rest = pattern;
+    'symbols: while let Some((symbol, behind)) = next_symbol(rest) {
+        if is_close(symbol) {
+            length = behind.len();
+        }
+        rest = behind;
+    }
+    length
 }
 
 fn byte_of(symbol: Symbol) -> u8
@@ -240,12 +262,13 @@ fn read_set(text: &[u8]) -> Reading<'_>
     }
 }
 
-// The first item of a text. Where no sets are ahead, each `[` stands for itself.
+// The first item of a text. If no sets are ahead, each `[` stands for itself.
 #[tactic(auto, using(crate::proofs::ItemReading::readings))]
 fn read(text: &[u8], ahead: bool) -> Option<Reading<'_>>
-    requires { ahead ≡ false → IsFlat (symbols text.now) }
+    requires { ahead ≡ false → IsFlat text.now }
     ensures none { MatchOption result (all_items text.now ≡ []) (λ reading. all_items text.now ≡ item_of_part reading.part ∷ all_items reading.rest.now) }
-    ensures flat { IfSome result (λ reading. reading.ahead ≡ false → IsFlat (symbols reading.rest.now)) }
+    ensures flat { IfSome result (λ reading. reading.ahead ≡ false → IsFlat reading.rest.now) }
+    ensures end { IfSome result (λ reading. IsEnd (symbols reading.rest.now) (symbols text.now)) }
     ensures shorter { IfSome result (λ reading. length reading.rest.now < length text.now) }
 {
     let (symbol, rest) = next_symbol(text)?;
@@ -257,6 +280,17 @@ fn read(text: &[u8], ahead: bool) -> Option<Reading<'_>>
         rest,
         ahead,
     })
+}
+
+// The first item of a text of which at most this many bytes stand after the last `]`, and whose sets have no class.
+#[tactic(auto, using(crate::proofs::Unclosed::settlings))]
+fn read_settled(text: &[u8], unclosed: usize) -> Option<Reading<'_>>
+    requires { Settled unclosed text.now }
+    ensures none { MatchOption result (all_items text.now ≡ []) (λ reading. all_items text.now ≡ item_of_part reading.part ∷ all_items reading.rest.now) }
+    ensures settled { IfSome result (λ reading. Settled unclosed reading.rest.now) }
+    ensures shorter { IfSome result (λ reading. length reading.rest.now < length text.now) }
+{
+    read(text, unclosed < text.len())
 }
 
 fn admits(part: &Part, byte: u8) -> bool
@@ -316,18 +350,16 @@ fn take_byte<'b>(part: &Part, bytes: &'b [u8]) -> Option<&'b [u8]>
 
 // Takes one byte for each item up to a run of any bytes.
 #[tactic(auto, using(crate::proofs::Matches::takings))]
-fn take_items<'a, 'b>(text: &'a [u8], sets: bool, bytes: &'b [u8]) -> Outcome<'a, 'b>
-    requires { sets ≡ false → IsFlat (symbols text.now) }
-    ensures { RunGives result text.now bytes.now }
+fn take_items<'a, 'b>(text: &'a [u8], unclosed: usize, bytes: &'b [u8]) -> Outcome<'a, 'b>
+    requires { Settled unclosed text.now }
+    ensures { RunGives unclosed result text.now bytes.now }
 {
-    let mut ahead = sets;
     let mut rest = text;
     let mut left = bytes;
-    'items: while let Some(reading) = read(rest, ahead) {
+    'items: while let Some(reading) = read_settled(rest, unclosed) {
         rest = reading.rest;
-        ahead = reading.ahead;
         if is_run(&reading.part) {
-            return Outcome::Run { rest, ahead, left };
+            return Outcome::Run { rest, left };
         }
         match take_byte(&reading.part, left) {
             Some(behind) => left = behind,
@@ -341,33 +373,80 @@ fn take_items<'a, 'b>(text: &'a [u8], sets: bool, bytes: &'b [u8]) -> Outcome<'a
     }
 }
 
-// Whether the text's items match some end of the bytes. Only the last run of any bytes is ever made longer: where the items
-// behind it fail, a longer run before it wouldn't help.
-fn matches_end(text: &[u8], sets: bool, bytes: &[u8]) -> bool
-    requires { sets ≡ false → IsFlat (symbols text.now) }
+// Of no byte is known yet whether an item admits it.
+fn nothing_known() -> [Option<bool>; 256]
+    ensures { result ≡ replicate 256 None }
+{
+    [None; 256]
+}
+
+// Whether the item admits the byte, by what is known of it so far. A set is gone through once for each byte that it is asked for.
+fn recall(known: &mut [Option<bool>], part: &Part, byte: u8) -> bool
+    requires room { length known.old ≡ 256 }
+    requires knows { Knows known.old (item_of_part part.now) }
+    ensures answer { result ≡ admits_byte (item_of_part part.now) byte }
+    ensures room { length known.new ≡ 256 }
+    ensures knows { Knows known.new (item_of_part part.now) }
+{
+    let place = usize::from(byte);
+    match known[place] {
+        Some(admitted) => admitted,
+        None => {
+            let admitted = admits(part, byte);
+            known[place] = Some(admitted);
+            admitted
+        }
+    }
+}
+
+// Looks for the first place at which this item, and the items of the text after it, go on up to the next run. The item stands after a run,
+// so it is read once and not again at each place.
+fn search<'a, 'b>(part: &Part, text: &'a [u8], unclosed: usize, bytes: &'b [u8]) -> Outcome<'a, 'b>
+    requires one { is_run (item_of_part part.now) ≡ false }
+    requires settled { Settled unclosed text.now }
+    ensures { SearchGives unclosed result (item_of_part part.now) text.now bytes.now }
+{
+    let mut known = nothing_known();
+    let mut left = bytes;
+    'places: while let Some((byte, behind)) = left.split_first() {
+        if recall(&mut known, part, *byte) {
+            match take_items(text, unclosed, behind) {
+                Outcome::Matches => return Outcome::Matches,
+                Outcome::Fails => {}
+                Outcome::Run { rest, left } => return Outcome::Run { rest, left },
+            }
+        }
+        left = behind;
+    }
+    Outcome::Fails
+}
+
+// Whether the text's items match some end of the bytes. Only the last run of any bytes is ever made longer: if the items
+// after it fail, a longer run before it wouldn't help.
+fn matches_end(text: &[u8], unclosed: usize, bytes: &[u8]) -> bool
+    requires { Settled unclosed text.now }
     ensures { result ≡ star_from (items_match (all_items text.now)) bytes.now }
 {
-    let mut ahead = sets;
     let mut rest = text;
     let mut left = bytes;
-    'places: loop {
-        match take_items(rest, ahead, left) {
+    'runs: while let Some(first) = read_settled(rest, unclosed) {
+        if is_run(&first.part) {
+            rest = first.rest;
+            continue;
+        }
+        match search(&first.part, first.rest, unclosed, left) {
             Outcome::Matches => return true,
-            Outcome::Fails => match left.split_first() {
-                Some((_, behind)) => left = behind,
-                None => return false,
-            },
+            Outcome::Fails => return false,
             Outcome::Run {
                 rest: later,
-                ahead: further,
                 left: behind,
             } => {
                 rest = later;
-                ahead = further;
                 left = behind;
             }
         }
     }
+    true
 }
 
 /// Whether no set of the pattern, closed or not, has a class: a `[` before `:`, `.` or `=`.
@@ -394,9 +473,10 @@ pub fn glob(pattern: &[u8], bytes: &[u8]) -> bool
     if !supported(pattern) {
         return false;
     }
-    match take_items(pattern, true, bytes) {
+    let unclosed = unclosed_length(pattern);
+    match take_items(pattern, unclosed, bytes) {
         Outcome::Matches => true,
         Outcome::Fails => false,
-        Outcome::Run { rest, ahead, left } => matches_end(rest, ahead, left),
+        Outcome::Run { rest, left } => matches_end(rest, unclosed, left),
     }
 }

@@ -1,14 +1,16 @@
 -- Each folder has a report, also one that is refused.
-use Rattle.std.proofs.Common.{◌≡◌, true, false, List, [], ◌∷◌, map, refl, ap, length, Err}
-use Rattle.std.specs.Prelude.{nat_le}
+use Rattle.std.proofs.Common.{◌≡◌, true, false, List, [], ◌∷◌, map, refl, sym, ap, subst, length, Result, Ok, Err}
+use Rattle.std.specs.Prelude.{nat_le, IfOk, IfErr}
 use Rattle.std.specs.List.{list_all}
 use Rattle.up_stanza.specs.declared.fault.FaultCode.TheVariants.{UnknownStanza}
 use Rattle.up_conf.specs.declared.folder.File.{File}
 use Rattle.up_conf.specs.declared.report.Fault.{Fault}
 use Rattle.up_conf.specs.FaultCodes.{number_of}
 use Rattle.up_conf.specs.Folders.{Spot, spot_of, spots_of, jobs_of, IsReport}
-use Rattle.up_image.specs.declared.refusal.CompileError.TheVariants.{SameName, TooManyJobs}
-use Rattle.up_image.specs.Compiling.{has_twice, read_paths}
+use Rattle.up_conf.specs.declared.job.JobDef.{JobDef}
+use Rattle.up_image.specs.declared.refusal.CompileError.{CompileError}
+use Rattle.up_image.specs.declared.refusal.CompileError.TheVariants.{SameName, TooManyJobs, Memory}
+use Rattle.up_image.specs.Compiling.{has_twice, read_paths, Compiles, MayRefuse}
 use Rattle.up_replay.specs.Folders.{compiled, IsCompiled}
 
 -- a fault at a place
@@ -33,3 +35,19 @@ refused_twice files twice = let any = any_report files in record { report = any.
 pub refused_many : (files : List File) → has_twice (read_paths files) ≡ false → nat_le (length (jobs_of files)) 1024 ≡ false → IsCompiled files (Err TooManyJobs)
 unfolding compiled
 refused_many files apart many = let any = any_report files in record { report = any.0; is = any.1; same = rw (apart, many) refl }
+
+-- what was compiled is as it should be, unless memory was refused
+pub compiled_is : (files : List File) (made : Result (List JobDef × List Fault) CompileError) → IfOk made (λ m. Compiles files m.0 m.1) → IfErr made (MayRefuse files) → (made ≡ Err Memory → ⊥) → IsCompiled files made
+unfolding compiled
+compiled_is files (Ok made) compiles may other = record {
+  report = made.1;
+  is = compiles.faults;
+  same = rw (compiles.apart, compiles.few) (ap (λ jobs. Ok (jobs, made.1)) compiles.jobs);
+}
+compiled_is files (Err SameName) compiles may other = refused_twice files may
+compiled_is files (Err TooManyJobs) compiles may other = refused_many files may.0 may.1
+compiled_is files (Err Memory) compiles may other = absurd (other refl)
+
+pub kept_is : (files : List File) (made kept : Result (List JobDef × List Fault) CompileError) → IfOk made (λ m. Compiles files m.0 m.1) → IfErr made (MayRefuse files)
+    → (kept ≡ made) × (made ≡ Err Memory → ⊥) → IsCompiled files kept
+kept_is files made kept compiles may same = subst (IsCompiled files) (sym same.0) (compiled_is files made compiles may same.1)

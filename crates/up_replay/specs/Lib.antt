@@ -5,5 +5,4 @@ pub mod Replay
 pub mod Requests
 pub mod Rows
 pub mod Script
-pub mod Signals
 pub mod Variables

@@ -6,13 +6,12 @@ use Rattle.up_model.specs.declared.event.Event.{Event}
 use Rattle.up_model.specs.declared.output.Order.{Order}
 use Rattle.up_model.specs.declared.output.Output.{Output}
 use Rattle.up_model.specs.declared.output.Output.TheVariants as output
-use Rattle.up_stanza.specs.declared.process.Process.{Process}
-use Rattle.up_stanza.specs.declared.process.Process.TheVariants as process
 use Rattle.up_model.specs.declared.request.Answer.{Answer}
 use Rattle.up_model.specs.declared.step.Step.{Step}
 use Rattle.up_model.specs.declared.step.Step.TheVariants as step
 use Rattle.up_model.specs.declared.who.Who.{Who}
-use Rattle.up_replay.specs.Signals.{signal_text}
+use Rattle.up_model.specs.Events.{process_name}
+use Rattle.up_model.specs.Signals.{signal_text}
 
 -- a byte of quoted text
 unfoldable pub escaped : ℕ → List ℕ
@@ -36,14 +35,6 @@ instance_text (byte ∷ bytes) = codes " (" ++ (byte ∷ bytes) ++ codes ")"
 unfoldable pub who_text : Who → List ℕ
 who_text who = who.job ++ instance_text who.instance
 
--- a process by its name
-abbrev pub process_text : Process → List ℕ
-process_text process.Main = codes "main"
-process_text process.PreStart = codes "pre-start"
-process_text process.PostStart = codes "post-start"
-process_text process.PreStop = codes "pre-stop"
-process_text process.PostStop = codes "post-stop"
-
 -- a word of a command
 unfoldable pub word_text : List ℕ → List ℕ
 word_text word = codes " " ++ quoted word
@@ -63,7 +54,7 @@ variable_line binding = codes "  " ++ binding_text binding ++ codes "\n"
 -- the lines of a start
 unfoldable pub spawn_lines : Order → List ℕ
 spawn_lines order =
-    codes "spawn " ++ who_text order.who ++ codes " " ++ process_text order.process ++ flat_map word_text order.argv ++ codes "\n"
+    codes "spawn " ++ who_text order.who ++ codes " " ++ process_name order.process ++ flat_map word_text order.argv ++ codes "\n"
     ++ flat_map variable_line order.env
 
 -- the line of a signal

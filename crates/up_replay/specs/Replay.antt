@@ -31,7 +31,7 @@ inputs_in lines = unless_bad (bad_line lines) (script_inputs (script_line 1 line
 
 -- what the faults of a folder and a run of its jobs print
 abbrev pub played : List ℕ → List JobDef → List Fault → Result (List Input) ℕ → Printed
-played name jobs report (Ok inputs) = prints (flat_map fault_line report ++ flat_map step_lines (answers [] jobs [] inputs)) (status_of report)
+played name jobs report (Ok inputs) = prints (flat_map fault_line report ++ flat_map step_lines (answers (record { base = []; jobs = jobs }) [] inputs)) (status_of report)
 played name jobs report (Err line) = prints (flat_map fault_line report ++ bad_step_line name line) 2
 
 -- what a folder and a script with this name print

@@ -5,6 +5,7 @@ use Rattle.up_model.specs.declared.input.Input.TheVariants as input
 use Rattle.up_model.specs.declared.request.Command.{Command}
 use Rattle.up_model.specs.declared.request.Command.TheVariants as command
 use Rattle.up_model.specs.declared.request.Request.{Request}
+use Rattle.up_model.specs.Requests.{may_wait, is_alone}
 use Rattle.up_conf.specs.Numbers.{number_in}
 use Rattle.up_replay.specs.Variables.{vars_of, name_in}
 
@@ -21,21 +22,6 @@ command_of name =
     else (if bytes_eq name (codes "reload-configuration") then Some command.ReloadConfiguration
     else (if bytes_eq name (codes "version") then Some command.Version
     else None))))))))
-
--- whether `--no-wait` may stand behind the command
-abbrev pub may_wait : Command → Bool
-may_wait command.Start = true
-may_wait command.Stop = true
-may_wait command.Restart = true
-may_wait command.Emit = true
-may_wait other = false
-
--- whether the command stands alone, without a name and variables
-abbrev pub is_alone : Command → Bool
-is_alone command.List = true
-is_alone command.ReloadConfiguration = true
-is_alone command.Version = true
-is_alone other = false
 
 -- whether the words begin with `--no-wait`
 abbrev pub begins_no_wait : List (List ℕ) → Bool

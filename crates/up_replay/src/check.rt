@@ -1,5 +1,6 @@
 //! Checks a folder: what its faults are, and how many jobs it has.
-ghost use Rattle.std.specs.Prelude.{◌≡◌, ◌++◌, IfOk, OnOk};
+ghost use Rattle.std.specs.Prelude.{◌≡◌, ◌++◌, Err, IfOk, OnErr, OnOk};
+ghost use Rattle.up_image.specs.declared.refusal.CompileError.TheVariants.{Memory};
 ghost use Rattle.up_replay.specs.Folders.{checked, compiled, count_line, Checks, IsCompiled};
 
 use crate::lines::{push, push_decimal};
@@ -9,20 +10,31 @@ use up_conf::{Folder, Report};
 use up_image::{CompileError, Table, compile};
 use up_text::Items;
 
+// What was compiled, or why it is refused; out of memory only if that is the reason.
+fn unless_memory(
+    made: Result<(Table, Report), CompileError>,
+) -> Result<Result<(Table, Report), CompileError>, AllocError>
+    ensures kept { IfOk result (λ kept. (kept ≡ made) × (made ≡ Err Memory → ⊥)) }
+    ensures memory { OnErr result (made ≡ Err Memory) }
+{
+    match made {
+        Ok(made) => Ok(Ok(made)),
+        Err(CompileError::SameName) => Ok(Err(CompileError::SameName)),
+        Err(CompileError::TooManyJobs) => Ok(Err(CompileError::TooManyJobs)),
+        Err(CompileError::Memory) => Err(AllocError),
+    }
+}
+
 /// The jobs and the faults of a folder, or why it is refused.
-#[tactic(auto, unfolding(crate::specs::Folders::compiled), using(crate::proofs::Reports::refused_twice, crate::proofs::Reports::refused_many))]
 pub(crate) fn compiled(
     alloc: Global,
     folder: &Folder,
 ) -> Result<Result<(Table, Report), CompileError>, AllocError>
     ensures { IfOk result (IsCompiled folder.now) }
 {
-    match compile(alloc, folder) {
-        Ok(made) => Ok(Ok(made)),
-        Err(CompileError::SameName) => Ok(Err(CompileError::SameName)),
-        Err(CompileError::TooManyJobs) => Ok(Err(CompileError::TooManyJobs)),
-        Err(CompileError::Memory) => Err(AllocError),
-    }
+    let made = compile(alloc, folder);
+    let kept = unless_memory(made)?;
+    Ok(kept)
 }
 
 #[tactic(auto, unfolding(crate::specs::Folders::count_line))]

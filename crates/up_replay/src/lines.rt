@@ -2,12 +2,12 @@
 ghost use Rattle.std.specs.Prelude.{◌≡◌, ◌++◌, OnOk, codes};
 ghost use Rattle.std.specs.List.{flat_map};
 ghost use Rattle.std.specs.Fmt.{decimal};
-ghost use Rattle.up_replay.specs.Signals.{signal_text};
-ghost use Rattle.up_replay.specs.Lines.{escaped, quoted, instance_text, who_text, process_text, word_text, binding_text, variable_text, variable_line, spawn_lines, signal_line, event_line, verdict_text, reply_line, output_lines, step_lines};
+ghost use Rattle.up_model.specs.Signals.{signal_text};
+ghost use Rattle.up_replay.specs.Lines.{escaped, quoted, instance_text, who_text, word_text, binding_text, variable_text, variable_line, spawn_lines, signal_line, event_line, verdict_text, reply_line, output_lines, step_lines};
 
 use std::alloc::AllocError;
 use up_conf::signal_name;
-use up_model::{Answer, Event, Order, Output, Process, Step, Who};
+use up_model::{Answer, Event, Order, Output, Step, Who, process_name};
 use up_text::{Env, Text};
 
 /// Appends a text.
@@ -84,18 +84,6 @@ fn push_who(text: &mut Vec<u8>, who: &Who) -> Result<(), AllocError>
 {
     push(text, who.job.as_str())?;
     push_instance(text, who.instance.as_str())
-}
-
-fn process_name(process: Process) -> &'static str
-    ensures { result.now ≡ process_text process }
-{
-    match process {
-        Process::Main => "main",
-        Process::PreStart => "pre-start",
-        Process::PostStart => "post-start",
-        Process::PreStop => "pre-stop",
-        Process::PostStop => "post-stop",
-    }
 }
 
 #[tactic(auto, unfolding(crate::specs::Lines::word_text))]

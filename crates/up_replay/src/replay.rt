@@ -46,7 +46,7 @@ fn push_bad_step(text: &mut Vec<u8>, name: &str, line: u32) -> Result<(), AllocE
 
 // The steps of a run from nothing.
 fn run(alloc: Global, table: Table, inputs: Vec<Input>) -> Result<Items<Step>, AllocError>
-    ensures { IfOk result (λ steps. steps ≡ answers [] table [] inputs.items) }
+    ensures { IfOk result (λ steps. steps ≡ answers (record { base = []; jobs = table }) [] inputs.items) }
 {
     let base = Env::new(alloc);
     let mut engine = Engine::new(alloc, table, base);

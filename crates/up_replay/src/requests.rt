@@ -1,6 +1,7 @@
 //! Reads the requests of a script.
-ghost use Rattle.std.specs.Prelude.{◌≡◌, IfOk};
-ghost use Rattle.up_replay.specs.Requests.{command_of, may_wait, is_alone, begins_no_wait, alone, with_name, with_words, asked_by, request_of};
+ghost use Rattle.std.specs.Prelude.{◌≡◌, ◌||◌, true, false, IfOk};
+ghost use Rattle.up_model.specs.Requests.{may_wait, is_alone};
+ghost use Rattle.up_replay.specs.Requests.{command_of, begins_no_wait, alone, with_name, with_words, asked_by, request_of};
 
 use crate::variables::{name_of, vars_of};
 use std::alloc::{AllocError, Global};
@@ -34,33 +35,6 @@ fn command_of(name: &Text) -> Option<Command>
     }
 }
 
-fn may_wait(command: Command) -> bool
-    ensures { result ≡ may_wait command }
-{
-    match command {
-        Command::Start | Command::Stop | Command::Restart | Command::Emit => true,
-        Command::Status
-        | Command::List
-        | Command::Reload
-        | Command::ReloadConfiguration
-        | Command::Version => false,
-    }
-}
-
-fn is_alone(command: Command) -> bool
-    ensures { result ≡ is_alone command }
-{
-    match command {
-        Command::List | Command::ReloadConfiguration | Command::Version => true,
-        Command::Start
-        | Command::Stop
-        | Command::Restart
-        | Command::Status
-        | Command::Emit
-        | Command::Reload => false,
-    }
-}
-
 fn begins_no_wait(words: &[Text]) -> bool
     ensures { result ≡ begins_no_wait words.now }
 {
@@ -77,6 +51,8 @@ fn alone(
     wait: bool,
     words: &[Text],
 ) -> Result<Option<Request>, AllocError>
+    requires alone { is_alone command ≡ true }
+    requires waits { wait || may_wait command ≡ true }
     ensures { IfOk result (λ request. request ≡ alone command wait words.now) }
 {
     if !words.is_empty() {
@@ -99,6 +75,8 @@ fn about(
     wait: bool,
     words: &[Text],
 ) -> Result<Option<Request>, AllocError>
+    requires named { is_alone command ≡ false }
+    requires waits { wait || may_wait command ≡ true }
     ensures { IfOk result (λ request. request ≡ with_name command wait words.now) }
 {
     let [word, words @ ..] = words else {
@@ -125,9 +103,10 @@ fn with_words(
     wait: bool,
     words: &[Text],
 ) -> Result<Option<Request>, AllocError>
+    requires waits { wait || may_wait command ≡ true }
     ensures { IfOk result (λ request. request ≡ with_words command wait words.now) }
 {
-    if is_alone(command) {
+    if command.is_alone() {
         alone(alloc, command, wait, words)
     } else {
         about(alloc, command, wait, words)
@@ -137,7 +116,7 @@ fn with_words(
 fn asked_by(alloc: Global, words: &[Text], command: Command) -> Result<Option<Request>, AllocError>
     ensures { IfOk result (λ request. request ≡ asked_by words.now command) }
 {
-    if may_wait(command) && begins_no_wait(words) {
+    if command.may_wait() && begins_no_wait(words) {
         with_words(alloc, command, false, &words[1..])
     } else {
         with_words(alloc, command, true, words)

@@ -1,5 +1,7 @@
 //! Reads a script.
-ghost use Rattle.std.specs.Prelude.{◌≡◌, ◌≤◌, ◌<◌, ◌+◌, IfOk, IfSome, MatchOption, true, false, length};
+ghost use Rattle.std.specs.Prelude.{◌≡◌, ◌≤◌, ◌<◌, ◌+◌, IfOk, IfSome, MatchOption, OnErr, true, false, length};
+ghost use Rattle.up_stanza.specs.Reading.{LacksMemory};
+ghost use Rattle.up_text.specs.Places.{reading};
 ghost use Rattle.up_text.specs.Lexemes.{lexemes_of, stanzas};
 ghost use Rattle.up_replay.specs.Bundle.{lines_of};
 ghost use Rattle.up_replay.specs.Rows.{is_text, begins_text, behind_step, inputs_from, lines_inputs, step_inputs, script_inputs, unless_left, texts_in, IsNext, Fronts, ReachesNoFurther};
@@ -56,9 +58,10 @@ enum Next {
     Bad,
 }
 
-#[tactic(auto, using(up_text::proofs::Lexemes::reads_lexemes, crate::proofs::Stepping::reads_no_further))]
+#[tactic(auto, using(up_text::proofs::Lexemes::reads_lexemes, up_stanza::proofs::Telling::lacks_by, crate::proofs::Stepping::reads_no_further))]
 fn next_word(alloc: Global, lexer: &mut Lexer) -> Result<Next, AllocError>
     ensures next { IfOk result (IsNext (lexemes_of lexer.old) (lexemes_of lexer.new)) }
+    ensures memory { OnErr result (LacksMemory (reading lexer.old)) }
     ensures within { ReachesNoFurther lexer.new lexer.old }
 {
     match lexer.next(alloc) {

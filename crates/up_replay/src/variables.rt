@@ -1,5 +1,5 @@
 //! Reads names and variables.
-ghost use Rattle.std.specs.Prelude.{◌≡◌, true, false, [], nat_lt, length, IfOk, MatchOption};
+ghost use Rattle.std.specs.Prelude.{◌≡◌, true, false, [], nat_lt, length, is_some, IfOk, MatchOption, OnErr};
 ghost use Rattle.std.specs.List.{position_or_len, before_first, after_first};
 ghost use Rattle.up_replay.specs.Variables.{name_in, is_equals, with_binding, with_word, vars_of, TakesWord};
 
@@ -8,7 +8,8 @@ use up_text::{Env, Name, Text, TextFault};
 
 /// The name of these bytes, where they are one.
 pub(crate) fn name_of(alloc: Global, text: &str) -> Result<Option<Name>, AllocError>
-    ensures { IfOk result (λ name. name ≡ name_in text.now) }
+    ensures name { IfOk result (λ name. name ≡ name_in text.now) }
+    ensures memory { OnErr result (is_some (name_in text.now) ≡ true) }
 {
     match Name::new(alloc, text) {
         Ok(name) => Ok(Some(name)),
@@ -27,7 +28,8 @@ fn cut(word: &str) -> Option<(&str, &str)>
 
 // Sets a key, and answers whether it is one and has a value that it may have.
 fn set(vars: &mut Env, key: &str, value: &str) -> Result<bool, AllocError>
-    ensures { IfOk result (λ taken. TakesWord (with_binding key.now value.now vars.old) taken vars.new) }
+    ensures taken { IfOk result (λ taken. TakesWord (with_binding key.now value.now vars.old) taken vars.new) }
+    ensures memory { OnErr result (is_some (with_binding key.now value.now vars.old) ≡ true) }
 {
     match vars.set(key, value) {
         Ok(()) => Ok(true),
@@ -38,7 +40,8 @@ fn set(vars: &mut Env, key: &str, value: &str) -> Result<bool, AllocError>
 
 // Sets the variable of a word, and answers whether it has one.
 fn set_word(vars: &mut Env, word: &str) -> Result<bool, AllocError>
-    ensures { IfOk result (λ taken. TakesWord (with_word word.now vars.old) taken vars.new) }
+    ensures taken { IfOk result (λ taken. TakesWord (with_word word.now vars.old) taken vars.new) }
+    ensures memory { OnErr result (is_some (with_word word.now vars.old) ≡ true) }
 {
     match cut(word) {
         Some((key, value)) => set(vars, key, value),

@@ -1,6 +1,7 @@
 //! The worked rows, step by step.
 mod chain;
 mod expressions;
+mod processes;
 
 use std::alloc::{AllocError, Global};
 use std::process::Abort;
@@ -33,7 +34,7 @@ impl From<CompileError> for Untried {
     }
 }
 
-/// An input, as a row writes it. The processes are main of the job `a`.
+/// An input, as a row writes it. The processes are those of the job `a`, and main if none is named.
 #[derive(Clone, Copy)]
 pub(crate) enum Given {
     Emit(&'static str),
@@ -42,6 +43,9 @@ pub(crate) enum Given {
     Spawned(u32),
     Refused,
     Ended(How),
+    SpawnedAs(Process, u32),
+    RefusedAs(Process),
+    EndedAs(Process, How),
     Start(u64),
     Clock(u64),
 }
@@ -54,14 +58,14 @@ pub(crate) type Case<'a> = (&'a str, &'a str, &'a [Row<'a>]);
 
 pub(crate) const STARTING: &'static str = "starting JOB=a INSTANCE=; ";
 
-const STARTED: &'static str = "started JOB=a INSTANCE=; ";
+pub(crate) const STARTED: &'static str = "started JOB=a INSTANCE=; ";
 
 const STOPPING: &'static str = "stopping JOB=a INSTANCE= RESULT=ok; ";
 
 const SPAWN_TRUE: &'static str =
     "spawn a() Main [/bin/true x ] in / silent=false UPSTART_EVENTS=startup UPSTART_JOB=a UPSTART_INSTANCE=; ";
 
-const SPAWN_D: &'static str =
+pub(crate) const SPAWN_D: &'static str =
     "spawn a() Main [/bin/d ] in / silent=false UPSTART_EVENTS=go UPSTART_JOB=a UPSTART_INSTANCE=; ";
 
 const START_FILE: &'static str = "start on startup\nexec /bin/true x\n";
@@ -126,7 +130,12 @@ const REQUESTS: [Row; 7] = [
     (Given::Turn, STARTING, 2, true),
     (Given::Turn, "", 2, true),
     (Given::Turn, SPAWN_TRUE, 1, false),
-    (Given::Refused, STOPPING, 2, true),
+    (
+        Given::Refused,
+        "stopping JOB=a INSTANCE= RESULT=failed PROCESS=main; ",
+        2,
+        true,
+    ),
 ];
 
 static CASES: [Case; 5] = [
@@ -160,15 +169,25 @@ fn var(alloc: Global, key: &str, value: &str) -> Result<Env, Untried> {
 
 fn start(alloc: Global, id: u64) -> Result<Input, Untried> {
     let name = Text::from_str(alloc, "a")?;
-    Ok(Input::Request {
-        id,
-        request: Request {
-            command: Command::Start,
-            wait: true,
-            name,
-            vars: Env::new(alloc),
-        },
-    })
+    match Request::new(Command::Start, true, name, Env::new(alloc)) {
+        Some(request) => Ok(Input::Request { id, request }),
+        None => Err(Untried),
+    }
+}
+
+fn spawned(alloc: Global, process: Process, pid: u32) -> Result<Input, Untried> {
+    let who = who(alloc)?;
+    Ok(Input::Spawned { who, process, pid })
+}
+
+fn refused(alloc: Global, process: Process) -> Result<Input, Untried> {
+    let who = who(alloc)?;
+    Ok(Input::Refused { who, process })
+}
+
+fn ended(alloc: Global, process: Process, how: How) -> Result<Input, Untried> {
+    let who = who(alloc)?;
+    Ok(Input::Ended { who, process, how })
 }
 
 fn input(alloc: Global, given: Given) -> Result<Input, Untried> {
@@ -176,20 +195,12 @@ fn input(alloc: Global, given: Given) -> Result<Input, Untried> {
         Given::Emit(name) => event(alloc, name, Env::new(alloc)),
         Given::EmitWith(name, key, value) => event(alloc, name, var(alloc, key, value)?),
         Given::Turn => Ok(Input::Turn),
-        Given::Spawned(pid) => Ok(Input::Spawned {
-            who: who(alloc)?,
-            process: Process::Main,
-            pid,
-        }),
-        Given::Refused => Ok(Input::Refused {
-            who: who(alloc)?,
-            process: Process::Main,
-        }),
-        Given::Ended(how) => Ok(Input::Ended {
-            who: who(alloc)?,
-            process: Process::Main,
-            how,
-        }),
+        Given::Spawned(pid) => spawned(alloc, Process::Main, pid),
+        Given::Refused => refused(alloc, Process::Main),
+        Given::Ended(how) => ended(alloc, Process::Main, how),
+        Given::SpawnedAs(process, pid) => spawned(alloc, process, pid),
+        Given::RefusedAs(process) => refused(alloc, process),
+        Given::EndedAs(process, how) => ended(alloc, process, how),
         Given::Start(id) => start(alloc, id),
         Given::Clock(reading) => Ok(Input::Clock(reading)),
     }

@@ -1,5 +1,5 @@
 -- The tree of tokens is the one that they write.
-use Rattle.std.proofs.Common.{◌≡◌, ◌⊎◌, inl, inr, Result, Err, ◌≤◌, Bool, true, false, List, Option, None, Some, cond, refl, sym, arith, nat_le}
+use Rattle.std.proofs.Common.{◌≡◌, ◌≤◌, Bool, true, false, List, Option, None, Some, is_some, cond, refl, sym, arith, nat_le}
 use Rattle.std.proofs.lemmas.Bool.{le-leb, leb-true}
 use Rattle.up_text.specs.declared.token.Token.{Token}
 use Rattle.up_expr.specs.declared.fault.ExprFault.{ExprFault}
@@ -28,10 +28,12 @@ Writes-expression_in tokens tree is = by_few (nat_le (operators tokens) 2047) re
 pub parse_read : (tokens : List Token) (tree : Tree) → Writes tokens tree → Some tree ≡ expression_in tokens
 parse_read tokens tree writes = sym (expression_in-Writes tokens tree writes)
 
-pub parse_refused : (tokens : List Token) (fault : ExprFault) → (fault ≡ Memory → ⊥) → (◌≡◌ {A = Result Tree ExprFault} (Err fault) (Err Memory)) ⊎ ((tree : Tree) → Writes tokens tree → ⊥) → None ≡ expression_in tokens
-parse_refused tokens fault other (inl same) = let memory : fault ≡ Memory = cc in absurd (other memory)
-parse_refused tokens fault other (inr refused) = by_tree (expression_in tokens) refl
+pub parse_refused : (tokens : List Token) (fault : ExprFault) → (fault ≡ Memory → ⊥) → ((fault ≡ Memory → ⊥) → (tree : Tree) → Writes tokens tree → ⊥) → None ≡ expression_in tokens
+parse_refused tokens fault other refused = by_tree (expression_in tokens) refl
   where
     by_tree : (found : Option Tree) → expression_in tokens ≡ found → None ≡ found
     by_tree None is = refl
-    by_tree (Some tree) is = absurd (refused tree (Writes-expression_in tokens tree is))
+    by_tree (Some tree) is = absurd (refused other tree (Writes-expression_in tokens tree is))
+
+pub parse_lacks : (tokens : List Token) → (tree : Tree) × Writes tokens tree → is_some (expression_in tokens) ≡ true
+parse_lacks tokens written = rw (expression_in-Writes tokens written.0 written.1) refl

@@ -4,10 +4,10 @@ use Rattle.up_value.specs.declared.fault.TextFault.{TextFault}
 use Rattle.up_value.specs.declared.fault.TextFault.TheVariants.{Memory}
 use Rattle.up_text.specs.declared.token.Token.{Token}
 use Rattle.up_text.specs.Commands.{row_at, command_in, CommandUnless, ReadsCommand}
-use Rattle.up_text.specs.Places.{Place, Got, Ended, Fails, reading, passing, fault_in}
+use Rattle.up_text.specs.Places.{Answers, Place, Reading, Got, Ended, Fails, reading, passing, fault_in}
 use Rattle.up_text.specs.Rows.{with_token, row_of}
 use Rattle.up_text.proofs.Rows.{row_of-is}
-use Rattle.up_stanza.specs.Reading.{put_before}
+use Rattle.up_stanza.specs.Reading.{LacksMemory, put_before}
 use Rattle.up_stanza.specs.Stanzas.{Found, made, texts_at}
 
 -- a token more of a row
@@ -56,3 +56,20 @@ text_refused old new fault other reads = by_fault (fault_in (row_at old)) reads
     by_fault None (inl is) = absurd (cc)
     by_fault None (inr is) = let memory : fault ≡ Memory = cc in absurd (other memory)
     by_fault (Some why) is = (why, refl)
+
+-- out of memory only where a token stands
+pub lacks_by : (old new : Place) → Answers old (reading old) (Err Memory) new → LacksMemory (reading old)
+lacks_by old new answers = by_reading (reading old) answers
+  where
+    by_reading : (r : Reading) → Answers old r (Err Memory) new → LacksMemory r
+    by_reading (Got token behind) is = tt
+    by_reading (Ended behind) is = absurd (cc)
+    by_reading (Fails why) is = cc
+
+-- and only where the text of a command isn't refused
+pub text_lacks : (old new : Place) → ReadsCommand old (Err Memory) new → (fault : TextFault) → fault_in (row_at old) ≡ Some fault → fault ≡ Memory
+text_lacks old new reads fault is = by_fault (fault_in (row_at old)) is reads
+  where
+    by_fault : (why : Option TextFault) → why ≡ Some fault → CommandUnless old why (Err Memory) new → fault ≡ Memory
+    by_fault None same reads = absurd (cc)
+    by_fault (Some why) same reads = cc

@@ -2,6 +2,7 @@ pub mod Actions
 pub mod Arguments
 pub mod Confs
 pub mod FaultCodes
+pub mod FirstFaults
 pub mod Grammar
 pub mod Kinds
 pub mod Numbers

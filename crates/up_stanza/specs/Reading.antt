@@ -2,6 +2,7 @@
 use Rattle.std.specs.Prelude.{◌≡◌, ℕ, true, List, ◌++◌, length, Option, None, Some, Result, Ok, Err, codes}
 use Rattle.std.specs.Str.{bytes_eq}
 use Rattle.up_value.specs.declared.fault.TextFault.{TextFault}
+use Rattle.up_value.specs.declared.fault.TextFault.TheVariants.{Memory}
 use Rattle.up_text.specs.declared.token.Token.{Token}
 use Rattle.up_text.specs.Commands.{row_at, command_in}
 use Rattle.up_text.specs.Places.{Place, Reading, Got, Ended, Fails, reading, passing, fault_in}
@@ -27,6 +28,12 @@ abbrev pub Continues : Place → Place → Next → Type 0
 Continues old new (next.Token token) = reading old ≡ Got token new
 Continues old new next.End = reading old ≡ Ended new
 Continues old new (next.Refused code) = (fault : TextFault) × (reading old ≡ Fails fault)
+
+-- out of memory at this reading: only where a token stands
+abbrev pub LacksMemory : Reading → Type 0
+LacksMemory (Got token behind) = Unit {0}
+LacksMemory (Ended behind) = ⊥
+LacksMemory (Fails fault) = fault ≡ Memory
 
 -- a part of a stanza is read as it is found
 abbrev pub IsFound : {X : Type 0} → Found X → Result X FaultCode → Place → Type 0

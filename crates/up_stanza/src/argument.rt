@@ -1,5 +1,6 @@
 //! Reads what a token says that is one of a list of arguments.
-ghost use Rattle.std.specs.Prelude.{◌≡◌, IfOk, MatchOption, false, true, option_map};
+ghost use Rattle.std.specs.Prelude.{◌≡◌, IfOk, MatchOption, OnErr, false, true, is_some, option_map};
+ghost use Rattle.up_text.specs.Names.{is_key};
 ghost use Rattle.std.specs.List.{before_first, after_first};
 ghost use Rattle.std.specs.Result.{result_ok};
 ghost use Rattle.up_expr.specs.Values.{is_equals, has_equals};
@@ -20,7 +21,8 @@ use up_text::{Text, is_expandable};
 
 /// The key that a text is.
 pub(crate) fn read_key(alloc: Global, text: &str) -> Result<Result<Text, FaultCode>, AllocError>
-    ensures { IfOk result (λ read. result_ok read ≡ key_in text.now) }
+    ensures read { IfOk result (λ read. result_ok read ≡ key_in text.now) }
+    ensures memory { OnErr result (is_some (key_in text.now) ≡ true) }
 {
     if !is_key(text) {
         return Ok(Err(FaultCode::BadName));
@@ -36,18 +38,34 @@ fn split_setting(text: &str) -> Option<(&str, &str)>
     text.split_once('=')
 }
 
-// The key with this value, where it is one.
+// A value in memory of its own, if there is one.
+fn copy_value(alloc: Global, value: Option<&str>) -> Result<Option<Text>, AllocError>
+    ensures { IfOk result (λ copied. copied ≡ option_map (λ text. text.now) value.entry) }
+{
+    match value {
+        Some(value) => {
+            let value = Text::from_str(alloc, value)?;
+            Ok(Some(value))
+        }
+        None => Ok(None),
+    }
+}
+
+// The key with this value, if it is one.
 fn keyed(
     alloc: Global,
     key: &str,
-    value: Option<Text>,
+    value: Option<&str>,
 ) -> Result<Result<Setting, FaultCode>, AllocError>
-    ensures { IfOk result (λ read. result_ok read ≡ keyed key.now value) }
+    ensures read { IfOk result (λ read. result_ok read ≡ keyed key.now (option_map (λ text. text.now) value.entry)) }
+    ensures memory { OnErr result (is_key key.now ≡ true) }
 {
-    match read_key(alloc, key)? {
-        Ok(key) => Ok(Ok(Setting { key, value })),
-        Err(code) => Ok(Err(code)),
+    if !is_key(key) {
+        return Ok(Err(FaultCode::BadName));
     }
+    let value = copy_value(alloc, value)?;
+    let key = Text::from_str(alloc, key)?;
+    Ok(Ok(Setting { key, value }))
 }
 
 /// The setting KEY=VALUE or KEY that a text says.
@@ -56,13 +74,11 @@ pub(crate) fn read_setting(
     alloc: Global,
     text: &str,
 ) -> Result<Result<Setting, FaultCode>, AllocError>
-    ensures { IfOk result (λ read. result_ok read ≡ setting_in text.now) }
+    ensures read { IfOk result (λ read. result_ok read ≡ setting_in text.now) }
+    ensures memory { OnErr result (is_some (setting_in text.now) ≡ true) }
 {
     match split_setting(text) {
-        Some((key, value)) => {
-            let value = Text::from_str(alloc, value)?;
-            keyed(alloc, key, Some(value))
-        }
+        Some((key, value)) => keyed(alloc, key, Some(value)),
         None => keyed(alloc, text, None),
     }
 }
@@ -115,7 +131,8 @@ pub(crate) fn read_instance(
     alloc: Global,
     text: &str,
 ) -> Result<Result<Text, FaultCode>, AllocError>
-    ensures { IfOk result (λ read. result_ok read ≡ expandable_in text.now) }
+    ensures read { IfOk result (λ read. result_ok read ≡ expandable_in text.now) }
+    ensures memory { OnErr result (is_some (expandable_in text.now) ≡ true) }
 {
     if !is_expandable(text) {
         return Ok(Err(FaultCode::BadExpansion));

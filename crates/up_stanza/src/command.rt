@@ -1,5 +1,5 @@
 //! Reads what a command's text says.
-ghost use Rattle.std.specs.Prelude.{◌≡◌, ◌<◌, ◌++◌, IfOk, MatchResult, OnOk, length, codes};
+ghost use Rattle.std.specs.Prelude.{◌≡◌, ◌<◌, ◌++◌, IfOk, MatchResult, OnErr, OnOk, length, codes};
 ghost use Rattle.std.specs.List.{list_any};
 ghost use Rattle.std.specs.Result.{result_ok};
 ghost use Rattle.up_text.specs.Scripts.{words_in};
@@ -93,7 +93,8 @@ pub(crate) fn read_command(
     alloc: Global,
     text: &str,
 ) -> Result<Result<Action, FaultCode>, AllocError>
-    ensures { IfOk result (λ read. result_ok read ≡ action_of text.now) }
+    ensures read { IfOk result (λ read. result_ok read ≡ action_of text.now) }
+    ensures memory { OnErr result (0 < length text.now) }
 {
     if text.is_empty() {
         return Ok(Err(FaultCode::ExpectedToken));

@@ -1,5 +1,5 @@
 //! Reads the expressions of `start on` and `stop on`.
-ghost use Rattle.std.specs.Prelude.{◌≡◌, IfOk, MatchBool, true};
+ghost use Rattle.std.specs.Prelude.{◌≡◌, IfOk, MatchBool, OnErr, is_some, true};
 ghost use Rattle.std.specs.Result.{result_ok};
 ghost use Rattle.up_text.specs.Places.{reading, switched};
 ghost use Rattle.up_text.specs.Rows.{row_of};
@@ -51,7 +51,8 @@ fn is_memory(fault: ExprFault) -> bool
 
 // The expression that the tokens write.
 fn parse(alloc: Global, tokens: &[Token]) -> Result<Result<Condition, FaultCode>, AllocError>
-    ensures { IfOk result (λ tree. result_ok tree ≡ expression_in tokens.now) }
+    ensures tree { IfOk result (λ tree. result_ok tree ≡ expression_in tokens.now) }
+    ensures memory { OnErr result (is_some (expression_in tokens.now) ≡ true) }
 {
     match parse_expr(alloc, tokens) {
         Ok(tree) => Ok(Ok(tree)),

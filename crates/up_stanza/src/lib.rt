@@ -9,6 +9,7 @@ pub mod exit;
 mod expression;
 pub mod fault;
 mod kind;
+pub mod laws;
 pub mod limit;
 mod listed;
 pub mod number;

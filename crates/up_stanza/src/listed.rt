@@ -1,5 +1,5 @@
 //! Reads what a stanza says whose arguments are the tokens up to its end.
-ghost use Rattle.std.specs.Prelude.{◌≡◌, IfOk, option_map, option_and_then, codes};
+ghost use Rattle.std.specs.Prelude.{◌≡◌, IfOk, OnErr, is_ok, is_some, option_map, option_and_then, codes, true};
 ghost use Rattle.std.specs.Result.{result_ok};
 ghost use Rattle.up_stanza.specs.Arguments.{single, none, each, filled, some, behind, unlimited, limit_by, limit_of, respawn_of, kill_of, reload_of, normal_of, listed_of};
 ghost use Rattle.up_stanza.specs.Numbers.{number_in};
@@ -17,6 +17,7 @@ use crate::limit::Limit;
 use crate::signal::Signal;
 use crate::stanza::Stanza;
 use std::alloc::{AllocError, Global};
+use up_text::env::is_key;
 use up_text::{Items, Text};
 
 /// The most times that a job may be respawned within an interval.
@@ -79,6 +80,28 @@ fn behind<'a>(texts: &'a [Text], word: &str) -> Result<&'a [Text], FaultCode>
     }
 }
 
+// Whether all arguments are keys.
+fn are_keys(texts: &[Text]) -> bool
+    ensures { result ≡ is_some (each key_in texts.now) }
+{
+    for text in texts {
+        if !is_key(text.as_str()) {
+            return false;
+        }
+    }
+    true
+}
+
+// Refuses arguments of which one is no normal exit.
+fn check_exits(texts: &[Text]) -> Result<(), FaultCode>
+    ensures { is_ok result ≡ is_some (each exit_in texts.now) }
+{
+    for text in texts {
+        read_exit(text.as_str())?;
+    }
+    Ok(())
+}
+
 // The keys that all arguments are.
 fn read_each_key(
     alloc: Global,
@@ -115,20 +138,28 @@ fn read_each_exit(
 
 // One or more keys.
 fn read_keys(alloc: Global, texts: &[Text]) -> Result<Result<Items<Text>, FaultCode>, AllocError>
-    ensures { IfOk result (λ read. result_ok read ≡ some key_in texts.now) }
+    ensures read { IfOk result (λ read. result_ok read ≡ some key_in texts.now) }
+    ensures memory { OnErr result (is_some (some key_in texts.now) ≡ true) }
 {
     if texts.is_empty() {
         return Ok(Err(FaultCode::ExpectedToken));
+    }
+    if !are_keys(texts) {
+        return Ok(Err(FaultCode::BadName));
     }
     read_each_key(alloc, texts)
 }
 
 // One or more normal exits.
 fn read_exits(alloc: Global, texts: &[Text]) -> Result<Result<Items<Exit>, FaultCode>, AllocError>
-    ensures { IfOk result (λ read. result_ok read ≡ some exit_in texts.now) }
+    ensures read { IfOk result (λ read. result_ok read ≡ some exit_in texts.now) }
+    ensures memory { OnErr result (is_some (some exit_in texts.now) ≡ true) }
 {
     if texts.is_empty() {
         return Ok(Err(FaultCode::ExpectedToken));
+    }
+    if let Err(code) = check_exits(texts) {
+        return Ok(Err(code));
     }
     read_each_exit(alloc, texts)
 }
@@ -147,6 +178,15 @@ fn read_unlimited(text: &Text) -> Result<Limit, FaultCode>
     }
 }
 
+// Why a text that something follows is no count: nothing may follow `unlimited`.
+fn no_count(text: &Text) -> FaultCode {
+    if text.is("unlimited") {
+        FaultCode::UnexpectedToken
+    } else {
+        FaultCode::BadNumber
+    }
+}
+
 // A limit of a count and an interval.
 fn read_pair(count: &Text, interval: &Text) -> Result<Limit, FaultCode>
     ensures { result_ok result ≡ limit_by (number_in 0 65535 count.now) (number_in 0 2147483647 interval.now) }
@@ -156,7 +196,7 @@ fn read_pair(count: &Text, interval: &Text) -> Result<Limit, FaultCode>
             Ok(interval) => Ok(Limit { count, interval }),
             Err(code) => Err(code),
         },
-        Err(code) => Err(code),
+        Err(_) => Err(no_count(count)),
     }
 }
 
@@ -282,7 +322,8 @@ fn read_normal(alloc: Global, texts: &[Text]) -> Result<Result<Stanza, FaultCode
 
 // One text without effect.
 fn read_about(texts: &[Text]) -> Result<Result<Stanza, FaultCode>, AllocError>
-    ensures { IfOk result (λ read. result_ok read ≡ option_map About (single texts.now)) }
+    ensures read { IfOk result (λ read. result_ok read ≡ option_map About (single texts.now)) }
+    ensures memory { OnErr result (is_some (single texts.now) ≡ true) }
 {
     match single(texts) {
         Ok(text) => {
@@ -295,7 +336,8 @@ fn read_about(texts: &[Text]) -> Result<Result<Stanza, FaultCode>, AllocError>
 
 // One setting.
 fn read_env(alloc: Global, texts: &[Text]) -> Result<Result<Stanza, FaultCode>, AllocError>
-    ensures { IfOk result (λ read. result_ok read ≡ option_map Env (option_and_then setting_in (single texts.now))) }
+    ensures read { IfOk result (λ read. result_ok read ≡ option_map Env (option_and_then setting_in (single texts.now))) }
+    ensures memory { OnErr result (is_some (option_and_then setting_in (single texts.now)) ≡ true) }
 {
     match single(texts) {
         Ok(text) => match read_setting(alloc, text.as_str())? {
@@ -308,7 +350,8 @@ fn read_env(alloc: Global, texts: &[Text]) -> Result<Result<Stanza, FaultCode>, 
 
 // Keys that are exported.
 fn read_export(alloc: Global, texts: &[Text]) -> Result<Result<Stanza, FaultCode>, AllocError>
-    ensures { IfOk result (λ read. result_ok read ≡ option_map Export (some key_in texts.now)) }
+    ensures read { IfOk result (λ read. result_ok read ≡ option_map Export (some key_in texts.now)) }
+    ensures memory { OnErr result (is_some (some key_in texts.now) ≡ true) }
 {
     match read_keys(alloc, texts)? {
         Ok(keys) => Ok(Ok(Stanza::Export(keys))),
@@ -321,7 +364,8 @@ fn read_instance_name(
     alloc: Global,
     texts: &[Text],
 ) -> Result<Result<Stanza, FaultCode>, AllocError>
-    ensures { IfOk result (λ read. result_ok read ≡ option_map Instance (option_and_then expandable_in (single texts.now))) }
+    ensures read { IfOk result (λ read. result_ok read ≡ option_map Instance (option_and_then expandable_in (single texts.now))) }
+    ensures memory { OnErr result (is_some (option_and_then expandable_in (single texts.now)) ≡ true) }
 {
     match single(texts) {
         Ok(text) => match read_instance(alloc, text.as_str())? {

@@ -1,8 +1,12 @@
 //! Reads the tokens of a stanza.
-ghost use Rattle.std.specs.Prelude.{IfOk};
+ghost use Rattle.std.specs.Prelude.{◌≡◌, IfOk, OnErr, Some};
+ghost use Rattle.up_text.specs.Commands.{row_at};
+ghost use Rattle.up_text.specs.Places.{fault_in, reading};
+ghost use Rattle.up_value.specs.declared.fault.TextFault.{TextFault};
+ghost use Rattle.up_value.specs.declared.fault.TextFault.TheVariants.{Memory};
 ghost use Rattle.up_text.specs.Rows.{row_of};
 ghost use Rattle.up_stanza.specs.Stanzas.{texts_at};
-ghost use Rattle.up_stanza.specs.Reading.{Continues, HasText, IsFound};
+ghost use Rattle.up_stanza.specs.Reading.{Continues, HasText, IsFound, LacksMemory};
 
 use crate::fault::FaultCode;
 use std::alloc::{AllocError, Global};
@@ -33,9 +37,10 @@ fn code_of(fault: TextFault) -> FaultCode {
 }
 
 /// What comes next; behind a token or an end the lexer goes on.
-#[tactic(auto, using(up_text::proofs::Rows::got_by, up_text::proofs::Rows::ended_by, up_text::proofs::Rows::fails_by))]
+#[tactic(auto, using(up_text::proofs::Rows::got_by, up_text::proofs::Rows::ended_by, up_text::proofs::Rows::fails_by, crate::proofs::Telling::lacks_by))]
 pub(crate) fn next_token(alloc: Global, lexer: &mut Lexer) -> Result<Next, AllocError>
-    ensures { IfOk result (Continues lexer.old lexer.new) }
+    ensures next { IfOk result (Continues lexer.old lexer.new) }
+    ensures memory { OnErr result (LacksMemory (reading lexer.old)) }
 {
     match lexer.next(alloc) {
         Ok(Some(token)) => Ok(Next::Token(token)),
@@ -82,12 +87,13 @@ pub(crate) fn read_texts(
 }
 
 /// The text of a command; the lexer then stands at the stanza's end.
-#[tactic(auto, using(crate::proofs::Telling::text_read, crate::proofs::Telling::text_refused))]
+#[tactic(auto, using(crate::proofs::Telling::text_read, crate::proofs::Telling::text_refused, crate::proofs::Telling::text_lacks))]
 pub(crate) fn read_command_text(
     alloc: Global,
     lexer: &mut Lexer,
 ) -> Result<Result<Text, FaultCode>, AllocError>
-    ensures { IfOk result (λ text. HasText lexer.old text lexer.new) }
+    ensures text { IfOk result (λ text. HasText lexer.old text lexer.new) }
+    ensures memory { OnErr result ((fault : TextFault) → fault_in (row_at lexer.old) ≡ Some fault → fault ≡ Memory) }
 {
     match lexer.command_text(alloc) {
         Ok(text) => Ok(Ok(text)),

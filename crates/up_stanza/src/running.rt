@@ -1,5 +1,5 @@
 //! Reads what a process runs.
-ghost use Rattle.std.specs.Prelude.{IfOk, Some};
+ghost use Rattle.std.specs.Prelude.{◌≡◌, IfOk, OnErr, Some, is_some, true};
 ghost use Rattle.up_text.specs.Places.{reading};
 ghost use Rattle.up_text.specs.Scripts.{lines_of, script_in};
 ghost use Rattle.up_stanza.specs.declared.stanza.Stanza.TheVariants.{Runs};
@@ -48,7 +48,8 @@ pub(crate) fn read_exec(
 
 // The script of the lines up to its end line, behind which the lexer then stands.
 fn read_lines(alloc: Global, lexer: &mut Lexer) -> Result<Result<Action, FaultCode>, AllocError>
-    ensures { IfOk result (λ action. IsFound (script_of lexer.old (script_in (lines_of lexer.old.rest))) action lexer.new) }
+    ensures script { IfOk result (λ action. IsFound (script_of lexer.old (script_in (lines_of lexer.old.rest))) action lexer.new) }
+    ensures memory { OnErr result (is_some (script_in (lines_of lexer.old.rest)) ≡ true) }
 {
     match lexer.script_lines(alloc) {
         Ok(Some(lines)) => Ok(Ok(Action::Shell(lines))),

@@ -110,8 +110,8 @@ impl<'a> Lexer<'a> {
         self.depth = 0;
     }
 
-    /// The next token, or `None` at the end of a stanza and at the end of the text. A refused token is refused again at each
-    /// later call; where memory was refused, the next call reads the token again.
+    /// The next token, or `None` at the end of a stanza and at the end of the text. A refused token is refused again by the same
+    /// call; another call may read from there what this one refuses. After memory was refused the same call reads the token again.
     pub fn next(&mut self, alloc: Global) -> Result<Option<Token>, TextFault>
         ensures { Answers self.old (reading self.old) result self.new }
     {
@@ -133,8 +133,8 @@ impl<'a> Lexer<'a> {
     }
 
     /// The rest of the stanza as it is written: quotes and backslashes stay, the comment and the blanks at both ends go, and each run
-    /// of blanks with a line end in it is one space. The stanza's end is not passed. A text that isn't whole is refused again at
-    /// each later call; where memory was refused, the next call reads it again.
+    /// of blanks with a line end in it is one space. The stanza's end is not passed. A text that isn't whole is refused again by
+    /// the same call; after memory was refused the same call reads it again.
     pub fn command_text(&mut self, alloc: Global) -> Result<Text, TextFault>
         ensures { ReadsCommand self.old result self.new }
     {

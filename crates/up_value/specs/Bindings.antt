@@ -1,4 +1,5 @@
-use Rattle.std.specs.Prelude.{ℕ, Bool, true, false, ◌&&◌, not, List, [], ◌∷◌, Option, None, Some, if◌then◌else◌, String, string_bytes}
+use Rattle.std.specs.Prelude.{◌≡◌, ℕ, suc, Bool, true, false, ◌&&◌, not, List, [], ◌∷◌, Option, None, Some, option_map, if◌then◌else◌, String}
+use Rattle.std.specs.BTreeMap.{BTreeMap, get_by_text}
 use Rattle.std.specs.Str.{bytes_eq}
 use Rattle.up_value.specs.Names.{is_key, is_value}
 
@@ -29,7 +30,11 @@ abbrev pub are_bindings : List (List ℕ × List ℕ) → Bool
 are_bindings [] = true
 are_bindings (binding ∷ bindings) = is_key binding.0 && is_value binding.1 && not (has_key binding.0 bindings) && are_bindings bindings
 
--- the pairs of a map's entries, each without where it lies in memory
-abbrev pub pairs_of : {A : Type 0} → List (String A × List ℕ) → List (List ℕ × List ℕ)
-pairs_of [] = []
-pairs_of (entry ∷ entries) = (string_bytes entry.0, entry.1) ∷ pairs_of entries
+-- the place of a key among those of the bindings
+abbrev pub place_of : List ℕ → List (List ℕ × List ℕ) → Option ℕ
+place_of key [] = None
+place_of key (binding ∷ bindings) = if bytes_eq key binding.0 then Some 0 else option_map (λ place. suc place) (place_of key bindings)
+
+-- a map from keys to their places among the bindings
+abbrev pub AreIndexed : {A : Type 0} → BTreeMap (String A) ℕ → List (List ℕ × List ℕ) → Type 0
+AreIndexed places bindings = (key : List ℕ) → get_by_text places key ≡ place_of key bindings

@@ -1,30 +1,35 @@
 //! Environments: distinct keys with values, in order.
-ghost use Rattle.std.specs.Prelude.{◌≡◌, ◌<◌, ◌↔◌, [], length, OnOk, OnErr, IfOk, IfErr, IsOk, IsTrue, if◌then◌else◌, ◌&&◌, slice_get, option_map, string_bytes};
+ghost use Rattle.std.specs.Prelude.{◌≡◌, ◌<◌, ◌↔◌, ◌++◌, ◌∷◌, [], List, ℕ, Some, true, length, OnOk, OnErr, IfOk, IfErr, IsTrue, if◌then◌else◌, ◌&&◌, slice_get, slice_set, slice_index_or, option_map, string_bytes};
+ghost use Rattle.std.specs.BTreeMap.{get_by_text};
+ghost use Rattle.std.specs.Str.{bytes_eq};
 ghost use Rattle.std.specs.List.{list_all};
 ghost use Rattle.up_value.specs.Names.{is_key, is_key_start, is_key_byte, is_value};
-ghost use Rattle.up_value.specs.Bindings.{value_of, set_in, set_all, pairs_of};
+ghost use Rattle.up_value.specs.Bindings.{value_of, set_in, set_all};
 
 use crate::fault::TextFault;
 use crate::text::Text;
-use indexmap::IndexMap;
 use std::alloc::{AllocError, Global};
+use std::collections::BTreeMap;
 use std::marker::Model;
 
 /// Distinct keys with values, seen by contracts as the list of their pairs in order.
 #[derive(Debug, Drop)]
 pub struct Env {
-    map: IndexMap<String, Text>,
+    // Each key with its value, in order.
+    pairs: Vec<(Text, Text)>,
+    // Where each key stands. A tree and no hashed map, so that keys chosen by whoever writes a job file cost no more than others.
+    places: BTreeMap<String, usize>,
 }
 
 impl Model for Env {
     ghost use Rattle.std.specs.Prelude.{◌≡◌, List, ℕ, true};
-    ghost use Rattle.up_value.specs.Bindings.{pairs_of, are_bindings};
+    ghost use Rattle.up_value.specs.Bindings.{are_bindings, AreIndexed};
 
     ghost Value = { List (List ℕ × List ℕ) };
 
-    ghost view = { λ e. pairs_of e.map.entries };
+    ghost view = { λ e. e.pairs.items };
 
-    ghost invariant = { λ e. are_bindings (pairs_of e.map.entries) ≡ true };
+    ghost invariant = { λ e. (are_bindings e.pairs.items ≡ true) × AreIndexed e.places e.pairs.items };
 }
 
 /// Whether a key may begin with the byte: a letter or `_`.
@@ -66,56 +71,65 @@ pub fn is_value(text: &str) -> bool
     text.as_bytes().iter().all(|byte| *byte != 0)
 }
 
-/// The map behind an environment.
-type Map = IndexMap<String, Text>;
-
-fn count(map: &Map) -> usize
-    ensures { result ≡ length (pairs_of map.now.entries) }
+fn find(places: &BTreeMap<String, usize>, key: &str) -> Option<usize>
+    ensures { result ≡ get_by_text places.now key.now }
 {
-    map.len()
-}
-
-fn find<'a>(map: &'a Map, key: &str) -> Option<&'a str>
-    ensures { option_map (λ value. value.now) result ≡ value_of key.now (pairs_of map.now.entries) }
-{
-    match map.get(key) {
-        Some(value) => Some(value.as_str()),
+    match places.get(key) {
+        Some(place) => Some(*place),
         None => None,
     }
 }
 
-fn pair_at(map: &Map, i: usize) -> (&str, &str)
-    requires { i < length (pairs_of map.now.entries) }
-    ensures { slice_get (pairs_of map.now.entries) i ≡ Some (result.0.now, result.1.now) }
+fn value_at(pairs: &[(Text, Text)], place: usize) -> &str
+    requires { place < length pairs.now }
+    ensures { (d : List ℕ × List ℕ) → result.now ≡ (slice_index_or pairs.now place d).1 }
 {
-    let (key, value) = map.get_index(i).unwrap();
-    (key.as_str(), value.as_str())
+    let (_, value) = &pairs[place];
+    value.as_str()
 }
 
-fn put(map: &mut Map, key: String, value: Text) -> Result<(), AllocError>
-    ensures ok { OnOk result (pairs_of map.new.entries ≡ set_in (string_bytes key) value (pairs_of map.old.entries)) }
-    ensures unchanged { OnErr result (pairs_of map.new.entries ≡ pairs_of map.old.entries) }
+// Gives the key at a place another value.
+fn set_value(pairs: &mut Vec<(Text, Text)>, place: usize, value: Text)
+    requires { place < length pairs.old.items }
+    ensures { (d : List ℕ × List ℕ) → pairs.new.items ≡ slice_set pairs.old.items place ((slice_index_or pairs.old.items place d).0, value) }
 {
-    match map.insert(key, value) {
-        Ok(_) => Ok(()),
-        Err(_) => Err(AllocError),
-    }
+    let pair = &mut pairs[place];
+    pair.1 = value;
 }
 
-// The map makes room for all of `others` before it moves the first.
-fn put_all(map: &mut Map, mut others: Map) -> Result<(), AllocError>
-    ensures ok { OnOk result (pairs_of map.new.entries ≡ set_all (pairs_of map.old.entries) (pairs_of others.entries)) }
-    ensures unchanged { OnErr result (pairs_of map.new.entries ≡ pairs_of map.old.entries) }
+// Notes where a key stands.
+fn index(places: &mut BTreeMap<String, usize>, key: String, place: usize) -> Result<(), AllocError>
+    ensures noted { OnOk result ((other : List ℕ) → get_by_text places.new other ≡ (if bytes_eq (string_bytes key) other then Some place else get_by_text places.old other)) }
+    ensures unchanged { OnErr result ((other : List ℕ) → get_by_text places.new other ≡ get_by_text places.old other) }
 {
-    map.append(&mut others)?;
+    places.insert(key, place)?;
     Ok(())
 }
 
-fn copy_of(map: &Map) -> Result<Map, AllocError>
-    ensures { IfOk result (λ copied. pairs_of copied.entries ≡ pairs_of map.now.entries) }
+// Adds a key that isn't there.
+fn add(
+    pairs: &mut Vec<(Text, Text)>,
+    places: &mut BTreeMap<String, usize>,
+    key: &str,
+    value: Text,
+) -> Result<(), AllocError>
+    ensures pairs { OnOk result (pairs.new.items ≡ pairs.old.items ++ (key.now, value) ∷ []) }
+    ensures places { OnOk result ((other : List ℕ) → get_by_text places.new other ≡ (if bytes_eq key.now other then Some (length pairs.old.items) else get_by_text places.old other)) }
+    ensures pairs_stay { OnErr result (pairs.new.items ≡ pairs.old.items) }
+    ensures places_stay { OnErr result ((other : List ℕ) → get_by_text places.new other ≡ get_by_text places.old other) }
 {
-    let copied = map.clone()?;
-    Ok(copied)
+    let alloc = *pairs.allocator();
+    let name = Text::from_str(alloc, key)?;
+    let key = String::from_str(alloc, key)?;
+    let place = pairs.len();
+    pairs.push((name, value))?;
+    match index(places, key, place) {
+        Ok(()) => Ok(()),
+        Err(error) => {
+            pairs.truncate(place);
+            Err(error)
+        }
+    }
 }
 
 impl Env {
@@ -124,7 +138,8 @@ impl Env {
         ensures { result ≡ [] }
     {
         Env {
-            map: IndexMap::new(alloc),
+            pairs: Vec::new(alloc),
+            places: BTreeMap::new(alloc),
         }
     }
 
@@ -132,7 +147,7 @@ impl Env {
     pub fn len(&self) -> usize
         ensures { result ≡ length self.now }
     {
-        count(&self.map)
+        self.pairs.len()
     }
 
     /// Whether there is no key.
@@ -146,15 +161,21 @@ impl Env {
     pub fn get(&self, key: &str) -> Option<&str>
         ensures { option_map (λ value. value.now) result ≡ value_of key.now self.now }
     {
-        find(&self.map, key)
+        match find(&self.places, key) {
+            Some(place) => Some(value_at(self.pairs.as_slice(), place)),
+            None => None,
+        }
     }
 
     /// The key and the value at a place. Takes no memory.
     pub fn at(&self, i: usize) -> (&str, &str)
         requires { i < length self.now }
         ensures pair { slice_get self.now i ≡ Some (result.0.now, result.1.now) }
+        ensures key { is_key result.0.now ≡ true }
+        ensures value { is_value result.1.now ≡ true }
     {
-        pair_at(&self.map, i)
+        let (key, value) = &self.pairs[i];
+        (key.as_str(), value.as_str())
     }
 
     /// Sets a key: one that is there keeps its place and takes the new value, and a new one goes last. Refused with `BadName` for
@@ -167,20 +188,47 @@ impl Env {
         if !is_key(key) || !is_value(value) {
             return Err(TextFault::BadName);
         }
-        let alloc = *self.map.allocator();
-        let value = Text::from_str(alloc, value)?;
-        let key = String::from_str(alloc, key)?;
-        put(&mut self.map, key, value)?;
+        self.put(key, value)?;
         Ok(())
     }
 
-    /// Sets each key of `other` in turn. All room is taken first, so a refusal changes nothing.
+    // Sets a key that may be one.
+    fn put(&mut self, key: &str, value: &str) -> Result<(), AllocError>
+        requires key { is_key key.now ≡ true }
+        requires value { is_value value.now ≡ true }
+        ensures ok { OnOk result (self.new ≡ set_in key.now value.now self.old) }
+        ensures unchanged { OnErr result (self.new ≡ self.old) }
+    {
+        let alloc = *self.pairs.allocator();
+        let value = Text::from_str(alloc, value)?;
+        match find(&self.places, key) {
+            Some(place) => {
+                set_value(&mut self.pairs, place, value);
+                Ok(())
+            }
+            None => add(&mut self.pairs, &mut self.places, key, value),
+        }
+    }
+
+    // Sets each key of `other` in turn, as far as memory goes.
+    fn put_all(&mut self, other: &Env) -> Result<(), AllocError>
+        ensures { OnOk result (self.new ≡ set_all self.old other.now) }
+    {
+        for i in 0..other.len() {
+            let (key, value) = other.at(i);
+            self.put(key, value)?;
+        }
+        Ok(())
+    }
+
+    /// Sets each key of `other` in turn. A copy is made first, so a refusal changes nothing.
     pub fn append(&mut self, other: &Env) -> Result<(), AllocError>
         ensures ok { OnOk result (self.new ≡ set_all self.old other.now) }
         ensures unchanged { OnErr result (self.new ≡ self.old) }
     {
-        let copied = copy_of(&other.map)?;
-        put_all(&mut self.map, copied)?;
+        let mut both = self.copy()?;
+        both.put_all(other)?;
+        *self = both;
         Ok(())
     }
 
@@ -188,7 +236,8 @@ impl Env {
     pub fn copy(&self) -> Result<Self, AllocError>
         ensures { IfOk result (λ env. env ≡ self.now) }
     {
-        let map = copy_of(&self.map)?;
-        Ok(Env { map })
+        let mut env = Env::new(*self.pairs.allocator());
+        env.put_all(self)?;
+        Ok(env)
     }
 }

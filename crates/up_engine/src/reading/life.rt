@@ -1,14 +1,15 @@
 //! Where an instance is, where it is heading, and what it holds.
-ghost use Rattle.std.specs.Prelude.{◌≡◌, ℕ, List, ◌∷◌, length};
-ghost use Rattle.up_model.specs.Chronicle.{Entry};
+ghost use Rattle.std.specs.Prelude.{◌≡◌, ℕ, List, ◌∷◌, length, map};
+ghost use Rattle.up_model.specs.Chronicle.{Chronicle};
 ghost use Rattle.up_model.specs.Readings as reading;
-ghost use Rattle.up_engine.specs.Records.{entry_of, chronicle};
+ghost use Rattle.up_engine.specs.Records.{entry_of, chronicle, place_of};
 
+use crate::keys::EventKey;
 use crate::record::{Origin, Record};
-use up_model::{Goal, State};
+use up_model::{Failure, Goal, State};
 
 fn goal_after(next: &Record, instance: usize, before: Goal) -> Goal
-    ensures { (c : List Entry) → reading.goal instance c ≡ before → result ≡ reading.goal instance (entry_of next.now ∷ c) }
+    ensures { (c : Chronicle) → reading.goal instance c ≡ before → result ≡ reading.goal instance (entry_of next.now ∷ c) }
 {
     match next {
         Record::Aimed {
@@ -32,7 +33,7 @@ pub(crate) fn goal(records: &[Record], instance: usize) -> Goal
 }
 
 fn state_after(next: &Record, instance: usize, before: State) -> State
-    ensures { (c : List Entry) → reading.state_of instance c ≡ before → result ≡ reading.state_of instance (entry_of next.now ∷ c) }
+    ensures { (c : Chronicle) → reading.state_of instance c ≡ before → result ≡ reading.state_of instance (entry_of next.now ∷ c) }
 {
     match next {
         Record::Entered {
@@ -54,9 +55,8 @@ pub(crate) fn state_of(records: &[Record], instance: usize) -> State
     found
 }
 
-// The names of `holders` by an instance are borrowed from the record that has them.
-fn holders_after<'a>(next: &'a Record, instance: usize, before: &'a [usize]) -> &'a [usize]
-    ensures { (c : List Entry) → reading.holders instance c ≡ before.now → result.now ≡ reading.holders instance (entry_of next.now ∷ c) }
+fn holders_after<'a>(next: &'a Record, instance: usize, before: &'a [EventKey]) -> &'a [EventKey]
+    ensures { (c : Chronicle) → reading.holders instance c ≡ map place_of before.now → map place_of result.now ≡ reading.holders instance (entry_of next.now ∷ c) }
 {
     match next {
         Record::Aimed {
@@ -64,18 +64,46 @@ fn holders_after<'a>(next: &'a Record, instance: usize, before: &'a [usize]) -> 
             holders,
             ..
         } if *other == instance => holders.as_slice(),
-        Record::Released(other) if *other == instance => &[],
+        Record::Released { instance: other, .. } if *other == instance => &[],
         _ => before,
     }
 }
 
 #[tactic(auto, using(crate::proofs::Chronicles::chronicle_more))]
-pub(crate) fn holders(records: &[Record], instance: usize) -> &[usize]
-    ensures { result.now ≡ reading.holders instance (chronicle records.now) }
+pub(crate) fn holders(records: &[Record], instance: usize) -> &[EventKey]
+    ensures { map place_of result.now ≡ reading.holders instance (chronicle records.now) }
 {
-    let mut found: &[usize] = &[];
+    let mut found: &[EventKey] = &[];
     for next in records {
         found = holders_after(next, instance, found);
+    }
+    found
+}
+
+fn failure_after(next: &Record, instance: usize, before: Option<Failure>) -> Option<Failure>
+    ensures { (c : Chronicle) → reading.failure instance c ≡ before → result ≡ reading.failure instance (entry_of next.now ∷ c) }
+{
+    match next {
+        Record::Failed {
+            instance: other,
+            failure,
+        } if *other == instance => Some(*failure),
+        Record::Entered {
+            instance: other,
+            state: State::Starting,
+        } if *other == instance => None,
+        _ => before,
+    }
+}
+
+/// Why an instance failed since it entered starting last.
+#[tactic(auto, using(crate::proofs::Chronicles::chronicle_more))]
+pub(crate) fn failure(records: &[Record], instance: usize) -> Option<Failure>
+    ensures { result ≡ reading.failure instance (chronicle records.now) }
+{
+    let mut found = None;
+    for next in records {
+        found = failure_after(next, instance, found);
     }
     found
 }
@@ -111,7 +139,7 @@ fn blocker_after(
     instance: usize,
     before: Option<usize>,
 ) -> Option<usize>
-    ensures { (c : List Entry) → length c ≡ place → reading.blocker instance c ≡ before → result ≡ reading.blocker instance (entry_of next.now ∷ c) }
+    ensures { (c : Chronicle) → length c ≡ place → reading.blocker instance c ≡ before → result ≡ reading.blocker instance (entry_of next.now ∷ c) }
 {
     match next {
         Record::Queued {
@@ -133,39 +161,6 @@ pub(crate) fn blocker(records: &[Record], instance: usize) -> Option<usize>
     let mut found = None;
     for (place, next) in records.iter().enumerate() {
         found = blocker_after(next, place, instance, found);
-    }
-    found
-}
-
-fn instance_after(
-    next: &Record,
-    place: usize,
-    job: usize,
-    name: &str,
-    before: Option<usize>,
-) -> Option<usize>
-    ensures { (c : List Entry) → length c ≡ place → reading.instance_of job name.now c ≡ before → result ≡ reading.instance_of job name.now (entry_of next.now ∷ c) }
-{
-    match next {
-        Record::Made {
-            job: other,
-            name: its,
-        } if *other == job && its.is(name) => Some(place),
-        Record::Entered {
-            instance,
-            state: State::Waiting,
-        } => without(*instance, before),
-        _ => before,
-    }
-}
-
-#[tactic(auto, using(crate::proofs::Chronicles::chronicle_more, crate::proofs::Chronicles::length_front))]
-pub(crate) fn instance_of(records: &[Record], job: usize, name: &str) -> Option<usize>
-    ensures { result ≡ reading.instance_of job name.now (chronicle records.now) }
-{
-    let mut found = None;
-    for (place, next) in records.iter().enumerate() {
-        found = instance_after(next, place, job, name, found);
     }
     found
 }

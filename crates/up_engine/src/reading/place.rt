@@ -6,6 +6,7 @@ ghost use Rattle.up_engine.specs.Records.{entry_of, chronicle};
 
 use crate::record::Record;
 use up_model::{Event, Input};
+use up_text::Name;
 
 fn record_at(records: &[Record], place: usize) -> Option<&Record>
     ensures { option_map entry_of (option_copied result) ≡ reading.entry_at place (chronicle records.now) }
@@ -35,18 +36,18 @@ pub(crate) fn event_at(records: &[Record], place: usize) -> Option<&Event>
     }
 }
 
-fn made_of(found: &Record) -> Option<(usize, &str)>
-    ensures { option_map (λ made. (made.0, made.1.now)) result ≡ reading.made_of (Some (entry_of found.now)) }
+fn made_of(found: &Record) -> Option<(&Name, &str)>
+    ensures { option_map (λ made. record { job = made.0.now; instance = made.1.now }) result ≡ reading.made_of (Some (entry_of found.now)) }
 {
     match found {
-        Record::Made { job, name } => Some((*job, name.as_str())),
+        Record::Made { job, name } => Some((job, name.as_str())),
         _ => None,
     }
 }
 
-/// The job and the name of the instance that was made at a place.
-pub(crate) fn made_at(records: &[Record], place: usize) -> Option<(usize, &str)>
-    ensures { option_map (λ made. (made.0, made.1.now)) result ≡ reading.made_at place (chronicle records.now) }
+/// The names of the instance that was made at a place.
+pub(crate) fn made_at(records: &[Record], place: usize) -> Option<(&Name, &str)>
+    ensures { option_map (λ made. record { job = made.0.now; instance = made.1.now }) result ≡ reading.made_at place (chronicle records.now) }
 {
     match record_at(records, place) {
         Some(found) => made_of(found),

@@ -1,10 +1,11 @@
-//! Which processes are ordered, and which live.
-ghost use Rattle.std.specs.Prelude.{◌≡◌, List, ◌∷◌, length};
-ghost use Rattle.up_model.specs.Chronicle.{Entry};
+//! Which processes of an instance are ordered, and which live.
+ghost use Rattle.std.specs.Prelude.{◌≡◌, List, ◌∷◌, length, option_map};
+ghost use Rattle.up_engine.specs.Records.{entry_of, chronicle};
+ghost use Rattle.up_model.specs.Chronicle.{Chronicle};
 ghost use Rattle.up_model.specs.Readings as reading;
 ghost use Rattle.up_model.specs.Tests as test;
-ghost use Rattle.up_engine.specs.Records.{entry_of, chronicle};
 
+use crate::reading::place::made_at;
 use crate::record::Record;
 use up_model::{Input, Process, Who};
 use up_text::Name;
@@ -21,29 +22,38 @@ fn number_of(process: Process) -> u8
     }
 }
 
-fn same_process(a: Process, b: Process) -> bool
-    ensures { result ≡ test.same_process a b }
+fn same_process(process: Process, other: Process) -> bool
+    ensures { result ≡ test.same_process process other }
 {
-    number_of(a) == number_of(b)
+    number_of(process) == number_of(other)
 }
 
-fn is_who(who: &Who, job: &Name, name: &str) -> bool
-    ensures { result ≡ test.same_who who.now (record { job = job.now; instance = name.now }) }
+// Whether an input that names a process speaks of this process of an instance, which is known outside by these names.
+fn speaks_of(its: Option<(&Name, &str)>, process: Process, who: &Who, named: Process) -> bool
+    ensures { result ≡ reading.speaks_of (option_map (λ its. record { job = its.0.now; instance = its.1.now }) its.entry) process who.now named }
 {
-    who.job.is(job) && who.instance.is(name)
+    match its {
+        Some((job, name)) => who.job.is(job)
+            && who.instance.is(name)
+            && same_process(named, process),
+        None => false,
+    }
 }
 
+// Whether the answer for a process was ordered and not given since, after one record more.
 fn awaited_after(
+    earlier: &[Record],
     next: &Record,
+    place: usize,
     instance: usize,
-    job: &Name,
-    name: &str,
     process: Process,
     before: bool,
 ) -> bool
-    ensures { (c : List Entry) → reading.awaited instance (record { job = job.now; instance = name.now }) process c ≡ before → result ≡ reading.awaited instance (record { job = job.now; instance = name.now }) process (entry_of next.now ∷ c) }
+    ensures { length (chronicle earlier.now) ≡ place → before ≡ reading.awaited instance process (chronicle earlier.now)
+        → result ≡ reading.awaited instance process (entry_of next.now ∷ chronicle earlier.now) }
 {
     match next {
+        Record::Made { .. } if place == instance => false,
         Record::Ordered {
             instance: other,
             process: its,
@@ -54,67 +64,64 @@ fn awaited_after(
                 process: its,
                 ..
             },
-        ) if is_who(who, job, name) && same_process(*its, process) => false,
+        ) if speaks_of(made_at(earlier, instance), process, who, *its) => false,
         Record::Given(Input::Refused { who, process: its })
-            if is_who(who, job, name) && same_process(*its, process) => false,
+            if speaks_of(made_at(earlier, instance), process, who, *its) => false,
         _ => before,
     }
 }
 
 /// Whether a process was ordered and not answered since.
-#[tactic(auto, using(crate::proofs::Chronicles::chronicle_more))]
-pub(crate) fn awaited(
-    records: &[Record],
-    instance: usize,
-    job: &Name,
-    name: &str,
-    process: Process,
-) -> bool
-    ensures { result ≡ reading.awaited instance (record { job = job.now; instance = name.now }) process (chronicle records.now) }
+#[tactic(auto, using(crate::proofs::Chronicles::chronicle_more, crate::proofs::Chronicles::length_front))]
+pub(crate) fn awaited(records: &[Record], instance: usize, process: Process) -> bool
+    ensures { result ≡ reading.awaited instance process (chronicle records.now) }
 {
     let mut found = false;
-    for next in records {
-        found = awaited_after(next, instance, job, name, process, found);
+    for (place, next) in records.iter().enumerate() {
+        found = awaited_after(&records[..place], next, place, instance, process, found);
     }
     found
 }
 
 fn pid_after(
+    earlier: &[Record],
     next: &Record,
-    job: &Name,
-    name: &str,
+    place: usize,
+    instance: usize,
     process: Process,
     before: Option<u32>,
 ) -> Option<u32>
-    ensures { (c : List Entry) → reading.pid_of (record { job = job.now; instance = name.now }) process c ≡ before → result ≡ reading.pid_of (record { job = job.now; instance = name.now }) process (entry_of next.now ∷ c) }
+    ensures { length (chronicle earlier.now) ≡ place → before ≡ reading.pid_of instance process (chronicle earlier.now)
+        → result ≡ reading.pid_of instance process (entry_of next.now ∷ chronicle earlier.now) }
 {
     match next {
+        Record::Made { .. } if place == instance => None,
         Record::Given(
             Input::Spawned {
                 who,
                 process: its,
                 pid,
             },
-        ) if is_who(who, job, name) && same_process(*its, process) => Some(*pid),
+        ) if speaks_of(made_at(earlier, instance), process, who, *its) => Some(*pid),
         Record::Given(
             Input::Ended {
                 who,
                 process: its,
                 ..
             },
-        ) if is_who(who, job, name) && same_process(*its, process) => None,
+        ) if speaks_of(made_at(earlier, instance), process, who, *its) => None,
         _ => before,
     }
 }
 
 /// The number of a living process.
-#[tactic(auto, using(crate::proofs::Chronicles::chronicle_more))]
-pub(crate) fn pid_of(records: &[Record], job: &Name, name: &str, process: Process) -> Option<u32>
-    ensures { result ≡ reading.pid_of (record { job = job.now; instance = name.now }) process (chronicle records.now) }
+#[tactic(auto, using(crate::proofs::Chronicles::chronicle_more, crate::proofs::Chronicles::length_front))]
+pub(crate) fn pid_of(records: &[Record], instance: usize, process: Process) -> Option<u32>
+    ensures { result ≡ reading.pid_of instance process (chronicle records.now) }
 {
     let mut found = None;
-    for next in records {
-        found = pid_after(next, job, name, process, found);
+    for (place, next) in records.iter().enumerate() {
+        found = pid_after(&records[..place], next, place, instance, process, found);
     }
     found
 }

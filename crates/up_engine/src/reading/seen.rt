@@ -3,51 +3,48 @@ ghost use Rattle.std.specs.Prelude.{◌≡◌, List, [], ◌∷◌, length, unwr
 ghost use Rattle.std.specs.Option.{option_or};
 ghost use Rattle.up_expr.specs.Matching.{matches};
 ghost use Rattle.up_expr.specs.Truth as truth;
-ghost use Rattle.up_model.specs.Chronicle.{Entry};
+ghost use Rattle.up_model.specs.Chronicle.{Chronicle};
 ghost use Rattle.up_model.specs.Readings as reading;
 ghost use Rattle.up_model.specs.Seen as seen;
 ghost use Rattle.up_model.specs.Offers as offer;
-ghost use Rattle.up_engine.specs.Records.{entry_of, expression_of, chronicle};
+ghost use Rattle.up_engine.specs.Setups.{config_of};
+ghost use Rattle.up_engine.specs.Records.{entry_of, expression_of, wanted_of, chronicle};
 
 use crate::reading::environment::env;
 use crate::reading::place::event_at;
-use crate::record::{Expression, Record};
+use crate::record::{Expression, Record, Wanted};
+use crate::setup::Setup;
 use std::alloc::{AllocError, Global};
 use up_expr::{Leaf, leaf_matches};
 use up_model::Event;
 use up_text::Env;
 
-fn same_expression(a: Expression, b: Expression) -> bool
-    ensures { result ≡ seen.same_expression (expression_of a) (expression_of b) }
+fn is_wanted(expression: &Expression, wanted: Wanted) -> bool
+    ensures { result ≡ seen.same_expression (expression_of expression.now) (wanted_of wanted.entry) }
 {
-    match (a, b) {
-        (Expression::StartOn(job), Expression::StartOn(other)) => job == other,
-        (Expression::StopOn(instance), Expression::StopOn(other)) => instance == other,
-        (Expression::StartOn(_), Expression::StopOn(_)) => false,
-        (Expression::StopOn(_), Expression::StartOn(_)) => false,
+    match (expression, wanted) {
+        (Expression::StartOn(job), Wanted::StartOn(other)) => job.is(other),
+        (Expression::StopOn(instance), Wanted::StopOn(other)) => *instance == other,
+        (Expression::StartOn(_), Wanted::StopOn(_)) => false,
+        (Expression::StopOn(_), Wanted::StartOn(_)) => false,
     }
 }
 
-// The environment by which the expression's values expand, where this is what happened so far.
-fn env_of<'a>(
-    earlier: &'a [Record],
-    base: &'a Env,
-    none: &'a Env,
-    expression: Expression,
-) -> &'a Env
+// The environment by which the expression's values expand, if this is what happened so far.
+fn env_of<'a>(earlier: &'a [Record], setup: &'a Setup, none: &'a Env, wanted: Wanted) -> &'a Env
     requires { none.now ≡ [] }
-    ensures { result.now ≡ seen.env_of base.now (expression_of expression) (chronicle earlier.now) }
+    ensures { result.now ≡ seen.env_of (config_of setup.now) (wanted_of wanted.entry) (chronicle earlier.now) }
 {
-    match expression {
-        Expression::StartOn(_) => base,
-        Expression::StopOn(instance) => match env(earlier, instance) {
+    match wanted {
+        Wanted::StartOn(_) => &setup.base,
+        Wanted::StopOn(instance) => match env(earlier, instance) {
             Some(found) => found,
             None => none,
         },
     }
 }
 
-// Whether the leaf matches the event; the one fault of the lower call is want of memory.
+// Whether the leaf matches the event; the lower call refuses only if it is out of memory.
 fn is_match(alloc: Global, leaf: &Leaf, event: &Event, env: &Env) -> Result<bool, AllocError>
     ensures { IfOk result (λ found. found ≡ matches leaf.now event.now.name event.now.vars env.now) }
 {
@@ -59,13 +56,13 @@ fn is_match(alloc: Global, leaf: &Leaf, event: &Event, env: &Env) -> Result<bool
 
 fn matched(
     alloc: Global,
-    base: &Env,
+    setup: &Setup,
     earlier: &[Record],
     place: usize,
-    expression: Expression,
+    wanted: Wanted,
     leaf: &Leaf,
 ) -> Result<Option<usize>, AllocError>
-    ensures { IfOk result (λ found. found ≡ truth.first leaf.now (seen.sighted place (reading.event_at place (chronicle earlier.now)) (seen.env_of base.now (expression_of expression) (chronicle earlier.now)))) }
+    ensures { IfOk result (λ found. found ≡ truth.first leaf.now (seen.sight_of place (reading.event_at place (chronicle earlier.now)) (seen.env_of (config_of setup.now) (wanted_of wanted.entry) (chronicle earlier.now)))) }
 {
     let Some(event) = event_at(earlier, place) else {
         return Ok(None);
@@ -74,7 +71,7 @@ fn matched(
         return Ok(None);
     }
     let none = Env::new(alloc);
-    let env = env_of(earlier, base, &none, expression);
+    let env = env_of(earlier, setup, &none, wanted);
     if is_match(alloc, leaf, event, env)? {
         Ok(Some(place))
     } else {
@@ -82,47 +79,47 @@ fn matched(
     }
 }
 
-// A leaf that keeps an event keeps it.
+// A leaf never replaces its first match.
 fn matched_after(
     alloc: Global,
-    base: &Env,
+    setup: &Setup,
     earlier: &[Record],
     place: usize,
-    expression: Expression,
+    wanted: Wanted,
     leaf: &Leaf,
     before: Option<usize>,
 ) -> Result<Option<usize>, AllocError>
-    ensures { IfOk result (λ found. found ≡ option_or before (truth.first leaf.now (seen.sighted place (reading.event_at place (chronicle earlier.now)) (seen.env_of base.now (expression_of expression) (chronicle earlier.now))))) }
+    ensures { IfOk result (λ found. found ≡ option_or before (truth.first leaf.now (seen.sight_of place (reading.event_at place (chronicle earlier.now)) (seen.env_of (config_of setup.now) (wanted_of wanted.entry) (chronicle earlier.now))))) }
 {
     match before {
         Some(kept) => Ok(Some(kept)),
-        None => matched(alloc, base, earlier, place, expression, leaf),
+        None => matched(alloc, setup, earlier, place, wanted, leaf),
     }
 }
 
 #[tactic(auto, using(crate::proofs::SeenLemmas::seen_offered))]
 fn first_after(
     alloc: Global,
-    base: &Env,
+    setup: &Setup,
     earlier: &[Record],
     next: &Record,
-    expression: Expression,
+    wanted: Wanted,
     leaf: &Leaf,
     before: Option<usize>,
 ) -> Result<Option<usize>, AllocError>
-    ensures { IfOk result (λ found. before ≡ truth.first leaf.now (seen.seen base.now (expression_of expression) (chronicle earlier.now)) → found ≡ truth.first leaf.now (seen.seen base.now (expression_of expression) (entry_of next.now ∷ chronicle earlier.now))) }
+    ensures { IfOk result (λ found. before ≡ truth.first leaf.now (seen.seen (config_of setup.now) (wanted_of wanted.entry) (chronicle earlier.now)) → found ≡ truth.first leaf.now (seen.seen (config_of setup.now) (wanted_of wanted.entry) (entry_of next.now ∷ chronicle earlier.now))) }
 {
     match next {
         Record::Offered {
             expression: other,
             event,
-        } if same_expression(*other, expression) => matched_after(
-            alloc, base, earlier, *event, expression, leaf, before,
+        } if is_wanted(other, wanted) => matched_after(
+            alloc, setup, earlier, *event, wanted, leaf, before,
         ),
         Record::Fired {
             expression: other,
             ..
-        } if same_expression(*other, expression) => Ok(None),
+        } if is_wanted(other, wanted) => Ok(None),
         _ => Ok(before),
     }
 }
@@ -131,52 +128,44 @@ fn first_after(
 #[tactic(auto, using(crate::proofs::Chronicles::chronicle_more))]
 pub(crate) fn first(
     alloc: Global,
-    base: &Env,
+    setup: &Setup,
     records: &[Record],
-    expression: Expression,
+    wanted: Wanted,
     leaf: &Leaf,
 ) -> Result<Option<usize>, AllocError>
-    ensures { IfOk result (λ found. found ≡ truth.first leaf.now (seen.seen base.now (expression_of expression) (chronicle records.now))) }
+    ensures { IfOk result (λ found. found ≡ truth.first leaf.now (seen.seen (config_of setup.now) (wanted_of wanted.entry) (chronicle records.now))) }
 {
     let mut found = None;
     for (place, next) in records.iter().enumerate() {
-        found = first_after(
-            alloc,
-            base,
-            &records[..place],
-            next,
-            expression,
-            leaf,
-            found,
-        )?;
+        found = first_after(alloc, setup, &records[..place], next, wanted, leaf, found)?;
     }
     Ok(found)
 }
 
 // The readings below ask of the current step alone, so they look back from the newest record, and stop where the step began.
 
-fn offered_by(next: &Record, expression: Expression) -> Option<bool>
-    ensures { (c : List Entry) → seen.was_offered (expression_of expression) (entry_of next.now ∷ c) ≡ unwrap_or result (seen.was_offered (expression_of expression) c) }
+fn offered_by(next: &Record, wanted: Wanted) -> Option<bool>
+    ensures { (c : Chronicle) → seen.was_offered (wanted_of wanted.entry) (entry_of next.now ∷ c) ≡ unwrap_or result (seen.was_offered (wanted_of wanted.entry) c) }
 {
     match next {
         Record::Given(_) => Some(false),
         Record::Offered {
             expression: other,
             ..
-        } if same_expression(*other, expression) => Some(true),
+        } if is_wanted(other, wanted) => Some(true),
         _ => None,
     }
 }
 
 /// Whether an expression was offered the event of this step.
 #[tactic(auto, using(crate::proofs::Chronicles::chronicle_more))]
-pub(crate) fn was_offered(records: &[Record], expression: Expression) -> bool
-    ensures { result ≡ seen.was_offered (expression_of expression) (chronicle records.now) }
+pub(crate) fn was_offered(records: &[Record], wanted: Wanted) -> bool
+    ensures { result ≡ seen.was_offered (wanted_of wanted.entry) (chronicle records.now) }
 {
     let mut left = records.len();
     'back: while left > 0 {
         left -= 1;
-        if let Some(found) = offered_by(&records[left], expression) {
+        if let Some(found) = offered_by(&records[left], wanted) {
             return found;
         }
     }
@@ -184,7 +173,7 @@ pub(crate) fn was_offered(records: &[Record], expression: Expression) -> bool
 }
 
 fn newborn_by(next: &Record, place: usize, instance: usize) -> Option<bool>
-    ensures { (c : List Entry) → length c ≡ place → offer.is_newborn instance (entry_of next.now ∷ c) ≡ unwrap_or result (offer.is_newborn instance c) }
+    ensures { (c : Chronicle) → length c ≡ place → offer.is_newborn instance (entry_of next.now ∷ c) ≡ unwrap_or result (offer.is_newborn instance c) }
 {
     match next {
         Record::Given(_) => Some(false),
@@ -209,7 +198,7 @@ pub(crate) fn is_newborn(records: &[Record], instance: usize) -> bool
 }
 
 fn offering_by(next: &Record) -> Option<Option<usize>>
-    ensures { (c : List Entry) → offer.offering (entry_of next.now ∷ c) ≡ unwrap_or result (offer.offering c) }
+    ensures { (c : Chronicle) → offer.offering (entry_of next.now ∷ c) ≡ unwrap_or result (offer.offering c) }
 {
     match next {
         Record::Given(_) => Some(None),

@@ -52,8 +52,27 @@ fn each_code_is_given(rt: HostRuntime) -> Result<(), Fail> {
     check(rt.alloc(), &[(deep.as_slice(), 2, 16)])
 }
 
+const LEFT_OUT: &'static [(&'static [u8], u32, u8)] = &[
+    (b"expect fork\n", 1, 2),
+    (b"chroot /x\n", 1, 2),
+    (b"setuid a\n", 1, 2),
+    (b"setgid a\n", 1, 2),
+    (b"umask 022\n", 1, 2),
+    (b"nice 5\n", 1, 2),
+    (b"limit nofile 1 2\n", 1, 2),
+    (b"oom score 0\n", 1, 2),
+    (b"apparmor load /x\n", 1, 2),
+    (b"cgroup a\n", 1, 2),
+];
+
+#[test]
+fn each_stanza_that_is_left_out_refuses_its_file(rt: HostRuntime) -> Result<(), Fail> {
+    check(rt.alloc(), LEFT_OUT)
+}
+
 const SEVERAL: &'static [(&'static [u8], u32, u8)] = &[
     (b"respawn x\n", 1, 4),
+    (b"respawn limit unlimited x\n", 1, 4),
     (b"console x\n", 1, 4),
     (b"start x\n", 1, 1),
     (b"normal x\n", 1, 1),

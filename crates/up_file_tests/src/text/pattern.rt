@@ -554,3 +554,16 @@ fn unclosed_sets_are_passed_once(rt: HostRuntime) -> Result<(), Fail> {
     assert!(rt; matches_itself(brackets.as_slice()));
     Ok(())
 }
+
+// To read the item behind the star at each byte again would be quadratic too.
+#[test]
+fn unclosed_sets_behind_a_star(rt: HostRuntime) -> Result<(), Fail> {
+    let mut pattern: Vec<u8> = Vec::new(rt.alloc());
+    pattern.push(b'*')?;
+    let brackets = vec![in rt.alloc(); b'['; 50_000]?;
+    pattern.extend_from_slice(brackets.as_slice())?;
+    let text = vec![in rt.alloc(); b'a'; 50_000]?;
+    assert!(rt; supported(pattern.as_slice()));
+    assert!(rt; !glob(pattern.as_slice(), text.as_slice()));
+    Ok(())
+}

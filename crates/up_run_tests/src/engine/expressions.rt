@@ -67,7 +67,20 @@ const VALUE_BY_DEFAULT: [Row; 5] = [
     (Given::Turn, STARTING, 2, true),
 ];
 
-static CASES: [Case; 5] = [
+// What an order says of where and how its process runs.
+const FOLDER_AND_CONSOLE: [Row; 4] = [
+    (Given::Emit("go"), "", 1, true),
+    (Given::Turn, STARTING, 2, true),
+    (Given::Turn, "", 2, true),
+    (
+        Given::Turn,
+        "spawn a() Main [/bin/d ] in /tmp silent=true UPSTART_EVENTS=go UPSTART_JOB=a UPSTART_INSTANCE=; ",
+        1,
+        false,
+    ),
+];
+
+static CASES: [Case; 6] = [
     (
         "and_keeps_first",
         "start on A and B\nexec /bin/d\n",
@@ -92,6 +105,11 @@ static CASES: [Case; 5] = [
         "value_by_default",
         "start on A X=${Z-1}\nexec /bin/d\n",
         &VALUE_BY_DEFAULT,
+    ),
+    (
+        "folder_and_console",
+        "start on go\nexec /bin/d\nchdir /tmp\nconsole none\n",
+        &FOLDER_AND_CONSOLE,
     ),
 ];
 

@@ -49,7 +49,21 @@ const BAD_EXPRESSIONS: Case = Case {
     status: 1,
 };
 
-static TOPICS: [Topic; 8] = [
+// Both sides of the `or` are true when the `and` becomes so.
+const BOTH_SIDES_OF_AN_OR: Case = Case {
+    bundle: b"%file a.conf\nstart on (A or B) and C\nexec /bin/d\n%script\nemit A\nemit B\nemit C\nturn 3\nturn 2\n",
+    printed: "event starting JOB=\"a\" INSTANCE=\"\"\nspawn a main \"/bin/d\"\n  UPSTART_EVENTS=\"A B C\"\n  UPSTART_JOB=\"a\"\n  UPSTART_INSTANCE=\"\"\n",
+    status: 0,
+};
+
+// The value of a `stop on` expands by the environment with which the job was started.
+const STOP_BY_ITS_VALUE: Case = Case {
+    bundle: b"%file a.conf\nstart on go\nstop on halt X=$X\nexec /bin/d\n%script\nemit go X=1\nturn 3\nspawned a \"\" main 100\nturn 3\nemit halt X=2\nturn 3\nemit halt X=1\nturn 3\n",
+    printed: "event starting JOB=\"a\" INSTANCE=\"\"\nspawn a main \"/bin/d\"\n  X=\"1\"\n  UPSTART_EVENTS=\"go\"\n  UPSTART_JOB=\"a\"\n  UPSTART_INSTANCE=\"\"\nevent started JOB=\"a\" INSTANCE=\"\"\nevent stopping JOB=\"a\" INSTANCE=\"\" RESULT=\"ok\"\nsignal a 100 TERM\n",
+    status: 0,
+};
+
+static TOPICS: [Topic; 10] = [
     ("and_keeps_first", &[AND_KEEPS_FIRST]),
     ("and_of_same_event", &[AND_OF_SAME_EVENT]),
     ("or_after_half_an_and", &[OR_AFTER_HALF_AN_AND]),
@@ -58,6 +72,8 @@ static TOPICS: [Topic; 8] = [
     ("self_restarting_job", &[SELF_RESTARTING_JOB]),
     ("value_by_default", &[VALUE_BY_DEFAULT]),
     ("bad_expressions", &[BAD_EXPRESSIONS]),
+    ("both_sides_of_an_or", &[BOTH_SIDES_OF_AN_OR]),
+    ("stop_by_its_value", &[STOP_BY_ITS_VALUE]),
 ];
 
 #[test]

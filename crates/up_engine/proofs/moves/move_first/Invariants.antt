@@ -1,10 +1,13 @@
 use Rattle.std.proofs.Common.{◌≡◌, drop}
-use Rattle.up_model.specs.Moves as model
+use Rattle.up_engine.specs.Keys.{Stepping}
+use Rattle.up_engine.specs.Setups.{config_of}
+use Rattle.up_model.specs.Chronicle.{Chronicle}
+use Rattle.up_model.specs.Moves.{move_first}
 use Rattle.up_engine.proofs.moves.move_first.Given as goal
 
 -- nothing has moved yet, and what is left gives the whole
-abbrev pub invariant-loop-place : goal.invariant-loop-place
-invariant-loop-place l = record {
-  same : l.book ≡ l.initial.book;
-  left : model.move_from (drop l.place l.jobs) l.place l.book ≡ model.move_from l.jobs 0 l.book;
+abbrev pub invariant-loop-job : goal.invariant-loop-job
+invariant-loop-job g l = record {
+  same : (c : Chronicle) → g.B.Book.stands l.fn.book Stepping (config_of l.setup) c → g.B.Book.stands l.book Stepping (config_of l.setup) c;
+  left : (c : Chronicle) → g.B.Book.stands l.fn.book Stepping (config_of l.setup) c → move_first (drop l.job-index l.jobs) c ≡ move_first l.jobs c;
 }

@@ -1,18 +1,31 @@
-use Rattle.std.proofs.Common.{◌≡◌, ◌∙◌, ◌++◌, sym, ap, false}
-use Rattle.up_text.specs.Scripts.{is_filled}
-use Rattle.up_engine.specs.Moved.{offer_of_job}
-use Rattle.up_engine.proofs.MoveLemmas.{none_nil}
-use Rattle.up_engine.proofs.OfferLemmas.{offer_step}
+use Rattle.std.proofs.Common.{◌≡◌, ◌∙◌, sym, ap, ◌++◌, Some}
+use Rattle.up_engine.specs.Keys.{Stepping}
+use Rattle.up_engine.specs.Setups.{config_of}
+use Rattle.up_engine.proofs.OfferLemmas.{offer_here, offer_past}
 use Rattle.up_engine.proofs.offers.offer_first.Goals as goal
 
-pub loop-place-preserved : goal.loop-place-preserved
-loop-place-preserved c =
-    let job = c.index-jobs-place.result in
-    let place = c.loop-place.place in
-    let none : is_filled (offer_of_job c.args.base.now job place c.args.event c.loop-place.book) ≡ false = sym c.in_ok-offer_in.ensures.any ∙ c.if-branch.false in
-    let still = c.in_ok-offer_in.ensures.entries ∙ ap (λ found. found ++ c.loop-place.book) (none_nil (offer_of_job c.args.base.now job place c.args.event c.loop-place.book) none) in
-    let left = offer_step c.args.base.now c.args.jobs.now place c.args.event job c.loop-place.book c.loop-place-test.true c.index-jobs-place.is none in
-    record {
-      same = still ∙ c.loop-place.invariant.same;
-      left = rw still (left ∙ c.loop-place.invariant.left);
-    }
+pub returns-then-branch-clause-entries : goal.returns-then-branch-clause-entries
+returns-then-branch-clause-entries g c c' e s known =
+    let config = config_of c.args.setup.now in
+    let here : g.B.Book.stands c.loop-job.book Stepping config c' = rw c.loop-job.invariant.same s in
+    let there : g.B.Book.event_place c.loop-job.book c' c.args.event ≡ Some e = rw c.loop-job.invariant.same known in
+    let some = c.in_ok-offer_in.ensures.any c' e here in
+    rw (← offer_here config c.args.jobs.now c.loop-job.job-index e c.job-item.result c' c.loop-job-test.true c.job-item.is (rw c.if-branch.true at some) (c.loop-job.invariant.left c' e s))
+    (c.in_ok-offer_in.ensures.entries c' e here there)
+
+pub returns-then-branch-clause-any : goal.returns-then-branch-clause-any
+returns-then-branch-clause-any g c c' e s =
+    let config = config_of c.args.setup.now in
+    let here : g.B.Book.stands c.loop-job.book Stepping config c' = rw c.loop-job.invariant.same s in
+    let some = rw c.if-branch.true at (c.in_ok-offer_in.ensures.any c' e here) in
+    rw (← offer_here config c.args.jobs.now c.loop-job.job-index e c.job-item.result c' c.loop-job-test.true c.job-item.is some (c.loop-job.invariant.left c' e s)) some
+
+pub loop-job-preserved : goal.loop-job-preserved
+loop-job-preserved g c = record {
+  same = c.in_ok-offer_in.ensures.same c.if-branch.false ∙ c.loop-job.invariant.same;
+  left = λ c' e s.
+      let config = config_of c.args.setup.now in
+      let here : g.B.Book.stands c.loop-job.book Stepping config c' = rw c.loop-job.invariant.same s in
+      let none = rw c.if-branch.false at (c.in_ok-offer_in.ensures.any c' e here) in
+      offer_past config c.args.jobs.now c.loop-job.job-index e c.job-item.result c' c.loop-job-test.true c.job-item.is none (c.loop-job.invariant.left c' e s);
+}

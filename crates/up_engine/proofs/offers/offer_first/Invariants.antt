@@ -1,10 +1,13 @@
-use Rattle.std.proofs.Common.{◌≡◌, drop}
-use Rattle.up_model.specs.Offers as model
+use Rattle.std.proofs.Common.{◌≡◌, drop, ℕ}
+use Rattle.up_engine.specs.Keys.{Stepping}
+use Rattle.up_engine.specs.Setups.{config_of}
+use Rattle.up_model.specs.Chronicle.{Chronicle}
+use Rattle.up_model.specs.Offers.{offer_first}
 use Rattle.up_engine.proofs.offers.offer_first.Given as goal
 
 -- nothing was offered yet, and what is left gives the whole
-abbrev pub invariant-loop-place : goal.invariant-loop-place
-invariant-loop-place l = record {
-  same : l.book ≡ l.initial.book;
-  left : model.offer_from l.base (drop l.place l.jobs) l.place l.event l.book ≡ model.offer_from l.base l.jobs 0 l.event l.book;
+abbrev pub invariant-loop-job : goal.invariant-loop-job
+invariant-loop-job g l = record {
+  same : l.book ≡ l.fn.book;
+  left : (c : Chronicle) (e : ℕ) → g.B.Book.stands l.fn.book Stepping (config_of l.setup) c → offer_first (config_of l.setup) (drop l.job-index l.jobs) e c ≡ offer_first (config_of l.setup) l.jobs e c;
 }

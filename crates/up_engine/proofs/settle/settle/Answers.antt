@@ -1,20 +1,30 @@
-use Rattle.std.proofs.Common.{◌∙◌, sym}
-use Rattle.up_model.proofs.Settling.{settle_still}
-use Rattle.up_model.specs.Work.{work}
-use Rattle.up_engine.proofs.SettleLemmas.{settle_smaller, settle_over, settle_same}
+use Rattle.std.proofs.Common.{◌≡◌, ◌∙◌, sym, ◌++◌, ◌≤◌, [], arith, add-one}
+use Rattle.up_engine.specs.Setups.{config_of}
+use Rattle.up_model.specs.Due as due
+use Rattle.up_model.specs.Work as model
+use Rattle.up_engine.proofs.Entries.{none_nil}
+use Rattle.up_engine.proofs.SettleLemmas.{settle_more, settle_over, settle_none, settle_most}
 use Rattle.up_engine.proofs.settle.settle.Goals as goal
 
-pub loop-more-preserved : goal.loop-more-preserved
-loop-more-preserved c = record {
-  same = settle_same c.args.base.now c.args.jobs.now c.loop-more.book c.do_next.new.book c.in_ok-more.ensures.entries ∙ c.loop-more.invariant.same;
-  over = settle_over c.args.base.now c.args.jobs.now c.loop-more.book c.do_next.new.book c.in_ok-more.more c.in_ok-more.ensures.entries c.in_ok-more.ensures.any;
-}
+pub loop-turn-init : goal.loop-turn-init
+loop-turn-init g c c' s = rw (settle_none (config_of c.args.setup.now) c') s
 
-pub loop-more-smaller : goal.loop-more-smaller
-loop-more-smaller c =
-    rw c.loop-more-test.true (settle_smaller c.args.base.now c.args.jobs.now c.loop-more.book c.do_next.new.book c.in_ok-more.more c.in_ok-more.ensures.entries c.in_ok-more.ensures.any)
+pub returns-then-not-branch : goal.returns-then-not-branch
+returns-then-not-branch g c c' s =
+    let config = config_of c.args.setup.now in
+    let here = c.loop-turn.invariant c' s in
+    let none : due.due config (model.settle c.loop-turn.turn config c') ≡ [] = none_nil _ (sym (c.in_ok-do_next.ensures.any (model.settle c.loop-turn.turn config c') here) ∙ c.if-not-branch.true) in
+    let enough = c.most_due-most.ensures c' s in
+    let within : c.loop-turn.turn ≤ c.most_due-most.result = omega arith in
+    rw (settle_over c.loop-turn.turn c.most_due-most.result config c' within enough none) (rw none at (c.in_ok-do_next.ensures.entries (model.settle c.loop-turn.turn config c') here))
+
+pub loop-turn-preserved : goal.loop-turn-preserved
+loop-turn-preserved g c c' s =
+    let config = config_of c.args.setup.now in
+    rw (add-one, ← settle_more c.loop-turn.turn config c') (c.in_ok-do_next.ensures.entries (model.settle c.loop-turn.turn config c') (c.loop-turn.invariant c' s))
 
 pub returns : goal.returns
-returns c =
-    let rests = c.loop-more.invariant.over c.loop-more-test.false in
-    sym (settle_still (work c.args.jobs.now c.loop-more.book) c.args.base.now c.args.jobs.now c.loop-more.book rests) ∙ c.loop-more.invariant.same
+returns g c c' s =
+    let config = config_of c.args.setup.now in
+    let enough = c.most_due-most.ensures c' s in
+    rw (← settle_most c.loop-turn.turn config c' (omega (arith, enough))) (c.loop-turn.invariant c' s)

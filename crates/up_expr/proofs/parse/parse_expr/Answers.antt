@@ -1,17 +1,19 @@
-use Rattle.std.proofs.Common.{◌≡◌, inl, inr, ⊎_elim, ap, Err, arith}
-use Rattle.up_expr.specs.declared.fault.ExprFault.TheVariants.{Memory}
-use Rattle.up_expr.proofs.Counting.{complete, written}
+use Rattle.std.proofs.Common.{◌∙◌, ap, sym, Some, arith}
+use Rattle.up_expr.proofs.Counting.{complete, kept_is, written, none_written}
 use Rattle.up_expr.proofs.parse.parse_expr.Goals as goal
 
 pub returns-then-operators-gt-MAX_OPERATORS-clause-refused : goal.returns-then-operators-gt-MAX_OPERATORS-clause-refused
-returns-then-operators-gt-MAX_OPERATORS-clause-refused c = inr (λ tree writes. omega (arith, (complete c.args.tokens.now tree writes).1, c.operators.ensures, c.if-operators-gt-MAX_OPERATORS.true))
+returns-then-operators-gt-MAX_OPERATORS-clause-refused c = λ other tree writes. omega (arith, (complete c.args.tokens.now tree writes).1, c.operators.ensures, c.if-operators-gt-MAX_OPERATORS.true)
 
-pub returns-in-Ok-clause-tree : goal.returns-in-Ok-clause-tree
-returns-in-Ok-clause-tree c = written c.args.tokens.now c.in-Ok.tree c.in-Ok.ensures.tree (omega (arith, c.operators.ensures, c.if-operators-gt-MAX_OPERATORS.false))
+pub returns-in-Some-clause-tree : goal.returns-in-Some-clause-tree
+returns-in-Some-clause-tree c =
+    let read = c.in-Ok.ensures.read in
+    written c.args.tokens.now c.in-Some.tree (read.2 ∙ ap Some (sym (kept_is c.in-Ok.kept c.in-Some.tree read.0 c.in-Some.is read.1))) (omega (arith, c.operators.ensures, c.if-operators-gt-MAX_OPERATORS.false))
+
+pub returns-in-None-clause-memory : goal.returns-in-None-clause-memory
+returns-in-None-clause-memory c = λ memory.
+    let read = c.in-Ok.ensures.read in
+    (read.0, written c.args.tokens.now read.0 read.2 (omega (arith, c.operators.ensures, c.if-operators-gt-MAX_OPERATORS.false)))
 
 pub returns-in-Err-clause-refused : goal.returns-in-Err-clause-refused
-returns-in-Err-clause-refused c =
-    ⊎_elim
-    (λ memory. inl (let same : c.in-Err.fault ≡ Memory = cc in ap Err same))
-    (λ none. inr (λ tree writes. let found = (complete c.args.tokens.now tree writes).0 in cc))
-    c.in-Err.ensures.refused
+returns-in-Err-clause-refused c = λ other tree writes. none_written c.args.tokens.now tree c.in-Err.ensures.refused writes

@@ -1,5 +1,7 @@
-use Rattle.std.proofs.Common.{◌∙◌, sym}
+use Rattle.std.proofs.Common.{◌∙◌, sym, subst}
 use Rattle.up_pattern.proofs.Matches.{glob-unsupported, glob-supported}
+use Rattle.up_pattern.proofs.Unclosed.{settled-start}
+use Rattle.up_pattern.specs.Matching.{Settled}
 use Rattle.up_pattern.proofs.pattern.glob.Goals as goal
 
 pub returns-then-not-supported : goal.returns-then-not-supported
@@ -13,3 +15,7 @@ returns-in-Fails c = sym (glob-supported c.args.pattern.now c.args.bytes.now (sy
 
 pub returns-in-Run : goal.returns-in-Run
 returns-in-Run c = c.matches_end.ensures ∙ sym (glob-supported c.args.pattern.now c.args.bytes.now (sym c.supported.ensures ∙ c.if-not-supported.false) ∙ c.in-Run.ensures.0.same)
+
+pub take_items-requires : goal.take_items-requires
+take_items-requires c =
+    subst (λ unclosed. Settled unclosed c.args.pattern.now) (sym c.unclosed_length-unclosed.ensures) (settled-start c.args.pattern.now (sym c.supported.ensures ∙ c.if-not-supported.false))

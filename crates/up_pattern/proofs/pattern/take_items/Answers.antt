@@ -5,6 +5,6 @@ use Rattle.up_pattern.proofs.pattern.take_items.Goals as goal
 pub items-preserved : goal.items-preserved
 items-preserved c = record {
   takes = takes-more _ _ _ _ _ _ _ c.items.invariant.takes c.in-Some.ensures.none (sym c.if-is_run.ensures) c.in-Some-take_byte.ensures;
-  flat = c.in-Some.ensures.flat;
+  settled = c.in-Some.ensures.settled;
   shorter = omega (arith, c.in-Some.ensures.shorter);
 }

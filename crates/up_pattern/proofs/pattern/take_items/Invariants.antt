@@ -1,12 +1,12 @@
-use Rattle.std.proofs.Common.{◌≡◌, ◌≤◌, false, length}
-use Rattle.up_pattern.specs.Pattern.{symbols, all_items}
-use Rattle.up_pattern.specs.Matching.{IsFlat, Takes}
+use Rattle.std.proofs.Common.{◌≤◌, length}
+use Rattle.up_pattern.specs.Pattern.{all_items}
+use Rattle.up_pattern.specs.Matching.{Settled, Takes}
 use Rattle.up_pattern.proofs.pattern.take_items.Given as goal
 
 abbrev pub invariant-items : goal.invariant-items
 invariant-items l = record {
   takes : Takes (all_items l.fn.text) l.fn.bytes (all_items l.rest) l.left;
-  flat : l.ahead ≡ false → IsFlat (symbols l.rest);
+  settled : Settled l.unclosed l.rest;
   shorter : length l.rest ≤ length l.fn.text;
 }
 

@@ -1,5 +1,5 @@
-use Rattle.std.proofs.Common.{rules}
+use Rattle.up_engine.specs.Keys.{Resting}
 use Rattle.up_engine.proofs.engine.Engine.live_events.Goals as goal
 
 pub returns-clause-up : goal.returns-clause-up
-returns-clause-up c = search rules
+returns-clause-up c config c' s = c.live_events.ensures Resting config c' s.past

@@ -1,5 +1,25 @@
-use Rattle.std.proofs.Common.{rules}
+use Rattle.std.proofs.Common.{◌≡◌, ◌∙◌, sym, refl, ap, true, is_some}
+use Rattle.up_engine.specs.Keys.{Resting}
+use Rattle.up_engine.proofs.Entries.{is_some_map}
 use Rattle.up_engine.proofs.engine.Engine.step.Goals as goal
 
 pub returns-then-not-is_expected-clause-meaning : goal.returns-then-not-is_expected-clause-meaning
-returns-then-not-is_expected-clause-meaning c = search rules
+returns-then-not-is_expected-clause-meaning c config c' s = (sym (c.is_expected.ensures Resting config c' s.past) ∙ c.if-not-is_expected.true, s)
+
+pub returns-in-Err-clause-meaning : goal.returns-in-Err-clause-meaning
+returns-in-Err-clause-meaning c config c' s = (
+  sym (c.is_expected.ensures Resting config c' s.past) ∙ c.if-not-is_expected.false,
+  record {
+    down = refl;
+    live = c.live_events-self.ensures Resting config c' s.past;
+    turn = c.is_some-self.ensures ∙ is_some_map _ _ _ _ (c.turn.ensures config c' s.past);
+  },
+)
+
+pub returns-in-Ok-clause-meaning : goal.returns-in-Ok-clause-meaning
+returns-in-Ok-clause-meaning c config c' s =
+    let past = rw (sym s.setup) at s.past in (
+      sym (c.is_expected.ensures Resting config c' s.past) ∙ c.if-not-is_expected.false,
+      rw (sym s.setup) (c.in-Ok.ensures.outputs c' past),
+      record { up = refl; setup = s.setup; past = rw (sym s.setup) (c.in-Ok.ensures.after c' past) },
+    )

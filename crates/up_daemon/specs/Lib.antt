@@ -1,0 +1,5 @@
+pub mod Connected
+pub mod Closing
+pub mod Clients
+pub mod Sockets
+pub mod Speaking

@@ -1,0 +1,15 @@
+//! What a door's record tells.
+use up_text::Items;
+
+/// One call of a door that succeeded, with its arguments and its answer.
+#[derive(Drop)]
+pub enum Passed {
+    /// The client that was accepted, if one waited.
+    Accepted(Option<u32>),
+    /// The bytes that were read from the client, if it sent any; no bytes are the end of what it sends.
+    Read(u32, Option<Items<u8>>),
+    /// The bytes that were taken from the caller for the client.
+    Wrote(u32, Items<u8>),
+    /// The client was closed.
+    Closed(u32),
+}

@@ -1,0 +1,280 @@
+//! The door over a unix socket.
+ghost use Rattle.std.specs.Prelude.{◌≡◌, ◌≤◌, ℕ, [], false, length, None, IfOk, IfErr, IfSome, OnOk};
+ghost use Rattle.up_host.specs.Journals.{entries_of, fault_count};
+ghost use Rattle.up_host.specs.Telling.{with_fault};
+ghost use Rattle.up_daemon.specs.Clients.{has_client};
+ghost use Rattle.up_daemon.specs.Sockets.{path_refusal, IsOfSystem, SaysWhy};
+
+use crate::buffer::{copy_of, fill, zeros};
+use crate::door::Door;
+use crate::fault::DoorFault;
+use crate::passed::Passed;
+use crate::socket::{SocketFault, listen, path_refusal};
+use mio::net::{UnixListener, UnixStream};
+use mio::{Events, Interest, Poll, Token};
+use slab::Slab;
+use std::alloc::Global;
+use std::fs::Files;
+use std::io;
+use std::io::{ErrorKind, Read, Write};
+use std::net::Net;
+use std::time::Duration;
+use up_host::Journal;
+use up_text::Items;
+
+/// How many sockets that are ready one pause takes note of. The others are ready for the next.
+const MOST_EVENTS: usize = 64;
+
+/// The token of the listener. No client has it, since a client's is at most that of 32 bits.
+const LISTENER: usize = usize::MAX;
+
+/// A door over a unix socket, whose calls don't wait.
+#[derive(Drop)]
+pub struct UnixDoor {
+    alloc: Global,
+    listener: UnixListener,
+    poll: Poll,
+    events: Events,
+    clients: Slab<UnixStream>,
+    journal: Journal<Passed>,
+}
+
+// What was waiting to be let in.
+enum Arrival {
+    Client(UnixStream),
+    Nobody,
+    Failed,
+}
+
+// Whether an error only says that there is nothing to do now.
+fn is_for_later(error: &io::Error) -> bool {
+    matches!(error.kind(), ErrorKind::WouldBlock | ErrorKind::Interrupted)
+}
+
+// The client that waits, which a pause takes note of under the token.
+fn admit(listener: &UnixListener, poll: &Poll, token: usize) -> Arrival {
+    match listener.accept() {
+        Ok((stream, _)) => watched(poll, stream, token),
+        Err(error) => {
+            if is_for_later(&error) {
+                Arrival::Nobody
+            } else {
+                Arrival::Failed
+            }
+        }
+    }
+}
+
+fn watched(poll: &Poll, mut stream: UnixStream, token: usize) -> Arrival {
+    let both = Interest::READABLE | Interest::WRITABLE;
+    match poll.registry().register(&mut stream, Token(token), both) {
+        Ok(()) => Arrival::Client(stream),
+        Err(_) => Arrival::Failed,
+    }
+}
+
+// How many bytes the client sent; `None` if it sent none yet.
+fn receive(stream: &UnixStream, bytes: &mut [u8]) -> Result<Option<usize>, DoorFault>
+    ensures { IfOk result (λ found. IfSome found (λ count. count ≤ length bytes.old)) }
+{
+    let mut stream = stream;
+    match stream.read(bytes) {
+        Ok(count) => Ok(Some(count)),
+        Err(error) => {
+            if is_for_later(&error) {
+                Ok(None)
+            } else {
+                Err(DoorFault)
+            }
+        }
+    }
+}
+
+// How many bytes the client's socket took; 0 if it takes none now.
+fn send(stream: &UnixStream, bytes: &[u8]) -> Result<usize, DoorFault>
+    ensures { IfOk result (λ count. count ≤ length bytes.now) }
+{
+    let mut stream = stream;
+    match stream.write(bytes) {
+        Ok(count) => Ok(count),
+        Err(error) => {
+            if is_for_later(&error) {
+                Ok(0)
+            } else {
+                Err(DoorFault)
+            }
+        }
+    }
+}
+
+// A door at a path that a socket can have.
+fn open<R: Files + Net>(rt: &R, alloc: Global, path: &str) -> Result<UnixDoor, SocketFault>
+    ensures refused { IfErr result (λ fault. IsOfSystem fault) }
+    ensures entries { IfOk result (λ door. entries_of door.journal ≡ []) }
+    ensures faults { IfOk result (λ door. fault_count door.journal ≡ 0) }
+    ensures connected { IfOk result (λ door. (client : ℕ) → has_client door.clients client ≡ false) }
+{
+    let listener = listen(rt, alloc, path)?;
+    let Ok(poll) = Poll::new(rt) else {
+        return Err(SocketFault::Unusable);
+    };
+    let Ok(events) = Events::with_capacity(alloc, MOST_EVENTS) else {
+        return Err(SocketFault::Memory);
+    };
+    let mut door = UnixDoor {
+        alloc,
+        listener,
+        poll,
+        events,
+        clients: Slab::new(alloc),
+        journal: Journal::new(alloc),
+    };
+    if door.watch().is_err() {
+        return Err(SocketFault::Unusable);
+    }
+    Ok(door)
+}
+
+impl UnixDoor {
+    /// A door at a path where nothing is yet. Its socket can be used by its owner alone. Refused for an empty path, one of more
+    /// than 101 bytes, and one that exists; it is not removed when the door goes.
+    pub fn bind<R: Files + Net>(rt: &R, alloc: Global, path: &str) -> Result<Self, SocketFault>
+        ensures refused { IfErr result (λ fault. SaysWhy path.now fault) }
+        ensures usable { OnOk result (path_refusal path.now ≡ None) }
+        ensures entries { IfOk result (λ door. entries_of door.journal ≡ []) }
+        ensures faults { IfOk result (λ door. fault_count door.journal ≡ 0) }
+        ensures connected { IfOk result (λ door. (client : ℕ) → has_client door.clients client ≡ false) }
+    {
+        match path_refusal(path) {
+            Some(refusal) => Err(refusal),
+            None => open(rt, alloc, path),
+        }
+    }
+
+    /// Waits until a client or a byte comes, a client takes bytes again, or the time is over. Call it after a round that did
+    /// nothing alone: what became ready before a read, a write or an accept is not reported again.
+    pub fn pause(&mut self, most: Duration) -> io::Result<()>
+        ensures journal { self.new.journal ≡ self.old.journal }
+        ensures clients { self.new.clients ≡ self.old.clients }
+    {
+        self.poll.poll(&mut self.events, Some(most))
+    }
+
+    // A pause takes note of the listener from now on.
+    fn watch(&mut self) -> io::Result<()>
+        ensures journal { self.new.journal ≡ self.old.journal }
+        ensures clients { self.new.clients ≡ self.old.clients }
+    {
+        let registry = self.poll.registry();
+        registry.register(&mut self.listener, Token(LISTENER), Interest::READABLE)
+    }
+
+    // Counts a call that failed.
+    fn refuse(&mut self) -> DoorFault
+        ensures entries { entries_of self.new.journal ≡ entries_of self.old.journal }
+        ensures faults { fault_count self.new.journal ≡ with_fault (fault_count self.old.journal) }
+        ensures clients { self.new.clients ≡ self.old.clients }
+    {
+        self.journal.count_fault();
+        DoorFault
+    }
+}
+
+impl Door for UnixDoor {
+    ghost use Rattle.up_host.specs.Journals.{entries_of, fault_count};
+    ghost use Rattle.up_daemon.specs.Clients.{has_client};
+
+    ghost entries = { λ door. entries_of door.journal };
+
+    ghost faults = { λ door. fault_count door.journal };
+
+    ghost connected = { λ door. has_client door.clients };
+
+    fn accept(&mut self) -> Result<Option<u32>, DoorFault> {
+        if !self.journal.make_room() || self.clients.reserve(1).is_err() {
+            return Err(self.refuse());
+        }
+        let Ok(client) = u32::try_from(self.clients.vacant_key()) else {
+            return Err(self.refuse());
+        };
+        match admit(&self.listener, &self.poll, client as usize) {
+            Arrival::Client(stream) => {
+                let _ = self.clients.insert_reserved(stream);
+                self.journal.add(Passed::Accepted(Some(client)));
+                Ok(Some(client))
+            }
+            Arrival::Nobody => {
+                self.journal.add(Passed::Accepted(None));
+                Ok(None)
+            }
+            Arrival::Failed => Err(self.refuse()),
+        }
+    }
+
+    fn read(&mut self, client: u32, buffer: &mut [u8]) -> Result<Option<usize>, DoorFault> {
+        if !self.journal.make_room() {
+            return Err(self.refuse());
+        }
+        let Ok(mut bytes) = zeros(self.alloc, buffer.len()) else {
+            return Err(self.refuse());
+        };
+        let Some(stream) = self.clients.get(client as usize) else {
+            return Err(self.refuse());
+        };
+        match receive(stream, &mut bytes) {
+            Ok(Some(count)) => {
+                bytes.truncate(count);
+                fill(buffer, &bytes);
+                self.journal
+                    .add(Passed::Read(client, Some(Items::new(bytes))));
+                Ok(Some(count))
+            }
+            Ok(None) => {
+                self.journal.add(Passed::Read(client, None));
+                Ok(None)
+            }
+            Err(_) => Err(self.refuse()),
+        }
+    }
+
+    fn write(&mut self, client: u32, bytes: &[u8]) -> Result<usize, DoorFault> {
+        if !self.journal.make_room() {
+            return Err(self.refuse());
+        }
+        let Ok(mut told) = copy_of(self.alloc, bytes) else {
+            return Err(self.refuse());
+        };
+        let Some(stream) = self.clients.get(client as usize) else {
+            return Err(self.refuse());
+        };
+        match send(stream, bytes) {
+            Ok(count) => {
+                told.truncate(count);
+                self.journal.add(Passed::Wrote(client, Items::new(told)));
+                Ok(count)
+            }
+            Err(_) => Err(self.refuse()),
+        }
+    }
+
+    fn close(&mut self, client: u32) {
+        drop(self.clients.try_remove(client as usize));
+        if self.journal.make_room() {
+            self.journal.add(Passed::Closed(client));
+        } else {
+            self.journal.count_fault();
+        }
+    }
+
+    fn faults(&self) -> u64 {
+        self.journal.faults()
+    }
+
+    fn happened(&self) -> &[Passed] {
+        self.journal.entries()
+    }
+
+    fn clear_record(&mut self) {
+        self.journal.clear();
+    }
+}

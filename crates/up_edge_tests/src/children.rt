@@ -1,0 +1,322 @@
+//! Real children.
+use crate::orders::{order_in, same, shell, who};
+use std::alloc::Global;
+use std::test::Fail;
+use std::time::{Duration, Instant};
+use std::{env, fs, io, process, thread};
+use up_host::{Happened, Host, HostFault, RealHost};
+use up_model::{How, Process};
+
+type System = RealHost<HostRuntime>;
+
+/// How long an end is waited for, in milliseconds.
+const MOST_WAIT: u32 = 20_000;
+
+fn host_of(rt: &HostRuntime) -> io::Result<System> {
+    RealHost::new(rt.alloc(), rt.clone()?)
+}
+
+// How a process ended, by its next end.
+fn polled(host: &mut System) -> Result<Option<How>, HostFault> {
+    match host.poll()? {
+        Some((_, Process::Main, how)) => Ok(Some(how)),
+        Some(_) | None => Ok(None),
+    }
+}
+
+fn pause(rt: &HostRuntime, milliseconds: u64) {
+    thread::sleep(rt, Duration::from_millis(milliseconds));
+}
+
+// The next end, once it comes.
+fn next_end(rt: &HostRuntime, host: &mut System) -> Result<Option<How>, Fail> {
+    for _ in 0..MOST_WAIT {
+        if let Some(how) = polled(host)? {
+            return Ok(Some(how));
+        }
+        pause(rt, 1);
+    }
+    Ok(None)
+}
+
+fn run_line(rt: &HostRuntime, host: &mut System, line: &str) -> Result<u32, Fail> {
+    let order = shell(rt.alloc(), line)?;
+    Ok(host.spawn(&order)?)
+}
+
+fn send(rt: &HostRuntime, host: &mut System, pid: u32, signal: u8) -> Result<(), Fail> {
+    let who = who(rt.alloc())?;
+    Ok(host.signal(&who, pid, signal)?)
+}
+
+struct Refused {
+    name: &'static str,
+    dir: &'static str,
+    program: &'static str,
+}
+
+const REFUSED: &'static [Refused] = &[
+    Refused {
+        name: "a missing program",
+        dir: "/",
+        program: "/no/such/program",
+    },
+    Refused {
+        name: "a folder that isn't there",
+        dir: "/no/such/folder",
+        program: "/bin/true",
+    },
+    Refused {
+        name: "a program that can't be executed",
+        dir: "/",
+        program: "/etc/passwd",
+    },
+];
+
+fn is_refused(rt: &HostRuntime, host: &mut System, case: &Refused) -> Result<bool, Fail> {
+    let order = order_in(rt.alloc(), case.dir, &[case.program], true)?;
+    Ok(host.spawn(&order) == Err(HostFault))
+}
+
+fn try_refused(rt: &HostRuntime, host: &mut System) -> Result<(), Fail> {
+    for case in REFUSED {
+        same(case.name, is_refused(rt, host, case)?, true)?;
+    }
+    same(
+        "entries and faults",
+        (host.happened().len(), host.faults()),
+        (0, 3),
+    )?;
+    let left = children(rt)?;
+    same("children that are left", left.as_str(), "")?;
+    Ok(())
+}
+
+// The processes that this one started and that it has not waited for.
+fn children(rt: &HostRuntime) -> io::Result<String> {
+    fs::read_to_string(rt, "/proc/thread-self/children")
+}
+
+#[test]
+fn what_cannot_start_is_refused_and_leaves_no_zombie(rt: HostRuntime) -> Result<(), Fail> {
+    let mut host = host_of(&rt)?;
+    try_refused(&rt, &mut host)
+}
+
+struct Ending {
+    line: &'static str,
+    how: How,
+}
+
+const ENDINGS: &'static [Ending] = &[
+    Ending {
+        line: "exit 0",
+        how: How::Exit(0),
+    },
+    Ending {
+        line: "exit 7",
+        how: How::Exit(7),
+    },
+    Ending {
+        line: "exit 255",
+        how: How::Exit(255),
+    },
+    Ending {
+        line: "kill -s TERM $$",
+        how: How::Signal(15),
+    },
+    Ending {
+        line: "kill -s KILL $$",
+        how: How::Signal(9),
+    },
+];
+
+fn try_endings(rt: &HostRuntime, host: &mut System) -> Result<(), Fail> {
+    for case in ENDINGS {
+        run_line(rt, host, case.line)?;
+        let found = next_end(rt, host)?;
+        same(case.line, found, Some(case.how))?;
+    }
+    same("a poll", polled(host)?, None)?;
+    same("faults", host.faults(), 0)?;
+    Ok(())
+}
+
+#[test]
+fn an_end_is_reported_as_it_came(rt: HostRuntime) -> Result<(), Fail> {
+    let mut host = host_of(&rt)?;
+    try_endings(&rt, &mut host)
+}
+
+// Starts so many children that end at once.
+fn start_many(rt: &HostRuntime, host: &mut System, count: u32) -> Result<(), Fail> {
+    let order = order_in(rt.alloc(), "/", &["/bin/true"], true)?;
+    for _ in 0..count {
+        let _ = host.spawn(&order)?;
+    }
+    Ok(())
+}
+
+// How many ends come.
+fn count_ends(rt: &HostRuntime, host: &mut System, most: u32) -> Result<u32, Fail> {
+    for count in 0..most {
+        if next_end(rt, host)? != Some(How::Exit(0)) {
+            return Ok(count);
+        }
+    }
+    Ok(most)
+}
+
+fn try_many(rt: &HostRuntime, host: &mut System) -> Result<(), Fail> {
+    start_many(rt, host, 600)?;
+    let count = count_ends(rt, host, 600)?;
+    same("ends", count, 600)?;
+    same("a poll", polled(host)?, None)?;
+    let left = children(rt)?;
+    same("children that are left", left.as_str(), "")?;
+    Ok(())
+}
+
+#[test]
+fn children_that_end_at_once_have_one_end_each(rt: HostRuntime) -> Result<(), Fail> {
+    let mut host = host_of(&rt)?;
+    try_many(&rt, &mut host)
+}
+
+fn try_kill(rt: &HostRuntime, host: &mut System) -> Result<(), Fail> {
+    let pid = run_line(rt, host, "trap '' TERM; exec sleep 50")?;
+    pause(rt, 300);
+    send(rt, host, pid, 15)?;
+    pause(rt, 300);
+    same("a poll", polled(host)?, None)?;
+    send(rt, host, pid, 9)?;
+    same("an end", next_end(rt, host)?, Some(How::Signal(9)))?;
+    same("a poll", polled(host)?, None)?;
+    let left = children(rt)?;
+    same("children that are left", left.as_str(), "")?;
+    same("faults", host.faults(), 0)?;
+    Ok(())
+}
+
+#[test]
+fn a_child_that_ignores_term_is_ended_by_kill(rt: HostRuntime) -> Result<(), Fail> {
+    let mut host = host_of(&rt)?;
+    try_kill(&rt, &mut host)
+}
+
+fn try_signals(rt: &HostRuntime, host: &mut System) -> Result<(), Fail> {
+    let pid = run_line(rt, host, "exec sleep 50")?;
+    send(rt, host, pid, 1)?;
+    same("an end", next_end(rt, host)?, Some(How::Signal(1)))?;
+    let who = who(rt.alloc())?;
+    same("a signal", host.signal(&who, pid, 9), Err(HostFault))?;
+    same("a signal", host.signal(&who, 1, 15), Err(HostFault))?;
+    same("faults", host.faults(), 2)?;
+    Ok(())
+}
+
+#[test]
+fn a_signal_reaches_a_child_and_no_stranger(rt: HostRuntime) -> Result<(), Fail> {
+    let mut host = host_of(&rt)?;
+    try_signals(&rt, &mut host)
+}
+
+fn try_poll(rt: &HostRuntime, host: &mut System) -> Result<(), Fail> {
+    let pid = run_line(rt, host, "exec sleep 20")?;
+    let start = Instant::now(rt)?;
+    let found = polled(host)?;
+    let spent = start.elapsed(rt)?;
+    same("a poll of a child that lives", found, None)?;
+    same("the time of a poll", spent < Duration::from_secs(5), true)?;
+    send(rt, host, pid, 9)?;
+    same("an end", next_end(rt, host)?, Some(How::Signal(9)))?;
+    Ok(())
+}
+
+#[test]
+fn a_poll_does_not_wait(rt: HostRuntime) -> Result<(), Fail> {
+    let mut host = host_of(&rt)?;
+    try_poll(&rt, &mut host)
+}
+
+// A file of this test run.
+fn path_of(rt: &HostRuntime, name: &str) -> Result<String, Fail> {
+    let folder = env::temp_dir(rt)?;
+    let pid = process::id(rt.process());
+    let name = format!(in rt.alloc(); "up_edge_tests-{name}-{pid}")?;
+    let path = folder.join(rt.alloc(), name.as_str())?;
+    Ok(String::from_str(rt.alloc(), path.as_path().as_str())?)
+}
+
+// What a line writes to its output, which is a file. The shell stays, and keeps its own streams.
+fn written(rt: &HostRuntime, name: &str, line: &str, silent: bool) -> Result<String, Fail> {
+    let path = path_of(rt, name)?;
+    write_to(rt, path.as_str(), line, silent)?;
+    let written = fs::read_to_string(rt, path.as_str())?;
+    fs::remove_file(rt, path.as_str())?;
+    Ok(written)
+}
+
+fn write_to(rt: &HostRuntime, path: &str, line: &str, silent: bool) -> Result<(), Fail> {
+    let line = format!(in rt.alloc(); "({line}) > {path}; exit 0")?;
+    let mut host = host_of(rt)?;
+    run_to_end(rt, &mut host, line.as_str(), silent)
+}
+
+fn run_to_end(rt: &HostRuntime, host: &mut System, line: &str, silent: bool) -> Result<(), Fail> {
+    let order = order_in(rt.alloc(), "/usr", &["/bin/sh", "-c", line], silent)?;
+    let _ = host.spawn(&order)?;
+    let _ = next_end(rt, host)?;
+    Ok(())
+}
+
+#[test]
+fn the_environment_is_the_order_s_pairs_alone(rt: HostRuntime) -> Result<(), Fail> {
+    let env = written(&rt, "env", "/bin/cat /proc/$$/environ", true)?;
+    assert_eq!(rt; env.as_str(), "A=1\0B=2 3\0");
+    let dir = written(&rt, "dir", "/bin/pwd", true)?;
+    assert_eq!(rt; dir.as_str(), "/usr\n");
+    Ok(())
+}
+
+#[test]
+fn a_silent_process_has_no_output_and_none_has_input(rt: HostRuntime) -> Result<(), Fail> {
+    let streams = "readlink /proc/$$/fd/0 /proc/$$/fd/1 /proc/$$/fd/2";
+    let silent = written(&rt, "silent", streams, true)?;
+    assert_eq!(rt; silent.as_str(), "/dev/null\n/dev/null\n/dev/null\n");
+    let own = written(
+        &rt,
+        "own",
+        "readlink /proc/$PPID/fd/1 /proc/$PPID/fd/2",
+        false,
+    )?;
+    let inherited = written(&rt, "loud", "readlink /proc/$$/fd/1 /proc/$$/fd/2", false)?;
+    assert_eq!(rt; own.as_str(), inherited.as_str());
+    Ok(())
+}
+
+fn try_clock(rt: &HostRuntime, host: &mut System) -> Result<(), Fail> {
+    let first = host.now()?;
+    pause(rt, 20);
+    let second = host.now()?;
+    same(
+        "two readings",
+        first < 5_000 && first + 20 <= second && second < 20_000,
+        true,
+    )?;
+    match host.happened() {
+        [Happened::Now(a), Happened::Now(b)] => {
+            same("the record", *a == first && *b == second, true)?;
+        }
+        _ => return Err(Fail::new("no two readings in the record")),
+    }
+    host.clear_record();
+    same("an empty record", host.happened().is_empty(), true)?;
+    Ok(())
+}
+
+#[test]
+fn the_clock_begins_at_0_and_goes_on(rt: HostRuntime) -> Result<(), Fail> {
+    let mut host = host_of(&rt)?;
+    try_clock(&rt, &mut host)
+}

@@ -1,0 +1,54 @@
+//! The orders that the tests give, and what they look for.
+use std::alloc::Global;
+use std::fmt::Debug;
+use std::test::Fail;
+use up_model::{Order, Process, Who};
+use up_text::{Env, Items, Name, Text};
+
+/// The instance of every order.
+pub(crate) fn who(alloc: Global) -> Result<Who, Fail> {
+    Ok(Who {
+        job: Name::new(alloc, "a")?,
+        instance: Text::from_str(alloc, "tty1")?,
+    })
+}
+
+fn words(alloc: Global, words: &[&str]) -> Result<Items<Text>, Fail> {
+    let mut texts: Vec<Text> = Vec::new(alloc);
+    for word in words {
+        texts.push(Text::from_str(alloc, word)?)?;
+    }
+    Ok(Items::new(texts))
+}
+
+fn env_of(alloc: Global) -> Result<Env, Fail> {
+    let mut env = Env::new(alloc);
+    env.set("B", "2 3")?;
+    env.set("A", "1")?;
+    Ok(env)
+}
+
+/// An order to run these words in a folder, with the environment of two variables.
+pub(crate) fn order_in(alloc: Global, dir: &str, argv: &[&str], silent: bool) -> Result<Order, Fail> {
+    Ok(Order {
+        who: who(alloc)?,
+        process: Process::Main,
+        argv: words(alloc, argv)?,
+        dir: Text::from_str(alloc, dir)?,
+        silent,
+        env: env_of(alloc)?,
+    })
+}
+
+/// An order for the shell to run a line.
+pub(crate) fn shell(alloc: Global, line: &str) -> Result<Order, Fail> {
+    order_in(alloc, "/", &["/bin/sh", "-c", line], true)
+}
+
+/// Fails with the case's name, what came and what was expected, unless these are the same.
+pub(crate) fn same<T: PartialEq + Debug + Drop>(case: &str, found: T, expected: T) -> Result<(), Fail> {
+    if found == expected {
+        return Ok(());
+    }
+    Err(Fail::new(format_args!("{case}: found {found:?}, expected {expected:?}")))
+}

@@ -1,0 +1,226 @@
+//! Real sockets.
+use crate::orders::same;
+use mio::net::UnixStream;
+use std::fs::{metadata, remove_file};
+use std::io::{Read, Write};
+use std::os::unix::fs::PermissionsExt;
+use std::test::Fail;
+use std::time::{Duration, Instant};
+use std::{env, process};
+use up_daemon::{Door, DoorFault, SocketFault, UnixDoor};
+
+// A path of this test run.
+fn path_of(rt: &HostRuntime, name: &str) -> Result<String, Fail> {
+    let folder = env::temp_dir(rt)?;
+    let pid = process::id(rt.process());
+    let name = format!(in rt.alloc(); "up_edge-{name}-{pid}")?;
+    let path = folder.join(rt.alloc(), name.as_str())?;
+    Ok(String::from_str(rt.alloc(), path.as_path().as_str())?)
+}
+
+fn bind(rt: &HostRuntime, path: &str) -> Result<UnixDoor, SocketFault> {
+    UnixDoor::bind(rt, rt.alloc(), path)
+}
+
+// Clients of the socket at a path, whose name goes then.
+fn clients_of(rt: &HostRuntime, path: &str, count: u32) -> Result<Vec<UnixStream>, Fail> {
+    let mut streams: Vec<UnixStream> = Vec::new(rt.alloc());
+    for _ in 0..count {
+        streams.push(UnixStream::connect(rt, path)?)?;
+    }
+    remove_file(rt, path)?;
+    Ok(streams)
+}
+
+fn client_of(rt: &HostRuntime, path: &str) -> Result<UnixStream, Fail> {
+    let stream = UnixStream::connect(rt, path)?;
+    remove_file(rt, path)?;
+    Ok(stream)
+}
+
+fn refusal(rt: &HostRuntime, path: &str) -> Option<SocketFault> {
+    bind(rt, path).err()
+}
+
+#[test]
+fn a_path_that_is_empty_or_too_long_or_there_is_refused(rt: HostRuntime) -> Result<(), Fail> {
+    let long =
+        "/tmp/aaaaaaaaaaaaaaaaaaaaaaaaaaaaaaaaaaaaaaaaaaaaaaaaaaaaaaaaaaaaaaaaaaaaaaaaaaaaaaaaaaaaaaaaaaaaaaaaa";
+    assert_eq!(rt; long.len(), 102);
+    assert_eq!(rt; refusal(&rt, ""), Some(SocketFault::Empty));
+    assert_eq!(rt; refusal(&rt, long), Some(SocketFault::TooLong));
+    assert_eq!(rt; refusal(&rt, "/tmp"), Some(SocketFault::Exists));
+    assert_eq!(rt;
+        refusal(&rt, "/no/such/folder/s"),
+        Some(SocketFault::Unusable)
+    );
+    Ok(())
+}
+
+// The mode of a socket, whether it can be made again, and whether the folder in which it was made is left.
+fn try_mode(rt: &HostRuntime, path: &str) -> Result<(), Fail> {
+    let mode = metadata(rt, path)?.permissions().mode();
+    let again = refusal(rt, path);
+    let folder = format!(in rt.alloc(); "{path}.new")?;
+    let left = metadata(rt, folder.as_str()).is_ok();
+    remove_file(rt, path)?;
+    same("the mode", mode % 0o1000, 0o600)?;
+    same("the path again", again, Some(SocketFault::Exists))?;
+    same("the folder is gone", !left, true)?;
+    Ok(())
+}
+
+#[test]
+fn the_socket_is_its_owner_s_alone(rt: HostRuntime) -> Result<(), Fail> {
+    let path = path_of(&rt, "mode")?;
+    let _door = bind(&rt, path.as_str())?;
+    try_mode(&rt, path.as_str())
+}
+
+fn try_half(rt: &HostRuntime, door: &mut UnixDoor, path: &str) -> Result<(), Fail> {
+    let mut stream = client_of(rt, path)?;
+    let mut buffer = [0u8; 8];
+    same("accepts", door.accept(), Ok(Some(0)))?;
+    same("a read", door.read(0, &mut buffer), Ok(None))?;
+    stream.write_all(b"\0\0\0")?;
+    same("a read", door.read(0, &mut buffer), Ok(Some(3)))?;
+    same("a read", door.read(0, &mut buffer), Ok(None))?;
+    same(
+        "entries and faults",
+        (door.happened().len(), door.faults()),
+        (4, 0),
+    )?;
+    door.clear_record();
+    same("an empty record", door.happened().is_empty(), true)?;
+    Ok(())
+}
+
+#[test]
+fn half_a_frame_comes_and_then_nothing(rt: HostRuntime) -> Result<(), Fail> {
+    let path = path_of(&rt, "half")?;
+    let mut door = bind(&rt, path.as_str())?;
+    try_half(&rt, &mut door, path.as_str())
+}
+
+fn try_gone(rt: &HostRuntime, door: &mut UnixDoor, path: &str) -> Result<(), Fail> {
+    let mut stream = client_of(rt, path)?;
+    let mut buffer = [0u8; 8];
+    same("accepts", door.accept(), Ok(Some(0)))?;
+    stream.write_all(b"ab")?;
+    drop(stream);
+    same("writes", door.write(0, b"xyz"), Err(DoorFault))?;
+    same("a read", door.read(0, &mut buffer), Ok(Some(2)))?;
+    same("a read", door.read(0, &mut buffer), Ok(Some(0)))?;
+    same("faults", door.faults(), 1)?;
+    door.close(0);
+    same("a read", door.read(0, &mut buffer), Err(DoorFault))?;
+    Ok(())
+}
+
+#[test]
+fn a_peer_that_closes_leaves_its_bytes_and_the_process_alive(rt: HostRuntime) -> Result<(), Fail> {
+    let path = path_of(&rt, "gone")?;
+    let mut door = bind(&rt, path.as_str())?;
+    try_gone(&rt, &mut door, path.as_str())
+}
+
+// How many bytes a client that never reads takes, in writes of 4,096 bytes.
+fn filled(door: &mut UnixDoor, client: u32) -> Result<usize, DoorFault> {
+    let bytes = [7u8; 4096];
+    let mut sum = 0usize;
+    for _ in 0..10_000u32 {
+        let count = door.write(client, &bytes)?;
+        if count == 0 {
+            return Ok(sum);
+        }
+        sum = sum.saturating_add(count);
+    }
+    Err(DoorFault)
+}
+
+fn try_full(rt: &HostRuntime, door: &mut UnixDoor, path: &str) -> Result<(), Fail> {
+    let mut streams = clients_of(rt, path, 2)?;
+    same(
+        "accepts",
+        (door.accept(), door.accept()),
+        (Ok(Some(0)), Ok(Some(1))),
+    )?;
+    same("bytes that were taken", filled(door, 0)? > 0, true)?;
+    same(
+        "writes",
+        (door.write(0, b"x"), door.write(1, b"x")),
+        (Ok(0), Ok(1)),
+    )?;
+    let mut buffer = [0u8; 8];
+    if let Some(stream) = streams.last_mut() {
+        same("bytes of the other client", stream.read(&mut buffer)?, 1)?;
+    }
+    same("faults", door.faults(), 0)?;
+    Ok(())
+}
+
+#[test]
+fn a_client_that_never_reads_fills_its_socket_alone(rt: HostRuntime) -> Result<(), Fail> {
+    let path = path_of(&rt, "full")?;
+    let mut door = bind(&rt, path.as_str())?;
+    try_full(&rt, &mut door, path.as_str())
+}
+
+// How many clients wait, whose numbers are 0 and so on.
+fn accept_all(door: &mut UnixDoor) -> Result<u32, DoorFault> {
+    for count in 0..100 {
+        match door.accept()? {
+            Some(client) => {
+                if client != count {
+                    return Err(DoorFault);
+                }
+            }
+            None => return Ok(count),
+        }
+    }
+    Err(DoorFault)
+}
+
+fn try_many(rt: &HostRuntime, door: &mut UnixDoor, path: &str) -> Result<(), Fail> {
+    let streams = clients_of(rt, path, 65)?;
+    same("accepts", accept_all(door), Ok(65))?;
+    same(
+        "entries and faults",
+        (door.happened().len(), streams.len()),
+        (66, 65),
+    )?;
+    Ok(())
+}
+
+#[test]
+fn many_clients_have_numbers_of_their_own(rt: HostRuntime) -> Result<(), Fail> {
+    let path = path_of(&rt, "many")?;
+    let mut door = bind(&rt, path.as_str())?;
+    try_many(&rt, &mut door, path.as_str())
+}
+
+// How long a pause of at most two seconds took, in milliseconds.
+fn paused(rt: &HostRuntime, door: &mut UnixDoor) -> Result<u128, Fail> {
+    let start = Instant::now(rt)?;
+    door.pause(Duration::from_secs(2))?;
+    Ok(start.elapsed(rt)?.as_millis())
+}
+
+fn try_pause(rt: &HostRuntime, door: &mut UnixDoor, path: &str) -> Result<(), Fail> {
+    same("a pause", paused(rt, door)? >= 1_900, true)?;
+    let mut stream = client_of(rt, path)?;
+    same("a pause", paused(rt, door)? < 1_000, true)?;
+    same("accepts", door.accept(), Ok(Some(0)))?;
+    same("a pause", paused(rt, door)? < 1_000, true)?;
+    same("a pause", paused(rt, door)? >= 1_900, true)?;
+    stream.write_all(b"a")?;
+    same("a pause", paused(rt, door)? < 1_000, true)?;
+    Ok(())
+}
+
+#[test]
+fn a_pause_ends_when_a_client_or_a_byte_comes(rt: HostRuntime) -> Result<(), Fail> {
+    let path = path_of(&rt, "pause")?;
+    let mut door = bind(&rt, path.as_str())?;
+    try_pause(&rt, &mut door, path.as_str())
+}

@@ -1,0 +1,79 @@
+-- Lists of entries.
+use Rattle.std.proofs.Common.{◌≡◌, ℕ, false, true, Bool, List, [], ◌∷◌, ◌++◌, Option, None, Some, is_some, option_map, map, refl, sym, ◌∙◌, ap, append_assoc}
+use Rattle.up_engine.specs.Keys.{instance_at}
+use Rattle.up_model.specs.declared.failure.Verdict.{Verdict}
+use Rattle.up_model.specs.declared.failure.Verdict.TheVariants as verdict
+use Rattle.up_model.specs.declared.input.Input.{Input}
+use Rattle.up_model.specs.Chronicle.{Chronicle, Entry, Given, Offered, Fired, StartOn, StopOn}
+use Rattle.up_model.specs.Judgement.{carry_out}
+use Rattle.up_model.specs.Tests.{or_else}
+use Rattle.up_model.specs.Values.{Bytes}
+use Rattle.up_text.specs.Scripts.{is_filled}
+
+pub none_nil : (entries : List Entry) → is_filled entries ≡ false → entries ≡ []
+none_nil [] none = refl
+none_nil (entry ∷ entries) none = cc
+
+pub or_else-some : (entries others : List Entry) → is_filled entries ≡ true → or_else entries others ≡ entries
+or_else-some [] others some = cc
+or_else-some (entry ∷ entries) others some = refl
+
+pub or_else-none : (entries others : List Entry) → is_filled entries ≡ false → or_else entries others ≡ others
+or_else-none [] others none = refl
+or_else-none (entry ∷ entries) others none = cc
+
+pub filled_last : (entries : List Entry) (last : Entry) → is_filled (entries ++ last ∷ []) ≡ true
+filled_last [] last = refl
+filled_last (entry ∷ entries) last = refl
+
+pub filled_append : (entries others : List Entry) → is_filled others ≡ true → is_filled (entries ++ others) ≡ true
+filled_append [] others h = h
+filled_append (entry ∷ entries) others h = refl
+
+pub filled_five : (xs ys zs ws : List Entry) (last : Entry) → is_filled (xs ++ (ys ++ (zs ++ (ws ++ last ∷ [])))) ≡ true
+filled_five xs ys zs ws last =
+    filled_append xs (ys ++ (zs ++ (ws ++ last ∷ []))) (filled_append ys (zs ++ (ws ++ last ∷ [])) (filled_append zs (ws ++ last ∷ []) (filled_last ws last)))
+
+-- entries before entries before one, all before a chronicle
+pub one_last : (xs : List Entry) (x : Entry) (c : List Entry) → (xs ++ x ∷ []) ++ c ≡ xs ++ x ∷ c
+one_last xs x c = append_assoc xs (x ∷ []) c
+
+pub two_last : (xs : List Entry) (x y : Entry) (c : List Entry) → ((xs ++ x ∷ []) ++ y ∷ []) ++ c ≡ xs ++ x ∷ y ∷ c
+two_last xs x y c = simp append_assoc
+
+-- what a key found stands for
+pub named_some : {K : Type 0} (places : K → Option ℕ) (key : K) (found : Option ℕ) → option_map places (Some key) ≡ option_map Some found
+    → (i : ℕ) × (found ≡ Some i) × (places key ≡ Some i)
+named_some places key None h = absurd cc
+named_some places key (Some i) h = (i, refl, cc)
+
+pub named_none : {K : Type 0} (places : K → Option ℕ) (found : Option ℕ) → option_map places None ≡ option_map Some found → found ≡ None
+named_none places None h = refl
+named_none places (Some i) h = absurd cc
+
+pub some_same : {X : Type 0} {x y : X} → Some x ≡ Some y → x ≡ y
+some_same e = cc
+
+-- a search that answers as much as another
+pub is_some_map : {A B C : Type 0} (f : A → C) (g : B → C) (x : Option A) (y : Option B) → option_map f x ≡ option_map g y → is_some x ≡ is_some y
+is_some_map f g None None e = refl
+is_some_map f g None (Some y) e = absurd cc
+is_some_map f g (Some x) None e = absurd cc
+is_some_map f g (Some x) (Some y) e = refl
+
+-- entries with equal parts
+pub same_offer : {i j d e : ℕ} → i ≡ j → d ≡ e → Offered (StopOn i) d ≡ Offered (StopOn j) e
+same_offer p q = cc
+
+pub same_start : {job other : Bytes} {xs ys : List ℕ} → job ≡ other → xs ≡ ys → Fired (StartOn job) xs ≡ Fired (StartOn other) ys
+same_start p q = cc
+
+pub same_instance : {i j : ℕ} {name other : Bytes} → i ≡ j → name ≡ other → instance_at i name ≡ instance_at j other
+same_instance p q = cc
+
+-- a verdict is carried out after an input as before it
+pub carry_out-given : (i : ℕ) (its : Verdict) (given : Input) (c : Chronicle) → carry_out i its (Given given ∷ c) ≡ carry_out i its c
+carry_out-given i verdict.Note given c = refl
+carry_out-given i verdict.Respawn given c = refl
+carry_out-given i verdict.Stop given c = refl
+carry_out-given i (verdict.Fail failure) given c = refl

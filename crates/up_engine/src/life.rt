@@ -1,0 +1,54 @@
+//! What a job's processes run, and tests on goals and states.
+ghost use Rattle.std.specs.Prelude.{◌≡◌};
+ghost use Rattle.std.specs.Option.{option_copied};
+ghost use Rattle.up_engine.specs.Keys.{is_waiting};
+ghost use Rattle.up_model.specs.Moves as model;
+ghost use Rattle.up_model.specs.Tests as test;
+
+use up_conf::Action;
+use up_model::{Goal, JobDef, Process, State};
+
+pub(crate) fn is_start(goal: Goal) -> bool
+    ensures { result ≡ test.is_start goal }
+{
+    match goal {
+        Goal::Start => true,
+        Goal::Stop => false,
+    }
+}
+
+pub(crate) fn is_waiting(state: State) -> bool
+    ensures { result ≡ is_waiting state }
+{
+    match state {
+        State::Waiting => true,
+        State::Starting
+        | State::PreStart
+        | State::Spawned
+        | State::PostStart
+        | State::Running
+        | State::PreStop
+        | State::Stopping
+        | State::Killed
+        | State::PostStop => false,
+    }
+}
+
+/// What a process of a job runs.
+pub(crate) fn action_of(job: &JobDef, process: Process) -> Option<&Action>
+    ensures { option_copied result ≡ model.action_of job.now process }
+{
+    match process {
+        Process::Main => job.main.as_ref(),
+        Process::PreStart => job.pre_start.as_ref(),
+        Process::PostStart => job.post_start.as_ref(),
+        Process::PreStop => job.pre_stop.as_ref(),
+        Process::PostStop => job.post_stop.as_ref(),
+    }
+}
+
+pub(crate) fn has_process(job: &JobDef, process: Process) -> bool
+    ensures { result ≡ model.has_process job.now process }
+{
+    action_of(job, process).is_some()
+}

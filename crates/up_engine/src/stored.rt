@@ -1,0 +1,549 @@
+//! A book that stores all that happened: the plain program of the model, with which a cleverer one can be compared.
+ghost use Rattle.std.specs.Prelude.{◌≡◌, ℕ, List, ◌∷◌, [], map, length, OnOk, OnErr, IfOk, Some};
+ghost use Rattle.std.specs.Option.{option_copied};
+ghost use Rattle.up_engine.specs.Groups.{listed};
+ghost use Rattle.up_engine.specs.Keys.{Resting, Stepping};
+ghost use Rattle.up_engine.specs.Queues.{live_of};
+ghost use Rattle.up_engine.specs.Records.{chronicle, entry_of, expression_of, place_of, event_key};
+ghost use Rattle.up_model.specs.declared.input.Input.{Input as InputValue};
+ghost use Rattle.up_model.specs.declared.state.Goal.TheVariants.{Stop as goal_stop};
+ghost use Rattle.up_model.specs.declared.state.State.TheVariants.{Waiting as waiting};
+ghost use Rattle.up_model.specs.Chronicle.{Chronicle, Entry};
+ghost use Rattle.up_model.specs.Chronicle as entry;
+ghost use Rattle.up_model.specs.Configuration.{Configuration};
+ghost use Rattle.up_model.specs.Instances.{instances_of};
+ghost use Rattle.up_model.specs.Queue as model;
+ghost use Rattle.up_model.specs.Readings as read;
+ghost use Rattle.up_model.specs.Values.{Bytes};
+
+use crate::book::Book;
+use crate::groups::{Group, insert_slot, remove_everywhere, slots_of};
+use crate::held::turn_event;
+use crate::keys::{EventKey, InstanceKey, Live, Slot};
+use crate::outputs::outputs;
+use crate::queue::{mark_handled, remove};
+use crate::reading::{life, place, process, seen};
+use crate::record::{Expression, Origin, Record, Wanted};
+use crate::setup::Setup;
+use crate::truth::{Verdict, verdict_of};
+use std::alloc::{AllocError, Global};
+use up_expr::Condition;
+use up_model::{Answer, Event, Failure, Goal, Input, JobDef, Output, Process, State};
+use up_text::{Env, Items, Name, Text};
+
+fn count(records: &Vec<Record>) -> usize
+    ensures { result ≡ length (chronicle records.now.items) }
+{
+    records.len()
+}
+
+fn push(records: &mut Vec<Record>, next: Record) -> Result<(), AllocError>
+    ensures { OnOk result (chronicle records.new.items ≡ entry_of next ∷ chronicle records.old.items) }
+{
+    records.push(next)?;
+    Ok(())
+}
+
+// The queue after one record more.
+fn update_queue(queue: &mut Vec<Live>, next: &Record, place: usize) -> Result<(), AllocError>
+    ensures { OnOk result ((c : Chronicle) → length c ≡ place → map live_of queue.old.items ≡ model.queue c
+        → map live_of queue.new.items ≡ model.queue (entry_of next.now ∷ c)) }
+{
+    match next {
+        Record::Queued { .. } => {
+            queue.push(Live {
+                key: EventKey { place },
+                handled: false,
+            })?;
+        }
+        Record::Handled(event) => mark_handled(queue, *event),
+        Record::Finished(event) => remove(queue, *event),
+        _ => {}
+    }
+    Ok(())
+}
+
+fn add_instance(
+    alloc: Global,
+    groups: &mut Vec<Group>,
+    job: &Name,
+    name: &Text,
+    place: usize,
+) -> Result<(), AllocError>
+    ensures { OnOk result ((c : Chronicle) → length c ≡ place → ((k : Bytes) → listed k groups.old.items ≡ instances_of k c)
+        → (k : Bytes) → listed k groups.new.items ≡ instances_of k (entry.Made job.now name.now ∷ c)) }
+{
+    let name = name.copy()?;
+    let slot = Slot {
+        name,
+        key: InstanceKey { place },
+    };
+    insert_slot(alloc, groups, job, slot)?;
+    Ok(())
+}
+
+fn remove_instance(groups: &mut Vec<Group>, place: usize)
+    ensures { (c : Chronicle) → ((k : Bytes) → listed k groups.old.items ≡ instances_of k c)
+        → (k : Bytes) → listed k groups.new.items ≡ instances_of k (entry.Entered place waiting ∷ c) }
+{
+    remove_everywhere(groups, place);
+}
+
+// The instances after one record more.
+fn update_groups(
+    alloc: Global,
+    groups: &mut Vec<Group>,
+    next: &Record,
+    place: usize,
+) -> Result<(), AllocError>
+    ensures { OnOk result ((c : Chronicle) → length c ≡ place → ((k : Bytes) → listed k groups.old.items ≡ instances_of k c)
+        → (k : Bytes) → listed k groups.new.items ≡ instances_of k (entry_of next.now ∷ c)) }
+{
+    match next {
+        Record::Made { job, name } => add_instance(alloc, groups, job, name, place)?,
+        Record::Entered {
+            instance,
+            state: State::Waiting,
+        } => remove_instance(groups, *instance),
+        _ => {}
+    }
+    Ok(())
+}
+
+// A record is dropped by a call: at the end of a scope its drop takes the prover twenty seconds.
+fn add(
+    alloc: Global,
+    records: &mut Vec<Record>,
+    queue: &mut Vec<Live>,
+    groups: &mut Vec<Group>,
+    next: Record,
+) -> Result<(), AllocError>
+    ensures stored { OnOk result (chronicle records.new.items ≡ entry_of next ∷ chronicle records.old.items) }
+    ensures queue { OnOk result (map live_of queue.old.items ≡ model.queue (chronicle records.old.items)
+        → map live_of queue.new.items ≡ model.queue (entry_of next ∷ chronicle records.old.items)) }
+    ensures groups { OnOk result (((k : Bytes) → listed k groups.old.items ≡ instances_of k (chronicle records.old.items))
+        → (k : Bytes) → listed k groups.new.items ≡ instances_of k (entry_of next ∷ chronicle records.old.items)) }
+{
+    let place = count(records);
+    if let Err(error) = update_queue(queue, &next, place) {
+        drop(next);
+        return Err(error);
+    }
+    if let Err(error) = update_groups(alloc, groups, &next, place) {
+        drop(next);
+        return Err(error);
+    }
+    push(records, next)?;
+    Ok(())
+}
+
+fn made_record(alloc: Global, job: &Name, name: &str) -> Result<Record, AllocError>
+    ensures { IfOk result (λ made. entry_of made ≡ entry.Made job.now name.now) }
+{
+    let job = job.copy()?;
+    let name = Text::from_str(alloc, name)?;
+    Ok(Record::Made { job, name })
+}
+
+fn released(instance: usize, failed: bool) -> Record
+    ensures { entry_of result ≡ entry.Released instance failed }
+{
+    Record::Released { instance, failed }
+}
+
+// The goal of an instance becomes stop, and its holders stay.
+fn ended_record(alloc: Global, records: &[Record], instance: usize) -> Result<Record, AllocError>
+    ensures { IfOk result (λ made. entry_of made ≡ entry.Aimed instance goal_stop [] (read.holders instance (chronicle records.now))) }
+{
+    let holders = Items::new(Vec::from_slice(alloc, life::holders(records, instance))?);
+    Ok(Record::Aimed {
+        instance,
+        goal: Goal::Stop,
+        environment: Env::new(alloc),
+        holders,
+    })
+}
+
+fn offered_record(job: &Name, event: usize) -> Result<Record, AllocError>
+    ensures { IfOk result (λ made. entry_of made ≡ entry.Offered (entry.StartOn job.now) event) }
+{
+    let job = job.copy()?;
+    Ok(Record::Offered {
+        expression: Expression::StartOn(job),
+        event,
+    })
+}
+
+fn key_of(place: usize) -> EventKey
+    ensures { result ≡ event_key place }
+{
+    EventKey { place }
+}
+
+fn keys_of(alloc: Global, places: &[usize]) -> Result<Items<EventKey>, AllocError>
+    ensures { IfOk result (λ keys. keys ≡ map event_key places.now) }
+{
+    let mut keys = Vec::with_capacity(alloc, places.len())?;
+    for place in places {
+        keys.push(key_of(*place))?;
+    }
+    Ok(Items::new(keys))
+}
+
+/// All that happened, and beside it the queue of events and the instances that exist.
+#[derive(Drop)]
+pub struct StoringBook {
+    alloc: Global,
+    records: Vec<Record>,
+    queue: Vec<Live>,
+    groups: Vec<Group>,
+    // The event that a turn would take, between two steps.
+    turn: Option<Live>,
+}
+
+impl StoringBook {
+    ghost use Rattle.up_engine.specs.Setups.{config_of};
+    ghost use Rattle.up_engine.specs.Stored.{Stored};
+    ghost use Rattle.up_engine.specs.Records.{wanted_of};
+    ghost use Rattle.up_model.specs.Seen as model_seen;
+    ghost use Rattle.up_engine.specs.Verdicts.{verdict};
+
+    // One record more.
+    fn write(&mut self, next: Record) -> Result<(), AllocError>
+        ensures { OnOk result ((config : Configuration) (c : Chronicle) (e : Entry) → Stored self.old Stepping config c → entry_of next ≡ e → Stored self.new Stepping config (e ∷ c)) }
+    {
+        add(
+            self.alloc,
+            &mut self.records,
+            &mut self.queue,
+            &mut self.groups,
+            next,
+        )?;
+        Ok(())
+    }
+
+    // The first record of a step.
+    fn begin(&mut self, input: Input) -> Result<(), AllocError>
+        ensures { OnOk result ((config : Configuration) (c : Chronicle) → Stored self.old Resting config c → Stored self.new Stepping config (entry.Given input ∷ c)) }
+    {
+        add(
+            self.alloc,
+            &mut self.records,
+            &mut self.queue,
+            &mut self.groups,
+            Record::Given(input),
+        )?;
+        Ok(())
+    }
+
+    fn holds(
+        &self,
+        setup: &Setup,
+        wanted: Wanted,
+        condition: &Option<Condition>,
+    ) -> Result<bool, AllocError>
+        ensures { IfOk result (λ holds. (c : Chronicle) → Stored self.now Stepping (config_of setup.now) c
+            → holds ≡ model_seen.holds condition.now (model_seen.seen (config_of setup.now) (wanted_of wanted.entry) c)) }
+    {
+        let Verdict { holds, .. } = verdict_of(
+            self.alloc,
+            setup,
+            self.records.as_slice(),
+            wanted,
+            condition,
+        )?;
+        Ok(holds)
+    }
+
+    fn taken(
+        &self,
+        setup: &Setup,
+        wanted: Wanted,
+        condition: &Option<Condition>,
+    ) -> Result<Items<usize>, AllocError>
+        ensures { IfOk result (λ taken. (c : Chronicle) → Stored self.now Stepping (config_of setup.now) c
+            → taken ≡ model_seen.taken condition.now (model_seen.seen (config_of setup.now) (wanted_of wanted.entry) c)) }
+    {
+        let Verdict { taken, .. } = verdict_of(
+            self.alloc,
+            setup,
+            self.records.as_slice(),
+            wanted,
+            condition,
+        )?;
+        Ok(taken)
+    }
+
+    // An expression fires by these events.
+    fn fire(
+        &mut self,
+        expression: Expression,
+        taken: Items<usize>,
+    ) -> Result<Items<EventKey>, AllocError>
+        ensures after { OnOk result ((config : Configuration) (c : Chronicle) (e : Entry) → Stored self.old Stepping config c
+            → entry.Fired (expression_of expression) taken ≡ e → Stored self.new Stepping config (e ∷ c)) }
+        ensures keys { IfOk result (λ keys. keys ≡ map event_key taken) }
+    {
+        let keys = keys_of(self.alloc, taken.as_slice())?;
+        self.write(Record::Fired { expression, taken })?;
+        Ok(keys)
+    }
+
+    // The place of the newest record.
+    fn last(&self) -> usize
+        ensures { (config : Configuration) (c : Chronicle) (input : InputValue) → Stored self.now Stepping config (entry.Given input ∷ c) → result ≡ length c }
+    {
+        count(&self.records).saturating_sub(1)
+    }
+}
+
+impl Book for StoringBook {
+    ghost use Rattle.up_engine.specs.Stored as stored;
+
+    ghost stands = { stored.Stored };
+
+    ghost event_place = { stored.event_place };
+
+    ghost instance_place = { stored.instance_place };
+
+    fn new(alloc: Global) -> Self {
+        StoringBook {
+            alloc,
+            records: Vec::new(alloc),
+            queue: Vec::new(alloc),
+            groups: Vec::new(alloc),
+            turn: None,
+        }
+    }
+
+    fn goal(&self, key: InstanceKey) -> Goal {
+        life::goal(self.records.as_slice(), key.place)
+    }
+
+    fn state_of(&self, key: InstanceKey) -> State {
+        life::state_of(self.records.as_slice(), key.place)
+    }
+
+    fn failure(&self, key: InstanceKey) -> Option<Failure> {
+        life::failure(self.records.as_slice(), key.place)
+    }
+
+    fn is_blocked(&self, key: InstanceKey) -> bool {
+        life::blocker(self.records.as_slice(), key.place).is_some()
+    }
+
+    fn awaits(&self, key: InstanceKey, process: Process) -> bool {
+        process::awaited(self.records.as_slice(), key.place, process)
+    }
+
+    fn lives(&self, key: InstanceKey, process: Process) -> bool {
+        process::pid_of(self.records.as_slice(), key.place, process).is_some()
+    }
+
+    fn instances(&self, job: &Name) -> &[Slot] {
+        slots_of(self.groups.as_slice(), job)
+    }
+
+    fn event_at(&self, key: EventKey) -> Option<&Event> {
+        place::event_at(self.records.as_slice(), key.place)
+    }
+
+    fn offering(&self) -> Option<EventKey> {
+        match seen::offering(self.records.as_slice()) {
+            Some(place) => Some(EventKey { place }),
+            None => None,
+        }
+    }
+
+    fn is_newborn(&self, key: InstanceKey) -> bool {
+        seen::is_newborn(self.records.as_slice(), key.place)
+    }
+
+    fn was_offered_stop(&self, key: InstanceKey) -> bool {
+        seen::was_offered(self.records.as_slice(), Wanted::StopOn(key.place))
+    }
+
+    fn was_offered_start(&self, job: &Name) -> bool {
+        seen::was_offered(self.records.as_slice(), Wanted::StartOn(job))
+    }
+
+    fn most_instances(&self) -> usize {
+        count(&self.records)
+    }
+
+    fn live_events(&self) -> usize {
+        self.queue.len()
+    }
+
+    fn turn(&self) -> Option<Live> {
+        self.turn
+    }
+
+    fn given(&mut self, input: Input) -> Result<(), AllocError> {
+        self.begin(input)?;
+        Ok(())
+    }
+
+    fn emit(&mut self, event: Event) -> Result<(), AllocError> {
+        let origin = Origin::Outside(self.last());
+        self.write(Record::Queued { origin, event })?;
+        Ok(())
+    }
+
+    fn reply(&mut self, answer: Answer) -> Result<(), AllocError> {
+        let request = self.last();
+        self.write(Record::Replied { request, answer })?;
+        Ok(())
+    }
+
+    fn handle(&mut self, key: EventKey) -> Result<(), AllocError> {
+        self.write(Record::Handled(key.place))?;
+        Ok(())
+    }
+
+    fn finish(&mut self, key: EventKey) -> Result<(), AllocError> {
+        self.write(Record::Finished(key.place))?;
+        Ok(())
+    }
+
+    fn enter(&mut self, key: InstanceKey, state: State) -> Result<(), AllocError> {
+        self.write(Record::Entered {
+            instance: key.place,
+            state,
+        })?;
+        Ok(())
+    }
+
+    fn leave(&mut self, key: InstanceKey, event: Event) -> Result<(), AllocError> {
+        let state = State::Waiting;
+        let instance = key.place;
+        let origin = Origin::Entering { instance, state };
+        self.write(Record::Entered { instance, state })?;
+        self.write(Record::Queued { origin, event })?;
+        self.write(released(instance, false))?;
+        Ok(())
+    }
+
+    fn order(&mut self, _: &Setup, key: InstanceKey, process: Process) -> Result<(), AllocError> {
+        self.write(Record::Ordered {
+            instance: key.place,
+            process,
+        })?;
+        Ok(())
+    }
+
+    fn announce(&mut self, key: InstanceKey, state: State, event: Event) -> Result<(), AllocError> {
+        let origin = Origin::Entering {
+            instance: key.place,
+            state,
+        };
+        self.write(Record::Queued { origin, event })?;
+        Ok(())
+    }
+
+    fn signal(&mut self, key: InstanceKey, signal: u8) -> Result<(), AllocError> {
+        self.write(Record::Signalled {
+            instance: key.place,
+            signal,
+        })?;
+        Ok(())
+    }
+
+    fn release(&mut self, key: InstanceKey) -> Result<(), AllocError> {
+        self.write(released(key.place, false))?;
+        Ok(())
+    }
+
+    fn aim(
+        &mut self,
+        key: InstanceKey,
+        goal: Goal,
+        environment: Env,
+        holders: Items<EventKey>,
+    ) -> Result<(), AllocError> {
+        self.write(Record::Aimed {
+            instance: key.place,
+            goal,
+            environment,
+            holders,
+        })?;
+        Ok(())
+    }
+
+    fn end_itself(&mut self, key: InstanceKey) -> Result<(), AllocError> {
+        let ended = ended_record(self.alloc, self.records.as_slice(), key.place)?;
+        self.write(ended)?;
+        Ok(())
+    }
+
+    fn fail(&mut self, key: InstanceKey, failure: Failure) -> Result<(), AllocError> {
+        let instance = key.place;
+        self.write(Record::Failed { instance, failure })?;
+        self.write(released(instance, true))?;
+        Ok(())
+    }
+
+    fn make(&mut self, job: &Name, name: &str) -> Result<InstanceKey, AllocError> {
+        let place = count(&self.records);
+        let made = made_record(self.alloc, job, name)?;
+        self.write(made)?;
+        Ok(InstanceKey { place })
+    }
+
+    fn offer_stop(
+        &mut self,
+        setup: &Setup,
+        job: &JobDef,
+        key: InstanceKey,
+        event: EventKey,
+    ) -> Result<bool, AllocError> {
+        self.write(Record::Offered {
+            expression: Expression::StopOn(key.place),
+            event: event.place,
+        })?;
+        let holds = self.holds(setup, Wanted::StopOn(key.place), &job.stop_on)?;
+        Ok(holds)
+    }
+
+    fn offer_start(
+        &mut self,
+        setup: &Setup,
+        job: &JobDef,
+        event: EventKey,
+    ) -> Result<bool, AllocError> {
+        let offered = offered_record(&job.name, event.place)?;
+        self.write(offered)?;
+        let holds = self.holds(setup, Wanted::StartOn(&job.name), &job.start_on)?;
+        Ok(holds)
+    }
+
+    fn fire_stop(
+        &mut self,
+        setup: &Setup,
+        job: &JobDef,
+        key: InstanceKey,
+    ) -> Result<Items<EventKey>, AllocError> {
+        let taken = self.taken(setup, Wanted::StopOn(key.place), &job.stop_on)?;
+        let keys = self.fire(Expression::StopOn(key.place), taken)?;
+        Ok(keys)
+    }
+
+    fn fire_start(&mut self, setup: &Setup, job: &JobDef) -> Result<Items<EventKey>, AllocError> {
+        let taken = self.taken(setup, Wanted::StartOn(&job.name), &job.start_on)?;
+        let name = job.name.copy()?;
+        let keys = self.fire(Expression::StartOn(name), taken)?;
+        Ok(keys)
+    }
+
+    fn rest(&mut self, setup: &Setup) -> Result<Vec<Output>, AllocError> {
+        self.turn = turn_event(
+            self.alloc,
+            setup,
+            self.records.as_slice(),
+            self.groups.as_slice(),
+            self.queue.as_slice(),
+        )?;
+        let found = outputs(self.alloc, setup, self.records.as_slice())?;
+        Ok(found)
+    }
+}

@@ -1,0 +1,59 @@
+//! The signals of Linux, by their names and by their numbers (signal(7)).
+use std::process::Abort;
+use up_stanza::signal::{Signal, signal_name};
+
+static SIGNALS: [(&'static str, u8); 31] = [
+    ("HUP", 1),
+    ("INT", 2),
+    ("QUIT", 3),
+    ("ILL", 4),
+    ("TRAP", 5),
+    ("ABRT", 6),
+    ("BUS", 7),
+    ("FPE", 8),
+    ("KILL", 9),
+    ("USR1", 10),
+    ("SEGV", 11),
+    ("USR2", 12),
+    ("PIPE", 13),
+    ("ALRM", 14),
+    ("TERM", 15),
+    ("STKFLT", 16),
+    ("CHLD", 17),
+    ("CONT", 18),
+    ("STOP", 19),
+    ("TSTP", 20),
+    ("TTIN", 21),
+    ("TTOU", 22),
+    ("URG", 23),
+    ("XCPU", 24),
+    ("XFSZ", 25),
+    ("VTALRM", 26),
+    ("PROF", 27),
+    ("WINCH", 28),
+    ("IO", 29),
+    ("PWR", 30),
+    ("SYS", 31),
+];
+
+fn is_read(name: &str, number: u8) -> bool {
+    match Signal::read(name) {
+        Some(signal) => signal.number() == number,
+        None => false,
+    }
+}
+
+fn is_named(number: u8, name: &str) -> bool {
+    match signal_name(number) {
+        Some(found) => found == name,
+        None => false,
+    }
+}
+
+#[test]
+fn each_signal_has_its_number(rt: HostRuntime) {
+    for (name, number) in SIGNALS.iter() {
+        let holds = is_read(*name, *number) && is_named(*number, *name);
+        assert!(rt; holds, "signal {name} isn't {number}");
+    }
+}

@@ -1,0 +1,94 @@
+//! The children of a real host.
+ghost use Rattle.std.specs.Prelude.{◌≡◌, ◌<◌, length, IfSome};
+ghost use Rattle.up_host.specs.Ends.{byte_of, end_of};
+ghost use Rattle.up_host.specs.Looking.{EndsWithin};
+
+use std::os::unix::process::ExitStatusExt;
+use std::process::{Child, ExitStatus, OpenProcess};
+use up_model::{How, Process, Who};
+
+/// A process that was started and whose end was not reported.
+#[derive(Drop)]
+pub(crate) struct Running<P: OpenProcess> {
+    pub who: Who,
+    pub process: Process,
+    pub child: Child<P>,
+}
+
+/// What a look at the children found.
+pub(crate) enum Look {
+    /// The child at the place of the next look has ended so.
+    Ended(How),
+    /// No child has ended.
+    Nothing,
+    /// The system refused to tell of a child.
+    Failed,
+}
+
+// A number from 0 to 255, or 0 for any other.
+fn byte_of(number: i32) -> u8
+    ensures { result ≡ byte_of number }
+{
+    u8::try_from(number).unwrap_or(0)
+}
+
+/// How a process ended: by the code of its exit, or by a signal, of which an unknown one is 0.
+pub(crate) fn end_of(status: &ExitStatus) -> How
+    ensures { result ≡ end_of status.now }
+{
+    match status.code() {
+        Some(code) => How::Exit(byte_of(code)),
+        None => match status.signal() {
+            Some(signal) => How::Signal(byte_of(signal)),
+            None => How::Signal(0),
+        },
+    }
+}
+
+/// Looks at the children from `next` on, up to one that has ended. Where none has, the next look begins at the first one.
+pub(crate) fn find_end<P: OpenProcess>(children: &mut [Running<P>], next: &mut usize) -> Look
+    ensures { EndsWithin result next.new (length children.old) }
+{
+    while *next < children.len() {
+        match children[*next].child.try_wait() {
+            Ok(Some(status)) => return Look::Ended(end_of(&status)),
+            Ok(None) => *next += 1,
+            Err(_) => {
+                *next += 1;
+                return Look::Failed;
+            }
+        }
+    }
+    *next = 0;
+    Look::Nothing
+}
+
+/// Lets go of the helpers that have ended.
+pub(crate) fn reap<P: OpenProcess + Drop>(helpers: &mut Vec<Child<P>>) {
+    let mut place = 0;
+    while place < helpers.len() {
+        match helpers[place].try_wait() {
+            Ok(None) => place += 1,
+            Ok(Some(_)) | Err(_) => drop(helpers.swap_remove(place)),
+        }
+    }
+}
+
+/// The place of the child with this name and number.
+pub(crate) fn place_of<P: OpenProcess>(
+    children: &[Running<P>],
+    who: &Who,
+    pid: u32,
+) -> Option<usize>
+    ensures { IfSome result (λ place. place < length children.now) }
+{
+    for (place, running) in children.iter().enumerate() {
+        if running.child.id() == pid
+            && running.who.job.as_str() == who.job.as_str()
+            && running.who.instance.is(who.instance.as_str())
+        {
+            return Some(place);
+        }
+    }
+    None
+}

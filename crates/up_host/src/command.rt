@@ -1,0 +1,86 @@
+//! The command that starts an order's process.
+ghost use Rattle.std.specs.Prelude.{◌≡◌, ◌++◌, Some, IfOk, IfSome, OnOk, map, option_map, true, List, ℕ};
+ghost use Rattle.std.specs.Process.{command_program, command_args, command_var, command_dir, clears_env, SameProgramAndArgs, SameEnv, SameDir, SameOtherVars};
+ghost use Rattle.up_text.specs.Bindings.{value_of};
+ghost use Rattle.up_host.specs.Commands.{IsCommandOf, HasEnv};
+
+use std::alloc::{AllocError, Global};
+use std::process::{Command, Stdio};
+use up_model::Order;
+use up_text::{Env, Text};
+
+// The words after the program's name.
+fn add_words(command: &mut Command, words: &[Text]) -> Result<(), AllocError>
+    ensures words { OnOk result (command_args command.new ≡ command_args command.old ++ words.now) }
+    ensures program { OnOk result (command_program command.new ≡ command_program command.old) }
+{
+    for word in words {
+        command.arg(word.as_str())?;
+    }
+    Ok(())
+}
+
+fn set_var(command: &mut Command, key: &str, value: &str) -> Result<(), AllocError>
+    ensures set { OnOk result (command_var command.new key.now ≡ Some (Some value.now)) }
+    ensures others { OnOk result (SameOtherVars command.old command.new key.now) }
+    ensures clears { OnOk result (clears_env command.new ≡ clears_env command.old) }
+    ensures words { OnOk result (SameProgramAndArgs command.old command.new) }
+    ensures dir { OnOk result (SameDir command.old command.new) }
+{
+    command.env(key, value)?;
+    Ok(())
+}
+
+// The pairs, and no variable beside them. A key that is there twice keeps its first value, so the last pair is set first.
+fn set_env(command: &mut Command, env: &Env) -> Result<(), AllocError>
+    ensures env { OnOk result (HasEnv command.new env.now) }
+    ensures words { OnOk result (SameProgramAndArgs command.old command.new) }
+    ensures dir { OnOk result (SameDir command.old command.new) }
+{
+    command.env_clear();
+    let mut count = env.len();
+    while count > 0 {
+        count -= 1;
+        let (key, value) = env.at(count);
+        set_var(command, key, value)?;
+    }
+    Ok(())
+}
+
+// Standard input is the null device, and so is the output of a silent process; any other has the daemon's own.
+fn set_streams(command: &mut Command, silent: bool)
+    ensures env { SameEnv command.old command.new }
+    ensures words { SameProgramAndArgs command.old command.new }
+    ensures dir { SameDir command.old command.new }
+{
+    command.stdin(Stdio::null());
+    if silent {
+        command.stdout(Stdio::null());
+        command.stderr(Stdio::null());
+    }
+}
+
+/// The command of an order. An order without words has none.
+pub(crate) fn command_of(alloc: Global, order: &Order) -> Result<Option<Command>, AllocError>
+    ensures { IfOk result (λ found. IfSome found (λ command. IsCommandOf order.now command)) }
+{
+    let Some((program, words)) = order.argv.as_slice().split_first() else {
+        return Ok(None);
+    };
+    let mut command = Command::new(alloc, program.as_str())?;
+    add_words(&mut command, words)?;
+    command.current_dir(order.dir.as_str())?;
+    set_env(&mut command, &order.env)?;
+    set_streams(&mut command, order.silent);
+    Ok(Some(command))
+}
+
+/// The command that sends a signal by its name (kill(1)), without any output.
+pub(crate) fn kill_command(alloc: Global, name: &str, pid: u32) -> Result<Command, AllocError> {
+    let line = format!(in alloc; "kill -s {name} {pid}")?;
+    let mut command = Command::new(alloc, "/bin/sh")?;
+    command.arg("-c")?;
+    command.arg(line.as_str())?;
+    set_streams(&mut command, true);
+    Ok(command)
+}

@@ -1,0 +1,18 @@
+//! Why a call of a host failed.
+ghost use Rattle.std.specs.Prelude.{◌≡◌};
+
+use thiserror::Error;
+
+/// The system refused a call of a host, or no memory was left for it. The host counted the fault.
+#[derive(Clone, Copy, Debug, PartialEq, Eq, Error)]
+#[error("HostFault")]
+pub struct HostFault;
+
+impl HostFault {
+    /// The number by which a report names this refusal.
+    pub fn number(self) -> u8
+        ensures { result ≡ 60 }
+    {
+        60
+    }
+}

@@ -1,0 +1,94 @@
+//! What entering a state does.
+ghost use Rattle.std.specs.Prelude.{◌≡◌, Some};
+ghost use Rattle.up_model.specs.declared.state.State.TheVariants as state;
+ghost use Rattle.up_model.specs.Life as life;
+
+use up_model::{Entry, JobEvent, Process, State};
+
+fn is_pre_stop(from: State) -> bool
+    ensures { result ≡ life.is_pre_stop from }
+{
+    match from {
+        State::PreStop => true,
+        State::Waiting
+        | State::Starting
+        | State::PreStart
+        | State::Spawned
+        | State::PostStart
+        | State::Running
+        | State::Stopping
+        | State::Killed
+        | State::PostStop => false,
+    }
+}
+
+// Entering a state without anything else.
+const PLAIN: Entry = Entry {
+    orders: None,
+    emits: None,
+    releases: false,
+    refreshes: false,
+    kills: false,
+    removes: false,
+};
+
+fn orders(process: Process) -> Entry
+    ensures { result ≡ record life.plain { orders = Some process } }
+{
+    Entry {
+        orders: Some(process),
+        ..PLAIN
+    }
+}
+
+fn emits(event: JobEvent) -> Entry
+    ensures { result ≡ record life.plain { emits = Some event } }
+{
+    Entry {
+        emits: Some(event),
+        ..PLAIN
+    }
+}
+
+fn entering_running(from: State, task: bool) -> Entry
+    ensures { result ≡ life.entering state.Running from task }
+{
+    let emits = if is_pre_stop(from) {
+        None
+    } else {
+        Some(JobEvent::Started)
+    };
+    Entry {
+        emits,
+        releases: !task,
+        ..PLAIN
+    }
+}
+
+/// What entering a state does (the Upstart Cookbook's table of states), coming from another.
+pub fn entering(to: State, from: State, task: bool) -> Entry
+    ensures { result ≡ life.entering to from task }
+{
+    match to {
+        State::Waiting => Entry {
+            releases: true,
+            removes: true,
+            ..emits(JobEvent::Stopped)
+        },
+        State::Starting => Entry {
+            refreshes: true,
+            ..emits(JobEvent::Starting)
+        },
+        State::PreStart => orders(Process::PreStart),
+        State::Spawned => orders(Process::Main),
+        State::PostStart => orders(Process::PostStart),
+        State::Running => entering_running(from, task),
+        State::PreStop => orders(Process::PreStop),
+        State::Stopping => emits(JobEvent::Stopping),
+        State::Killed => Entry {
+            kills: true,
+            ..PLAIN
+        },
+        State::PostStop => orders(Process::PostStop),
+    }
+}

@@ -1,0 +1,10 @@
+//! Where each instance is in its life: the tables of its states, as functions of plain values that take no memory.
+#![tactic(auto)]
+
+mod entry;
+mod judgement;
+mod state;
+
+pub use entry::entering;
+pub use judgement::judge_end;
+pub use state::next_state;

@@ -1,0 +1,93 @@
+-- What the end or the refusal of a process does to its instance (init(5), "normal exit"; which of them fail an instance is this
+-- project's choice).
+use Rattle.std.specs.Prelude.{ℕ, Bool, true, false, ◌&&◌, ◌||◌, not, ◌==◌, List, [], ◌∷◌, ◌++◌, Option, None, Some, is_some, if◌then◌else◌}
+use Rattle.up_stanza.specs.declared.process.Process.{Process}
+use Rattle.up_stanza.specs.declared.process.Process.TheVariants.{Main, PreStart, PostStart, PreStop, PostStop}
+use Rattle.up_model.specs.declared.failure.Cause.TheVariants as cause
+use Rattle.up_model.specs.declared.failure.End.{End}
+use Rattle.up_model.specs.declared.failure.End.TheVariants.{Refused, Ended}
+use Rattle.up_model.specs.declared.failure.Failure.{Failure}
+use Rattle.up_model.specs.declared.failure.Verdict.{Verdict}
+use Rattle.up_model.specs.declared.failure.Verdict.TheVariants as verdict
+use Rattle.up_model.specs.declared.process.How.{How}
+use Rattle.up_model.specs.declared.process.How.TheVariants as how
+use Rattle.up_model.specs.declared.state.Goal.{Goal}
+use Rattle.up_model.specs.declared.state.Goal.TheVariants as goal
+use Rattle.up_model.specs.declared.state.State.{State}
+use Rattle.up_model.specs.declared.state.State.TheVariants as state
+use Rattle.up_model.specs.Chronicle.{Chronicle, Entry, Aimed, Failed}
+use Rattle.up_model.specs.Moves.{releasing}
+use Rattle.up_model.specs.Readings as read
+use Rattle.up_model.specs.Tests.{is_start, entries_if}
+
+-- the failure of a process
+abbrev pub failure_of : Process → Option How → Failure
+failure_of process how = record { cause = cause.Process process; how = how }
+
+-- whether a process ended well
+abbrev pub is_success : How → Bool
+is_success (how.Exit status) = status == 0
+is_success (how.Signal signal) = false
+
+-- too many respawns (init(5), "respawn limit")
+abbrev pub too_many : Failure
+too_many = record { cause = cause.Respawn; how = None }
+
+-- whether main is to be respawned, if it may be: its end isn't normal, and isn't the success of a task
+abbrev pub is_respawned : How → (task respawn normal : Bool) → Bool
+is_respawned its task respawn normal = respawn && not normal && not (task && is_success its)
+
+-- the end of main while it counts
+abbrev pub judge_main : How → (task respawn normal may : Bool) → Verdict
+judge_main its task respawn normal may =
+    if is_respawned its task respawn normal then (if may then verdict.Respawn else verdict.Fail too_many)
+    else (if is_success its || normal then verdict.Stop else verdict.Fail (failure_of Main (Some its)))
+
+-- the end of another process whose failure counts: pre-start or post-stop
+abbrev pub judge_other : Process → How → Verdict
+judge_other process its = if is_success its then verdict.Note else verdict.Fail (failure_of process (Some its))
+
+-- the states in which the end of main is judged
+abbrev pub is_judged_in : State → Bool
+is_judged_in state.PostStart = true
+is_judged_in state.Running = true
+is_judged_in state.PreStop = true
+is_judged_in other = false
+
+-- what an end does, by goal, state and process, and by whether the job is a task and is respawned, whether the end is normal
+-- for it, and whether the limit allows a respawn
+abbrev pub judge : Goal → State → Process → End → (task respawn normal may : Bool) → Verdict
+judge aim now Main Refused task respawn normal may = verdict.Fail (failure_of Main None)
+judge aim now Main (Ended how) task respawn normal may =
+    if is_start aim && is_judged_in now then judge_main how task respawn normal may else verdict.Note
+judge aim now PreStart Refused task respawn normal may = verdict.Fail (failure_of PreStart None)
+judge aim now PreStart (Ended how) task respawn normal may = judge_other PreStart how
+judge aim now PostStart end task respawn normal may = verdict.Note
+judge aim now PreStop end task respawn normal may = verdict.Note
+judge aim now PostStop Refused task respawn normal may = verdict.Fail (failure_of PostStop None)
+judge aim now PostStop (Ended how) task respawn normal may = judge_other PostStop how
+
+-- what an end does as long as no task, no respawn and no normal exit has an effect
+abbrev pub judged : Goal → State → Process → End → Verdict
+judged aim now process end = judge aim now process end false false false false
+
+-- the goal becomes stop, if it is start; the holders stay
+abbrev pub end_itself : ℕ → Chronicle → List Entry
+end_itself instance c = entries_if (is_start (read.goal instance c)) (Aimed instance goal.Stop [] (read.holders instance c) ∷ [])
+
+-- a failure is kept, and the holders are released as failed
+abbrev pub keep_failure : ℕ → Failure → Chronicle → List Entry
+keep_failure instance failure c = releasing instance true (Failed instance failure ∷ c) ++ Failed instance failure ∷ []
+
+-- an instance fails: its goal becomes stop, and the failure is kept if it is the first since the last start
+abbrev pub fail : ℕ → Failure → Chronicle → List Entry
+fail instance failure c =
+    let ended = end_itself instance c in
+    entries_if (not (is_some (read.failure instance c))) (keep_failure instance failure (ended ++ c)) ++ ended
+
+-- what a verdict does
+abbrev pub carry_out : ℕ → Verdict → Chronicle → List Entry
+carry_out instance verdict.Note c = []
+carry_out instance verdict.Respawn c = []
+carry_out instance verdict.Stop c = end_itself instance c
+carry_out instance (verdict.Fail failure) c = fail instance failure c

@@ -1,0 +1,37 @@
+//! How a process ended, and what that means for its instance.
+use crate::process::How;
+use up_conf::Process;
+
+/// Why an instance failed: one of its processes, or too many respawns.
+#[derive(Clone, Copy, Debug)]
+pub enum Cause {
+    Process(Process),
+    Respawn,
+}
+
+/// A failure of an instance. `how` is how the process ended; `None` if it was refused, and for too many respawns.
+#[derive(Clone, Copy, Debug)]
+pub struct Failure {
+    pub cause: Cause,
+    pub how: Option<How>,
+}
+
+/// The end of an ordered process: it couldn't be started, or it ran and ended.
+#[derive(Clone, Copy, Debug)]
+pub enum End {
+    Refused,
+    Ended(How),
+}
+
+/// What the end of a process does to its instance.
+#[derive(Clone, Copy, Debug)]
+pub enum Verdict {
+    /// It is only noted.
+    Note,
+    /// Main is respawned.
+    Respawn,
+    /// The goal becomes stop.
+    Stop,
+    /// The instance fails.
+    Fail(Failure),
+}

@@ -1,0 +1,180 @@
+//! Rows of the five processes and of failures, step by step.
+use crate::engine::{Case, Given, Row, SPAWN_D, STARTED, STARTING, check_cases};
+use std::process::Abort;
+use std::test::Fail;
+use up_job::next_state;
+use up_model::{Goal, How, Process, State};
+
+const SPAWN_PRE_START: &'static str =
+    "spawn a() PreStart [/bin/p ] in / silent=false UPSTART_EVENTS=go UPSTART_JOB=a UPSTART_INSTANCE=; ";
+
+const SPAWN_POST_START: &'static str =
+    "spawn a() PostStart [/bin/w ] in / silent=false UPSTART_EVENTS=go UPSTART_JOB=a UPSTART_INSTANCE=; ";
+
+const SPAWN_PRE_STOP: &'static str =
+    "spawn a() PreStop [/bin/p ] in / silent=false UPSTART_EVENTS=go UPSTART_JOB=a UPSTART_INSTANCE= UPSTART_STOP_EVENTS=go; ";
+
+const SPAWN_POST_STOP: &'static str =
+    "spawn a() PostStop [/bin/q ] in / silent=false UPSTART_EVENTS=go UPSTART_JOB=a UPSTART_INSTANCE=; ";
+
+const STOPPING_BY_PRE_START: &'static str =
+    "stopping JOB=a INSTANCE= RESULT=failed PROCESS=pre-start EXIT_STATUS=2; ";
+
+const STOPPED_BY_PRE_START: &'static str =
+    "stopped JOB=a INSTANCE= RESULT=failed PROCESS=pre-start EXIT_STATUS=2; ";
+
+const PRE_STOP_THEN_GOAL_START: [Row; 13] = [
+    (Given::Emit("go"), "", 1, true),
+    (Given::Turn, STARTING, 2, true),
+    (Given::Turn, "", 2, true),
+    (Given::Turn, SPAWN_D, 1, false),
+    (Given::Spawned(100), STARTED, 2, true),
+    (Given::Turn, "", 1, true),
+    (Given::Turn, "", 1, true),
+    (Given::Turn, "", 0, false),
+    (Given::Emit("go"), "", 1, true),
+    (Given::Turn, SPAWN_PRE_STOP, 1, false),
+    (Given::SpawnedAs(Process::PreStop, 101), "", 1, false),
+    (
+        Given::EndedAs(Process::PreStop, How::Exit(0)),
+        "",
+        1,
+        true,
+    ),
+    (Given::Turn, "", 0, false),
+];
+
+// After the failure the event that started the job isn't held any more.
+const PRE_START_FAILS: [Row; 9] = [
+    (Given::Emit("go"), "", 1, true),
+    (Given::Turn, STARTING, 2, true),
+    (Given::Turn, "", 2, true),
+    (Given::Turn, SPAWN_PRE_START, 1, false),
+    (Given::SpawnedAs(Process::PreStart, 5), "", 1, false),
+    (
+        Given::EndedAs(Process::PreStart, How::Exit(2)),
+        STOPPING_BY_PRE_START,
+        2,
+        true,
+    ),
+    (Given::Turn, "", 1, true),
+    (Given::Turn, "", 1, true),
+    (Given::Turn, STOPPED_BY_PRE_START, 1, true),
+];
+
+const REFUSED_POST_START: [Row; 6] = [
+    (Given::Emit("go"), "", 1, true),
+    (Given::Turn, STARTING, 2, true),
+    (Given::Turn, "", 2, true),
+    (Given::Turn, SPAWN_D, 1, false),
+    (Given::Spawned(100), SPAWN_POST_START, 1, false),
+    (Given::RefusedAs(Process::PostStart), STARTED, 2, true),
+];
+
+// The failure of post-stop doesn't replace that of pre-start.
+const FIRST_FAILURE: [Row; 11] = [
+    (Given::Emit("go"), "", 1, true),
+    (Given::Turn, STARTING, 2, true),
+    (Given::Turn, "", 2, true),
+    (Given::Turn, SPAWN_PRE_START, 1, false),
+    (Given::SpawnedAs(Process::PreStart, 5), "", 1, false),
+    (
+        Given::EndedAs(Process::PreStart, How::Exit(2)),
+        STOPPING_BY_PRE_START,
+        2,
+        true,
+    ),
+    (Given::Turn, "", 1, true),
+    (Given::Turn, "", 1, true),
+    (Given::Turn, SPAWN_POST_STOP, 0, false),
+    (Given::SpawnedAs(Process::PostStop, 6), "", 0, false),
+    (
+        Given::EndedAs(Process::PostStop, How::Signal(9)),
+        STOPPED_BY_PRE_START,
+        1,
+        true,
+    ),
+];
+
+const MAIN_IS_KILLED: [Row; 9] = [
+    (Given::Emit("go"), "", 1, true),
+    (Given::Turn, STARTING, 2, true),
+    (Given::Turn, "", 2, true),
+    (Given::Turn, SPAWN_D, 1, false),
+    (Given::Spawned(100), STARTED, 2, true),
+    (Given::Turn, "", 1, true),
+    (Given::Turn, "", 1, true),
+    (Given::Turn, "", 0, false),
+    (
+        Given::Ended(How::Signal(9)),
+        "stopping JOB=a INSTANCE= RESULT=failed PROCESS=main EXIT_SIGNAL=KILL; ",
+        1,
+        true,
+    ),
+];
+
+// What isn't awaited is no answer, and what doesn't live has no end, whichever process it is of.
+const STRANGERS: [Row; 6] = [
+    (Given::SpawnedAs(Process::PreStart, 5), "40 NotExpected", 0, false),
+    (Given::RefusedAs(Process::PostStart), "40 NotExpected", 0, false),
+    (
+        Given::EndedAs(Process::PreStop, How::Exit(0)),
+        "40 NotExpected",
+        0,
+        false,
+    ),
+    (
+        Given::EndedAs(Process::PostStop, How::Exit(0)),
+        "40 NotExpected",
+        0,
+        false,
+    ),
+    (Given::Emit("go"), "", 1, true),
+    (Given::Turn, STARTING, 2, true),
+];
+
+static CASES: [Case; 6] = [
+    (
+        "pre_stop_then_goal_start",
+        "start on go\nstop on go\nexec /bin/d\npre-stop exec /bin/p\n",
+        &PRE_STOP_THEN_GOAL_START,
+    ),
+    (
+        "pre_start_fails",
+        "start on go\nexec /bin/d\npre-start exec /bin/p\n",
+        &PRE_START_FAILS,
+    ),
+    (
+        "pre_start_fails, with post-start refused",
+        "start on go\nexec /bin/d\nrespawn\npost-start exec /bin/w\n",
+        &REFUSED_POST_START,
+    ),
+    (
+        "first_failure_is_kept",
+        "start on go\nexec /bin/d\npre-start exec /bin/p\npost-stop exec /bin/q\n",
+        &FIRST_FAILURE,
+    ),
+    (
+        "main_is_killed",
+        "start on go\nexec /bin/d\n",
+        &MAIN_IS_KILLED,
+    ),
+    (
+        "strangers",
+        "start on go\nexec /bin/d\npre-start exec /bin/p\n",
+        &STRANGERS,
+    ),
+];
+
+#[test]
+fn processes_and_failures(rt: HostRuntime) -> Result<(), Fail> {
+    check_cases(&rt, rt.alloc(), &CASES)?;
+    Ok(())
+}
+
+#[test]
+fn a_stop_passes_pre_stop_if_main_lives(rt: HostRuntime) {
+    let living = next_state(Goal::Stop, State::Running, true, true);
+    let gone = next_state(Goal::Stop, State::Running, true, false);
+    assert_eq!(rt; (living.name(), gone.name()), ("pre-stop", "stopping"));
+}

@@ -1,0 +1,11 @@
+pub mod Bindings
+pub mod Chunks
+pub mod Counts
+pub mod Cuts
+pub mod Framing
+pub mod Joining
+pub mod Numbers
+pub mod Payloads
+pub mod Reading
+pub mod Sizes
+pub mod Texts

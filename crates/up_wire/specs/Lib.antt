@@ -1,0 +1,6 @@
+pub mod Answers
+pub mod Fault
+pub mod Feeding
+pub mod Fields
+pub mod Frames
+pub mod Octets

@@ -1,0 +1,8 @@
+-- Bytes as numbers.
+use Rattle.std.specs.Prelude.{◌<◌, ℕ}
+use Rattle.std.specs.List.{AllByRecursion}
+use Rattle.up_wire.specs.Frames.{Bytes}
+
+-- each is below 256
+abbrev pub AreOctets : Bytes → Type 0
+AreOctets bytes = AllByRecursion (λ byte. byte < 256) bytes

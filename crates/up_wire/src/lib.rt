@@ -1,0 +1,21 @@
+//! What the client and the init say to one another: frames of bytes, and the words of a command line.
+#![tactic(auto)]
+
+pub mod answer_feed;
+mod answers;
+pub mod fault;
+pub mod feed;
+mod fields;
+mod frames;
+pub mod laws;
+mod words;
+pub mod writing;
+
+pub use answer_feed::AnswerFeed;
+pub use answers::MAX_CHUNK;
+pub use fault::{FrameFault, WireFault};
+pub use feed::Feed;
+pub use frames::MAX_PAYLOAD;
+pub use up_model::status_text;
+pub use words::{command_line, request_of};
+pub use writing::{write_answer, write_request};
