@@ -1,7 +1,9 @@
 //! The worked rows, step by step.
+mod base;
 mod chain;
 mod expressions;
 mod processes;
+mod restarts;
 
 use std::alloc::{AllocError, Global};
 use std::process::Abort;
@@ -53,14 +55,19 @@ pub(crate) enum Given {
 /// An input, the outputs that it gives, the live events then, and whether a turn would do something.
 pub(crate) type Row<'a> = (Given, &'a str, usize, bool);
 
-/// A worked row: its name, its job file, which is empty where it has none, and its steps.
-pub(crate) type Case<'a> = (&'a str, &'a str, &'a [Row<'a>]);
+/// A worked row: its name, the files of its folder by their paths, the base environment, and its steps.
+pub(crate) struct Case<'a> {
+    pub(crate) name: &'a str,
+    pub(crate) files: &'a [(&'a str, &'a str)],
+    pub(crate) base: &'a [(&'a str, &'a str)],
+    pub(crate) rows: &'a [Row<'a>],
+}
 
 pub(crate) const STARTING: &'static str = "starting JOB=a INSTANCE=; ";
 
 pub(crate) const STARTED: &'static str = "started JOB=a INSTANCE=; ";
 
-const STOPPING: &'static str = "stopping JOB=a INSTANCE= RESULT=ok; ";
+pub(crate) const STOPPING: &'static str = "stopping JOB=a INSTANCE= RESULT=ok; ";
 
 const SPAWN_TRUE: &'static str =
     "spawn a() Main [/bin/true x ] in / silent=false UPSTART_EVENTS=startup UPSTART_JOB=a UPSTART_INSTANCE=; ";
@@ -139,15 +146,36 @@ const REQUESTS: [Row; 7] = [
 ];
 
 static CASES: [Case; 5] = [
-    ("empty_folder", "", &EMPTY_FOLDER),
-    ("startup", START_FILE, &STARTUP),
-    (
-        "stop_and_start_on_same_event",
-        "start on go\nstop on go\nexec /bin/d\n",
-        &STOP_AND_START,
-    ),
-    ("end_of_a_stranger", START_FILE, &STRANGER),
-    ("requests_clocks_and_refusals", START_FILE, &REQUESTS),
+    Case {
+        name: "empty_folder",
+        files: &[],
+        base: &[],
+        rows: &EMPTY_FOLDER,
+    },
+    Case {
+        name: "startup",
+        files: &[("a.conf", START_FILE)],
+        base: &[],
+        rows: &STARTUP,
+    },
+    Case {
+        name: "stop_and_start_on_same_event",
+        files: &[("a.conf", "start on go\nstop on go\nexec /bin/d\n")],
+        base: &[],
+        rows: &STOP_AND_START,
+    },
+    Case {
+        name: "end_of_a_stranger",
+        files: &[("a.conf", START_FILE)],
+        base: &[],
+        rows: &STRANGER,
+    },
+    Case {
+        name: "requests_clocks_and_refusals",
+        files: &[("a.conf", START_FILE)],
+        base: &[],
+        rows: &REQUESTS,
+    },
 ];
 
 fn who(alloc: Global) -> Result<Who, Untried> {
@@ -302,28 +330,41 @@ pub(crate) fn add_file(
     folder.add(path, Items::new(bytes))
 }
 
-fn folder(alloc: Global, file: &str) -> Result<Folder, AllocError> {
+fn folder(alloc: Global, files: &[(&str, &str)]) -> Result<Folder, AllocError> {
     let mut folder = Folder::new(alloc);
-    if !file.is_empty() {
-        add_file(alloc, &mut folder, "a.conf", file.as_bytes())?;
+    for (path, text) in files {
+        add_file(alloc, &mut folder, path, text.as_bytes())?;
     }
     Ok(folder)
 }
 
-fn table(alloc: Global, file: &str) -> Result<Table, Untried> {
-    let folder = folder(alloc, file)?;
+fn table(alloc: Global, files: &[(&str, &str)]) -> Result<Table, Untried> {
+    let folder = folder(alloc, files)?;
     let (table, _) = compile(alloc, &folder)?;
     Ok(table)
 }
 
-// The engine of a folder with this job file, or with none.
-fn engine(alloc: Global, file: &str) -> Result<Engine, Untried> {
-    let table = table(alloc, file)?;
-    Ok(Engine::new(alloc, table, Env::new(alloc)))
+fn base(alloc: Global, pairs: &[(&str, &str)]) -> Result<Env, Untried> {
+    let mut env = Env::new(alloc);
+    for (key, value) in pairs {
+        env.set(key, value)?;
+    }
+    Ok(env)
 }
 
-// A step gives what its row says.
-fn check_row(
+// The engine of a folder with these files and this base environment.
+pub(crate) fn engine(
+    alloc: Global,
+    files: &[(&str, &str)],
+    pairs: &[(&str, &str)],
+) -> Result<Engine, Untried> {
+    let table = table(alloc, files)?;
+    let base = base(alloc, pairs)?;
+    Ok(Engine::new(alloc, table, base))
+}
+
+/// A step gives what its row says.
+pub(crate) fn check_row(
     rt: &impl Abort,
     alloc: Global,
     engine: &mut Engine,
@@ -344,15 +385,14 @@ fn check_rows(
     engine: &mut Engine,
     case: &Case,
 ) -> Result<(), Untried> {
-    let (name, _, rows) = *case;
-    for (place, row) in rows.iter().enumerate() {
-        check_row(rt, alloc, engine, row, (name, place))?;
+    for (place, row) in case.rows.iter().enumerate() {
+        check_row(rt, alloc, engine, row, (case.name, place))?;
     }
     Ok(())
 }
 
 pub(crate) fn check_case(rt: &impl Abort, alloc: Global, case: &Case) -> Result<(), Untried> {
-    let mut engine = engine(alloc, case.1)?;
+    let mut engine = engine(alloc, case.files, case.base)?;
     check_rows(rt, alloc, &mut engine, case)
 }
 
@@ -439,11 +479,16 @@ fn run_with(alloc: Global, engine: &mut Engine, rows: &[Row]) -> Result<Outcome,
     }
 }
 
-static RUN: Case = ("startup", START_FILE, &STARTUP);
+static RUN: Case = Case {
+    name: "startup",
+    files: &[("a.conf", START_FILE)],
+    base: &[],
+    rows: &STARTUP,
+};
 
 fn run_case(alloc: Global, case: &Case) -> Result<Outcome, Untried> {
-    let mut engine = engine(alloc, case.1)?;
-    run_with(alloc, &mut engine, case.2)
+    let mut engine = engine(alloc, case.files, case.base)?;
+    run_with(alloc, &mut engine, case.rows)
 }
 
 #[test]

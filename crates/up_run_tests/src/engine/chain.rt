@@ -1,5 +1,5 @@
 //! Expressions as deep as a job file may have them.
-use crate::engine::{Given, Row, STARTING, check_case};
+use crate::engine::{Case, Given, Row, STARTING, check_case};
 use std::alloc::{AllocError, Global};
 use std::test::Fail;
 
@@ -48,7 +48,13 @@ fn deepest_chain(rt: HostRuntime) -> Result<(), Fail> {
     let spawn = spawn(rt.alloc(), "A")?;
     let mut rows = TRUE_BY_ONE;
     rows[3].1 = spawn.as_str();
-    check_case(&rt, rt.alloc(), &("deepest_chain", file.as_str(), &rows))?;
+    let case = Case {
+        name: "deepest_chain",
+        files: &[("a.conf", file.as_str())],
+        base: &[],
+        rows: &rows,
+    };
+    check_case(&rt, rt.alloc(), &case)?;
     Ok(())
 }
 
@@ -68,10 +74,12 @@ fn deepest_chain_keeps_an_event(rt: HostRuntime) -> Result<(), Fail> {
     let spawn = spawn(rt.alloc(), "B")?;
     let mut rows = TRUE_BY_TWO;
     rows[5].1 = spawn.as_str();
-    check_case(
-        &rt,
-        rt.alloc(),
-        &("deepest_chain_keeps_an_event", file.as_str(), &rows),
-    )?;
+    let case = Case {
+        name: "deepest_chain_keeps_an_event",
+        files: &[("a.conf", file.as_str())],
+        base: &[],
+        rows: &rows,
+    };
+    check_case(&rt, rt.alloc(), &case)?;
     Ok(())
 }

@@ -81,36 +81,48 @@ const FOLDER_AND_CONSOLE: [Row; 4] = [
 ];
 
 static CASES: [Case; 6] = [
-    (
-        "and_keeps_first",
-        "start on A and B\nexec /bin/d\n",
-        &AND_KEEPS_FIRST,
-    ),
-    (
-        "and_of_same_event",
-        "start on A and A\nexec /bin/d\n",
-        &AND_OF_SAME_EVENT,
-    ),
-    (
-        "or_after_half_an_and",
-        "start on (A and D) or B\nexec /bin/d\n",
-        &OR_AFTER_HALF_AN_AND,
-    ),
-    (
-        "job_blocks_itself",
-        "start on go\nstop on starting JOB=a\nexec /bin/d\n",
-        &JOB_BLOCKS_ITSELF,
-    ),
-    (
-        "value_by_default",
-        "start on A X=${Z-1}\nexec /bin/d\n",
-        &VALUE_BY_DEFAULT,
-    ),
-    (
-        "folder_and_console",
-        "start on go\nexec /bin/d\nchdir /tmp\nconsole none\n",
-        &FOLDER_AND_CONSOLE,
-    ),
+    Case {
+        name: "and_keeps_first",
+        files: &[("a.conf", "start on A and B\nexec /bin/d\n")],
+        base: &[],
+        rows: &AND_KEEPS_FIRST,
+    },
+    Case {
+        name: "and_of_same_event",
+        files: &[("a.conf", "start on A and A\nexec /bin/d\n")],
+        base: &[],
+        rows: &AND_OF_SAME_EVENT,
+    },
+    Case {
+        name: "or_after_half_an_and",
+        files: &[("a.conf", "start on (A and D) or B\nexec /bin/d\n")],
+        base: &[],
+        rows: &OR_AFTER_HALF_AN_AND,
+    },
+    Case {
+        name: "job_blocks_itself",
+        files: &[(
+            "a.conf",
+            "start on go\nstop on starting JOB=a\nexec /bin/d\n",
+        )],
+        base: &[],
+        rows: &JOB_BLOCKS_ITSELF,
+    },
+    Case {
+        name: "value_by_default",
+        files: &[("a.conf", "start on A X=${Z-1}\nexec /bin/d\n")],
+        base: &[],
+        rows: &VALUE_BY_DEFAULT,
+    },
+    Case {
+        name: "folder_and_console",
+        files: &[(
+            "a.conf",
+            "start on go\nexec /bin/d\nchdir /tmp\nconsole none\n",
+        )],
+        base: &[],
+        rows: &FOLDER_AND_CONSOLE,
+    },
 ];
 
 #[test]

@@ -35,12 +35,7 @@ const PRE_STOP_THEN_GOAL_START: [Row; 13] = [
     (Given::Emit("go"), "", 1, true),
     (Given::Turn, SPAWN_PRE_STOP, 1, false),
     (Given::SpawnedAs(Process::PreStop, 101), "", 1, false),
-    (
-        Given::EndedAs(Process::PreStop, How::Exit(0)),
-        "",
-        1,
-        true,
-    ),
+    (Given::EndedAs(Process::PreStop, How::Exit(0)), "", 1, true),
     (Given::Turn, "", 0, false),
 ];
 
@@ -115,8 +110,18 @@ const MAIN_IS_KILLED: [Row; 9] = [
 
 // What isn't awaited is no answer, and what doesn't live has no end, whichever process it is of.
 const STRANGERS: [Row; 6] = [
-    (Given::SpawnedAs(Process::PreStart, 5), "40 NotExpected", 0, false),
-    (Given::RefusedAs(Process::PostStart), "40 NotExpected", 0, false),
+    (
+        Given::SpawnedAs(Process::PreStart, 5),
+        "40 NotExpected",
+        0,
+        false,
+    ),
+    (
+        Given::RefusedAs(Process::PostStart),
+        "40 NotExpected",
+        0,
+        false,
+    ),
     (
         Given::EndedAs(Process::PreStop, How::Exit(0)),
         "40 NotExpected",
@@ -134,36 +139,57 @@ const STRANGERS: [Row; 6] = [
 ];
 
 static CASES: [Case; 6] = [
-    (
-        "pre_stop_then_goal_start",
-        "start on go\nstop on go\nexec /bin/d\npre-stop exec /bin/p\n",
-        &PRE_STOP_THEN_GOAL_START,
-    ),
-    (
-        "pre_start_fails",
-        "start on go\nexec /bin/d\npre-start exec /bin/p\n",
-        &PRE_START_FAILS,
-    ),
-    (
-        "pre_start_fails, with post-start refused",
-        "start on go\nexec /bin/d\nrespawn\npost-start exec /bin/w\n",
-        &REFUSED_POST_START,
-    ),
-    (
-        "first_failure_is_kept",
-        "start on go\nexec /bin/d\npre-start exec /bin/p\npost-stop exec /bin/q\n",
-        &FIRST_FAILURE,
-    ),
-    (
-        "main_is_killed",
-        "start on go\nexec /bin/d\n",
-        &MAIN_IS_KILLED,
-    ),
-    (
-        "strangers",
-        "start on go\nexec /bin/d\npre-start exec /bin/p\n",
-        &STRANGERS,
-    ),
+    Case {
+        name: "pre_stop_then_goal_start",
+        files: &[(
+            "a.conf",
+            "start on go\nstop on go\nexec /bin/d\npre-stop exec /bin/p\n",
+        )],
+        base: &[],
+        rows: &PRE_STOP_THEN_GOAL_START,
+    },
+    Case {
+        name: "pre_start_fails",
+        files: &[(
+            "a.conf",
+            "start on go\nexec /bin/d\npre-start exec /bin/p\n",
+        )],
+        base: &[],
+        rows: &PRE_START_FAILS,
+    },
+    Case {
+        name: "pre_start_fails, with post-start refused",
+        files: &[(
+            "a.conf",
+            "start on go\nexec /bin/d\nrespawn\npost-start exec /bin/w\n",
+        )],
+        base: &[],
+        rows: &REFUSED_POST_START,
+    },
+    Case {
+        name: "first_failure_is_kept",
+        files: &[(
+            "a.conf",
+            "start on go\nexec /bin/d\npre-start exec /bin/p\npost-stop exec /bin/q\n",
+        )],
+        base: &[],
+        rows: &FIRST_FAILURE,
+    },
+    Case {
+        name: "main_is_killed",
+        files: &[("a.conf", "start on go\nexec /bin/d\n")],
+        base: &[],
+        rows: &MAIN_IS_KILLED,
+    },
+    Case {
+        name: "strangers",
+        files: &[(
+            "a.conf",
+            "start on go\nexec /bin/d\npre-start exec /bin/p\n",
+        )],
+        base: &[],
+        rows: &STRANGERS,
+    },
 ];
 
 #[test]
