@@ -5,20 +5,16 @@ use Rattle.up_engine.specs.declared.keys.EventKey.{EventKey}
 use Rattle.up_engine.specs.declared.keys.InstanceKey.{InstanceKey}
 use Rattle.up_engine.specs.declared.keys.Live.{Live}
 use Rattle.up_engine.specs.declared.keys.Slot.{Slot}
-use Rattle.up_model.specs.declared.failure.End.{End}
 use Rattle.up_model.specs.declared.failure.Verdict.{Verdict}
 use Rattle.up_model.specs.declared.state.State.{State}
 use Rattle.up_model.specs.declared.state.State.TheVariants as state
-use Rattle.up_model.specs.declared.who.Who.{Who}
-use Rattle.up_stanza.specs.declared.process.Process.{Process}
-use Rattle.up_model.specs.Chronicle.{Chronicle}
+use Rattle.up_model.specs.Chronicle.{Chronicle, Entry}
 use Rattle.up_model.specs.Configuration.{Configuration}
-use Rattle.up_model.specs.Instances.{Instance, instance_named}
-use Rattle.up_model.specs.Judgement.{judged}
+use Rattle.up_model.specs.Instances.{Instance}
+use Rattle.up_model.specs.Judgement.{carry_out}
 use Rattle.up_model.specs.Moves.{may_leave, move, move_in}
 use Rattle.up_model.specs.Offers.{stop_offer, stop_offer_in}
 use Rattle.up_model.specs.Queue as queue
-use Rattle.up_model.specs.Readings.{goal, state_of}
 use Rattle.up_model.specs.Values.{Bytes}
 
 -- what a book is asked between two steps, or within one
@@ -53,8 +49,7 @@ FindsOpen places None config job instances event c = stop_offer_in config job in
 FindsOpen places (Some key) config job instances event c =
     (i : ℕ) × ((places key ≡ Some i) × (stop_offer_in config job instances event c ≡ stop_offer config job i event c))
 
--- what the end of a process means: for which instance, if it exists, and what
-abbrev pub Judges : (InstanceKey → Option ℕ) → Option (InstanceKey × Verdict) → Who → Process → End → Chronicle → Type 0
-Judges places None who process end c = instance_named who c ≡ None
-Judges places (Some found) who process end c =
-    (i : ℕ) × ((places found.0 ≡ Some i) × (instance_named who c ≡ Some i) × (found.1 ≡ judged (goal i c) (state_of i c) process end))
+-- what the end of a process does: nothing, or what a verdict on an instance does
+abbrev pub Judges : (InstanceKey → Option ℕ) → Option (InstanceKey × Verdict) → (does : List Entry) → Chronicle → Type 0
+Judges places None does c = does ≡ []
+Judges places (Some found) does c = (i : ℕ) × ((places found.0 ≡ Some i) × (does ≡ carry_out i found.1 c))

@@ -23,6 +23,7 @@ wanted_of (wanted.StopOn instance) = model.StopOn instance
 abbrev pub origin_of : Origin → model.Origin
 origin_of (origin.Outside given) = model.Outside given
 origin_of (origin.Entering instance state) = model.Entering instance state
+origin_of (origin.Spoilt event) = model.Spoilt event
 
 abbrev pub place_of : EventKey → ℕ
 place_of key = key.place

@@ -1,5 +1,5 @@
 //! What an engine keeps of the past, whatever that is.
-ghost use Rattle.std.specs.Prelude.{◌≡◌, ◌≤◌, ℕ, true, false, List, ◌∷◌, [], map, length, Option, None, Some, is_some, option_map, OnOk, IfOk};
+ghost use Rattle.std.specs.Prelude.{◌≡◌, ◌≤◌, ℕ, true, false, List, ◌∷◌, ◌++◌, [], map, length, Option, None, Some, is_some, option_map, OnOk, IfOk};
 ghost use Rattle.std.specs.Option.{option_copied};
 ghost use Rattle.up_engine.specs.declared.keys.EventKey.{EventKey as EventKeyValue};
 ghost use Rattle.up_engine.specs.declared.keys.InstanceKey.{InstanceKey as InstanceKeyValue};
@@ -12,7 +12,8 @@ ghost use Rattle.up_model.specs.declared.state.State.TheVariants as entered;
 ghost use Rattle.up_model.specs.Chronicle.{Chronicle};
 ghost use Rattle.up_model.specs.Chronicle as entry;
 ghost use Rattle.up_model.specs.Configuration.{Configuration};
-ghost use Rattle.up_model.specs.Due.{turn_event};
+ghost use Rattle.up_model.specs.Due.{turn_event, telling};
+ghost use Rattle.up_model.specs.Held as held;
 ghost use Rattle.up_model.specs.Instances.{existing, instances_of};
 ghost use Rattle.up_model.specs.Offers as offer;
 ghost use Rattle.up_model.specs.Outputs.{outputs_of};
@@ -78,6 +79,11 @@ pub trait Book: Drop {
         ensures { (mode : Mode) (config : Configuration) (c : Chronicle) (e : ℕ) → stands self.now mode config c
             → event_place self.now c key ≡ Some e → option_copied result ≡ read.event_at e c };
 
+    /// Whether an instance that held an event let it go as failed.
+    fn is_spoilt(&self, key: EventKey) -> bool
+        ensures { (mode : Mode) (config : Configuration) (c : Chronicle) (e : ℕ) → stands self.now mode config c
+            → event_place self.now c key ≡ Some e → result ≡ held.is_spoilt e c };
+
     /// The event that this step handles.
     fn offering(&self) -> Option<EventKey>
         ensures { (mode : Mode) (config : Configuration) (c : Chronicle) → stands self.now mode config c
@@ -135,10 +141,10 @@ pub trait Book: Drop {
         ensures { OnOk result ((config : Configuration) (c : Chronicle) (e : ℕ) → stands self.old Stepping config c
             → event_place self.old c key ≡ Some e → stands self.new Stepping config (entry.Handled e ∷ c)) };
 
-    /// An event leaves the queue.
-    fn finish(&mut self, key: EventKey) -> Result<(), AllocError>
+    /// An event leaves the queue; an event that tells that it was spoilt goes to the end, if there is one.
+    fn finish(&mut self, key: EventKey, told: Option<Event>) -> Result<(), AllocError>
         ensures { OnOk result ((config : Configuration) (c : Chronicle) (e : ℕ) → stands self.old Stepping config c
-            → event_place self.old c key ≡ Some e → stands self.new Stepping config (entry.Finished e ∷ c)) };
+            → event_place self.old c key ≡ Some e → stands self.new Stepping config (telling e told ++ entry.Finished e ∷ c)) };
 
     /// An instance enters a state other than waiting.
     fn enter(&mut self, key: InstanceKey, state: State) -> Result<(), AllocError>

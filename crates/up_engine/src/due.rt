@@ -14,8 +14,9 @@ ghost use Rattle.up_model.specs.Requests as request;
 ghost use Rattle.up_text.specs.Scripts.{is_filled};
 
 use crate::book::Book;
+use crate::events::failure_of_event;
 use crate::judgement::{conclude, verdict_on};
-use crate::keys::Live;
+use crate::keys::{EventKey, Live};
 use crate::moves::move_first;
 use crate::offers::{instance_named, offer_next};
 use crate::setup::Setup;
@@ -113,66 +114,114 @@ fn take_request<B: Book>(
 }
 
 #[tactic(auto, unfolding(up_model::specs::Due::effect), using(crate::proofs::Entries::one_last))]
-fn take_refusal<B: Book>(book: &mut B, who: Who, process: Process) -> Result<(), AllocError>
-    ensures { OnOk result ((config : Configuration) (c : Chronicle) → B.stands book.old Resting config c
-        → B.stands book.new Stepping config (model.effect config (given_as.Refused who process) c ++ c)) }
+fn take_refusal<B: Book>(
+    setup: &Setup,
+    book: &mut B,
+    who: Who,
+    process: Process,
+) -> Result<(), AllocError>
+    ensures { OnOk result ((c : Chronicle) → B.stands book.old Resting (config_of setup.now) c
+        → B.stands book.new Stepping (config_of setup.now) (model.effect (config_of setup.now) (given_as.Refused who process) c ++ c)) }
 {
-    let judged = verdict_on(book, &who, process, End::Refused);
+    let judged = verdict_on(setup, book, &who, process, End::Refused);
     conclude(book, Input::Refused { who, process }, judged)?;
     Ok(())
 }
 
 #[tactic(auto, unfolding(up_model::specs::Due::effect), using(crate::proofs::Entries::one_last))]
-fn take_end<B: Book>(book: &mut B, who: Who, process: Process, how: How) -> Result<(), AllocError>
-    ensures { OnOk result ((config : Configuration) (c : Chronicle) → B.stands book.old Resting config c
-        → B.stands book.new Stepping config (model.effect config (given_as.Ended who process how) c ++ c)) }
+fn take_end<B: Book>(
+    setup: &Setup,
+    book: &mut B,
+    who: Who,
+    process: Process,
+    how: How,
+) -> Result<(), AllocError>
+    ensures { OnOk result ((c : Chronicle) → B.stands book.old Resting (config_of setup.now) c
+        → B.stands book.new Stepping (config_of setup.now) (model.effect (config_of setup.now) (given_as.Ended who process how) c ++ c)) }
 {
-    let judged = verdict_on(book, &who, process, End::Ended(how));
+    let judged = verdict_on(setup, book, &who, process, End::Ended(how));
     conclude(book, Input::Ended { who, process, how }, judged)?;
     Ok(())
 }
 
-// Handles an unhandled event, and finishes a handled one.
-fn turn_by<B: Book>(book: &mut B, live: Live) -> Result<(), AllocError>
-    ensures { OnOk result ((config : Configuration) (c : Chronicle) (e : ℕ) → B.stands book.old Stepping config c
-        → B.event_place book.old c live.key ≡ Some e → B.stands book.new Stepping config (model.turn_of (Some (queue.live_at e live.handled)) ++ c)) }
+// The event that tells that another was spoilt, if it was.
+fn told_of<B: Book>(alloc: Global, book: &B, key: EventKey) -> Result<Option<Event>, AllocError>
+    ensures { IfOk result (λ told. (mode : Mode) (config : Configuration) (c : Chronicle) (e : ℕ) → B.stands book.now mode config c
+        → B.event_place book.now c key ≡ Some e → told ≡ model.told_of e c) }
+{
+    if !book.is_spoilt(key) {
+        return Ok(None);
+    }
+    let told = failure_of_event(alloc, book.event_at(key))?;
+    Ok(told)
+}
+
+fn finish<B: Book>(alloc: Global, book: &mut B, key: EventKey) -> Result<(), AllocError>
+    ensures { OnOk result ((config : Configuration) (c : Chronicle) (e : ℕ) → B.stands book.old Resting config c
+        → B.event_place book.old c key ≡ Some e
+        → B.stands book.new Stepping config (model.telling e (model.told_of e c) ++ entry.Finished e ∷ entry.Given given_as.Turn ∷ c)) }
+{
+    let told = told_of(alloc, book, key)?;
+    book.given(Input::Turn)?;
+    book.finish(key, told)?;
+    Ok(())
+}
+
+fn handle<B: Book>(book: &mut B, key: EventKey) -> Result<(), AllocError>
+    ensures { OnOk result ((config : Configuration) (c : Chronicle) (e : ℕ) → B.stands book.old Resting config c
+        → B.event_place book.old c key ≡ Some e → B.stands book.new Stepping config (entry.Handled e ∷ entry.Given given_as.Turn ∷ c)) }
+{
+    book.given(Input::Turn)?;
+    book.handle(key)?;
+    Ok(())
+}
+
+// Takes a turn in: it handles an unhandled event, and finishes a handled one.
+#[tactic(auto, using(crate::proofs::Entries::one_last))]
+fn turn_by<B: Book>(alloc: Global, book: &mut B, live: Live) -> Result<(), AllocError>
+    ensures { OnOk result ((config : Configuration) (c : Chronicle) (e : ℕ) → B.stands book.old Resting config c
+        → B.event_place book.old c live.key ≡ Some e
+        → B.stands book.new Stepping config (model.turn_of (Some (queue.live_at e live.handled)) c ++ entry.Given given_as.Turn ∷ c)) }
 {
     if live.handled {
-        book.finish(live.key)?;
+        finish(alloc, book, live.key)?;
     } else {
-        book.handle(live.key)?;
+        handle(book, live.key)?;
     }
     Ok(())
 }
 
 #[tactic(auto, unfolding(up_model::specs::Due::effect))]
-fn take_turn<B: Book>(book: &mut B) -> Result<(), AllocError>
+fn take_turn<B: Book>(alloc: Global, book: &mut B) -> Result<(), AllocError>
     ensures { OnOk result ((config : Configuration) (c : Chronicle) → B.stands book.old Resting config c
         → B.stands book.new Stepping config (model.effect config given_as.Turn c ++ c)) }
 {
-    let turn = book.turn();
-    book.given(Input::Turn)?;
-    match turn {
-        Some(live) => turn_by(book, live)?,
-        None => {}
+    match book.turn() {
+        Some(live) => turn_by(alloc, book, live)?,
+        None => book.given(Input::Turn)?,
     }
     Ok(())
 }
 
 /// Takes an input in, with its own effect.
 #[tactic(auto, unfolding(up_model::specs::Due::effect))]
-pub(crate) fn act<B: Book>(alloc: Global, book: &mut B, input: Input) -> Result<(), AllocError>
-    ensures { OnOk result ((config : Configuration) (c : Chronicle) → B.stands book.old Resting config c
-        → B.stands book.new Stepping config (model.effect config input c ++ c)) }
+pub(crate) fn act<B: Book>(
+    alloc: Global,
+    setup: &Setup,
+    book: &mut B,
+    input: Input,
+) -> Result<(), AllocError>
+    ensures { OnOk result ((c : Chronicle) → B.stands book.old Resting (config_of setup.now) c
+        → B.stands book.new Stepping (config_of setup.now) (model.effect (config_of setup.now) input c ++ c)) }
 {
     match input {
         Input::Emit(event) => take_event(book, event)?,
         Input::Request { id, request } => take_request(alloc, book, id, request)?,
         Input::Spawned { who, process, pid } => book.given(Input::Spawned { who, process, pid })?,
-        Input::Refused { who, process } => take_refusal(book, who, process)?,
-        Input::Ended { who, process, how } => take_end(book, who, process, how)?,
+        Input::Refused { who, process } => take_refusal(setup, book, who, process)?,
+        Input::Ended { who, process, how } => take_end(setup, book, who, process, how)?,
         Input::Clock(reading) => book.given(Input::Clock(reading))?,
-        Input::Turn => take_turn(book)?,
+        Input::Turn => take_turn(alloc, book)?,
     }
     Ok(())
 }

@@ -132,6 +132,38 @@ pub(crate) fn job_event(
     }
 }
 
+fn tells_failure(event: &Event) -> bool
+    ensures { result ≡ model.tells_failure event.now }
+{
+    event.name.as_str().as_bytes().ends_with(b"/failed")
+}
+
+// The event that tells that another was spoilt. Its name is one, since the other's is.
+fn failure_event(alloc: Global, event: &Event) -> Result<Event, AllocError>
+    ensures { IfOk result (λ told. told ≡ record { name = event.now.name ++ codes "/failed"; vars = event.now.vars }) }
+{
+    let mut name = String::from_str(alloc, event.name.as_str())?;
+    name.push_str("/failed")?;
+    let vars = event.vars.copy()?;
+    event_of(alloc, name.as_str(), vars)
+}
+
+/// The event that tells that another was spoilt, unless that tells of a failure itself.
+pub(crate) fn failure_of_event(
+    alloc: Global,
+    event: Option<&Event>,
+) -> Result<Option<Event>, AllocError>
+    ensures { IfOk result (λ told. told ≡ model.failure_of_event (option_copied event.entry)) }
+{
+    match event {
+        Some(event) if !tells_failure(event) => {
+            let told = failure_event(alloc, event)?;
+            Ok(Some(told))
+        }
+        _ => Ok(None),
+    }
+}
+
 fn push_event<'a>(events: &mut Vec<&'a Event>, found: Option<&'a Event>) -> Result<(), AllocError>
     ensures { OnOk result ((rest : List EventValue) → map (λ event. event.now) events.new.items ++ rest
         ≡ map (λ event. event.now) events.old.items ++ model.with_event (option_copied found.entry) rest) }

@@ -19,8 +19,9 @@ use crate::truth::keeps;
 use std::alloc::{AllocError, Global};
 use up_model::JobDef;
 
+/// Whether the event is among these.
 #[tactic(auto, using(crate::proofs::HeldLemmas::keys_left))]
-fn has(keys: &[EventKey], event: usize) -> bool
+pub(crate) fn has(keys: &[EventKey], event: usize) -> bool
     ensures { result ≡ held.has event (map place_of keys.now) }
 {
     for key in keys {

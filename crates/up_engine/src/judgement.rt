@@ -1,23 +1,23 @@
 //! What the end or the refusal of a process does to its instance.
 ghost use Rattle.std.specs.Prelude.{◌≡◌, ℕ, List, ◌∷◌, ◌++◌, map, Option, None, Some, IfOk, OnOk};
 ghost use Rattle.up_engine.specs.Keys.{Mode, Resting, Stepping, Judges};
-ghost use Rattle.up_model.specs.declared.failure.End.{End as EndValue};
-ghost use Rattle.up_model.specs.declared.who.Who.{Who as WhoValue};
+ghost use Rattle.up_engine.specs.Setups.{config_of};
 ghost use Rattle.up_model.specs.Chronicle as entry;
+ghost use Rattle.up_model.specs.Chronicle.{Chronicle, Entry as EntryValue};
+ghost use Rattle.up_model.specs.Configuration.{Configuration, job_named};
 ghost use Rattle.up_model.specs.Due.{end_of};
 ghost use Rattle.up_model.specs.Instances.{instance_named};
-ghost use Rattle.up_stanza.specs.declared.process.Process.{Process as ProcessValue};
-ghost use Rattle.up_model.specs.Chronicle.{Chronicle};
-ghost use Rattle.up_model.specs.Configuration.{Configuration};
 ghost use Rattle.up_model.specs.Judgement as model;
 
 use crate::book::Book;
 use crate::keys::InstanceKey;
 use crate::life::is_start;
 use crate::offers::instance_named;
+use crate::outputs::job_named;
+use crate::setup::Setup;
 use std::alloc::AllocError;
 use up_job::judge_end;
-use up_model::{End, Failure, Goal, Input, Process, State, Verdict, Who};
+use up_model::{End, Failure, Input, JobDef, Process, Verdict, Who};
 
 // The goal of an instance becomes stop by itself, if it is start.
 fn end_itself<B: Book>(book: &mut B, key: InstanceKey) -> Result<(), AllocError>
@@ -57,25 +57,46 @@ fn carry_out<B: Book>(book: &mut B, key: InstanceKey, verdict: Verdict) -> Resul
     Ok(())
 }
 
-// What an end does as long as no task, no respawn and no normal exit has an effect.
-fn judged(goal: Goal, state: State, process: Process, end: End) -> Verdict
-    ensures { result ≡ model.judged goal state process end }
+// What an end does to an instance, as long as no respawn and no normal exit has an effect.
+fn judged<B: Book>(book: &B, job: &JobDef, key: InstanceKey, process: Process, end: End) -> Verdict
+    ensures { (mode : Mode) (config : Configuration) (c : Chronicle) (i : ℕ) → B.stands book.now mode config c
+        → B.instance_place book.now c key ≡ Some i → result ≡ model.judged job.now i process end c }
 {
-    judge_end(goal, state, process, end, false, false, false, false)
+    let goal = book.goal(key);
+    let state = book.state_of(key);
+    judge_end(goal, state, process, end, job.task, false, false, false)
 }
 
-/// What the end of a process does, and to which instance, if that exists.
-pub(crate) fn verdict_on<B: Book>(
+// What the end of a process does to which instance of a job, if that exists.
+fn verdict_in<B: Book>(
     book: &B,
+    job: &JobDef,
     who: &Who,
     process: Process,
     end: End,
 ) -> Option<(InstanceKey, Verdict)>
     ensures { (mode : Mode) (config : Configuration) (c : Chronicle) → B.stands book.now mode config c
-        → Judges (B.instance_place book.now c) result who.now process end c }
+        → Judges (B.instance_place book.now c) result (end_of (Some job.now) (instance_named who.now c) process end c) c }
 {
     match instance_named(book, &who.job, who.instance.as_str()) {
-        Some(key) => Some((key, judged(book.goal(key), book.state_of(key), process, end))),
+        Some(key) => Some((key, judged(book, job, key, process, end))),
+        None => None,
+    }
+}
+
+/// What the end of a process does, and to which instance, if that exists.
+pub(crate) fn verdict_on<B: Book>(
+    setup: &Setup,
+    book: &B,
+    who: &Who,
+    process: Process,
+    end: End,
+) -> Option<(InstanceKey, Verdict)>
+    ensures { (mode : Mode) (c : Chronicle) → B.stands book.now mode (config_of setup.now) c
+        → Judges (B.instance_place book.now c) result (end_of (job_named who.now.job (config_of setup.now).jobs) (instance_named who.now c) process end c) c }
+{
+    match job_named(setup.jobs(), &who.job) {
+        Some(job) => verdict_in(book, job, who, process, end),
         None => None,
     }
 }
@@ -86,9 +107,8 @@ pub(crate) fn conclude<B: Book>(
     input: Input,
     judged: Option<(InstanceKey, Verdict)>,
 ) -> Result<(), AllocError>
-    ensures { OnOk result ((config : Configuration) (c : Chronicle) (who : WhoValue) (process : ProcessValue) (end : EndValue) → B.stands book.old Resting config c
-        → Judges (B.instance_place book.old c) judged who process end c
-        → B.stands book.new Stepping config (end_of (instance_named who c) process end c ++ entry.Given input ∷ c)) }
+    ensures { OnOk result ((config : Configuration) (c : Chronicle) (entries : List EntryValue) → B.stands book.old Resting config c
+        → Judges (B.instance_place book.old c) judged entries c → B.stands book.new Stepping config (entries ++ entry.Given input ∷ c)) }
 {
     match judged {
         Some((key, verdict)) => {

@@ -247,10 +247,16 @@ fn enter_waiting<B: Book>(
     ensures { OnOk result ((config : Configuration) (c : Chronicle) (i : ℕ) → B.stands book.old Stepping config c
         → B.instance_place book.old c slot.now.key ≡ Some i
         → B.stands book.new Stepping config
-        (model.enter_whole job.now (model.who_of job.now (instance_at i slot.now.name)) i entered.Waiting (life.entering entered.Waiting from false) c ++ c)) }
+        (model.enter_whole job.now (model.who_of job.now (instance_at i slot.now.name)) i entered.Waiting (life.entering entered.Waiting from job.now.task) c ++ c)) }
 {
     let failed = book.failure(slot.key);
-    let event = job_event(alloc, JobEvent::Stopped, &job.name, slot.name.as_str(), failed)?;
+    let event = job_event(
+        alloc,
+        JobEvent::Stopped,
+        &job.name,
+        slot.name.as_str(),
+        failed,
+    )?;
     book.leave(slot.key, event)?;
     Ok(())
 }
@@ -272,7 +278,15 @@ fn move_on<B: Book>(
     if is_waiting(to) {
         enter_waiting(alloc, book, job, slot, from)?;
     } else {
-        enter_other(alloc, setup, book, job, slot, to, entering(to, from, false))?;
+        enter_other(
+            alloc,
+            setup,
+            book,
+            job,
+            slot,
+            to,
+            entering(to, from, job.task),
+        )?;
     }
     Ok(())
 }

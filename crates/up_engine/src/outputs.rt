@@ -21,9 +21,9 @@ use up_conf::Action;
 use up_model::{Answer, JobDef, Order, Output, Process, Who};
 use up_text::{Env, Items, Name, Text};
 
-// The job of this name.
+/// The job of this name.
 #[tactic(auto, using(crate::proofs::OutputLemmas::jobs_left))]
-fn job_named<'a>(jobs: &'a [JobDef], name: &Name) -> Option<&'a JobDef>
+pub(crate) fn job_named<'a>(jobs: &'a [JobDef], name: &Name) -> Option<&'a JobDef>
     ensures { option_copied result ≡ job_named name.now jobs.now }
 {
     for job in jobs {
@@ -201,7 +201,7 @@ fn output_of(
 {
     match next {
         Record::Queued {
-            origin: Origin::Entering { .. },
+            origin: Origin::Entering { .. } | Origin::Spoilt(_),
             event,
         } => {
             let event = event.copy()?;

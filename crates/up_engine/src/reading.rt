@@ -5,3 +5,4 @@ pub mod life;
 pub mod place;
 pub mod process;
 pub mod seen;
+pub mod spoilt;

@@ -18,11 +18,12 @@ pub enum Wanted<'a> {
     StopOn(usize),
 }
 
-/// What an event comes from: the input that was given at a place, or an instance that entered a state.
+/// What an event comes from: the input that was given at a place, an instance that entered a state, or a spoilt event.
 #[derive(Clone, Copy, Debug)]
 pub enum Origin {
     Outside(usize),
     Entering { instance: usize, state: State },
+    Spoilt(usize),
 }
 
 /// One entry of the chronicle, as the model names it.

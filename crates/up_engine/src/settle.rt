@@ -43,7 +43,7 @@ pub(crate) fn run_step<B: Book>(
     ensures { OnOk result ((c : Chronicle) → B.stands book.old Resting (config_of setup.now) c
         → B.stands book.new Stepping (config_of setup.now) (answer.after (config_of setup.now) c input)) }
 {
-    act(alloc, book, input)?;
+    act(alloc, setup, book, input)?;
     settle(alloc, setup, book)?;
     Ok(())
 }

@@ -22,7 +22,7 @@ use crate::held::turn_event;
 use crate::keys::{EventKey, InstanceKey, Live, Slot};
 use crate::outputs::outputs;
 use crate::queue::{mark_handled, remove};
-use crate::reading::{life, place, process, seen};
+use crate::reading::{life, place, process, seen, spoilt};
 use crate::record::{Expression, Origin, Record, Wanted};
 use crate::setup::Setup;
 use crate::truth::{Verdict, verdict_of};
@@ -205,6 +205,8 @@ impl StoringBook {
     ghost use Rattle.up_engine.specs.Setups.{config_of};
     ghost use Rattle.up_engine.specs.Stored.{Stored};
     ghost use Rattle.up_engine.specs.Records.{wanted_of};
+    ghost use Rattle.up_model.specs.Due.{telling};
+    ghost use Rattle.std.specs.Prelude.{◌++◌};
     ghost use Rattle.up_model.specs.Seen as model_seen;
     ghost use Rattle.up_engine.specs.Verdicts.{verdict};
 
@@ -289,6 +291,21 @@ impl StoringBook {
         Ok(keys)
     }
 
+    // An event that tells that another was spoilt goes to the end of the queue, if there is one.
+    fn tell(&mut self, spoilt: usize, told: Option<Event>) -> Result<(), AllocError>
+        ensures { OnOk result ((config : Configuration) (c : Chronicle) → Stored self.old Stepping config c
+            → Stored self.new Stepping config (telling spoilt told ++ c)) }
+    {
+        match told {
+            Some(event) => self.write(Record::Queued {
+                origin: Origin::Spoilt(spoilt),
+                event,
+            })?,
+            None => {}
+        }
+        Ok(())
+    }
+
     // The place of the newest record.
     fn last(&self) -> usize
         ensures { (config : Configuration) (c : Chronicle) (input : InputValue) → Stored self.now Stepping config (entry.Given input ∷ c) → result ≡ length c }
@@ -348,6 +365,10 @@ impl Book for StoringBook {
         place::event_at(self.records.as_slice(), key.place)
     }
 
+    fn is_spoilt(&self, key: EventKey) -> bool {
+        spoilt::is_spoilt(self.records.as_slice(), key.place)
+    }
+
     fn offering(&self) -> Option<EventKey> {
         match seen::offering(self.records.as_slice()) {
             Some(place) => Some(EventKey { place }),
@@ -401,8 +422,9 @@ impl Book for StoringBook {
         Ok(())
     }
 
-    fn finish(&mut self, key: EventKey) -> Result<(), AllocError> {
+    fn finish(&mut self, key: EventKey, told: Option<Event>) -> Result<(), AllocError> {
         self.write(Record::Finished(key.place))?;
+        self.tell(key.place, told)?;
         Ok(())
     }
 

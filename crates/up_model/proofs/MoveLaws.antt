@@ -182,7 +182,7 @@ enter-state job who p to entry c =
 
 -- an instance waits for its own event after it entered starting or stopping, and only these states ask for that
 enter-blocker : (job : JobDef) (who : Who) (p : ℕ) (from to : State) (c : Chronicle) (aim : Goal)
-    → moves aim to (is_some (blocker p (enter_whole job who p to (entering to from false) c ++ c))) ≡ moves aim to (is_blocking to)
+    → moves aim to (is_some (blocker p (enter_whole job who p to (entering to from job.task) c ++ c))) ≡ moves aim to (is_blocking to)
 enter-blocker job who p from Starting c aim = rw (eq-eqb p p refl) refl
 enter-blocker job who p from Stopping c aim = rw (eq-eqb p p refl) refl
 enter-blocker job who p from Waiting c Start = refl
@@ -247,7 +247,7 @@ move-lessens offers job x c there may = record {
     d = es ++ c
 
     all : AllByRecursion (IsMove p) es
-    all = enter-moves job (who_of job x) p to (entering to from false) c
+    all = enter-moves job (who_of job x) p to (entering to from job.task) c
 
     spared : IsSpared offers p c d
     spared q apart older = spared-works offers job.name p q es c (all-weaker (IsMove p) (IsOf job.name p) (move-is_of job.name p) es all) apart older
@@ -260,7 +260,7 @@ move-lessens offers job x c there may = record {
     left : moves_at p d ≡ moves (goal p c) to (is_blocking to)
     left =
         ap (λ aim. moves aim (state_of p d) (is_some (blocker p d))) (same-append (goal p) (IsMove p) (move-goal p p) es c all)
-        ∙ ap (λ s. moves (goal p c) s (is_some (blocker p d))) (enter-state job (who_of job x) p to (entering to from false) c)
+        ∙ ap (λ s. moves (goal p c) s (is_some (blocker p d))) (enter-state job (who_of job x) p to (entering to from job.task) c)
         ∙ enter-blocker job (who_of job x) p from to c (goal p c)
 
     fewer : instance_work offers p d < instance_work offers p c
@@ -273,4 +273,4 @@ move-lessens offers job x c there may = record {
     start k = ap (λ b. offer_work offers (not b)) (same-append (was_offered (StartOn k)) (IsMove p) (move-offered p (StartOn k)) es c all)
 
     now : work_in offers (existing d) d ≡ work_in offers (if is_waiting to then without_instance p (existing c) else existing c) d
-    now = ap (λ xs. work_in offers xs d) (enter-existing job (who_of job x) p to (entering to from false) c)
+    now = ap (λ xs. work_in offers xs d) (enter-existing job (who_of job x) p to (entering to from job.task) c)

@@ -1,6 +1,8 @@
 -- Each event is handled once, and finishes once, after it was handled.
 use Rattle.std.proofs.Common.{◌≡◌, ℕ, zero, suc, is_some, append_assoc, le_of_eq, not, ◌&&◌, ◌+◌, ◌<◌, ◌≤◌, ◌==◌, ◌⊎◌, inl, inr, Bool, true, false, List, [], ◌∷◌, ◌++◌, length, Option, None, Some, if◌then◌else◌, refl, sym, ◌∙◌, ap, subst, arith, eqb-true, eq-eqb}
 use Rattle.std.specs.List.{AllByRecursion}
+use Rattle.up_conf.specs.declared.job.JobDef.{JobDef}
+use Rattle.up_model.specs.declared.event.Event.{Event}
 use Rattle.up_model.specs.declared.failure.End.{End}
 use Rattle.up_model.specs.declared.failure.End.TheVariants as end
 use Rattle.up_model.specs.declared.failure.Failure.{Failure}
@@ -10,9 +12,9 @@ use Rattle.up_model.specs.declared.state.Goal.TheVariants.{Stop}
 use Rattle.up_stanza.specs.declared.process.Process.{Process}
 use Rattle.up_model.specs.declared.input.Input.{Input}
 use Rattle.up_model.specs.declared.input.Input.TheVariants as input
-use Rattle.up_model.specs.Configuration.{Configuration}
+use Rattle.up_model.specs.Configuration.{Configuration, job_named}
 use Rattle.up_model.specs.Chronicle.{Entry, Given, Aimed, Replied, Queued, Handled, Finished, Outside}
-use Rattle.up_model.specs.Readings.{goal, state_of, failure, holders}
+use Rattle.up_model.specs.Readings.{goal, failure, holders}
 use Rattle.up_model.specs.Queue.{Live, with_handled, without_event, queue}
 use Rattle.up_model.specs.Held.{is_held}
 use Rattle.up_model.specs.Instances.{instance_named}
@@ -20,7 +22,7 @@ use Rattle.up_model.specs.Judgement.{end_itself, keep_failure, fail, carry_out, 
 use Rattle.up_model.specs.Offers.{offering}
 use Rattle.up_model.specs.Requests.{not_supported}
 use Rattle.up_model.specs.Tests.{is_start, entries_if}
-use Rattle.up_model.specs.Due.{due, end_of, turn_event, turn_of, effect}
+use Rattle.up_model.specs.Due.{due, end_of, telling, told_of, turn_event, turn_of, effect}
 use Rattle.up_model.specs.Values.{Bytes}
 use Rattle.up_model.specs.Work.{work, settle}
 use Rattle.up_model.specs.Answers.{after, next, is_expected, after_all}
@@ -124,19 +126,30 @@ finished-keeps config event c here free keeps = record {
         subst (λ it. Standing it (Finished event ∷ c) (status it (without_event event (queue c)))) (eqb-true event other same)
         (rw (status-without_event event (queue c)) (rw (eq-eqb event event refl) (ap (λ n. 1 + n) now.1 ∙ sym now.0), le_of_eq now.0, λ later. absurd (omega arith)))
 
+-- so does the event that tells that it was spoilt
+telling-quiet : (spoilt : ℕ) (told : Option Event) → AllByRecursion IsQuiet (telling spoilt told)
+telling-quiet spoilt None = tt
+telling-quiet spoilt (Some told) = (tt, tt)
+
 -- so a turn leaves the counts fitting
 turn-keeps : (config : Configuration) (c : List Entry) (found : Option Live) → turn_event config (queue c) c ≡ found → Keeps config (Given input.Turn ∷ c)
-    → Keeps config (turn_of found ++ Given input.Turn ∷ c)
+    → Keeps config (turn_of found c ++ Given input.Turn ∷ c)
 turn-keeps config c None found keeps = keeps
 turn-keeps config c (Some live) found keeps = by_case live.handled refl
   where
     here : status live.place (queue c) ≡ Some live.handled
     here = turn_event-status (length c) config (queue c) c live (queue_by_age c) found
 
-    by_case : (b : Bool) → live.handled ≡ b → Keeps config ((if b then Finished live.place ∷ [] else Handled live.place ∷ []) ++ Given input.Turn ∷ c)
+    told : List Entry
+    told = telling live.place (told_of live.place c)
+
+    by_case : (b : Bool) → live.handled ≡ b
+        → Keeps config ((if b then told ++ Finished live.place ∷ [] else Handled live.place ∷ []) ++ Given input.Turn ∷ c)
     by_case true handled =
-        finished-keeps config live.place (Given input.Turn ∷ c) (here ∙ ap (λ b. Some b) handled)
-        (held-given config live.place input.Turn c ∙ turn_event-held config (queue c) c live found handled) keeps
+        rw append_assoc
+        (quiets-keep config told (Finished live.place ∷ Given input.Turn ∷ c) (telling-quiet live.place (told_of live.place c))
+        (finished-keeps config live.place (Given input.Turn ∷ c) (here ∙ ap (λ b. Some b) handled)
+        (held-given config live.place input.Turn c ∙ turn_event-held config (queue c) c live found handled) keeps))
     by_case false handled = handled-keeps config live.place (Given input.Turn ∷ c) (here ∙ ap (λ b. Some b) handled) keeps
 
 -- what is due neither handles nor finishes an event
@@ -177,9 +190,10 @@ carry_out-quiet instance verdict.Stop c = end_itself-quiet instance c
 carry_out-quiet instance (verdict.Fail its) c = fail-quiet instance its c
 
 -- and what an end does
-end_of-quiet : (o : Option ℕ) (process : Process) (its : End) (c : List Entry) → AllByRecursion IsQuiet (end_of o process its c)
-end_of-quiet None process its c = tt
-end_of-quiet (Some instance) process its c = carry_out-quiet instance (judged (goal instance c) (state_of instance c) process its) c
+end_of-quiet : (its_job : Option JobDef) (o : Option ℕ) (process : Process) (its : End) (c : List Entry) → AllByRecursion IsQuiet (end_of its_job o process its c)
+end_of-quiet None o process its c = tt
+end_of-quiet (Some job) None process its c = tt
+end_of-quiet (Some job) (Some instance) process its c = carry_out-quiet instance (judged job instance process its c) c
 
 -- the effect of an input leaves the counts fitting
 pub effect-keeps : (config : Configuration) (given : Input) (c : List Entry) → Keeps config c → Keeps config (effect config given c ++ c)
@@ -188,9 +202,11 @@ effect-keeps config (input.Emit event) c keeps = quiets-keep config (Queued (Out
 effect-keeps config (input.Request id request) c keeps = quiets-keep config (Replied (length c) (not_supported request.command) ∷ Given (input.Request id request) ∷ []) c (tt, (tt, tt)) keeps
 effect-keeps config (input.Spawned who process pid) c keeps = quiet-keeps config (Given (input.Spawned who process pid)) c tt keeps
 effect-keeps config (input.Refused who process) c keeps =
-    rw append_assoc (quiets-keep config (end_of (instance_named who c) process end.Refused c) (Given (input.Refused who process) ∷ c) (end_of-quiet (instance_named who c) process end.Refused c) (quiet-keeps config (Given (input.Refused who process)) c tt keeps))
+    let its : List Entry = end_of (job_named who.job config.jobs) (instance_named who c) process end.Refused c in
+    rw append_assoc (quiets-keep config its (Given (input.Refused who process) ∷ c) (end_of-quiet (job_named who.job config.jobs) (instance_named who c) process end.Refused c) (quiet-keeps config (Given (input.Refused who process)) c tt keeps))
 effect-keeps config (input.Ended who process how) c keeps =
-    rw append_assoc (quiets-keep config (end_of (instance_named who c) process (end.Ended how) c) (Given (input.Ended who process how) ∷ c) (end_of-quiet (instance_named who c) process (end.Ended how) c) (quiet-keeps config (Given (input.Ended who process how)) c tt keeps))
+    let its : List Entry = end_of (job_named who.job config.jobs) (instance_named who c) process (end.Ended how) c in
+    rw append_assoc (quiets-keep config its (Given (input.Ended who process how) ∷ c) (end_of-quiet (job_named who.job config.jobs) (instance_named who c) process (end.Ended how) c) (quiet-keeps config (Given (input.Ended who process how)) c tt keeps))
 effect-keeps config (input.Clock reading) c keeps = quiet-keeps config (Given (input.Clock reading)) c tt keeps
 effect-keeps config input.Turn c keeps = rw append_assoc (turn-keeps config c (turn_event config (queue c) c) refl (quiet-keeps config (Given input.Turn) c tt keeps))
 

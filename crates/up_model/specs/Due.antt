@@ -1,20 +1,23 @@
 -- What a step does: the effect of its input, and then what is due until nothing is (the Upstart Cookbook, "Job lifecycle").
 -- Each of these is a list of entries to be put in front of the chronicle, newest first.
 use Rattle.std.specs.Prelude.{ℕ, not, ◌||◌, List, [], ◌∷◌, ◌++◌, Option, None, Some, if◌then◌else◌, length}
+use Rattle.up_conf.specs.declared.job.JobDef.{JobDef}
 use Rattle.up_stanza.specs.declared.process.Process.{Process}
 use Rattle.up_model.specs.declared.failure.End.{End}
 use Rattle.up_model.specs.declared.failure.End.TheVariants as end
+use Rattle.up_model.specs.declared.event.Event.{Event}
 use Rattle.up_model.specs.declared.input.Input.{Input}
 use Rattle.up_model.specs.declared.input.Input.TheVariants as input
-use Rattle.up_model.specs.Chronicle.{Chronicle, Entry, Given, Queued, Handled, Finished, Replied, Outside}
-use Rattle.up_model.specs.Configuration.{Configuration}
-use Rattle.up_model.specs.Held.{is_held}
+use Rattle.up_model.specs.Chronicle.{Chronicle, Entry, Given, Queued, Handled, Finished, Replied, Outside, Spoilt}
+use Rattle.up_model.specs.Configuration.{Configuration, job_named}
+use Rattle.up_model.specs.Events.{failure_of_event}
+use Rattle.up_model.specs.Held.{is_held, is_spoilt}
 use Rattle.up_model.specs.Instances.{instance_named}
 use Rattle.up_model.specs.Judgement.{judged, carry_out}
 use Rattle.up_model.specs.Moves.{move_first}
 use Rattle.up_model.specs.Offers.{offering, offer_next}
 use Rattle.up_model.specs.Queue.{Live, queue}
-use Rattle.up_model.specs.Readings.{goal, state_of}
+use Rattle.up_model.specs.Readings.{event_at}
 use Rattle.up_model.specs.Requests.{not_supported}
 use Rattle.up_model.specs.Tests.{or_else}
 
@@ -22,10 +25,11 @@ use Rattle.up_model.specs.Tests.{or_else}
 unfoldable pub due : Configuration → Chronicle → List Entry
 due config c = or_else (move_first config.jobs c) (offer_next config (offering c) c)
 
--- what the end or the refusal of a process does, if its instance exists
-abbrev pub end_of : Option ℕ → Process → End → Chronicle → List Entry
-end_of None process end c = []
-end_of (Some instance) process end c = carry_out instance (judged (goal instance c) (state_of instance c) process end) c
+-- what the end or the refusal of a process does, if its job is there and its instance exists
+abbrev pub end_of : Option JobDef → Option ℕ → Process → End → Chronicle → List Entry
+end_of None instance process end c = []
+end_of (Some job) None process end c = []
+end_of (Some job) (Some instance) process end c = carry_out instance (judged job instance process end c) c
 
 -- the event of a turn: the oldest that is unhandled, or handled and not held
 abbrev pub turn_event : Configuration → List Live → Chronicle → Option Live
@@ -33,17 +37,27 @@ turn_event config [] c = None
 turn_event config (live ∷ lives) c =
     if not live.handled || not (is_held config live.place c) then Some live else turn_event config lives c
 
--- a turn handles an unhandled event, and finishes a handled one
-abbrev pub turn_of : Option Live → List Entry
-turn_of None = []
-turn_of (Some live) = if live.handled then Finished live.place ∷ [] else Handled live.place ∷ []
+-- an event is told of
+abbrev pub telling : (spoilt : ℕ) → Option Event → List Entry
+telling spoilt None = []
+telling spoilt (Some told) = Queued (Spoilt spoilt) told ∷ []
+
+-- the event that tells that another was spoilt, if it was
+abbrev pub told_of : ℕ → Chronicle → Option Event
+told_of event c = if is_spoilt event c then failure_of_event (event_at event c) else None
+
+-- a turn handles an unhandled event, and finishes a handled one; if that was spoilt, another event tells so
+abbrev pub turn_of : Option Live → Chronicle → List Entry
+turn_of None c = []
+turn_of (Some live) c =
+    if live.handled then telling live.place (told_of live.place c) ++ Finished live.place ∷ [] else Handled live.place ∷ []
 
 -- the effect of an input, in front of the input itself
 unfoldable pub effect : Configuration → Input → Chronicle → List Entry
 effect config (input.Emit event) c = Queued (Outside (length c)) event ∷ Given (input.Emit event) ∷ []
 effect config (input.Request id request) c = Replied (length c) (not_supported request.command) ∷ Given (input.Request id request) ∷ []
 effect config (input.Spawned who process pid) c = Given (input.Spawned who process pid) ∷ []
-effect config (input.Refused who process) c = end_of (instance_named who c) process end.Refused c ++ Given (input.Refused who process) ∷ []
-effect config (input.Ended who process how) c = end_of (instance_named who c) process (end.Ended how) c ++ Given (input.Ended who process how) ∷ []
+effect config (input.Refused who process) c = end_of (job_named who.job config.jobs) (instance_named who c) process end.Refused c ++ Given (input.Refused who process) ∷ []
+effect config (input.Ended who process how) c = end_of (job_named who.job config.jobs) (instance_named who c) process (end.Ended how) c ++ Given (input.Ended who process how) ∷ []
 effect config (input.Clock reading) c = Given (input.Clock reading) ∷ []
-effect config input.Turn c = turn_of (turn_event config (queue c) c) ++ Given input.Turn ∷ []
+effect config input.Turn c = turn_of (turn_event config (queue c) c) c ++ Given input.Turn ∷ []

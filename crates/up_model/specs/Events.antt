@@ -1,5 +1,6 @@
 -- The events that an instance emits, and the environment of a start.
-use Rattle.std.specs.Prelude.{ℕ, List, [], ◌∷◌, ◌++◌, codes, Option, None, Some}
+use Rattle.std.specs.Prelude.{ℕ, Bool, nat_eq, List, [], ◌∷◌, ◌++◌, codes, Option, None, Some, if◌then◌else◌}
+use Rattle.std.specs.List.{ends_with}
 use Rattle.std.specs.Fmt.{decimal}
 use Rattle.up_stanza.specs.declared.process.Process.{Process}
 use Rattle.up_stanza.specs.declared.process.Process.TheVariants as process
@@ -86,3 +87,14 @@ start_env base events who =
 -- what a stop by these events adds for pre-stop and post-stop (init(5), "Job environment")
 abbrev pub stopped_by : List Event → Bindings
 stopped_by events = set_in (codes "UPSTART_STOP_EVENTS") (names_of events) (collected [] events)
+
+-- whether an event tells of the failure of another, by its name
+abbrev pub tells_failure : Event → Bool
+tells_failure event = ends_with nat_eq event.name (codes "/failed")
+
+-- the event that tells that another was spoilt, with the same variables: none tells so of one that tells of a failure itself
+-- (initctl(8), "emit")
+abbrev pub failure_of_event : Option Event → Option Event
+failure_of_event None = None
+failure_of_event (Some event) =
+    if tells_failure event then None else Some (record { name = event.name ++ codes "/failed"; vars = event.vars })

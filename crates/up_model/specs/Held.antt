@@ -1,8 +1,8 @@
--- Which events may not finish yet (starting(7), the Upstart Cookbook on blocking events).
-use Rattle.std.specs.Prelude.{ℕ, Bool, ◌==◌, List, [], ◌∷◌, ◌++◌}
+-- Which events may not finish yet, and which were spoilt (starting(7), the Upstart Cookbook on blocking events).
+use Rattle.std.specs.Prelude.{ℕ, Bool, true, false, ◌==◌, List, [], ◌∷◌, ◌++◌, if◌then◌else◌}
 use Rattle.std.specs.List.{list_any}
 use Rattle.up_conf.specs.declared.job.JobDef.{JobDef}
-use Rattle.up_model.specs.Chronicle.{Chronicle, StartOn, StopOn}
+use Rattle.up_model.specs.Chronicle.{Chronicle, Released, StartOn, StopOn}
 use Rattle.up_model.specs.Configuration.{Configuration}
 use Rattle.up_model.specs.Instances.{Instance, instances_of}
 use Rattle.up_model.specs.Readings.{holders}
@@ -33,3 +33,9 @@ has event places = list_any (λ place. place == event) places
 
 abbrev pub is_held : Configuration → ℕ → Chronicle → Bool
 is_held config event c = has event (held_by_jobs config config.jobs c)
+
+-- whether an instance that held an event let it go as failed
+abbrev pub is_spoilt : ℕ → Chronicle → Bool
+is_spoilt event [] = false
+is_spoilt event (Released instance true ∷ c) = if has event (holders instance c) then true else is_spoilt event c
+is_spoilt event (entry ∷ c) = is_spoilt event c

@@ -3,6 +3,7 @@
 use Rattle.std.specs.Prelude.{ℕ, Bool, true, false, ◌&&◌, ◌||◌, not, ◌==◌, List, [], ◌∷◌, ◌++◌, Option, None, Some, is_some, if◌then◌else◌}
 use Rattle.up_stanza.specs.declared.process.Process.{Process}
 use Rattle.up_stanza.specs.declared.process.Process.TheVariants.{Main, PreStart, PostStart, PreStop, PostStop}
+use Rattle.up_conf.specs.declared.job.JobDef.{JobDef}
 use Rattle.up_model.specs.declared.failure.Cause.TheVariants as cause
 use Rattle.up_model.specs.declared.failure.End.{End}
 use Rattle.up_model.specs.declared.failure.End.TheVariants.{Refused, Ended}
@@ -67,9 +68,9 @@ judge aim now PreStop end task respawn normal may = verdict.Note
 judge aim now PostStop Refused task respawn normal may = verdict.Fail (failure_of PostStop None)
 judge aim now PostStop (Ended how) task respawn normal may = judge_other PostStop how
 
--- what an end does as long as no task, no respawn and no normal exit has an effect
-abbrev pub judged : Goal → State → Process → End → Verdict
-judged aim now process end = judge aim now process end false false false false
+-- what an end does to an instance of a job, as long as no respawn and no normal exit has an effect
+abbrev pub judged : JobDef → ℕ → Process → End → Chronicle → Verdict
+judged job instance process end c = judge (read.goal instance c) (read.state_of instance c) process end job.task false false false
 
 -- the goal becomes stop, if it is start; the holders stay
 abbrev pub end_itself : ℕ → Chronicle → List Entry

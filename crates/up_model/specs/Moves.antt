@@ -83,7 +83,7 @@ next_of job instance c = next_state (goal instance c) (state_of instance c) (has
 abbrev pub move : JobDef → Instance → Chronicle → List Entry
 move job instance c =
     let to = next_of job instance.place c in
-    enter_whole job (who_of job instance) instance.place to (entering to (state_of instance.place c) false) c
+    enter_whole job (who_of job instance) instance.place to (entering to (state_of instance.place c) job.task) c
 
 -- the move of an instance, if it may leave its state
 abbrev pub move_of : JobDef → Instance → Chronicle → List Entry

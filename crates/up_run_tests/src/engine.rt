@@ -4,6 +4,7 @@ mod chain;
 mod expressions;
 mod processes;
 mod restarts;
+mod tasks;
 
 use std::alloc::{AllocError, Global};
 use std::process::Abort;
@@ -56,6 +57,7 @@ pub(crate) enum Given {
 pub(crate) type Row<'a> = (Given, &'a str, usize, bool);
 
 /// A worked row: its name, the files of its folder by their paths, the base environment, and its steps.
+#[derive(Clone, Copy)]
 pub(crate) struct Case<'a> {
     pub(crate) name: &'a str,
     pub(crate) files: &'a [(&'a str, &'a str)],
@@ -125,7 +127,8 @@ const STRANGER: [Row; 9] = [
     (Given::Turn, "", 0, false),
 ];
 
-const REQUESTS: [Row; 7] = [
+// After the failure what started the job is spoilt, which is told when it finishes.
+const REQUESTS: [Row; 14] = [
     (
         Given::Start(7),
         "reply 7 ok=false Not supported: start; ",
@@ -143,6 +146,18 @@ const REQUESTS: [Row; 7] = [
         2,
         true,
     ),
+    (Given::Turn, "startup/failed; ", 2, true),
+    (Given::Turn, "", 2, true),
+    (
+        Given::Turn,
+        "stopped JOB=a INSTANCE= RESULT=failed PROCESS=main; ",
+        2,
+        true,
+    ),
+    (Given::Turn, "", 2, true),
+    (Given::Turn, "", 1, true),
+    (Given::Turn, "", 1, true),
+    (Given::Turn, "", 0, false),
 ];
 
 static CASES: [Case; 5] = [
@@ -344,7 +359,7 @@ fn table(alloc: Global, files: &[(&str, &str)]) -> Result<Table, Untried> {
     Ok(table)
 }
 
-fn base(alloc: Global, pairs: &[(&str, &str)]) -> Result<Env, Untried> {
+fn environment(alloc: Global, pairs: &[(&str, &str)]) -> Result<Env, Untried> {
     let mut env = Env::new(alloc);
     for (key, value) in pairs {
         env.set(key, value)?;
@@ -359,7 +374,7 @@ pub(crate) fn engine(
     pairs: &[(&str, &str)],
 ) -> Result<Engine, Untried> {
     let table = table(alloc, files)?;
-    let base = base(alloc, pairs)?;
+    let base = environment(alloc, pairs)?;
     Ok(Engine::new(alloc, table, base))
 }
 

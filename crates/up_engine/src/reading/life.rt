@@ -64,7 +64,10 @@ fn holders_after<'a>(next: &'a Record, instance: usize, before: &'a [EventKey]) 
             holders,
             ..
         } if *other == instance => holders.as_slice(),
-        Record::Released { instance: other, .. } if *other == instance => &[],
+        Record::Released {
+            instance: other,
+            ..
+        } if *other == instance => &[],
         _ => before,
     }
 }

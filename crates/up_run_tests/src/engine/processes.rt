@@ -39,7 +39,7 @@ const PRE_STOP_THEN_GOAL_START: [Row; 13] = [
     (Given::Turn, "", 0, false),
 ];
 
-// After the failure the event that started the job isn't held any more.
+// After the failure the event that started the job isn't held any more, and is spoilt.
 const PRE_START_FAILS: [Row; 9] = [
     (Given::Emit("go"), "", 1, true),
     (Given::Turn, STARTING, 2, true),
@@ -52,9 +52,9 @@ const PRE_START_FAILS: [Row; 9] = [
         2,
         true,
     ),
-    (Given::Turn, "", 1, true),
-    (Given::Turn, "", 1, true),
-    (Given::Turn, STOPPED_BY_PRE_START, 1, true),
+    (Given::Turn, "go/failed; ", 2, true),
+    (Given::Turn, "", 2, true),
+    (Given::Turn, STOPPED_BY_PRE_START, 2, true),
 ];
 
 const REFUSED_POST_START: [Row; 6] = [
@@ -79,14 +79,14 @@ const FIRST_FAILURE: [Row; 11] = [
         2,
         true,
     ),
-    (Given::Turn, "", 1, true),
-    (Given::Turn, "", 1, true),
-    (Given::Turn, SPAWN_POST_STOP, 0, false),
-    (Given::SpawnedAs(Process::PostStop, 6), "", 0, false),
+    (Given::Turn, "go/failed; ", 2, true),
+    (Given::Turn, "", 2, true),
+    (Given::Turn, SPAWN_POST_STOP, 1, true),
+    (Given::SpawnedAs(Process::PostStop, 6), "", 1, true),
     (
         Given::EndedAs(Process::PostStop, How::Signal(9)),
         STOPPED_BY_PRE_START,
-        1,
+        2,
         true,
     ),
 ];

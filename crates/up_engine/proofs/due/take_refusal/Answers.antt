@@ -1,10 +1,15 @@
-use Rattle.std.proofs.Common.{◌≡◌, ◌++◌, ◌∷◌, []}
+use Rattle.std.proofs.Common.{◌≡◌, ◌++◌, ◌∷◌, [], Some}
 use Rattle.up_engine.specs.Keys.{Resting}
+use Rattle.up_engine.specs.Setups.{config_of}
 use Rattle.up_engine.proofs.Entries.{one_last}
+use Rattle.up_model.specs.Configuration.{job_named}
 use Rattle.up_model.specs.declared.failure.End.TheVariants as end
-use Rattle.up_model.specs.Due.{effect}
+use Rattle.up_model.specs.Due.{effect, end_of}
+use Rattle.up_model.specs.Instances.{instance_named}
 use Rattle.up_engine.proofs.due.take_refusal.Goals as goal
 
 pub returns : goal.returns
 unfolding effect
-returns g c config c' s = rw one_last (c.in_ok-conclude.ensures config c' c.args.who c.args.process end.Refused s (c.verdict_on-judged.ensures Resting config c' s))
+returns g c c' s =
+    let does = end_of (job_named c.args.who.job (config_of c.args.setup.now).jobs) (instance_named c.args.who c') c.args.process end.Refused c' in
+    rw one_last (c.in_ok-conclude.ensures (config_of c.args.setup.now) c' does s (c.verdict_on-judged.ensures Resting c' s))
