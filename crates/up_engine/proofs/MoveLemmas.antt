@@ -52,7 +52,7 @@ filled_move job instance c =
     to = next_of job instance.place c
 
     table : life.Entry
-    table = entering to (state_of instance.place c) false
+    table = entering to (state_of instance.place c) job.task
 
 moves : (job : JobDef) (instance : Instance) (c : Chronicle) → may_leave job instance.place c ≡ true → move_of job instance c ≡ move job instance c
 moves job instance c may = ap (λ (b : Bool). entries_if b (move job instance c)) may
