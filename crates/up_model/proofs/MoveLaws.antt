@@ -4,7 +4,6 @@ use Rattle.std.specs.List.{AllByRecursion}
 use Rattle.up_stanza.specs.declared.process.Process.{Process}
 use Rattle.up_stanza.specs.declared.process.Process.TheVariants.{Main}
 use Rattle.up_conf.specs.declared.job.JobDef.{JobDef}
-use Rattle.up_model.specs.declared.failure.Failure.{Failure}
 use Rattle.up_model.specs.declared.life.Entry as table
 use Rattle.up_model.specs.declared.life.JobEvent.{JobEvent}
 use Rattle.up_model.specs.declared.state.Goal.{Goal}
@@ -17,7 +16,7 @@ use Rattle.up_model.specs.Instances.{Instance, without_instance, instances_of, e
 use Rattle.up_model.specs.Life.{next_state, wait_in, entering}
 use Rattle.up_model.specs.Moves.{has_process, kill_signal, emitting, ordering, releasing, enter, enter_whole, is_over, may_leave, next_of, who_of, move, move_of}
 use Rattle.up_model.specs.Offers.{is_newborn, is_open}
-use Rattle.up_model.specs.Readings.{goal, state_of, failure, is_blocking, blocker, lives}
+use Rattle.up_model.specs.Readings.{goal, state_of, is_blocking, blocker, lives}
 use Rattle.up_model.specs.Seen.{was_offered}
 use Rattle.up_model.specs.Tests.{is_start, entries_if}
 use Rattle.up_model.specs.Values.{Bytes}
@@ -134,19 +133,23 @@ beside-existing p (Made job name) c is = absurd is
 beside-existing p (Entered i entered) c is = absurd is
 beside-existing p e c is = refl
 
-emitting-beside : (who : Who) (p : ℕ) (to : State) (kind : Option JobEvent) (failed : Option Failure) → AllByRecursion (IsBeside p) (emitting who p to kind failed)
-emitting-beside who p to None failed = tt
-emitting-beside who p to (Some kind) failed = (refl, tt)
+emitting-beside : (job : JobDef) (who : Who) (p : ℕ) (to : State) (kind : Option JobEvent) (c : Chronicle) → AllByRecursion (IsBeside p) (emitting job who p to kind c)
+emitting-beside job who p to None c = tt
+emitting-beside job who p to (Some kind) c = (refl, tt)
 
 ordering-beside : (job : JobDef) (p : ℕ) (its : Option Process) → AllByRecursion (IsBeside p) (ordering job p its)
 ordering-beside job p None = tt
 ordering-beside job p (Some its) = all-if (IsBeside p) (has_process job its) (Ordered p its ∷ []) (tt, tt)
 
+-- the event of entering a state
+abbrev emitted : JobDef → Who → ℕ → State → table.Entry → Chronicle → List Entry
+emitted job who p to entry c = emitting job who p to entry.emits ((ordering job p entry.orders ++ Entered p to ∷ []) ++ c)
+
 -- what an instance does beside entering a state
 abbrev beside : JobDef → Who → ℕ → State → table.Entry → Chronicle → List Entry
 beside job who p to entry c =
     entries_if entry.releases (releasing p false (enter job who p to entry c ++ c))
-    ++ (entries_if (entry.kills && lives p Main c) (Signalled p kill_signal false ∷ []) ++ (emitting who p to entry.emits (failure p c) ++ ordering job p entry.orders))
+    ++ (entries_if (entry.kills && lives p Main c) (Signalled p kill_signal false ∷ []) ++ (emitted job who p to entry c ++ ordering job p entry.orders))
 
 beside-all : (job : JobDef) (who : Who) (p : ℕ) (to : State) (entry : table.Entry) (c : Chronicle) → AllByRecursion (IsBeside p) (beside job who p to entry c)
 beside-all job who p to entry c =
@@ -154,7 +157,7 @@ beside-all job who p to entry c =
     (all-if (IsBeside p) entry.releases (releasing p false (enter job who p to entry c ++ c)) (tt, tt))
     (all-append (IsBeside p) (entries_if (entry.kills && lives p Main c) (Signalled p kill_signal false ∷ [])) _
     (all-if (IsBeside p) (entry.kills && lives p Main c) (Signalled p kill_signal false ∷ []) (tt, tt))
-    (all-append (IsBeside p) (emitting who p to entry.emits (failure p c)) (ordering job p entry.orders) (emitting-beside who p to entry.emits (failure p c)) (ordering-beside job p entry.orders)))
+    (all-append (IsBeside p) (emitted job who p to entry c) (ordering job p entry.orders) (emitting-beside job who p to entry.emits ((ordering job p entry.orders ++ Entered p to ∷ []) ++ c)) (ordering-beside job p entry.orders)))
 
 four : (xs ys zs ws es : List Entry) → xs ++ (ys ++ (zs ++ (ws ++ es))) ≡ (xs ++ (ys ++ (zs ++ ws))) ++ es
 four xs ys zs ws es =
@@ -165,12 +168,12 @@ four xs ys zs ws es =
 enter-is : (job : JobDef) (who : Who) (p : ℕ) (to : State) (entry : table.Entry) (c : Chronicle)
     → enter_whole job who p to entry c ++ c ≡ beside job who p to entry c ++ Entered p to ∷ c
 enter-is job who p to entry c =
-    ap (λ es. es ++ c) (four (entries_if entry.releases (releasing p false (enter job who p to entry c ++ c))) (entries_if (entry.kills && lives p Main c) (Signalled p kill_signal false ∷ [])) (emitting who p to entry.emits (failure p c)) (ordering job p entry.orders) (Entered p to ∷ []))
+    ap (λ es. es ++ c) (four (entries_if entry.releases (releasing p false (enter job who p to entry c ++ c))) (entries_if (entry.kills && lives p Main c) (Signalled p kill_signal false ∷ [])) (emitted job who p to entry c) (ordering job p entry.orders) (Entered p to ∷ []))
     ∙ append_assoc (beside job who p to entry c) (Entered p to ∷ []) c
 
 enter-moves : (job : JobDef) (who : Who) (p : ℕ) (to : State) (entry : table.Entry) (c : Chronicle) → AllByRecursion (IsMove p) (enter_whole job who p to entry c)
 enter-moves job who p to entry c =
-    subst (AllByRecursion (IsMove p)) (sym (four (entries_if entry.releases (releasing p false (enter job who p to entry c ++ c))) (entries_if (entry.kills && lives p Main c) (Signalled p kill_signal false ∷ [])) (emitting who p to entry.emits (failure p c)) (ordering job p entry.orders) (Entered p to ∷ [])))
+    subst (AllByRecursion (IsMove p)) (sym (four (entries_if entry.releases (releasing p false (enter job who p to entry c ++ c))) (entries_if (entry.kills && lives p Main c) (Signalled p kill_signal false ∷ [])) (emitted job who p to entry c) (ordering job p entry.orders) (Entered p to ∷ [])))
     (all-append (IsMove p) (beside job who p to entry c) (Entered p to ∷ []) (all-weaker (IsBeside p) (IsMove p) (beside-is_move p) (beside job who p to entry c) (beside-all job who p to entry c)) (refl, tt))
 
 -- the instance is then in that state

@@ -1,19 +1,21 @@
 -- An offer leaves one expression fewer to be offered, which counts for more than the moves that it can bring.
-use Rattle.std.proofs.Common.{◌≡◌, ℕ, suc, ◌+◌, ◌<◌, ◌≤◌, ◌==◌, Bool, true, false, ◌||◌, not, List, [], ◌∷◌, ◌++◌, length, Option, None, Some, is_some, if◌then◌else◌, bytes_eq, refl, sym, ◌∙◌, ap, subst, arith, eq-eqb}
+use Rattle.std.proofs.Common.{◌≡◌, ℕ, suc, nat_lt, ◌+◌, ◌<◌, ◌≤◌, ◌==◌, Bool, true, false, ◌||◌, not, List, [], ◌∷◌, ◌++◌, length, Option, None, Some, is_some, if◌then◌else◌, bytes_eq, refl, sym, ◌∙◌, ap, subst, arith, eq-eqb}
 use Rattle.std.proofs.Math.Bool.{or-true}
 use Rattle.std.specs.List.{AllByRecursion}
 use Rattle.up_expr.specs.Truth.{Sight}
 use Rattle.up_conf.specs.declared.job.JobDef.{JobDef}
 use Rattle.up_model.specs.declared.state.Goal.TheVariants.{Start, Stop}
+use Rattle.up_model.specs.declared.who.Who.{Who}
 use Rattle.up_model.specs.Chronicle.{Chronicle, Entry, Given, Offered, Fired, Made, Aimed, Released, Entered, StartOn, StopOn}
 use Rattle.up_model.specs.Configuration.{Configuration}
-use Rattle.up_model.specs.Events.{events_at, start_env, stopped_by}
+use Rattle.up_model.specs.Environments.{job_env, instance_name}
+use Rattle.up_model.specs.Events.{events_at, events_env, with_instance, stopped_by}
 use Rattle.up_model.specs.Instances.{instances_of, existing, instance_named}
-use Rattle.up_model.specs.Offers.{is_newborn, is_open, stop_by, stop_offer, started_by, start_by, start_offer}
+use Rattle.up_model.specs.Offers.{is_newborn, is_open, stop_by, stop_offer, max_instances, start_of, who_called, start_who, start_by, start_offer}
 use Rattle.up_model.specs.Readings.{goal, state_of, blocker}
 use Rattle.up_model.specs.Seen.{seen, holds, taken, was_offered}
 use Rattle.up_model.specs.Tests.{is_start, entries_if}
-use Rattle.up_model.specs.Values.{Bytes}
+use Rattle.up_model.specs.Values.{Bytes, Bindings}
 use Rattle.up_model.specs.Work.{offer_work, instance_work, work_in, start_work}
 use Rattle.up_model.proofs.MoveLaws.{moves-few, Lessens}
 use Rattle.up_model.proofs.Places.{bytes_same, bytes_refl, count, count-older, existing-older, existing-once, instances-exist}
@@ -171,51 +173,54 @@ starts-lessens job p es c of offered left few = record {
     six : start_work true job c ≡ 6
     six = ap (λ b. offer_work true (not b)) left
 
--- an offer to a job's `start on`, if it has the instance
-start-old : (config : Configuration) (job : JobDef) (event p : ℕ) (c : Chronicle)
-    → instance_named (started_by job) c ≡ Some p → was_offered (StartOn job.name) c ≡ false → Lessens true job.name c (start_offer config job event c)
-start-old config job event p c found left = starts-lessens name p es c of offered left few
+-- an offer to a job's `start on` that does this when it fires
+abbrev offer_with : Bytes → (event : ℕ) → Bool → List ℕ → List Entry → List Entry
+offer_with name event true events does = (does ++ Fired (StartOn name) events ∷ []) ++ Offered (StartOn name) event ∷ []
+offer_with name event false events does = Offered (StartOn name) event ∷ []
+
+-- an offer to a job's `start on` that leaves the instances alone
+start-idle : (name : Bytes) (es c : List Entry) → AllByRecursion (IsOf name (suc (suc (length c)))) es → existing (es ++ c) ≡ existing c
+    → was_offered (StartOn name) (es ++ c) ≡ true → was_offered (StartOn name) c ≡ false → Lessens true name c es
+start-idle name es c of same offered left = starts-lessens name p es c of offered left (omega (arith, now, sums))
   where
-    name : Bytes
-    name = job.name
+    p : ℕ
+    p = suc (suc (length c))
 
-    sights : List Sight
-    sights = seen config (StartOn name) (Offered (StartOn name) event ∷ c)
+    young : count p (existing c) ≡ 0
+    young = count-older p (length c) (existing c) (existing-older c) (omega arith)
 
-    events : List ℕ
-    events = taken job.start_on sights
+    sums : work_in true (existing c) (es ++ c) ≡ work_in true (existing c) c
+    sums = sum-same true p c (es ++ c) (existing c) (λ q. spared-works true name p q es c of) (existing-older c) young
 
-    fired : Chronicle
-    fired = Fired (StartOn name) events ∷ Offered (StartOn name) event ∷ c
+    now : work_in true (existing (es ++ c)) (es ++ c) ≡ work_in true (existing c) (es ++ c)
+    now = ap (λ xs. work_in true xs (es ++ c)) same
 
-    aimed : List Entry
-    aimed = Aimed p Start (start_env config.base (events_at events fired) (started_by job)) events ∷ Released p false ∷ []
+-- one that doesn't fire
+start-none : (name : Bytes) (event : ℕ) (c : Chronicle) → was_offered (StartOn name) c ≡ false → Lessens true name c (Offered (StartOn name) event ∷ [])
+start-none name event c left = start-idle name (Offered (StartOn name) event ∷ []) c (refl, tt) refl (rw (bytes_refl name) refl) left
 
+-- one that fires without effect
+start-vain : (name : Bytes) (event : ℕ) (events : List ℕ) (c : Chronicle) → was_offered (StartOn name) c ≡ false
+    → Lessens true name c (Fired (StartOn name) events ∷ Offered (StartOn name) event ∷ [])
+start-vain name event events c left =
+    start-idle name (Fired (StartOn name) events ∷ Offered (StartOn name) event ∷ []) c (tt, (refl, tt)) refl (rw (bytes_refl name) refl) left
+
+-- one that starts an instance which the job has
+start-aims : (name : Bytes) (event p : ℕ) (events : List ℕ) (environment : Bindings) (c : Chronicle) → was_offered (StartOn name) c ≡ false
+    → Lessens true name c (Aimed p Start environment events ∷ Released p false ∷ Fired (StartOn name) events ∷ Offered (StartOn name) event ∷ [])
+start-aims name event p events environment c left = starts-lessens name p es c of (rw (bytes_refl name) refl) left few
+  where
     es : List Entry
-    es = start_offer config job event c
+    es = Aimed p Start environment events ∷ Released p false ∷ Fired (StartOn name) events ∷ Offered (StartOn name) event ∷ []
 
     d : Chronicle
     d = es ++ c
 
     all : AllByRecursion (IsStart name p) es
-    all =
-        rw found
-        (all-append (IsStart name p) (entries_if (holds job.start_on sights) (start_by config (started_by job) events (Some p) fired ++ Fired (StartOn name) events ∷ [])) (Offered (StartOn name) event ∷ [])
-        (all-if (IsStart name p) (holds job.start_on sights) (start_by config (started_by job) events (Some p) fired ++ Fired (StartOn name) events ∷ [])
-        (all-append (IsStart name p) (entries_if (not (is_start (goal p c))) aimed) (Fired (StartOn name) events ∷ [])
-        (all-if (IsStart name p) (not (is_start (goal p c))) aimed (refl, (tt, tt))) (tt, tt)))
-        (refl, tt))
+    all = (refl, (tt, (tt, (refl, tt))))
 
     of : AllByRecursion (IsOf name p) es
     of = all-weaker (IsStart name p) (IsOf name p) (start-is_of name p) es all
-
-    offered : was_offered (StartOn name) d ≡ true
-    offered =
-        rw found
-        (either (λ xs. was_offered (StartOn name) (xs ++ c) ≡ true) (holds job.start_on sights) (start_by config (started_by job) events (Some p) fired ++ Fired (StartOn name) events ∷ []) (Offered (StartOn name) event ∷ [])
-        (either (λ xs. was_offered (StartOn name) ((xs ++ Offered (StartOn name) event ∷ []) ++ c) ≡ true) (not (is_start (goal p c))) aimed (Fired (StartOn name) events ∷ [])
-        (rw (bytes_refl name) refl) (rw (bytes_refl name) refl))
-        (rw (bytes_refl name) refl))
 
     same : is_open p d ≡ is_open p c
     same =
@@ -230,32 +235,19 @@ start-old config job event p c found left = starts-lessens name p es c of offere
         let more = sum-more true p c d (existing c) (λ q. spared-works true name p q es c of) (existing-older c) (omega (arith, moves, stop)) (existing-once p c) in
         omega (arith, now, more)
 
--- an offer to a job's `start on`, if it hasn't the instance
-start-new : (config : Configuration) (job : JobDef) (event : ℕ) (c : Chronicle) → instance_named (started_by job) c ≡ None
-    → was_offered (StartOn job.name) c ≡ false → Lessens true job.name c (start_offer config job event c)
-start-new config job event c none left =
-    rw none (either (Lessens true name c) (holds job.start_on sights) (start_by config (started_by job) events None fired ++ Fired (StartOn name) events ∷ []) (Offered (StartOn name) event ∷ []) makes offers)
+-- one that makes an instance
+start-makes : (name its : Bytes) (event : ℕ) (events : List ℕ) (environment : Bindings) (c : Chronicle) → was_offered (StartOn name) c ≡ false
+    → Lessens true name c (Aimed (suc (suc (length c))) Start environment events ∷ Made name its ∷ Fired (StartOn name) events ∷ Offered (StartOn name) event ∷ [])
+start-makes name its event events environment c left = starts-lessens name p es c of (rw (bytes_refl name) refl) left few
   where
-    name : Bytes
-    name = job.name
-
     p : ℕ
     p = suc (suc (length c))
-
-    sights : List Sight
-    sights = seen config (StartOn name) (Offered (StartOn name) event ∷ c)
-
-    events : List ℕ
-    events = taken job.start_on sights
-
-    fired : Chronicle
-    fired = Fired (StartOn name) events ∷ Offered (StartOn name) event ∷ c
 
     young : count p (existing c) ≡ 0
     young = count-older p (length c) (existing c) (existing-older c) (omega arith)
 
     es : List Entry
-    es = Aimed p Start (start_env config.base (events_at events fired) (started_by job)) events ∷ Made name [] ∷ Fired (StartOn name) events ∷ Offered (StartOn name) event ∷ []
+    es = Aimed p Start environment events ∷ Made name its ∷ Fired (StartOn name) events ∷ Offered (StartOn name) event ∷ []
 
     of : AllByRecursion (IsOf name p) es
     of = (refl, (refl, (tt, (refl, tt))))
@@ -268,22 +260,54 @@ start-new config job event c none left =
         let same = sum-same true p c (es ++ c) (existing c) (λ q. spared-works true name p q es c of) (existing-older c) young in
         omega (arith, moves, shut, same)
 
-    makes : Lessens true name c es
-    makes = starts-lessens name p es c of (rw (bytes_refl name) refl) left few
+-- whatever instance a start concerns, the offer leaves the job less to do
+start-lessens : (name : Bytes) (event : ℕ) (events : List ℕ) (environment : Bindings) (c : Chronicle) (found : Option Bytes) (b : Bool)
+    → was_offered (StartOn name) c ≡ false
+    → Lessens true name c (offer_with name event b events (start_who environment events (who_called name found) (Fired (StartOn name) events ∷ Offered (StartOn name) event ∷ c)))
+start-lessens name event events environment c found false left = start-none name event c left
+start-lessens name event events environment c None true left = start-vain name event events c left
+start-lessens name event events environment c (Some its) true left = by_case (instance_named who fired)
+  where
+    who : Who
+    who = record { job = name; instance = its }
 
-    offer : List Entry
-    offer = Offered (StartOn name) event ∷ []
+    fired : Chronicle
+    fired = Fired (StartOn name) events ∷ Offered (StartOn name) event ∷ c
 
-    offers : Lessens true name c offer
-    offers =
-        let same = sum-same true p c (offer ++ c) (existing c) (λ q. spared-works true name p q offer c (refl, tt)) (existing-older c) young in
-        starts-lessens name p offer c (refl, tt) (rw (bytes_refl name) refl) left (omega (arith, same))
+    told : Bindings
+    told = with_instance who environment
+
+    by_room : (b : Bool)
+        → Lessens true name c ((entries_if b (Aimed (length fired) Start told events ∷ Made name its ∷ []) ++ Fired (StartOn name) events ∷ []) ++ Offered (StartOn name) event ∷ [])
+    by_room true = start-makes name its event events told c left
+    by_room false = start-vain name event events c left
+
+    by_goal : (p : ℕ) (b : Bool)
+        → Lessens true name c ((entries_if b (Aimed p Start told events ∷ Released p false ∷ []) ++ Fired (StartOn name) events ∷ []) ++ Offered (StartOn name) event ∷ [])
+    by_goal p true = start-aims name event p events told c left
+    by_goal p false = start-vain name event events c left
+
+    by_case : (o : Option ℕ) → Lessens true name c ((start_of who told events o fired ++ Fired (StartOn name) events ∷ []) ++ Offered (StartOn name) event ∷ [])
+    by_case None = by_room (nat_lt (length (instances_of name fired)) max_instances)
+    by_case (Some p) = by_goal p (not (is_start (goal p fired)))
 
 -- an offer to a job's `start on` leaves it less to do
 pub start_offer-lessens : (config : Configuration) (job : JobDef) (event : ℕ) (c : Chronicle) → was_offered (StartOn job.name) c ≡ false
     → Lessens true job.name c (start_offer config job event c)
-start_offer-lessens config job event c left = by_case (instance_named (started_by job) c) refl
+start_offer-lessens config job event c left = by_case (holds job.start_on sights)
   where
-    by_case : (found : Option ℕ) → instance_named (started_by job) c ≡ found → Lessens true job.name c (start_offer config job event c)
-    by_case None e = start-new config job event c e left
-    by_case (Some p) e = start-old config job event p c e left
+    sights : List Sight
+    sights = seen config (StartOn job.name) (Offered (StartOn job.name) event ∷ c)
+
+    events : List ℕ
+    events = taken job.start_on sights
+
+    fired : Chronicle
+    fired = Fired (StartOn job.name) events ∷ Offered (StartOn job.name) event ∷ c
+
+    environment : Bindings
+    environment = events_env (job_env config.base job) (events_at events fired)
+
+    by_case : (b : Bool) → Lessens true job.name c (entries_if b (start_by config job events fired ++ Fired (StartOn job.name) events ∷ []) ++ Offered (StartOn job.name) event ∷ [])
+    by_case true = start-lessens job.name event events environment c (instance_name job environment) true left
+    by_case false = start-lessens job.name event events environment c None false left

@@ -1,10 +1,10 @@
 -- The events that an instance emits, and the environment of a start.
-use Rattle.std.specs.Prelude.{ℕ, Bool, nat_eq, List, [], ◌∷◌, ◌++◌, codes, Option, None, Some, if◌then◌else◌}
+use Rattle.std.specs.Prelude.{ℕ, Bool, nat_eq, List, [], ◌∷◌, ◌++◌, codes, Option, None, Some, is_some, if◌then◌else◌}
 use Rattle.std.specs.List.{ends_with}
 use Rattle.std.specs.Fmt.{decimal}
 use Rattle.up_stanza.specs.declared.process.Process.{Process}
 use Rattle.up_stanza.specs.declared.process.Process.TheVariants as process
-use Rattle.up_text.specs.Bindings.{set_in, set_all}
+use Rattle.up_text.specs.Bindings.{value_of, set_in, set_all}
 use Rattle.up_model.specs.declared.event.Event.{Event}
 use Rattle.up_model.specs.declared.failure.Cause.{Cause}
 use Rattle.up_model.specs.declared.failure.Cause.TheVariants as cause
@@ -46,12 +46,26 @@ abbrev pub result : Option Failure → Bindings
 result None = (codes "RESULT", codes "ok") ∷ []
 result (Some failure) = (codes "RESULT", codes "failed") ∷ (codes "PROCESS", cause_name failure.cause) ∷ ending failure.how
 
--- the event of an instance's life, which may have failed
-abbrev pub job_event : JobEvent → Who → Option Failure → Event
-job_event kind.Starting who failure = record { name = codes "starting"; vars = about who }
-job_event kind.Started who failure = record { name = codes "started"; vars = about who }
-job_event kind.Stopping who failure = record { name = codes "stopping"; vars = about who ++ result failure }
-job_event kind.Stopped who failure = record { name = codes "stopped"; vars = about who ++ result failure }
+-- an exported key that the environment has, unless a variable has the key
+abbrev pub with_export : (key : Bytes) → Option Bytes → Bindings → Bindings
+with_export key None vars = vars
+with_export key (Some value) vars = if is_some (value_of key vars) then vars else set_in key value vars
+
+-- the exported keys that the environment in force has, after what an event says already (init(5), "export")
+abbrev pub with_exports : Bindings → List Bytes → Bindings → Bindings
+with_exports environment [] vars = vars
+with_exports environment (key ∷ keys) vars = with_exports environment keys (with_export key (value_of key environment) vars)
+
+-- what an event of an instance's life says by itself: which instance it is about, and how its life went that may have failed
+abbrev pub life_event : JobEvent → Who → Option Failure → Event
+life_event kind.Starting who failure = record { name = codes "starting"; vars = about who }
+life_event kind.Started who failure = record { name = codes "started"; vars = about who }
+life_event kind.Stopping who failure = record { name = codes "stopping"; vars = about who ++ result failure }
+life_event kind.Stopped who failure = record { name = codes "stopped"; vars = about who ++ result failure }
+
+-- the event, with the keys that the job exports
+abbrev pub exporting : Bindings → List Bytes → Event → Event
+exporting environment keys event = record { name = event.name; vars = with_exports environment keys event.vars }
 
 abbrev pub with_event : Option Event → List Event → List Event
 with_event None events = events
@@ -77,12 +91,14 @@ abbrev pub names_of : List Event → Bytes
 names_of [] = []
 names_of (event ∷ events) = event.name ++ more_names events
 
--- the environment of a start by these events (init(5), "Job environment")
-abbrev pub start_env : Bindings → List Event → Who → Bindings
-start_env base events who =
-    set_in (codes "UPSTART_INSTANCE") who.instance
-    (set_in (codes "UPSTART_JOB") who.job
-    (set_in (codes "UPSTART_EVENTS") (names_of events) (collected base events)))
+-- the environment of a start by these events, on top of that of the job (init(5), "Job environment")
+abbrev pub events_env : Bindings → List Event → Bindings
+events_env environment events = set_in (codes "UPSTART_EVENTS") (names_of events) (collected environment events)
+
+-- and with the instance that it starts
+abbrev pub with_instance : Who → Bindings → Bindings
+with_instance who environment =
+    set_in (codes "UPSTART_INSTANCE") who.instance (set_in (codes "UPSTART_JOB") who.job environment)
 
 -- what a stop by these events adds for pre-stop and post-stop (init(5), "Job environment")
 abbrev pub stopped_by : List Event → Bindings

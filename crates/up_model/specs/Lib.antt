@@ -1,6 +1,7 @@
 pub mod Values
 pub mod Signals
 pub mod Configuration
+pub mod Environments
 pub mod Chronicle
 pub mod Tests
 pub mod Readings

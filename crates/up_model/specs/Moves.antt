@@ -6,16 +6,16 @@ use Rattle.up_stanza.specs.declared.process.Process.{Process}
 use Rattle.up_stanza.specs.declared.process.Process.TheVariants as process
 use Rattle.up_conf.specs.declared.job.JobDef.{JobDef}
 use Rattle.up_conf.specs.Signals.{term}
-use Rattle.up_model.specs.declared.failure.Failure.{Failure}
+use Rattle.up_model.specs.declared.event.Event.{Event}
 use Rattle.up_model.specs.declared.life.Entry as table
 use Rattle.up_model.specs.declared.life.JobEvent.{JobEvent}
 use Rattle.up_model.specs.declared.state.State.{State}
 use Rattle.up_model.specs.declared.who.Who.{Who}
 use Rattle.up_model.specs.Chronicle.{Chronicle, Entry, Queued, Released, Entered, Ordered, Signalled, Entering}
-use Rattle.up_model.specs.Events.{job_event}
+use Rattle.up_model.specs.Events.{life_event, exporting}
 use Rattle.up_model.specs.Instances.{Instance, instances_of}
 use Rattle.up_model.specs.Life.{Wait, ForStart, ForEvent, ForAnswer, ForProcess, ForChange, ForMain, wait_in, next_state, entering}
-use Rattle.up_model.specs.Readings.{goal, state_of, failure, blocker, awaited, lives}
+use Rattle.up_model.specs.Readings.{goal, state_of, env, failure, blocker, awaited, lives}
 use Rattle.up_model.specs.Tests.{is_start, entries_if, or_else}
 
 -- what a process of a job runs
@@ -41,10 +41,14 @@ kill_signal = term
 abbrev pub releasing : ℕ → (failed : Bool) → Chronicle → List Entry
 releasing instance failed c = Released instance failed ∷ []
 
+-- an event of an instance's life, with the keys that its job exports (starting(7), started(7), stopping(7), stopped(7))
+abbrev pub job_event : JobDef → Who → ℕ → JobEvent → Chronicle → Event
+job_event job who instance kind c = exporting (env instance c) job.export (life_event kind who (failure instance c))
+
 -- the event that is emitted on entering a state
-abbrev pub emitting : Who → ℕ → State → Option JobEvent → Option Failure → List Entry
-emitting who instance to None failed = []
-emitting who instance to (Some kind) failed = Queued (Entering instance to) (job_event kind who failed) ∷ []
+abbrev pub emitting : JobDef → Who → ℕ → State → Option JobEvent → Chronicle → List Entry
+emitting job who instance to None c = []
+emitting job who instance to (Some kind) c = Queued (Entering instance to) (job_event job who instance kind c) ∷ []
 
 -- the process that is ordered, if the job has it
 abbrev pub ordering : JobDef → ℕ → Option Process → List Entry
@@ -54,8 +58,9 @@ ordering job instance (Some its) = entries_if (has_process job its) (Ordered ins
 -- an instance enters a state, with what the table says of that, but for its release
 abbrev pub enter : JobDef → Who → ℕ → (to : State) → table.Entry → Chronicle → List Entry
 enter job who instance to entry c =
+    let entered = ordering job instance entry.orders ++ Entered instance to ∷ [] in
     entries_if (entry.kills && lives instance process.Main c) (Signalled instance kill_signal false ∷ [])
-    ++ (emitting who instance to entry.emits (failure instance c) ++ (ordering job instance entry.orders ++ Entered instance to ∷ []))
+    ++ (emitting job who instance to entry.emits (entered ++ c) ++ entered)
 
 -- and with its release
 abbrev pub enter_whole : JobDef → Who → ℕ → (to : State) → table.Entry → Chronicle → List Entry

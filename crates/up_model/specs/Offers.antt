@@ -1,17 +1,19 @@
 -- How the event of a turn is offered to the expressions, and what one does that fires (init(5), "start on" and "stop on").
 -- Each of these is a list of entries to be put in front of the chronicle, newest first.
-use Rattle.std.specs.Prelude.{ℕ, Bool, true, false, not, ◌||◌, ◌==◌, List, [], ◌∷◌, ◌++◌, Option, None, Some, if◌then◌else◌, length}
+use Rattle.std.specs.Prelude.{ℕ, nat_lt, Bool, true, false, not, ◌||◌, ◌==◌, List, [], ◌∷◌, ◌++◌, Option, None, Some, if◌then◌else◌, length}
 use Rattle.up_conf.specs.declared.job.JobDef.{JobDef}
 use Rattle.up_model.specs.declared.state.Goal.TheVariants.{Start, Stop}
 use Rattle.up_model.specs.declared.who.Who.{Who}
 use Rattle.up_model.specs.Chronicle.{Chronicle, Entry, Given, Handled, Offered, Fired, Made, Aimed, StartOn, StopOn}
 use Rattle.up_model.specs.Configuration.{Configuration}
-use Rattle.up_model.specs.Events.{events_at, start_env, stopped_by}
+use Rattle.up_model.specs.Environments.{job_env, instance_name}
+use Rattle.up_model.specs.Events.{events_at, events_env, with_instance, stopped_by}
 use Rattle.up_model.specs.Instances.{Instance, instances_of, instance_named}
 use Rattle.up_model.specs.Moves.{releasing}
 use Rattle.up_model.specs.Readings.{goal}
 use Rattle.up_model.specs.Seen.{seen, holds, taken, was_offered}
 use Rattle.up_model.specs.Tests.{is_start, entries_if, or_else}
+use Rattle.up_model.specs.Values.{Bytes, Bindings}
 
 -- whether an instance was made in this step
 abbrev pub is_newborn : ℕ → Chronicle → Bool
@@ -43,17 +45,32 @@ stop_offer_in config job [] event c = []
 stop_offer_in config job (instance ∷ instances) event c =
     or_else (entries_if (is_open instance.place c) (stop_offer config job instance.place event c)) (stop_offer_in config job instances event c)
 
--- the instance that a start concerns: so far each job has the one with the empty name
-abbrev pub started_by : JobDef → Who
-started_by job = record { job = job.name; instance = [] }
+-- how many instances a job may have
+abbrev pub max_instances : ℕ
+max_instances = 1024
 
--- the goal becomes start, by events that the job's expression took: of the instance, if its goal is stop, or of a new one
-abbrev pub start_by : Configuration → Who → List ℕ → Option ℕ → Chronicle → List Entry
-start_by config who events None c =
-    Aimed (length c) Start (start_env config.base (events_at events c) who) events ∷ Made who.job who.instance ∷ []
-start_by config who events (Some instance) c =
-    entries_if (not (is_start (goal instance c)))
-    (Aimed instance Start (start_env config.base (events_at events c) who) events ∷ releasing instance false c)
+-- the goal becomes start, with this environment and these holders: of the instance, if its goal is stop, or of a new one, if the job
+-- may have one more
+abbrev pub start_of : Who → Bindings → (holders : List ℕ) → Option ℕ → Chronicle → List Entry
+start_of who environment holders None c =
+    entries_if (nat_lt (length (instances_of who.job c)) max_instances) (Aimed (length c) Start environment holders ∷ Made who.job who.instance ∷ [])
+start_of who environment holders (Some instance) c =
+    entries_if (not (is_start (goal instance c))) (Aimed instance Start environment holders ∷ releasing instance false c)
+
+-- the instance of a job that a start or a command concerns, if its name expands
+abbrev pub who_called : (job : Bytes) → Option Bytes → Option Who
+who_called job None = None
+who_called job (Some name) = Some (record { job = job; instance = name })
+
+abbrev pub start_who : Bindings → (holders : List ℕ) → Option Who → Chronicle → List Entry
+start_who environment holders None c = []
+start_who environment holders (Some who) c = start_of who (with_instance who environment) holders (instance_named who c) c
+
+-- a start by events that the job's expression took
+abbrev pub start_by : Configuration → JobDef → List ℕ → Chronicle → List Entry
+start_by config job events c =
+    let environment = events_env (job_env config.base job) (events_at events c) in
+    start_who environment events (who_called job.name (instance_name job environment)) c
 
 -- a job's `start on` is offered the event, and fires if it is true then
 abbrev pub start_offer : Configuration → JobDef → (event : ℕ) → Chronicle → List Entry
@@ -63,7 +80,7 @@ start_offer config job event c =
     let events = taken job.start_on sights in
     let fired = Fired (StartOn job.name) events ∷ offered in
     entries_if (holds job.start_on sights)
-    (start_by config (started_by job) events (instance_named (started_by job) c) fired ++ Fired (StartOn job.name) events ∷ [])
+    (start_by config job events fired ++ Fired (StartOn job.name) events ∷ [])
     ++ Offered (StartOn job.name) event ∷ []
 
 -- the event is offered to the first expression of a job that it is still to be offered to: of each instance the `stop on`, then the

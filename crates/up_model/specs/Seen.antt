@@ -7,6 +7,7 @@ use Rattle.up_expr.specs.Truth as truth
 use Rattle.up_model.specs.declared.event.Event.{Event}
 use Rattle.up_model.specs.Chronicle.{Chronicle, Given, Offered, Fired, Expression, StartOn, StopOn}
 use Rattle.up_model.specs.Configuration.{Configuration}
+use Rattle.up_model.specs.Environments.{env_of_job}
 use Rattle.up_model.specs.Readings.{event_at, env}
 use Rattle.up_model.specs.Values.{Bindings}
 
@@ -15,10 +16,9 @@ same_expression (StartOn job) (StartOn other) = bytes_eq job other
 same_expression (StopOn instance) (StopOn other) = instance == other
 same_expression expression other = false
 
--- the environment by which an expression's values expand: of a `start on` the base environment, so far, and of a `stop on` the
--- environment in force
+-- the environment by which an expression's values expand: of a `start on` that of the job, and of a `stop on` the environment in force
 abbrev pub env_of : Configuration → Expression → Chronicle → Bindings
-env_of config (StartOn job) c = config.base
+env_of config (StartOn job) c = env_of_job config job
 env_of config (StopOn instance) c = env instance c
 
 -- the event at a place, as one that was seen with this environment
