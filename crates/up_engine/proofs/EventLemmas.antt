@@ -4,7 +4,9 @@ use Rattle.up_engine.specs.declared.keys.EventKey.{EventKey}
 use Rattle.up_engine.proofs.Slots.{KeyThere}
 use Rattle.up_model.specs.declared.event.Event.{Event}
 use Rattle.up_model.specs.Chronicle.{Chronicle}
-use Rattle.up_model.specs.Events.{events_at, with_event}
+use Rattle.up_model.specs.Events.{events_at, with_event, with_export, with_exports}
+use Rattle.up_model.specs.Values.{Bytes, Bindings}
+use Rattle.up_text.specs.Bindings.{value_of}
 use Rattle.up_model.specs.Readings.{event_at}
 
 pub events_left : (events : List (Bor Event)) (i : ℕ) (d : Bor Event) → i < length events
@@ -19,3 +21,10 @@ pub key_events : (places : EventKey → Option ℕ) (key : EventKey) (events : L
 key_events places key events n c found there is =
     let first : events_at (drop n events) c ≡ with_event (event_at there.place c) (events_at (drop (suc n) events) c) = ap (λ left. events_at left c) there.rest in
     rw (add-one, is) (sym first)
+
+-- the exported keys from one on
+pub exports_left : (environment : Bindings) (keys : List Bytes) (i : ℕ) (d : Bytes) (vars : Bindings) → i < length keys
+    → with_exports environment (drop i keys) vars ≡ with_exports environment (drop (i + 1) keys) (with_export (get_or keys i d) (value_of (get_or keys i d) environment) vars)
+exports_left environment keys i d vars within =
+    let one : drop i keys ≡ get_or keys i d ∷ drop (i + 1) keys = rw add-one (drop-cons keys i d within) in
+    ap (λ left. with_exports environment left vars) one

@@ -7,6 +7,7 @@ pub mod HeldLemmas
 pub mod MoveLemmas
 pub mod OfferLemmas
 pub mod OutputLemmas
+pub mod SetupLemmas
 pub mod QueueLemmas
 pub mod RunLemmas
 pub mod SeenLemmas

@@ -1,6 +1,5 @@
 pub mod Faults
 pub mod Keys
-pub mod Setups
 pub mod Records
 pub mod Groups
 pub mod Queues

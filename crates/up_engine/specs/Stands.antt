@@ -5,7 +5,6 @@ use Rattle.up_engine.specs.declared.fault.StepError.{StepError}
 use Rattle.up_engine.specs.declared.fault.StepError.TheVariants.{NotExpected, Down, Memory}
 use Rattle.up_engine.specs.declared.run.Run.{Run}
 use Rattle.up_engine.specs.Keys.{Resting}
-use Rattle.up_engine.specs.Setups.{config_of}
 use Rattle.up_model.specs.declared.input.Input.{Input}
 use Rattle.up_model.specs.declared.output.Output.{Output}
 use Rattle.up_model.specs.declared.step.Step.{Step}
@@ -21,7 +20,7 @@ use Rattle.up_engine.specs.Stored.{Stored as BookStands}
 -- the engine isn't down, and its book stands for this chronicle of this configuration
 pub record Stands (engine : Engine) (config : Configuration) (c : Chronicle) : Type 0 where
   pub up : engine.down ≡ false
-  pub setup : config_of engine.setup ≡ config
+  pub setup : engine.setup ≡ config
   pub past : BookStands engine.book Resting config c
 
 -- the engine is down

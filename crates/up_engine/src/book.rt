@@ -1,10 +1,9 @@
 //! What an engine keeps of the past, whatever that is.
 ghost use Rattle.std.specs.Prelude.{◌≡◌, ◌≤◌, ℕ, true, false, List, ◌∷◌, ◌++◌, [], map, length, Option, None, Some, is_some, option_map, OnOk, IfOk};
-ghost use Rattle.std.specs.Option.{option_copied};
+ghost use Rattle.std.specs.Option.{option_copied, option_map_or};
 ghost use Rattle.up_engine.specs.declared.keys.EventKey.{EventKey as EventKeyValue};
 ghost use Rattle.up_engine.specs.declared.keys.InstanceKey.{InstanceKey as InstanceKeyValue};
 ghost use Rattle.up_engine.specs.Keys.{Mode, Resting, Stepping, is_waiting, slot_at, live_at};
-ghost use Rattle.up_engine.specs.Setups.{config_of};
 ghost use Rattle.up_model.specs.declared.input.Input.{Input as InputValue};
 ghost use Rattle.up_model.specs.declared.input.Input.TheVariants as given_as;
 ghost use Rattle.up_model.specs.declared.state.Goal.TheVariants.{Stop as goal_stop};
@@ -49,6 +48,11 @@ pub trait Book: Drop {
     fn state_of(&self, key: InstanceKey) -> State
         ensures { (mode : Mode) (config : Configuration) (c : Chronicle) (i : ℕ) → stands self.now mode config c
             → instance_place self.now c key ≡ Some i → result ≡ read.state_of i c };
+
+    /// The environment in force, if the instance has one.
+    fn env(&self, key: InstanceKey) -> Option<&Env>
+        ensures { (mode : Mode) (config : Configuration) (c : Chronicle) (i : ℕ) → stands self.now mode config c
+            → instance_place self.now c key ≡ Some i → option_map_or (λ env. env.now) result [] ≡ read.env i c };
 
     /// Why an instance failed since it entered starting last.
     fn failure(&self, key: InstanceKey) -> Option<Failure>
@@ -161,9 +165,9 @@ pub trait Book: Drop {
 
     /// A process of an instance is to be started.
     fn order(&mut self, setup: &Setup, key: InstanceKey, process: Process) -> Result<(), AllocError>
-        ensures after { OnOk result ((c : Chronicle) (i : ℕ) → stands self.old Stepping (config_of setup.now) c
-            → instance_place self.old c key ≡ Some i → stands self.new Stepping (config_of setup.now) (entry.Ordered i process ∷ c)) }
-        ensures instances { OnOk result ((c : Chronicle) (i : ℕ) → stands self.old Stepping (config_of setup.now) c
+        ensures after { OnOk result ((c : Chronicle) (i : ℕ) → stands self.old Stepping setup.now c
+            → instance_place self.old c key ≡ Some i → stands self.new Stepping setup.now (entry.Ordered i process ∷ c)) }
+        ensures instances { OnOk result ((c : Chronicle) (i : ℕ) → stands self.old Stepping setup.now c
             → instance_place self.old c key ≡ Some i → instance_place self.new (entry.Ordered i process ∷ c) key ≡ Some i) };
 
     /// An instance emits an event on entering a state.
@@ -232,13 +236,13 @@ pub trait Book: Drop {
         key: InstanceKey,
         event: EventKey,
     ) -> Result<bool, AllocError>
-        ensures after { OnOk result ((c : Chronicle) (i e : ℕ) → stands self.old Stepping (config_of setup.now) c
+        ensures after { OnOk result ((c : Chronicle) (i e : ℕ) → stands self.old Stepping setup.now c
             → instance_place self.old c key ≡ Some i → event_place self.old c event ≡ Some e
-            → stands self.new Stepping (config_of setup.now) (entry.Offered (entry.StopOn i) e ∷ c)) }
-        ensures holds { IfOk result (λ holds. (c : Chronicle) (i e : ℕ) → stands self.old Stepping (config_of setup.now) c
+            → stands self.new Stepping setup.now (entry.Offered (entry.StopOn i) e ∷ c)) }
+        ensures holds { IfOk result (λ holds. (c : Chronicle) (i e : ℕ) → stands self.old Stepping setup.now c
             → instance_place self.old c key ≡ Some i → event_place self.old c event ≡ Some e
-            → holds ≡ seen.holds job.now.stop_on (seen.seen (config_of setup.now) (entry.StopOn i) (entry.Offered (entry.StopOn i) e ∷ c))) }
-        ensures instances { OnOk result ((c : Chronicle) (i e : ℕ) → stands self.old Stepping (config_of setup.now) c
+            → holds ≡ seen.holds job.now.stop_on (seen.seen setup.now (entry.StopOn i) (entry.Offered (entry.StopOn i) e ∷ c))) }
+        ensures instances { OnOk result ((c : Chronicle) (i e : ℕ) → stands self.old Stepping setup.now c
             → instance_place self.old c key ≡ Some i → event_place self.old c event ≡ Some e
             → instance_place self.new (entry.Offered (entry.StopOn i) e ∷ c) key ≡ Some i) };
 
@@ -249,12 +253,12 @@ pub trait Book: Drop {
         job: &JobDef,
         event: EventKey,
     ) -> Result<bool, AllocError>
-        ensures after { OnOk result ((c : Chronicle) (e : ℕ) → stands self.old Stepping (config_of setup.now) c
+        ensures after { OnOk result ((c : Chronicle) (e : ℕ) → stands self.old Stepping setup.now c
             → event_place self.old c event ≡ Some e
-            → stands self.new Stepping (config_of setup.now) (entry.Offered (entry.StartOn job.now.name) e ∷ c)) }
-        ensures holds { IfOk result (λ holds. (c : Chronicle) (e : ℕ) → stands self.old Stepping (config_of setup.now) c
+            → stands self.new Stepping setup.now (entry.Offered (entry.StartOn job.now.name) e ∷ c)) }
+        ensures holds { IfOk result (λ holds. (c : Chronicle) (e : ℕ) → stands self.old Stepping setup.now c
             → event_place self.old c event ≡ Some e
-            → holds ≡ seen.holds job.now.start_on (seen.seen (config_of setup.now) (entry.StartOn job.now.name) (entry.Offered (entry.StartOn job.now.name) e ∷ c))) };
+            → holds ≡ seen.holds job.now.start_on (seen.seen setup.now (entry.StartOn job.now.name) (entry.Offered (entry.StartOn job.now.name) e ∷ c))) };
 
     /// An instance's `stop on` fires; returns the events that it takes, from left to right.
     fn fire_stop(
@@ -263,28 +267,28 @@ pub trait Book: Drop {
         job: &JobDef,
         key: InstanceKey,
     ) -> Result<Items<EventKey>, AllocError>
-        ensures after { OnOk result ((c : Chronicle) (i : ℕ) → stands self.old Stepping (config_of setup.now) c
+        ensures after { OnOk result ((c : Chronicle) (i : ℕ) → stands self.old Stepping setup.now c
             → instance_place self.old c key ≡ Some i
-            → stands self.new Stepping (config_of setup.now) (entry.Fired (entry.StopOn i) (seen.taken job.now.stop_on (seen.seen (config_of setup.now) (entry.StopOn i) c)) ∷ c)) }
-        ensures instances { OnOk result ((c : Chronicle) (i : ℕ) → stands self.old Stepping (config_of setup.now) c
+            → stands self.new Stepping setup.now (entry.Fired (entry.StopOn i) (seen.taken job.now.stop_on (seen.seen setup.now (entry.StopOn i) c)) ∷ c)) }
+        ensures instances { OnOk result ((c : Chronicle) (i : ℕ) → stands self.old Stepping setup.now c
             → instance_place self.old c key ≡ Some i
-            → instance_place self.new (entry.Fired (entry.StopOn i) (seen.taken job.now.stop_on (seen.seen (config_of setup.now) (entry.StopOn i) c)) ∷ c) key ≡ Some i) }
-        ensures taken { IfOk result (λ taken. (c : Chronicle) (i : ℕ) → stands self.old Stepping (config_of setup.now) c
+            → instance_place self.new (entry.Fired (entry.StopOn i) (seen.taken job.now.stop_on (seen.seen setup.now (entry.StopOn i) c)) ∷ c) key ≡ Some i) }
+        ensures taken { IfOk result (λ taken. (c : Chronicle) (i : ℕ) → stands self.old Stepping setup.now c
             → instance_place self.old c key ≡ Some i
-            → map (event_place self.new (entry.Fired (entry.StopOn i) (seen.taken job.now.stop_on (seen.seen (config_of setup.now) (entry.StopOn i) c)) ∷ c)) taken
-            ≡ map Some (seen.taken job.now.stop_on (seen.seen (config_of setup.now) (entry.StopOn i) c))) };
+            → map (event_place self.new (entry.Fired (entry.StopOn i) (seen.taken job.now.stop_on (seen.seen setup.now (entry.StopOn i) c)) ∷ c)) taken
+            ≡ map Some (seen.taken job.now.stop_on (seen.seen setup.now (entry.StopOn i) c))) };
 
     /// A job's `start on` fires; returns the events that it takes, from left to right.
     fn fire_start(&mut self, setup: &Setup, job: &JobDef) -> Result<Items<EventKey>, AllocError>
-        ensures after { OnOk result ((c : Chronicle) → stands self.old Stepping (config_of setup.now) c
-            → stands self.new Stepping (config_of setup.now) (entry.Fired (entry.StartOn job.now.name) (seen.taken job.now.start_on (seen.seen (config_of setup.now) (entry.StartOn job.now.name) c)) ∷ c)) }
-        ensures taken { IfOk result (λ taken. (c : Chronicle) → stands self.old Stepping (config_of setup.now) c
-            → map (event_place self.new (entry.Fired (entry.StartOn job.now.name) (seen.taken job.now.start_on (seen.seen (config_of setup.now) (entry.StartOn job.now.name) c)) ∷ c)) taken
-            ≡ map Some (seen.taken job.now.start_on (seen.seen (config_of setup.now) (entry.StartOn job.now.name) c))) };
+        ensures after { OnOk result ((c : Chronicle) → stands self.old Stepping setup.now c
+            → stands self.new Stepping setup.now (entry.Fired (entry.StartOn job.now.name) (seen.taken job.now.start_on (seen.seen setup.now (entry.StartOn job.now.name) c)) ∷ c)) }
+        ensures taken { IfOk result (λ taken. (c : Chronicle) → stands self.old Stepping setup.now c
+            → map (event_place self.new (entry.Fired (entry.StartOn job.now.name) (seen.taken job.now.start_on (seen.seen setup.now (entry.StartOn job.now.name) c)) ∷ c)) taken
+            ≡ map Some (seen.taken job.now.start_on (seen.seen setup.now (entry.StartOn job.now.name) c))) };
 
     /// The step is over; returns what it asks for, in order.
     fn rest(&mut self, setup: &Setup) -> Result<Vec<Output>, AllocError>
-        ensures after { OnOk result ((c : Chronicle) → stands self.old Stepping (config_of setup.now) c → stands self.new Resting (config_of setup.now) c) }
-        ensures outputs { IfOk result (λ outputs. (c : Chronicle) → stands self.old Stepping (config_of setup.now) c
-            → outputs.items ≡ outputs_of (config_of setup.now) c) };
+        ensures after { OnOk result ((c : Chronicle) → stands self.old Stepping setup.now c → stands self.new Resting setup.now c) }
+        ensures outputs { IfOk result (λ outputs. (c : Chronicle) → stands self.old Stepping setup.now c
+            → outputs.items ≡ outputs_of setup.now c) };
 }

@@ -1,7 +1,6 @@
 //! What is due, the effect of an input, and whether it is expected.
 ghost use Rattle.std.specs.Prelude.{◌≡◌, ℕ, List, ◌∷◌, [], ◌++◌, map, Option, Some, option_map, IfOk, OnOk};
 ghost use Rattle.up_engine.specs.Keys.{Mode, Resting, Stepping, live_at};
-ghost use Rattle.up_engine.specs.Setups.{config_of};
 ghost use Rattle.up_model.specs.declared.input.Input.TheVariants as given_as;
 ghost use Rattle.up_model.specs.Answers as answer;
 ghost use Rattle.up_model.specs.Chronicle.{Chronicle};
@@ -31,10 +30,10 @@ pub(crate) fn do_next<B: Book>(
     setup: &Setup,
     book: &mut B,
 ) -> Result<bool, AllocError>
-    ensures entries { OnOk result ((c : Chronicle) → B.stands book.old Stepping (config_of setup.now) c
-        → B.stands book.new Stepping (config_of setup.now) (model.due (config_of setup.now) c ++ c)) }
-    ensures any { IfOk result (λ done. (c : Chronicle) → B.stands book.old Stepping (config_of setup.now) c
-        → done ≡ is_filled (model.due (config_of setup.now) c)) }
+    ensures entries { OnOk result ((c : Chronicle) → B.stands book.old Stepping setup.now c
+        → B.stands book.new Stepping setup.now (model.due setup.now c ++ c)) }
+    ensures any { IfOk result (λ done. (c : Chronicle) → B.stands book.old Stepping setup.now c
+        → done ≡ is_filled (model.due setup.now c)) }
 {
     if move_first(alloc, setup, book, setup.jobs())? {
         return Ok(true);
@@ -120,8 +119,8 @@ fn take_refusal<B: Book>(
     who: Who,
     process: Process,
 ) -> Result<(), AllocError>
-    ensures { OnOk result ((c : Chronicle) → B.stands book.old Resting (config_of setup.now) c
-        → B.stands book.new Stepping (config_of setup.now) (model.effect (config_of setup.now) (given_as.Refused who process) c ++ c)) }
+    ensures { OnOk result ((c : Chronicle) → B.stands book.old Resting setup.now c
+        → B.stands book.new Stepping setup.now (model.effect setup.now (given_as.Refused who process) c ++ c)) }
 {
     let judged = verdict_on(setup, book, &who, process, End::Refused);
     conclude(book, Input::Refused { who, process }, judged)?;
@@ -136,8 +135,8 @@ fn take_end<B: Book>(
     process: Process,
     how: How,
 ) -> Result<(), AllocError>
-    ensures { OnOk result ((c : Chronicle) → B.stands book.old Resting (config_of setup.now) c
-        → B.stands book.new Stepping (config_of setup.now) (model.effect (config_of setup.now) (given_as.Ended who process how) c ++ c)) }
+    ensures { OnOk result ((c : Chronicle) → B.stands book.old Resting setup.now c
+        → B.stands book.new Stepping setup.now (model.effect setup.now (given_as.Ended who process how) c ++ c)) }
 {
     let judged = verdict_on(setup, book, &who, process, End::Ended(how));
     conclude(book, Input::Ended { who, process, how }, judged)?;
@@ -211,8 +210,8 @@ pub(crate) fn act<B: Book>(
     book: &mut B,
     input: Input,
 ) -> Result<(), AllocError>
-    ensures { OnOk result ((c : Chronicle) → B.stands book.old Resting (config_of setup.now) c
-        → B.stands book.new Stepping (config_of setup.now) (model.effect (config_of setup.now) input c ++ c)) }
+    ensures { OnOk result ((c : Chronicle) → B.stands book.old Resting setup.now c
+        → B.stands book.new Stepping setup.now (model.effect setup.now input c ++ c)) }
 {
     match input {
         Input::Emit(event) => take_event(book, event)?,

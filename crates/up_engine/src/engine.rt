@@ -1,6 +1,5 @@
 //! The engine: one step for one input, and a run over a list of them.
 ghost use Rattle.std.specs.Prelude.{◌≡◌, List, ℕ, Ok, Err, [], length, is_some, IfOk, OnOk};
-ghost use Rattle.up_engine.specs.Setups.{config_of};
 ghost use Rattle.up_engine.specs.Keys.{Resting};
 ghost use Rattle.up_model.specs.Answers as answer;
 ghost use Rattle.up_model.specs.Chronicle.{Chronicle};
@@ -42,10 +41,10 @@ fn step_book<B: Book>(
     book: &mut B,
     given: Input,
 ) -> Result<Vec<Output>, AllocError>
-    ensures after { OnOk result ((c : Chronicle) → B.stands book.old Resting (config_of setup.now) c
-        → B.stands book.new Resting (config_of setup.now) (answer.after (config_of setup.now) c given)) }
-    ensures outputs { IfOk result (λ outputs. (c : Chronicle) → B.stands book.old Resting (config_of setup.now) c
-        → outputs.items ≡ outputs_of (config_of setup.now) (answer.after (config_of setup.now) c given)) }
+    ensures after { OnOk result ((c : Chronicle) → B.stands book.old Resting setup.now c
+        → B.stands book.new Resting setup.now (answer.after setup.now c given)) }
+    ensures outputs { IfOk result (λ outputs. (c : Chronicle) → B.stands book.old Resting setup.now c
+        → outputs.items ≡ outputs_of setup.now (answer.after setup.now c given)) }
 {
     run_step(alloc, setup, book, given)?;
     let outputs = book.rest(setup)?;
@@ -55,18 +54,19 @@ fn step_book<B: Book>(
 impl Engine {
     ghost use Rattle.up_engine.specs.Stands.{result_map, Stands, DownAt, IsDown, StepMeans, AnswerMeans, RunMeans};
 
-    /// An engine to which nothing has happened. Each process gets its environment on top of `base`.
-    pub fn new(alloc: Global, table: Table, base: Env) -> Self
-        ensures { Stands result (record { base = base; jobs = table }) [] }
+    /// An engine to which nothing has happened. Each process gets its environment on top of `base`, of which each job gets a copy.
+    pub fn new(alloc: Global, table: Table, base: Env) -> Result<Self, AllocError>
+        ensures { IfOk result (λ engine. Stands engine (record { base = base; jobs = table }) []) }
     {
-        Engine {
+        let setup = Setup::new(alloc, table, base)?;
+        Ok(Engine {
             alloc,
-            setup: Setup { base, table },
+            setup,
             book: StoringBook::new(alloc),
             down: false,
             live: 0,
             turns: false,
-        }
+        })
     }
 
     /// How many events were queued and haven't finished. Takes no memory.

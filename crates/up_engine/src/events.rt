@@ -1,21 +1,22 @@
 //! The events that an instance emits, and the environments of a start and of a stop.
 ghost use Rattle.std.specs.Prelude.{◌≡◌, List, ℕ, [], ◌∷◌, ◌++◌, Some, map, IfOk, OnOk, string_bytes, if◌then◌else◌, codes};
 ghost use Rattle.std.specs.Fmt.{decimal};
-ghost use Rattle.std.specs.Option.{option_copied};
-ghost use Rattle.up_text.specs.Bindings.{set_in, set_all};
-ghost use Rattle.up_engine.specs.Keys.{Mode};
+ghost use Rattle.std.specs.Option.{option_copied, option_map_or};
+ghost use Rattle.up_text.specs.Bindings.{value_of, set_in, set_all};
+ghost use Rattle.up_engine.specs.Keys.{Mode, instance_at};
 ghost use Rattle.up_model.specs.declared.event.Event.{Event as EventValue};
 ghost use Rattle.up_model.specs.Chronicle.{Chronicle};
 ghost use Rattle.up_model.specs.Configuration.{Configuration};
 ghost use Rattle.up_model.specs.Events as model;
+ghost use Rattle.up_model.specs.Moves as moves;
 ghost use Rattle.up_model.specs.Signals.{signal_text};
 
 use crate::book::Book;
-use crate::keys::EventKey;
+use crate::keys::{EventKey, Slot};
 use std::alloc::{AllocError, Global};
 use up_conf::signal_name;
-use up_model::{Cause, Event, Failure, How, JobEvent, process_name};
-use up_text::{Env, Name};
+use up_model::{Cause, Event, Failure, How, JobDef, JobEvent, process_name};
+use up_text::{Env, Name, Text};
 
 // The keys and values here are ones that an environment takes, so that it refuses them only if it is out of memory.
 fn put(vars: &mut Env, key: &str, value: &str) -> Result<(), AllocError>
@@ -108,15 +109,15 @@ fn event_of(alloc: Global, name: &str, vars: Env) -> Result<Event, AllocError>
     }
 }
 
-/// An event of an instance's life, which may have failed (starting(7), started(7), stopping(7), stopped(7)).
-pub(crate) fn job_event(
+// What an event of an instance's life says by itself.
+fn life_event(
     alloc: Global,
     kind: JobEvent,
     job: &Name,
     name: &str,
     failure: Option<Failure>,
 ) -> Result<Event, AllocError>
-    ensures { IfOk result (λ event. event ≡ model.job_event kind (record { job = job.now; instance = name.now }) failure) }
+    ensures { IfOk result (λ event. event ≡ model.life_event kind (record { job = job.now; instance = name.now }) failure) }
 {
     match kind {
         JobEvent::Starting => event_of(alloc, "starting", about(alloc, job, name)?),
@@ -130,6 +131,60 @@ pub(crate) fn job_event(
             event_of(alloc, "stopped", vars)
         }
     }
+}
+
+// Adds an exported key that the environment has, unless a variable has the key.
+fn export(vars: &mut Env, key: &str, value: Option<&str>) -> Result<(), AllocError>
+    ensures { OnOk result (vars.new ≡ model.with_export key.now (option_copied value.entry) vars.old) }
+{
+    match value {
+        Some(value) => {
+            if vars.get(key).is_none() {
+                put(vars, key, value)?;
+            }
+        }
+        None => {}
+    }
+    Ok(())
+}
+
+fn value_in<'a>(environment: Option<&'a Env>, key: &str) -> Option<&'a str>
+    ensures { option_copied result ≡ value_of key.now (option_map_or (λ env. env.now) environment.entry []) }
+{
+    match environment {
+        Some(environment) => environment.get(key),
+        None => None,
+    }
+}
+
+#[tactic(auto, using(crate::proofs::EventLemmas::exports_left))]
+fn export_all(vars: &mut Env, environment: Option<&Env>, keys: &[Text]) -> Result<(), AllocError>
+    ensures { OnOk result (vars.new ≡ model.with_exports (option_map_or (λ env. env.now) environment.entry []) keys.now vars.old) }
+{
+    for key in keys {
+        let key = key.as_str();
+        export(vars, key, value_in(environment, key))?;
+    }
+    Ok(())
+}
+
+/// An event of an instance's life (starting(7), started(7), stopping(7), stopped(7)), with the keys that its job exports of the
+/// environment in force.
+pub(crate) fn job_event<B: Book>(
+    alloc: Global,
+    book: &B,
+    job: &JobDef,
+    slot: &Slot,
+    kind: JobEvent,
+) -> Result<Event, AllocError>
+    ensures { IfOk result (λ event. (mode : Mode) (config : Configuration) (c : Chronicle) (i : ℕ) → B.stands book.now mode config c
+        → B.instance_place book.now c slot.now.key ≡ Some i
+        → event ≡ moves.job_event job.now (moves.who_of job.now (instance_at i slot.now.name)) i kind c) }
+{
+    let failure = book.failure(slot.key);
+    let Event { name, mut vars } = life_event(alloc, kind, &job.name, slot.name.as_str(), failure)?;
+    export_all(&mut vars, book.env(slot.key), job.export.as_slice())?;
+    Ok(Event { name, vars })
 }
 
 fn tells_failure(event: &Event) -> bool
@@ -226,53 +281,44 @@ fn names_of(alloc: Global, events: &[&Event]) -> Result<String, AllocError>
     Ok(text)
 }
 
-// Adds to the base environment what a start by these events tells.
-fn add_start(
-    env: &mut Env,
-    events: &[&Event],
-    names: &str,
-    job: &Name,
-    name: &str,
-) -> Result<(), AllocError>
+// Adds what a start by these events tells.
+fn add_start(env: &mut Env, events: &[&Event], names: &str) -> Result<(), AllocError>
     ensures { OnOk result (names.now ≡ model.names_of (map (λ event. event.now) events.now)
-        → env.new ≡ model.start_env env.old (map (λ event. event.now) events.now) (record { job = job.now; instance = name.now })) }
+        → env.new ≡ model.events_env env.old (map (λ event. event.now) events.now)) }
 {
     collect(env, events)?;
-    put(env, "UPSTART_EVENTS", names)?;
-    put(env, "UPSTART_JOB", job.as_str())?;
-    put(env, "UPSTART_INSTANCE", name)
+    put(env, "UPSTART_EVENTS", names)
 }
 
-fn env_by(
-    alloc: Global,
-    base: &Env,
-    events: &[&Event],
-    job: &Name,
-    name: &str,
-) -> Result<Env, AllocError>
-    ensures { IfOk result (λ env. env ≡ model.start_env base.now (map (λ event. event.now) events.now) (record { job = job.now; instance = name.now })) }
+fn env_by(alloc: Global, base: &Env, events: &[&Event]) -> Result<Env, AllocError>
+    ensures { IfOk result (λ env. env ≡ model.events_env base.now (map (λ event. event.now) events.now)) }
 {
     let names = names_of(alloc, events)?;
     let mut env = base.copy()?;
-    add_start(&mut env, events, names.as_str(), job, name)?;
+    add_start(&mut env, events, names.as_str())?;
     Ok(env)
 }
 
-/// The environment of a start by the events of these keys.
-pub(crate) fn start_env<B: Book>(
+/// The environment of a start by the events of these keys, on top of that of the job.
+pub(crate) fn events_env<B: Book>(
     alloc: Global,
     base: &Env,
     book: &B,
     keys: &[EventKey],
-    job: &Name,
-    name: &str,
 ) -> Result<Env, AllocError>
     ensures { IfOk result (λ env. (mode : Mode) (config : Configuration) (c : Chronicle) (places : List ℕ) → B.stands book.now mode config c
-        → map (B.event_place book.now c) keys.now ≡ map Some places
-        → env ≡ model.start_env base.now (model.events_at places c) (record { job = job.now; instance = name.now })) }
+        → map (B.event_place book.now c) keys.now ≡ map Some places → env ≡ model.events_env base.now (model.events_at places c)) }
 {
     let events = events_of(alloc, book, keys)?;
-    env_by(alloc, base, events.as_slice(), job, name)
+    env_by(alloc, base, events.as_slice())
+}
+
+/// Adds the instance that is started.
+pub(crate) fn add_instance(env: &mut Env, job: &Name, name: &str) -> Result<(), AllocError>
+    ensures { OnOk result (env.new ≡ model.with_instance (record { job = job.now; instance = name.now }) env.old) }
+{
+    put(env, "UPSTART_JOB", job.as_str())?;
+    put(env, "UPSTART_INSTANCE", name)
 }
 
 fn stop_env_by(alloc: Global, events: &[&Event]) -> Result<Env, AllocError>

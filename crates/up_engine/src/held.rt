@@ -3,7 +3,6 @@ ghost use Rattle.std.specs.Prelude.{◌≡◌, ◌++◌, map, option_map, not, �
 ghost use Rattle.up_engine.specs.Groups.{instance_of, listed};
 ghost use Rattle.up_engine.specs.Queues.{live_of};
 ghost use Rattle.up_engine.specs.Records.{chronicle, place_of};
-ghost use Rattle.up_engine.specs.Setups.{config_of};
 ghost use Rattle.up_model.specs.Chronicle as entry;
 ghost use Rattle.up_model.specs.Due as due;
 ghost use Rattle.up_model.specs.Held as held;
@@ -42,7 +41,7 @@ fn is_held_by(
     instance: usize,
     event: usize,
 ) -> Result<bool, AllocError>
-    ensures { IfOk result (λ holds. holds ≡ held.has event (held.held_by (config_of setup.now) job.now instance (chronicle records.now))) }
+    ensures { IfOk result (λ holds. holds ≡ held.has event (held.held_by setup.now job.now instance (chronicle records.now))) }
 {
     let stop = keeps(
         alloc,
@@ -64,7 +63,7 @@ fn is_held_by_instances(
     slots: &[Slot],
     event: usize,
 ) -> Result<bool, AllocError>
-    ensures { IfOk result (λ holds. holds ≡ held.has event (held.held_by_instances (config_of setup.now) job.now (map instance_of slots.now) (chronicle records.now))) }
+    ensures { IfOk result (λ holds. holds ≡ held.has event (held.held_by_instances setup.now job.now (map instance_of slots.now) (chronicle records.now))) }
 {
     for slot in slots {
         if is_held_by(alloc, setup, records, job, slot.key.place, event)? {
@@ -84,7 +83,7 @@ fn is_held_by_job(
     event: usize,
 ) -> Result<bool, AllocError>
     ensures { IfOk result (λ holds. map instance_of slots.now ≡ instances_of job.now.name (chronicle records.now)
-        → holds ≡ held.has event (held.held_by_job (config_of setup.now) job.now (chronicle records.now))) }
+        → holds ≡ held.has event (held.held_by_job setup.now job.now (chronicle records.now))) }
 {
     let start = keeps(
         alloc,
@@ -112,7 +111,7 @@ fn is_held(
     event: usize,
 ) -> Result<bool, AllocError>
     ensures { IfOk result (λ holds. ((job : Bytes) → listed job groups.now ≡ instances_of job (chronicle records.now))
-        → holds ≡ held.has event (held.held_by_jobs (config_of setup.now) jobs.now (chronicle records.now))) }
+        → holds ≡ held.has event (held.held_by_jobs setup.now jobs.now (chronicle records.now))) }
 {
     for job in jobs {
         if is_held_by_job(
@@ -138,7 +137,7 @@ fn may_take(
     live: Live,
 ) -> Result<bool, AllocError>
     ensures { IfOk result (λ may. ((job : Bytes) → listed job groups.now ≡ instances_of job (chronicle records.now))
-        → may ≡ (not live.handled || not (held.is_held (config_of setup.now) live.key.place (chronicle records.now)))) }
+        → may ≡ (not live.handled || not (held.is_held setup.now live.key.place (chronicle records.now)))) }
 {
     if !live.handled {
         return Ok(true);
@@ -157,7 +156,7 @@ pub(crate) fn turn_event(
     queue: &[Live],
 ) -> Result<Option<Live>, AllocError>
     ensures { IfOk result (λ found. ((job : Bytes) → listed job groups.now ≡ instances_of job (chronicle records.now))
-        → option_map live_of found ≡ due.turn_event (config_of setup.now) (map live_of queue.now) (chronicle records.now)) }
+        → option_map live_of found ≡ due.turn_event setup.now (map live_of queue.now) (chronicle records.now)) }
 {
     for live in queue {
         if may_take(alloc, setup, records, groups, *live)? {

@@ -1,7 +1,6 @@
 //! What the end or the refusal of a process does to its instance.
 ghost use Rattle.std.specs.Prelude.{◌≡◌, ℕ, List, ◌∷◌, ◌++◌, map, Option, None, Some, IfOk, OnOk};
 ghost use Rattle.up_engine.specs.Keys.{Mode, Resting, Stepping, Judges};
-ghost use Rattle.up_engine.specs.Setups.{config_of};
 ghost use Rattle.up_model.specs.Chronicle as entry;
 ghost use Rattle.up_model.specs.Chronicle.{Chronicle, Entry as EntryValue};
 ghost use Rattle.up_model.specs.Configuration.{Configuration, job_named};
@@ -92,8 +91,8 @@ pub(crate) fn verdict_on<B: Book>(
     process: Process,
     end: End,
 ) -> Option<(InstanceKey, Verdict)>
-    ensures { (mode : Mode) (c : Chronicle) → B.stands book.now mode (config_of setup.now) c
-        → Judges (B.instance_place book.now c) result (end_of (job_named who.now.job (config_of setup.now).jobs) (instance_named who.now c) process end c) c }
+    ensures { (mode : Mode) (c : Chronicle) → B.stands book.now mode setup.now c
+        → Judges (B.instance_place book.now c) result (end_of (job_named who.now.job setup.now.jobs) (instance_named who.now c) process end c) c }
 {
     match job_named(setup.jobs(), &who.job) {
         Some(job) => verdict_in(book, job, who, process, end),

@@ -3,7 +3,6 @@ ghost use Rattle.std.specs.Prelude.{◌≡◌, ℕ, false, not, ◌&&◌, ◌||�
 ghost use Rattle.std.specs.Option.{option_copied};
 ghost use Rattle.up_conf.specs.declared.job.JobDef.{JobDef as JobValue};
 ghost use Rattle.up_engine.specs.Keys.{Mode, Stepping, is_waiting, instance_at, slot_at, FindsMove};
-ghost use Rattle.up_engine.specs.Setups.{config_of};
 ghost use Rattle.up_model.specs.declared.state.State.TheVariants as entered;
 ghost use Rattle.up_model.specs.Chronicle.{Chronicle};
 ghost use Rattle.up_model.specs.Chronicle as entry;
@@ -24,7 +23,7 @@ use crate::setup::Setup;
 use std::alloc::{AllocError, Global};
 use up_conf::Signal;
 use up_job::{entering, next_state};
-use up_model::{Entry, Failure, Goal, JobDef, JobEvent, Process, State};
+use up_model::{Entry, Goal, JobDef, JobEvent, Process, State};
 
 // Whether an order was answered, if the job has the process.
 fn is_answered<B: Book>(book: &B, job: &JobDef, key: InstanceKey, process: Process) -> bool
@@ -120,9 +119,9 @@ fn order<B: Book>(
     key: InstanceKey,
     orders: Option<Process>,
 ) -> Result<(), AllocError>
-    ensures after { OnOk result ((c : Chronicle) (i : ℕ) → B.stands book.old Stepping (config_of setup.now) c
-        → B.instance_place book.old c key ≡ Some i → B.stands book.new Stepping (config_of setup.now) (model.ordering job.now i orders ++ c)) }
-    ensures instances { OnOk result ((c : Chronicle) (i : ℕ) → B.stands book.old Stepping (config_of setup.now) c
+    ensures after { OnOk result ((c : Chronicle) (i : ℕ) → B.stands book.old Stepping setup.now c
+        → B.instance_place book.old c key ≡ Some i → B.stands book.new Stepping setup.now (model.ordering job.now i orders ++ c)) }
+    ensures instances { OnOk result ((c : Chronicle) (i : ℕ) → B.stands book.old Stepping setup.now c
         → B.instance_place book.old c key ≡ Some i → B.instance_place book.new (model.ordering job.now i orders ++ c) key ≡ Some i) }
 {
     match orders {
@@ -144,18 +143,17 @@ fn emit<B: Book>(
     slot: &Slot,
     to: State,
     emits: Option<JobEvent>,
-    failed: Option<Failure>,
 ) -> Result<(), AllocError>
     ensures after { OnOk result ((config : Configuration) (c : Chronicle) (i : ℕ) → B.stands book.old Stepping config c
         → B.instance_place book.old c slot.now.key ≡ Some i
-        → B.stands book.new Stepping config (model.emitting (model.who_of job.now (instance_at i slot.now.name)) i to emits failed ++ c)) }
+        → B.stands book.new Stepping config (model.emitting job.now (model.who_of job.now (instance_at i slot.now.name)) i to emits c ++ c)) }
     ensures instances { OnOk result ((config : Configuration) (c : Chronicle) (i : ℕ) → B.stands book.old Stepping config c
         → B.instance_place book.old c slot.now.key ≡ Some i
-        → B.instance_place book.new (model.emitting (model.who_of job.now (instance_at i slot.now.name)) i to emits failed ++ c) slot.now.key ≡ Some i) }
+        → B.instance_place book.new (model.emitting job.now (model.who_of job.now (instance_at i slot.now.name)) i to emits c ++ c) slot.now.key ≡ Some i) }
 {
     match emits {
         Some(kind) => {
-            let event = job_event(alloc, kind, &job.name, slot.name.as_str(), failed)?;
+            let event = job_event(alloc, book, job, slot, kind)?;
             book.announce(slot.key, to, event)?;
         }
         None => {}
@@ -197,20 +195,21 @@ fn enter_with<B: Book>(
     slot: &Slot,
     to: State,
     table: Entry,
-    failed: Option<Failure>,
 ) -> Result<(), AllocError>
-    ensures after { OnOk result ((c : Chronicle) (i : ℕ) → B.stands book.old Stepping (config_of setup.now) c
+    ensures after { OnOk result ((c : Chronicle) (i : ℕ) → B.stands book.old Stepping setup.now c
         → B.instance_place book.old c slot.now.key ≡ Some i → is_waiting to ≡ false
-        → B.stands book.new Stepping (config_of setup.now)
-        (model.emitting (model.who_of job.now (instance_at i slot.now.name)) i to table.emits failed ++ (model.ordering job.now i table.orders ++ entry.Entered i to ∷ c))) }
-    ensures instances { OnOk result ((c : Chronicle) (i : ℕ) → B.stands book.old Stepping (config_of setup.now) c
+        → B.stands book.new Stepping setup.now
+        (model.emitting job.now (model.who_of job.now (instance_at i slot.now.name)) i to table.emits (model.ordering job.now i table.orders ++ entry.Entered i to ∷ c)
+        ++ (model.ordering job.now i table.orders ++ entry.Entered i to ∷ c))) }
+    ensures instances { OnOk result ((c : Chronicle) (i : ℕ) → B.stands book.old Stepping setup.now c
         → B.instance_place book.old c slot.now.key ≡ Some i → is_waiting to ≡ false
         → B.instance_place book.new
-        (model.emitting (model.who_of job.now (instance_at i slot.now.name)) i to table.emits failed ++ (model.ordering job.now i table.orders ++ entry.Entered i to ∷ c)) slot.now.key ≡ Some i) }
+        (model.emitting job.now (model.who_of job.now (instance_at i slot.now.name)) i to table.emits (model.ordering job.now i table.orders ++ entry.Entered i to ∷ c)
+        ++ (model.ordering job.now i table.orders ++ entry.Entered i to ∷ c)) slot.now.key ≡ Some i) }
 {
     book.enter(slot.key, to)?;
     order(setup, book, job, slot.key, table.orders)?;
-    emit(alloc, book, job, slot, to, table.emits, failed)?;
+    emit(alloc, book, job, slot, to, table.emits)?;
     Ok(())
 }
 
@@ -224,13 +223,12 @@ fn enter_other<B: Book>(
     to: State,
     table: Entry,
 ) -> Result<(), AllocError>
-    ensures { OnOk result ((c : Chronicle) (i : ℕ) → B.stands book.old Stepping (config_of setup.now) c
+    ensures { OnOk result ((c : Chronicle) (i : ℕ) → B.stands book.old Stepping setup.now c
         → B.instance_place book.old c slot.now.key ≡ Some i → is_waiting to ≡ false
-        → B.stands book.new Stepping (config_of setup.now) (model.enter_whole job.now (model.who_of job.now (instance_at i slot.now.name)) i to table c ++ c)) }
+        → B.stands book.new Stepping setup.now (model.enter_whole job.now (model.who_of job.now (instance_at i slot.now.name)) i to table c ++ c)) }
 {
     let lives = book.lives(slot.key, Process::Main);
-    let failed = book.failure(slot.key);
-    enter_with(alloc, setup, book, job, slot, to, table, failed)?;
+    enter_with(alloc, setup, book, job, slot, to, table)?;
     kill(book, slot.key, table.kills && lives)?;
     release(book, slot.key, table.releases)?;
     Ok(())
@@ -249,14 +247,7 @@ fn enter_waiting<B: Book>(
         → B.stands book.new Stepping config
         (model.enter_whole job.now (model.who_of job.now (instance_at i slot.now.name)) i entered.Waiting (life.entering entered.Waiting from job.now.task) c ++ c)) }
 {
-    let failed = book.failure(slot.key);
-    let event = job_event(
-        alloc,
-        JobEvent::Stopped,
-        &job.name,
-        slot.name.as_str(),
-        failed,
-    )?;
+    let event = job_event(alloc, book, job, slot, JobEvent::Stopped)?;
     book.leave(slot.key, event)?;
     Ok(())
 }
@@ -269,9 +260,9 @@ fn move_on<B: Book>(
     job: &JobDef,
     slot: &Slot,
 ) -> Result<(), AllocError>
-    ensures { OnOk result ((c : Chronicle) (i : ℕ) → B.stands book.old Stepping (config_of setup.now) c
+    ensures { OnOk result ((c : Chronicle) (i : ℕ) → B.stands book.old Stepping setup.now c
         → B.instance_place book.old c slot.now.key ≡ Some i
-        → B.stands book.new Stepping (config_of setup.now) (model.move job.now (instance_at i slot.now.name) c ++ c)) }
+        → B.stands book.new Stepping setup.now (model.move job.now (instance_at i slot.now.name) c ++ c)) }
 {
     let from = book.state_of(slot.key);
     let to = next_of(book, job, slot.key);
@@ -326,9 +317,9 @@ fn move_in<B: Book>(
     book: &mut B,
     job: &JobDef,
 ) -> Result<bool, AllocError>
-    ensures entries { OnOk result ((c : Chronicle) → B.stands book.old Stepping (config_of setup.now) c
-        → B.stands book.new Stepping (config_of setup.now) (model.move_in job.now (model_instances.instances_of job.now.name c) c ++ c)) }
-    ensures any { IfOk result (λ moved. (c : Chronicle) → B.stands book.old Stepping (config_of setup.now) c
+    ensures entries { OnOk result ((c : Chronicle) → B.stands book.old Stepping setup.now c
+        → B.stands book.new Stepping setup.now (model.move_in job.now (model_instances.instances_of job.now.name c) c ++ c)) }
+    ensures any { IfOk result (λ moved. (c : Chronicle) → B.stands book.old Stepping setup.now c
         → moved ≡ is_filled (model.move_in job.now (model_instances.instances_of job.now.name c) c)) }
 {
     match copy_of_moving(book, job)? {
@@ -347,9 +338,9 @@ pub(crate) fn move_first<B: Book>(
     book: &mut B,
     jobs: &[JobDef],
 ) -> Result<bool, AllocError>
-    ensures entries { OnOk result ((c : Chronicle) → B.stands book.old Stepping (config_of setup.now) c
-        → B.stands book.new Stepping (config_of setup.now) (model.move_first jobs.now c ++ c)) }
-    ensures any { IfOk result (λ moved. (c : Chronicle) → B.stands book.old Stepping (config_of setup.now) c
+    ensures entries { OnOk result ((c : Chronicle) → B.stands book.old Stepping setup.now c
+        → B.stands book.new Stepping setup.now (model.move_first jobs.now c ++ c)) }
+    ensures any { IfOk result (λ moved. (c : Chronicle) → B.stands book.old Stepping setup.now c
         → moved ≡ is_filled (model.move_first jobs.now c)) }
 {
     for job in jobs {

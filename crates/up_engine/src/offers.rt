@@ -1,25 +1,29 @@
 //! How the event of a turn is offered to the expressions, and what one does that fires.
-ghost use Rattle.std.specs.Prelude.{◌≡◌, ℕ, false, not, List, ◌∷◌, [], ◌++◌, map, Option, None, Some, option_map, IfOk, OnOk};
+ghost use Rattle.std.specs.Prelude.{◌≡◌, ℕ, nat_lt, length, false, not, List, ◌∷◌, [], ◌++◌, map, Option, None, Some, option_map, IfOk, OnOk};
 ghost use Rattle.up_conf.specs.declared.job.JobDef.{JobDef as JobValue};
 ghost use Rattle.up_engine.specs.declared.keys.InstanceKey.{InstanceKey as InstanceKeyValue};
 ghost use Rattle.up_engine.specs.Keys.{Mode, Stepping, slot_at, FindsOpen};
-ghost use Rattle.up_engine.specs.Setups.{config_of};
 ghost use Rattle.up_model.specs.Chronicle.{Chronicle};
 ghost use Rattle.up_model.specs.Chronicle as entry;
 ghost use Rattle.up_model.specs.Configuration.{Configuration};
+ghost use Rattle.up_model.specs.declared.who.Who.{Who as WhoValue};
+ghost use Rattle.up_model.specs.Environments as environments;
 ghost use Rattle.up_model.specs.Instances as model_instances;
 ghost use Rattle.up_model.specs.Offers as model;
 ghost use Rattle.up_model.specs.Seen.{seen, taken};
 ghost use Rattle.up_text.specs.Scripts.{is_filled};
 
 use crate::book::Book;
-use crate::events::{start_env, stop_env};
+use crate::events::{add_instance, events_env, stop_env};
 use crate::keys::{EventKey, InstanceKey, Slot};
 use crate::life::is_start;
 use crate::setup::Setup;
 use std::alloc::{AllocError, Global};
 use up_model::{Goal, JobDef};
-use up_text::{Env, Items, Name};
+use up_text::{Env, Expanded, Items, Name, Text, TextFault, expand};
+
+/// The most instances of one job.
+const MAX_INSTANCES: usize = 1_024;
 
 // The goal becomes stop by these events, if it is start.
 fn stop_by<B: Book>(
@@ -48,12 +52,12 @@ fn stop_fires<B: Book>(
     job: &JobDef,
     key: InstanceKey,
 ) -> Result<(), AllocError>
-    ensures { OnOk result ((c : Chronicle) (i : ℕ) → B.stands book.old Stepping (config_of setup.now) c
+    ensures { OnOk result ((c : Chronicle) (i : ℕ) → B.stands book.old Stepping setup.now c
         → B.instance_place book.old c key ≡ Some i
-        → B.stands book.new Stepping (config_of setup.now)
-        (model.stop_by i (taken job.now.stop_on (seen (config_of setup.now) (entry.StopOn i) c))
-        (entry.Fired (entry.StopOn i) (taken job.now.stop_on (seen (config_of setup.now) (entry.StopOn i) c)) ∷ c)
-        ++ entry.Fired (entry.StopOn i) (taken job.now.stop_on (seen (config_of setup.now) (entry.StopOn i) c)) ∷ c)) }
+        → B.stands book.new Stepping setup.now
+        (model.stop_by i (taken job.now.stop_on (seen setup.now (entry.StopOn i) c))
+        (entry.Fired (entry.StopOn i) (taken job.now.stop_on (seen setup.now (entry.StopOn i) c)) ∷ c)
+        ++ entry.Fired (entry.StopOn i) (taken job.now.stop_on (seen setup.now (entry.StopOn i) c)) ∷ c)) }
 {
     let holders = book.fire_stop(setup, job, key)?;
     stop_by(alloc, book, key, holders)?;
@@ -69,9 +73,9 @@ fn offer_stop<B: Book>(
     key: InstanceKey,
     event: EventKey,
 ) -> Result<(), AllocError>
-    ensures { OnOk result ((c : Chronicle) (i e : ℕ) → B.stands book.old Stepping (config_of setup.now) c
+    ensures { OnOk result ((c : Chronicle) (i e : ℕ) → B.stands book.old Stepping setup.now c
         → B.instance_place book.old c key ≡ Some i → B.event_place book.old c event ≡ Some e
-        → B.stands book.new Stepping (config_of setup.now) (model.stop_offer (config_of setup.now) job.now i e c ++ c)) }
+        → B.stands book.new Stepping setup.now (model.stop_offer setup.now job.now i e c ++ c)) }
 {
     let holds = book.offer_stop(setup, job, key, event)?;
     if holds {
@@ -109,42 +113,49 @@ fn first_open<B: Book>(book: &B, slots: &[Slot]) -> Option<InstanceKey>
     None
 }
 
-// The goal of an instance becomes start by these events, if it is stop.
+// The goal of an instance becomes start, if it is stop.
 fn start_old<B: Book>(
-    alloc: Global,
-    setup: &Setup,
     book: &mut B,
-    job: &JobDef,
     key: InstanceKey,
+    environment: Env,
     holders: Items<EventKey>,
 ) -> Result<(), AllocError>
-    ensures { OnOk result ((c : Chronicle) (i : ℕ) (events : List ℕ) → B.stands book.old Stepping (config_of setup.now) c
+    ensures { OnOk result ((config : Configuration) (c : Chronicle) (who : WhoValue) (i : ℕ) (events : List ℕ) → B.stands book.old Stepping config c
         → B.instance_place book.old c key ≡ Some i → map (B.event_place book.old c) holders ≡ map Some events
-        → B.stands book.new Stepping (config_of setup.now) (model.start_by (config_of setup.now) (model.started_by job.now) events (Some i) c ++ c)) }
+        → B.stands book.new Stepping config (model.start_of who environment events (Some i) c ++ c)) }
 {
     if !is_start(book.goal(key)) {
-        let environment = start_env(alloc, &setup.base, book, holders.as_slice(), &job.name, "")?;
         book.release(key)?;
         book.aim(key, Goal::Start, environment, holders)?;
     }
     Ok(())
 }
 
-// A job gets an instance, whose goal becomes start by these events.
+// Whether a job may have an instance more.
+#[tactic(auto, using(crate::proofs::Slots::slots_length))]
+fn has_room<B: Book>(book: &B, job: &Name) -> bool
+    ensures { (mode : Mode) (config : Configuration) (c : Chronicle) → B.stands book.now mode config c
+        → result ≡ nat_lt (length (model_instances.instances_of job.now c)) model.max_instances }
+{
+    book.instances(job).len() < MAX_INSTANCES
+}
+
+// A job gets an instance, whose goal becomes start, if it may have one more.
 fn start_new<B: Book>(
-    alloc: Global,
-    setup: &Setup,
     book: &mut B,
-    job: &JobDef,
+    job: &Name,
+    name: &str,
+    environment: Env,
     holders: Items<EventKey>,
 ) -> Result<(), AllocError>
-    ensures { OnOk result ((c : Chronicle) (events : List ℕ) → B.stands book.old Stepping (config_of setup.now) c
+    ensures { OnOk result ((config : Configuration) (c : Chronicle) (events : List ℕ) → B.stands book.old Stepping config c
         → map (B.event_place book.old c) holders ≡ map Some events
-        → B.stands book.new Stepping (config_of setup.now) (model.start_by (config_of setup.now) (model.started_by job.now) events None c ++ c)) }
+        → B.stands book.new Stepping config (model.start_of (record { job = job.now; instance = name.now }) environment events None c ++ c)) }
 {
-    let environment = start_env(alloc, &setup.base, book, holders.as_slice(), &job.name, "")?;
-    let key = book.make(&job.name, "")?;
-    book.aim(key, Goal::Start, environment, holders)?;
+    if has_room(book, job) {
+        let key = book.make(job, name)?;
+        book.aim(key, Goal::Start, environment, holders)?;
+    }
     Ok(())
 }
 
@@ -169,7 +180,57 @@ pub(crate) fn instance_named<B: Book>(book: &B, job: &Name, name: &str) -> Optio
     named(book.instances(job), name)
 }
 
-// The goal becomes start by these events.
+// The goal of an instance becomes start with this environment.
+fn start_of<B: Book>(
+    book: &mut B,
+    job: &Name,
+    name: &str,
+    environment: Env,
+    holders: Items<EventKey>,
+) -> Result<(), AllocError>
+    ensures { OnOk result ((config : Configuration) (c : Chronicle) (events : List ℕ) → B.stands book.old Stepping config c
+        → map (B.event_place book.old c) holders ≡ map Some events
+        → B.stands book.new Stepping config
+        (model.start_of (record { job = job.now; instance = name.now }) environment events (model_instances.instance_named (record { job = job.now; instance = name.now }) c) c ++ c)) }
+{
+    match instance_named(book, job, name) {
+        Some(key) => start_old(book, key, environment, holders)?,
+        None => start_new(book, job, name, environment, holders)?,
+    }
+    Ok(())
+}
+
+// The same, with what the environment says of the instance.
+fn start_called<B: Book>(
+    book: &mut B,
+    job: &Name,
+    name: &str,
+    mut environment: Env,
+    holders: Items<EventKey>,
+) -> Result<(), AllocError>
+    ensures { OnOk result ((config : Configuration) (c : Chronicle) (events : List ℕ) → B.stands book.old Stepping config c
+        → map (B.event_place book.old c) holders ≡ map Some events
+        → B.stands book.new Stepping config (model.start_who environment events (model.who_called job.now (Some name.now)) c ++ c)) }
+{
+    add_instance(&mut environment, job, name)?;
+    start_of(book, job, name, environment, holders)?;
+    Ok(())
+}
+
+// The name of the instance that a start or a command concerns, if it expands.
+#[tactic(auto, using(crate::proofs::SetupLemmas::gives_text, crate::proofs::SetupLemmas::gives_unset, crate::proofs::SetupLemmas::gives_malformed))]
+fn instance_name(alloc: Global, job: &JobDef, environment: &Env) -> Result<Option<Text>, AllocError>
+    ensures { IfOk result (λ name. name ≡ environments.instance_name job.now environment.now) }
+{
+    match expand(alloc, job.instance.as_str(), environment) {
+        Ok(Expanded::Text(name)) => Ok(Some(name)),
+        Ok(Expanded::Unset(_)) => Ok(None),
+        Err(TextFault::BadExpansion) => Ok(None),
+        Err(_) => Err(AllocError),
+    }
+}
+
+// A start by these events.
 fn start_by<B: Book>(
     alloc: Global,
     setup: &Setup,
@@ -177,14 +238,15 @@ fn start_by<B: Book>(
     job: &JobDef,
     holders: Items<EventKey>,
 ) -> Result<(), AllocError>
-    ensures { OnOk result ((c : Chronicle) (events : List ℕ) → B.stands book.old Stepping (config_of setup.now) c
+    ensures { OnOk result ((c : Chronicle) (events : List ℕ) → B.stands book.old Stepping setup.now c
         → map (B.event_place book.old c) holders ≡ map Some events
-        → B.stands book.new Stepping (config_of setup.now)
-        (model.start_by (config_of setup.now) (model.started_by job.now) events (model_instances.instance_named (model.started_by job.now) c) c ++ c)) }
+        → B.stands book.new Stepping setup.now (model.start_by setup.now job.now events c ++ c)) }
 {
-    match instance_named(book, &job.name, "") {
-        Some(key) => start_old(alloc, setup, book, job, key, holders)?,
-        None => start_new(alloc, setup, book, job, holders)?,
+    let base = setup.environment(&job.name);
+    let environment = events_env(alloc, base, book, holders.as_slice())?;
+    match instance_name(alloc, job, &environment)? {
+        Some(name) => start_called(book, &job.name, name.as_str(), environment, holders)?,
+        None => {}
     }
     Ok(())
 }
@@ -196,12 +258,11 @@ fn start_fires<B: Book>(
     book: &mut B,
     job: &JobDef,
 ) -> Result<(), AllocError>
-    ensures { OnOk result ((c : Chronicle) → B.stands book.old Stepping (config_of setup.now) c
-        → B.stands book.new Stepping (config_of setup.now)
-        (model.start_by (config_of setup.now) (model.started_by job.now) (taken job.now.start_on (seen (config_of setup.now) (entry.StartOn job.now.name) c))
-        (model_instances.instance_named (model.started_by job.now) c)
-        (entry.Fired (entry.StartOn job.now.name) (taken job.now.start_on (seen (config_of setup.now) (entry.StartOn job.now.name) c)) ∷ c)
-        ++ entry.Fired (entry.StartOn job.now.name) (taken job.now.start_on (seen (config_of setup.now) (entry.StartOn job.now.name) c)) ∷ c)) }
+    ensures { OnOk result ((c : Chronicle) → B.stands book.old Stepping setup.now c
+        → B.stands book.new Stepping setup.now
+        (model.start_by setup.now job.now (taken job.now.start_on (seen setup.now (entry.StartOn job.now.name) c))
+        (entry.Fired (entry.StartOn job.now.name) (taken job.now.start_on (seen setup.now (entry.StartOn job.now.name) c)) ∷ c)
+        ++ entry.Fired (entry.StartOn job.now.name) (taken job.now.start_on (seen setup.now (entry.StartOn job.now.name) c)) ∷ c)) }
 {
     let holders = book.fire_start(setup, job)?;
     start_by(alloc, setup, book, job, holders)?;
@@ -216,8 +277,8 @@ fn offer_start<B: Book>(
     job: &JobDef,
     event: EventKey,
 ) -> Result<(), AllocError>
-    ensures { OnOk result ((c : Chronicle) (e : ℕ) → B.stands book.old Stepping (config_of setup.now) c → B.event_place book.old c event ≡ Some e
-        → B.stands book.new Stepping (config_of setup.now) (model.start_offer (config_of setup.now) job.now e c ++ c)) }
+    ensures { OnOk result ((c : Chronicle) (e : ℕ) → B.stands book.old Stepping setup.now c → B.event_place book.old c event ≡ Some e
+        → B.stands book.new Stepping setup.now (model.start_offer setup.now job.now e c ++ c)) }
 {
     let holds = book.offer_start(setup, job, event)?;
     if holds {
@@ -234,10 +295,10 @@ fn offer_stop_in<B: Book>(
     job: &JobDef,
     event: EventKey,
 ) -> Result<bool, AllocError>
-    ensures entries { OnOk result ((c : Chronicle) (e : ℕ) → B.stands book.old Stepping (config_of setup.now) c → B.event_place book.old c event ≡ Some e
-        → B.stands book.new Stepping (config_of setup.now) (model.stop_offer_in (config_of setup.now) job.now (model_instances.instances_of job.now.name c) e c ++ c)) }
-    ensures any { IfOk result (λ offered. (c : Chronicle) (e : ℕ) → B.stands book.old Stepping (config_of setup.now) c
-        → offered ≡ is_filled (model.stop_offer_in (config_of setup.now) job.now (model_instances.instances_of job.now.name c) e c)) }
+    ensures entries { OnOk result ((c : Chronicle) (e : ℕ) → B.stands book.old Stepping setup.now c → B.event_place book.old c event ≡ Some e
+        → B.stands book.new Stepping setup.now (model.stop_offer_in setup.now job.now (model_instances.instances_of job.now.name c) e c ++ c)) }
+    ensures any { IfOk result (λ offered. (c : Chronicle) (e : ℕ) → B.stands book.old Stepping setup.now c
+        → offered ≡ is_filled (model.stop_offer_in setup.now job.now (model_instances.instances_of job.now.name c) e c)) }
     ensures same { IfOk result (λ offered. offered ≡ false → book.new ≡ book.old) }
 {
     match first_open(book, book.instances(&job.name)) {
@@ -257,10 +318,10 @@ fn offer_in<B: Book>(
     job: &JobDef,
     event: EventKey,
 ) -> Result<bool, AllocError>
-    ensures entries { OnOk result ((c : Chronicle) (e : ℕ) → B.stands book.old Stepping (config_of setup.now) c → B.event_place book.old c event ≡ Some e
-        → B.stands book.new Stepping (config_of setup.now) (model.offer_in (config_of setup.now) job.now e c ++ c)) }
-    ensures any { IfOk result (λ offered. (c : Chronicle) (e : ℕ) → B.stands book.old Stepping (config_of setup.now) c
-        → offered ≡ is_filled (model.offer_in (config_of setup.now) job.now e c)) }
+    ensures entries { OnOk result ((c : Chronicle) (e : ℕ) → B.stands book.old Stepping setup.now c → B.event_place book.old c event ≡ Some e
+        → B.stands book.new Stepping setup.now (model.offer_in setup.now job.now e c ++ c)) }
+    ensures any { IfOk result (λ offered. (c : Chronicle) (e : ℕ) → B.stands book.old Stepping setup.now c
+        → offered ≡ is_filled (model.offer_in setup.now job.now e c)) }
     ensures same { IfOk result (λ offered. offered ≡ false → book.new ≡ book.old) }
 {
     if offer_stop_in(alloc, setup, book, job, event)? {
@@ -281,10 +342,10 @@ fn offer_first<B: Book>(
     jobs: &[JobDef],
     event: EventKey,
 ) -> Result<bool, AllocError>
-    ensures entries { OnOk result ((c : Chronicle) (e : ℕ) → B.stands book.old Stepping (config_of setup.now) c → B.event_place book.old c event ≡ Some e
-        → B.stands book.new Stepping (config_of setup.now) (model.offer_first (config_of setup.now) jobs.now e c ++ c)) }
-    ensures any { IfOk result (λ offered. (c : Chronicle) (e : ℕ) → B.stands book.old Stepping (config_of setup.now) c
-        → offered ≡ is_filled (model.offer_first (config_of setup.now) jobs.now e c)) }
+    ensures entries { OnOk result ((c : Chronicle) (e : ℕ) → B.stands book.old Stepping setup.now c → B.event_place book.old c event ≡ Some e
+        → B.stands book.new Stepping setup.now (model.offer_first setup.now jobs.now e c ++ c)) }
+    ensures any { IfOk result (λ offered. (c : Chronicle) (e : ℕ) → B.stands book.old Stepping setup.now c
+        → offered ≡ is_filled (model.offer_first setup.now jobs.now e c)) }
 {
     for job in jobs {
         if offer_in(alloc, setup, book, job, event)? {
@@ -301,10 +362,10 @@ pub(crate) fn offer_next<B: Book>(
     book: &mut B,
     jobs: &[JobDef],
 ) -> Result<bool, AllocError>
-    ensures entries { OnOk result ((c : Chronicle) → jobs.now ≡ (config_of setup.now).jobs → B.stands book.old Stepping (config_of setup.now) c
-        → B.stands book.new Stepping (config_of setup.now) (model.offer_next (config_of setup.now) (model.offering c) c ++ c)) }
-    ensures any { IfOk result (λ offered. (c : Chronicle) → jobs.now ≡ (config_of setup.now).jobs → B.stands book.old Stepping (config_of setup.now) c
-        → offered ≡ is_filled (model.offer_next (config_of setup.now) (model.offering c) c)) }
+    ensures entries { OnOk result ((c : Chronicle) → jobs.now ≡ setup.now.jobs → B.stands book.old Stepping setup.now c
+        → B.stands book.new Stepping setup.now (model.offer_next setup.now (model.offering c) c ++ c)) }
+    ensures any { IfOk result (λ offered. (c : Chronicle) → jobs.now ≡ setup.now.jobs → B.stands book.old Stepping setup.now c
+        → offered ≡ is_filled (model.offer_next setup.now (model.offering c) c)) }
 {
     match book.offering() {
         Some(event) => offer_first(alloc, setup, book, jobs, event),

@@ -1,7 +1,6 @@
 //! What the entries of a step ask for.
 ghost use Rattle.std.specs.Prelude.{◌≡◌, ◌≤◌, ◌<◌, ◌+◌, ◌-◌, ◌^◌, if◌then◌else◌, List, ◌∷◌, [], length, take, IfOk, OnOk, option_map, Some, codes};
 ghost use Rattle.std.specs.Option.{option_copied};
-ghost use Rattle.up_engine.specs.Setups.{config_of};
 ghost use Rattle.up_model.specs.declared.output.Output.TheVariants as output;
 ghost use Rattle.up_model.specs.Configuration.{Configuration, job_named};
 ghost use Rattle.up_model.specs.Moves.{action_of};
@@ -135,7 +134,7 @@ fn order_of(
     instance: usize,
     process: Process,
 ) -> Result<Option<Output>, AllocError>
-    ensures { IfOk result (λ output. listed_output output ≡ model.order_of (config_of setup.now) (read.made_at instance (chronicle records.now)) process (read.process_env instance process (chronicle records.now))) }
+    ensures { IfOk result (λ output. listed_output output ≡ model.order_of setup.now (read.made_at instance (chronicle records.now)) process (read.process_env instance process (chronicle records.now))) }
 {
     match made_at(records, instance) {
         Some((job, name)) => match job_named(setup.jobs(), job) {
@@ -197,7 +196,7 @@ fn output_of(
     earlier: &[Record],
     next: &Record,
 ) -> Result<Option<Output>, AllocError>
-    ensures { IfOk result (λ output. model.outputs_of (config_of setup.now) (entry_of next.now ∷ chronicle earlier.now) ≡ with_outputs (entry_of next.now) (model.outputs_of (config_of setup.now) (chronicle earlier.now)) (listed_output output)) }
+    ensures { IfOk result (λ output. model.outputs_of setup.now (entry_of next.now ∷ chronicle earlier.now) ≡ with_outputs (entry_of next.now) (model.outputs_of setup.now (chronicle earlier.now)) (listed_output output)) }
 {
     match next {
         Record::Queued {
@@ -231,7 +230,7 @@ fn add_output(
     next: &Record,
     outputs: &mut Vec<Output>,
 ) -> Result<(), AllocError>
-    ensures { OnOk result (outputs.old.items ≡ model.outputs_of (config_of setup.now) (chronicle earlier.now) → outputs.new.items ≡ model.outputs_of (config_of setup.now) (entry_of next.now ∷ chronicle earlier.now)) }
+    ensures { OnOk result (outputs.old.items ≡ model.outputs_of setup.now (chronicle earlier.now) → outputs.new.items ≡ model.outputs_of setup.now (entry_of next.now ∷ chronicle earlier.now)) }
 {
     if is_given(next) {
         outputs.clear();
@@ -267,7 +266,7 @@ pub(crate) fn outputs(
     setup: &Setup,
     records: &[Record],
 ) -> Result<Vec<Output>, AllocError>
-    ensures { IfOk result (λ outputs. outputs.items ≡ model.outputs_of (config_of setup.now) (chronicle records.now)) }
+    ensures { IfOk result (λ outputs. outputs.items ≡ model.outputs_of setup.now (chronicle records.now)) }
 {
     let mut found = Vec::new(alloc);
     for place in step_start(records)..records.len() {

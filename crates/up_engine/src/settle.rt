@@ -1,7 +1,6 @@
 //! What is due is done until nothing is.
 ghost use Rattle.std.specs.Prelude.{◌≡◌, ◌≤◌, OnOk};
 ghost use Rattle.up_engine.specs.Keys.{Mode, Resting, Stepping};
-ghost use Rattle.up_engine.specs.Setups.{config_of};
 ghost use Rattle.up_model.specs.Answers as answer;
 ghost use Rattle.up_model.specs.Chronicle.{Chronicle};
 ghost use Rattle.up_model.specs.Work as model;
@@ -14,14 +13,14 @@ use up_model::Input;
 
 // No more can be due one after another than this.
 fn most_due<B: Book>(setup: &Setup, book: &B) -> u128
-    ensures { (c : Chronicle) → B.stands book.now Stepping (config_of setup.now) c → model.work (config_of setup.now) c ≤ result }
+    ensures { (c : Chronicle) → B.stands book.now Stepping setup.now c → model.work setup.now c ≤ result }
 {
     11 * (book.most_instances() as u128) + 6 * (setup.jobs().len() as u128)
 }
 
 fn settle<B: Book>(alloc: Global, setup: &Setup, book: &mut B) -> Result<(), AllocError>
-    ensures { OnOk result ((c : Chronicle) → B.stands book.old Stepping (config_of setup.now) c
-        → B.stands book.new Stepping (config_of setup.now) (model.settle (model.work (config_of setup.now) c) (config_of setup.now) c)) }
+    ensures { OnOk result ((c : Chronicle) → B.stands book.old Stepping setup.now c
+        → B.stands book.new Stepping setup.now (model.settle (model.work setup.now c) setup.now c)) }
 {
     let most = most_due(setup, book);
     for turn in 0..most {
@@ -40,8 +39,8 @@ pub(crate) fn run_step<B: Book>(
     book: &mut B,
     input: Input,
 ) -> Result<(), AllocError>
-    ensures { OnOk result ((c : Chronicle) → B.stands book.old Resting (config_of setup.now) c
-        → B.stands book.new Stepping (config_of setup.now) (answer.after (config_of setup.now) c input)) }
+    ensures { OnOk result ((c : Chronicle) → B.stands book.old Resting setup.now c
+        → B.stands book.new Stepping setup.now (answer.after setup.now c input)) }
 {
     act(alloc, setup, book, input)?;
     settle(alloc, setup, book)?;

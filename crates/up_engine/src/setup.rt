@@ -1,22 +1,154 @@
 //! What an engine is made with.
-ghost use Rattle.std.specs.Prelude.{◌≡◌};
+ghost use Rattle.std.specs.Prelude.{◌≡◌, map, Some, slice_get, unwrap_or, IfOk, OnOk};
+ghost use Rattle.std.specs.Option.{option_copied};
+ghost use Rattle.up_model.specs.Configuration.{job_named};
+ghost use Rattle.up_model.specs.Environments.{with_value, setting_value, with_settings, job_env, env_by_job, env_of_job};
 
-use up_conf::JobDef;
+use std::alloc::{AllocError, Global};
+use std::marker::Model;
+use up_conf::{JobDef, Setting};
 use up_image::Table;
-use up_text::Env;
+use up_text::{Env, Name, Text};
 
-/// The jobs, and the environment that each process gets its own on top of.
+/// The jobs, the environment that init was started with, and on top of that the one of each job, made once. Contracts see what a run
+/// stands on.
 #[derive(Drop)]
 pub struct Setup {
-    pub base: Env,
-    pub table: Table,
+    base: Env,
+    table: Table,
+    environments: Vec<Env>,
+}
+
+impl Model for Setup {
+    ghost use Rattle.std.specs.Prelude.{◌≡◌, map};
+    ghost use Rattle.std.specs.Coded.{codes, coded_list};
+    ghost use Rattle.up_conf.specs.contracts.job.JobDef as job;
+    ghost use Rattle.up_model.specs.Configuration.{Configuration};
+    ghost use Rattle.up_model.specs.Environments.{job_env};
+
+    ghost Value = { Configuration };
+
+    ghost coded = { Prim.hlevel (codes, job.the_row.coded) };
+
+    ghost view = { λ s. record { base = s.base; jobs = s.table } };
+
+    ghost invariant = { λ s. s.environments.items ≡ map (job_env s.base) s.table };
+}
+
+// The value that a setting gives its key, if it gives one.
+fn setting_value<'a>(base: &'a Env, key: &str, value: Option<&'a Text>) -> Option<&'a str>
+    ensures { option_copied result ≡ setting_value base.now key.now (option_copied value.entry) }
+{
+    match value {
+        Some(value) => Some(value.as_str()),
+        None => base.get(key),
+    }
+}
+
+fn set(env: &mut Env, key: &str, value: Option<&str>) -> Result<(), AllocError>
+    ensures { OnOk result (env.new ≡ with_value key.now (option_copied value.entry) env.old) }
+{
+    match value {
+        Some(value) => put(env, key, value),
+        None => Ok(()),
+    }
+}
+
+// The keys and values of a job are ones that an environment takes, so that it refuses them only if it is out of memory.
+fn put(env: &mut Env, key: &str, value: &str) -> Result<(), AllocError>
+    ensures { OnOk result (env.new ≡ with_value key.now (Some value.now) env.old) }
+{
+    match env.set(key, value) {
+        Ok(()) => Ok(()),
+        Err(_) => Err(AllocError),
+    }
+}
+
+fn apply(env: &mut Env, base: &Env, setting: &Setting) -> Result<(), AllocError>
+    ensures { OnOk result (env.new ≡ with_value setting.now.key (setting_value base.now setting.now.key setting.now.value) env.old) }
+{
+    let key = setting.key.as_str();
+    let value = setting_value(base, key, setting.value.as_ref());
+    set(env, key, value)
+}
+
+#[tactic(auto, using(crate::proofs::SetupLemmas::settings_left))]
+fn environment(base: &Env, settings: &[Setting]) -> Result<Env, AllocError>
+    ensures { IfOk result (λ env. env ≡ with_settings base.now settings.now base.now) }
+{
+    let mut env = base.copy()?;
+    for setting in settings {
+        apply(&mut env, base, setting)?;
+    }
+    Ok(env)
+}
+
+fn environment_of(base: &Env, job: &JobDef) -> Result<Env, AllocError>
+    ensures { IfOk result (λ env. env ≡ job_env base.now job.now) }
+{
+    environment(base, job.env.as_slice())
+}
+
+fn environments_of(alloc: Global, base: &Env, jobs: &[JobDef]) -> Result<Vec<Env>, AllocError>
+    ensures { IfOk result (λ all. all.items ≡ map (job_env base.now) jobs.now) }
+{
+    let mut all = Vec::with_capacity(alloc, jobs.len())?;
+    for job in jobs {
+        all.push(environment_of(base, job)?)?;
+    }
+    Ok(all)
+}
+
+// The one of these environments that is at a place, or the base.
+fn environment_at<'a>(base: &'a Env, environments: &'a [Env], place: usize) -> &'a Env
+    ensures { result.now ≡ unwrap_or (slice_get environments.now place) base.now }
+{
+    match environments.get(place) {
+        Some(found) => found,
+        None => base,
+    }
+}
+
+#[tactic(auto, using(crate::proofs::SetupLemmas::jobs_left, crate::proofs::SetupLemmas::environment_there))]
+fn find<'a>(base: &'a Env, environments: &'a [Env], jobs: &[JobDef], name: &Name) -> &'a Env
+    ensures { environments.now ≡ map (job_env base.now) jobs.now → result.now ≡ env_by_job base.now (job_named name.now jobs.now) }
+{
+    for (place, job) in jobs.iter().enumerate() {
+        if job.name.is(name) {
+            return environment_at(base, environments, place);
+        }
+    }
+    base
 }
 
 impl Setup {
+    pub(crate) fn new(alloc: Global, table: Table, base: Env) -> Result<Self, AllocError>
+        ensures { IfOk result (λ setup. setup ≡ record { base = base; jobs = table }) }
+    {
+        let environments = environments_of(alloc, &base, table.as_slice())?;
+        Ok(Setup {
+            base,
+            table,
+            environments,
+        })
+    }
+
     /// The jobs, in byte order of names.
     pub(crate) fn jobs(&self) -> &[JobDef]
-        ensures { result.now ≡ self.now.table }
+        ensures { result.now ≡ self.now.jobs }
     {
         self.table.as_slice()
+    }
+
+    /// The environment of the job of this name.
+    pub(crate) fn environment(&self, name: &Name) -> &Env
+        ensures { result.now ≡ env_of_job self.now name.now }
+    {
+        find(
+            &self.base,
+            self.environments.as_slice(),
+            self.table.as_slice(),
+            name,
+        )
     }
 }

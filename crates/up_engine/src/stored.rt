@@ -22,7 +22,7 @@ use crate::held::turn_event;
 use crate::keys::{EventKey, InstanceKey, Live, Slot};
 use crate::outputs::outputs;
 use crate::queue::{mark_handled, remove};
-use crate::reading::{life, place, process, seen, spoilt};
+use crate::reading::{environment, life, place, process, seen, spoilt};
 use crate::record::{Expression, Origin, Record, Wanted};
 use crate::setup::Setup;
 use crate::truth::{Verdict, verdict_of};
@@ -202,7 +202,6 @@ pub struct StoringBook {
 }
 
 impl StoringBook {
-    ghost use Rattle.up_engine.specs.Setups.{config_of};
     ghost use Rattle.up_engine.specs.Stored.{Stored};
     ghost use Rattle.up_engine.specs.Records.{wanted_of};
     ghost use Rattle.up_model.specs.Due.{telling};
@@ -244,8 +243,8 @@ impl StoringBook {
         wanted: Wanted,
         condition: &Option<Condition>,
     ) -> Result<bool, AllocError>
-        ensures { IfOk result (λ holds. (c : Chronicle) → Stored self.now Stepping (config_of setup.now) c
-            → holds ≡ model_seen.holds condition.now (model_seen.seen (config_of setup.now) (wanted_of wanted.entry) c)) }
+        ensures { IfOk result (λ holds. (c : Chronicle) → Stored self.now Stepping setup.now c
+            → holds ≡ model_seen.holds condition.now (model_seen.seen setup.now (wanted_of wanted.entry) c)) }
     {
         let Verdict { holds, .. } = verdict_of(
             self.alloc,
@@ -263,8 +262,8 @@ impl StoringBook {
         wanted: Wanted,
         condition: &Option<Condition>,
     ) -> Result<Items<usize>, AllocError>
-        ensures { IfOk result (λ taken. (c : Chronicle) → Stored self.now Stepping (config_of setup.now) c
-            → taken ≡ model_seen.taken condition.now (model_seen.seen (config_of setup.now) (wanted_of wanted.entry) c)) }
+        ensures { IfOk result (λ taken. (c : Chronicle) → Stored self.now Stepping setup.now c
+            → taken ≡ model_seen.taken condition.now (model_seen.seen setup.now (wanted_of wanted.entry) c)) }
     {
         let Verdict { taken, .. } = verdict_of(
             self.alloc,
@@ -339,6 +338,10 @@ impl Book for StoringBook {
 
     fn state_of(&self, key: InstanceKey) -> State {
         life::state_of(self.records.as_slice(), key.place)
+    }
+
+    fn env(&self, key: InstanceKey) -> Option<&Env> {
+        environment::env(self.records.as_slice(), key.place)
     }
 
     fn failure(&self, key: InstanceKey) -> Option<Failure> {

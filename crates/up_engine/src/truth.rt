@@ -6,7 +6,6 @@ ghost use Rattle.up_expr.specs.Truth as truth;
 ghost use Rattle.up_model.specs.Held as held;
 ghost use Rattle.up_model.specs.Seen as seen;
 ghost use Rattle.up_engine.specs.Records.{wanted_of, chronicle};
-ghost use Rattle.up_engine.specs.Setups.{config_of};
 ghost use Rattle.up_engine.specs.Verdicts.{verdict_of_tree, verdict, both, either};
 
 use crate::reading::seen::first;
@@ -71,7 +70,7 @@ fn judge(
     wanted: Wanted,
     expr: &Expr,
 ) -> Result<Verdict, AllocError>
-    ensures { IfOk result (λ said. said ≡ verdict_of_tree (tree_of expr.now) (seen.seen (config_of setup.now) (wanted_of wanted.entry) (chronicle records.now))) }
+    ensures { IfOk result (λ said. said ≡ verdict_of_tree (tree_of expr.now) (seen.seen setup.now (wanted_of wanted.entry) (chronicle records.now))) }
 {
     match expr {
         Expr::Leaf(leaf) => {
@@ -102,7 +101,7 @@ pub(crate) fn verdict_of(
     wanted: Wanted,
     condition: &Option<Condition>,
 ) -> Result<Verdict, AllocError>
-    ensures { IfOk result (λ said. said ≡ verdict condition.now (seen.seen (config_of setup.now) (wanted_of wanted.entry) (chronicle records.now))) }
+    ensures { IfOk result (λ said. said ≡ verdict condition.now (seen.seen setup.now (wanted_of wanted.entry) (chronicle records.now))) }
 {
     match condition {
         Some(condition) => {
@@ -138,7 +137,7 @@ fn has_leaf_of(
     expr: &Expr,
     event: usize,
 ) -> Result<bool, AllocError>
-    ensures { IfOk result (λ keeps. keeps ≡ held.has event (truth.kept (tree_of expr.now) (seen.seen (config_of setup.now) (wanted_of wanted.entry) (chronicle records.now)))) }
+    ensures { IfOk result (λ keeps. keeps ≡ held.has event (truth.kept (tree_of expr.now) (seen.seen setup.now (wanted_of wanted.entry) (chronicle records.now)))) }
 {
     match expr {
         Expr::Leaf(leaf) => {
@@ -167,7 +166,7 @@ pub(crate) fn keeps(
     condition: &Option<Condition>,
     event: usize,
 ) -> Result<bool, AllocError>
-    ensures { IfOk result (λ keeps. keeps ≡ held.has event (seen.kept condition.now (seen.seen (config_of setup.now) (wanted_of wanted.entry) (chronicle records.now)))) }
+    ensures { IfOk result (λ keeps. keeps ≡ held.has event (seen.kept condition.now (seen.seen setup.now (wanted_of wanted.entry) (chronicle records.now)))) }
 {
     match condition {
         Some(condition) => {

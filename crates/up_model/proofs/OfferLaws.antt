@@ -8,7 +8,7 @@ use Rattle.up_model.specs.declared.state.Goal.TheVariants.{Start, Stop}
 use Rattle.up_model.specs.declared.who.Who.{Who}
 use Rattle.up_model.specs.Chronicle.{Chronicle, Entry, Given, Offered, Fired, Made, Aimed, Released, Entered, StartOn, StopOn}
 use Rattle.up_model.specs.Configuration.{Configuration}
-use Rattle.up_model.specs.Environments.{job_env, instance_name}
+use Rattle.up_model.specs.Environments.{env_of_job, instance_name}
 use Rattle.up_model.specs.Events.{events_at, events_env, with_instance, stopped_by}
 use Rattle.up_model.specs.Instances.{instances_of, existing, instance_named}
 use Rattle.up_model.specs.Offers.{is_newborn, is_open, stop_by, stop_offer, max_instances, start_of, who_called, start_who, start_by, start_offer}
@@ -306,7 +306,7 @@ start_offer-lessens config job event c left = by_case (holds job.start_on sights
     fired = Fired (StartOn job.name) events ∷ Offered (StartOn job.name) event ∷ c
 
     environment : Bindings
-    environment = events_env (job_env config.base job) (events_at events fired)
+    environment = events_env (env_of_job config job.name) (events_at events fired)
 
     by_case : (b : Bool) → Lessens true job.name c (entries_if b (start_by config job events fired ++ Fired (StartOn job.name) events ∷ []) ++ Offered (StartOn job.name) event ∷ [])
     by_case true = start-lessens job.name event events environment c (instance_name job environment) true left

@@ -6,7 +6,7 @@ use Rattle.up_model.specs.declared.state.Goal.TheVariants.{Start, Stop}
 use Rattle.up_model.specs.declared.who.Who.{Who}
 use Rattle.up_model.specs.Chronicle.{Chronicle, Entry, Given, Handled, Offered, Fired, Made, Aimed, StartOn, StopOn}
 use Rattle.up_model.specs.Configuration.{Configuration}
-use Rattle.up_model.specs.Environments.{job_env, instance_name}
+use Rattle.up_model.specs.Environments.{env_of_job, instance_name}
 use Rattle.up_model.specs.Events.{events_at, events_env, with_instance, stopped_by}
 use Rattle.up_model.specs.Instances.{Instance, instances_of, instance_named}
 use Rattle.up_model.specs.Moves.{releasing}
@@ -69,7 +69,7 @@ start_who environment holders (Some who) c = start_of who (with_instance who env
 -- a start by events that the job's expression took
 abbrev pub start_by : Configuration → JobDef → List ℕ → Chronicle → List Entry
 start_by config job events c =
-    let environment = events_env (job_env config.base job) (events_at events c) in
+    let environment = events_env (env_of_job config job.name) (events_at events c) in
     start_who environment events (who_called job.name (instance_name job environment)) c
 
 -- a job's `start on` is offered the event, and fires if it is true then

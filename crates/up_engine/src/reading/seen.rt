@@ -7,7 +7,6 @@ ghost use Rattle.up_model.specs.Chronicle.{Chronicle};
 ghost use Rattle.up_model.specs.Readings as reading;
 ghost use Rattle.up_model.specs.Seen as seen;
 ghost use Rattle.up_model.specs.Offers as offer;
-ghost use Rattle.up_engine.specs.Setups.{config_of};
 ghost use Rattle.up_engine.specs.Records.{entry_of, expression_of, wanted_of, chronicle};
 
 use crate::reading::environment::env;
@@ -33,10 +32,10 @@ fn is_wanted(expression: &Expression, wanted: Wanted) -> bool
 // The environment by which the expression's values expand, if this is what happened so far.
 fn env_of<'a>(earlier: &'a [Record], setup: &'a Setup, none: &'a Env, wanted: Wanted) -> &'a Env
     requires { none.now ≡ [] }
-    ensures { result.now ≡ seen.env_of (config_of setup.now) (wanted_of wanted.entry) (chronicle earlier.now) }
+    ensures { result.now ≡ seen.env_of setup.now (wanted_of wanted.entry) (chronicle earlier.now) }
 {
     match wanted {
-        Wanted::StartOn(_) => &setup.base,
+        Wanted::StartOn(job) => setup.environment(job),
         Wanted::StopOn(instance) => match env(earlier, instance) {
             Some(found) => found,
             None => none,
@@ -62,7 +61,7 @@ fn matched(
     wanted: Wanted,
     leaf: &Leaf,
 ) -> Result<Option<usize>, AllocError>
-    ensures { IfOk result (λ found. found ≡ truth.first leaf.now (seen.sight_of place (reading.event_at place (chronicle earlier.now)) (seen.env_of (config_of setup.now) (wanted_of wanted.entry) (chronicle earlier.now)))) }
+    ensures { IfOk result (λ found. found ≡ truth.first leaf.now (seen.sight_of place (reading.event_at place (chronicle earlier.now)) (seen.env_of setup.now (wanted_of wanted.entry) (chronicle earlier.now)))) }
 {
     let Some(event) = event_at(earlier, place) else {
         return Ok(None);
@@ -89,7 +88,7 @@ fn matched_after(
     leaf: &Leaf,
     before: Option<usize>,
 ) -> Result<Option<usize>, AllocError>
-    ensures { IfOk result (λ found. found ≡ option_or before (truth.first leaf.now (seen.sight_of place (reading.event_at place (chronicle earlier.now)) (seen.env_of (config_of setup.now) (wanted_of wanted.entry) (chronicle earlier.now))))) }
+    ensures { IfOk result (λ found. found ≡ option_or before (truth.first leaf.now (seen.sight_of place (reading.event_at place (chronicle earlier.now)) (seen.env_of setup.now (wanted_of wanted.entry) (chronicle earlier.now))))) }
 {
     match before {
         Some(kept) => Ok(Some(kept)),
@@ -107,7 +106,7 @@ fn first_after(
     leaf: &Leaf,
     before: Option<usize>,
 ) -> Result<Option<usize>, AllocError>
-    ensures { IfOk result (λ found. before ≡ truth.first leaf.now (seen.seen (config_of setup.now) (wanted_of wanted.entry) (chronicle earlier.now)) → found ≡ truth.first leaf.now (seen.seen (config_of setup.now) (wanted_of wanted.entry) (entry_of next.now ∷ chronicle earlier.now))) }
+    ensures { IfOk result (λ found. before ≡ truth.first leaf.now (seen.seen setup.now (wanted_of wanted.entry) (chronicle earlier.now)) → found ≡ truth.first leaf.now (seen.seen setup.now (wanted_of wanted.entry) (entry_of next.now ∷ chronicle earlier.now))) }
 {
     match next {
         Record::Offered {
@@ -133,7 +132,7 @@ pub(crate) fn first(
     wanted: Wanted,
     leaf: &Leaf,
 ) -> Result<Option<usize>, AllocError>
-    ensures { IfOk result (λ found. found ≡ truth.first leaf.now (seen.seen (config_of setup.now) (wanted_of wanted.entry) (chronicle records.now))) }
+    ensures { IfOk result (λ found. found ≡ truth.first leaf.now (seen.seen setup.now (wanted_of wanted.entry) (chronicle records.now))) }
 {
     let mut found = None;
     for (place, next) in records.iter().enumerate() {

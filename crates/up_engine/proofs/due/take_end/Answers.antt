@@ -1,6 +1,5 @@
 use Rattle.std.proofs.Common.{◌≡◌, ◌++◌, ◌∷◌, [], Some}
 use Rattle.up_engine.specs.Keys.{Resting}
-use Rattle.up_engine.specs.Setups.{config_of}
 use Rattle.up_engine.proofs.Entries.{one_last}
 use Rattle.up_model.specs.Configuration.{job_named}
 use Rattle.up_model.specs.declared.failure.End.TheVariants as end
@@ -11,5 +10,5 @@ use Rattle.up_engine.proofs.due.take_end.Goals as goal
 pub returns : goal.returns
 unfolding effect
 returns g c c' s =
-    let does = end_of (job_named c.args.who.job (config_of c.args.setup.now).jobs) (instance_named c.args.who c') c.args.process (end.Ended c.args.how) c' in
-    rw one_last (c.in_ok-conclude.ensures (config_of c.args.setup.now) c' does s (c.verdict_on-judged.ensures Resting c' s))
+    let does = end_of (job_named c.args.who.job c.args.setup.now.jobs) (instance_named c.args.who c') c.args.process (end.Ended c.args.how) c' in
+    rw one_last (c.in_ok-conclude.ensures c.args.setup.now c' does s (c.verdict_on-judged.ensures Resting c' s))

@@ -1,7 +1,6 @@
 use Rattle.std.proofs.Common.{◌≡◌, drop}
 use Rattle.up_engine.specs.Groups.{listed}
 use Rattle.up_engine.specs.Records.{chronicle}
-use Rattle.up_engine.specs.Setups.{config_of}
 use Rattle.up_model.specs.Held as held
 use Rattle.up_model.specs.Instances.{instances_of}
 use Rattle.up_model.specs.Values.{Bytes}
@@ -10,4 +9,4 @@ use Rattle.up_engine.proofs.held.is_held.Given as goal
 abbrev pub invariant-loop-job : goal.invariant-loop-job
 invariant-loop-job l =
     ((job : Bytes) → listed job l.groups ≡ instances_of job (chronicle l.records))
-    → held.has l.event (held.held_by_jobs (config_of l.setup) (drop l.job-index l.jobs) (chronicle l.records)) ≡ held.has l.event (held.held_by_jobs (config_of l.setup) l.jobs (chronicle l.records))
+    → held.has l.event (held.held_by_jobs l.setup (drop l.job-index l.jobs) (chronicle l.records)) ≡ held.has l.event (held.held_by_jobs l.setup l.jobs (chronicle l.records))

@@ -1,6 +1,5 @@
 use Rattle.std.proofs.Common.{◌≡◌, drop}
 use Rattle.up_engine.specs.Keys.{Stepping}
-use Rattle.up_engine.specs.Setups.{config_of}
 use Rattle.up_model.specs.Chronicle.{Chronicle}
 use Rattle.up_model.specs.Moves.{move_first}
 use Rattle.up_engine.proofs.moves.move_first.Given as goal
@@ -8,6 +7,6 @@ use Rattle.up_engine.proofs.moves.move_first.Given as goal
 -- nothing has moved yet, and what is left gives the whole
 abbrev pub invariant-loop-job : goal.invariant-loop-job
 invariant-loop-job g l = record {
-  same : (c : Chronicle) → g.B.Book.stands l.fn.book Stepping (config_of l.setup) c → g.B.Book.stands l.book Stepping (config_of l.setup) c;
-  left : (c : Chronicle) → g.B.Book.stands l.fn.book Stepping (config_of l.setup) c → move_first (drop l.job-index l.jobs) c ≡ move_first l.jobs c;
+  same : (c : Chronicle) → g.B.Book.stands l.fn.book Stepping l.setup c → g.B.Book.stands l.book Stepping l.setup c;
+  left : (c : Chronicle) → g.B.Book.stands l.fn.book Stepping l.setup c → move_first (drop l.job-index l.jobs) c ≡ move_first l.jobs c;
 }

@@ -1,6 +1,5 @@
 use Rattle.std.proofs.Common.{◌≡◌, drop, ℕ}
 use Rattle.up_engine.specs.Keys.{Stepping}
-use Rattle.up_engine.specs.Setups.{config_of}
 use Rattle.up_model.specs.Chronicle.{Chronicle}
 use Rattle.up_model.specs.Offers.{offer_first}
 use Rattle.up_engine.proofs.offers.offer_first.Given as goal
@@ -9,5 +8,5 @@ use Rattle.up_engine.proofs.offers.offer_first.Given as goal
 abbrev pub invariant-loop-job : goal.invariant-loop-job
 invariant-loop-job g l = record {
   same : l.book ≡ l.fn.book;
-  left : (c : Chronicle) (e : ℕ) → g.B.Book.stands l.fn.book Stepping (config_of l.setup) c → offer_first (config_of l.setup) (drop l.job-index l.jobs) e c ≡ offer_first (config_of l.setup) l.jobs e c;
+  left : (c : Chronicle) (e : ℕ) → g.B.Book.stands l.fn.book Stepping l.setup c → offer_first l.setup (drop l.job-index l.jobs) e c ≡ offer_first l.setup l.jobs e c;
 }

@@ -1,17 +1,16 @@
 use Rattle.std.proofs.Common.{◌≡◌, ◌∙◌, sym, ap, ◌++◌, true}
 use Rattle.up_engine.specs.Keys.{Stepping}
-use Rattle.up_engine.specs.Setups.{config_of}
 use Rattle.up_engine.proofs.OfferLemmas.{filled_stop}
 use Rattle.up_engine.proofs.offers.offer_stop_in.Goals as goal
 
 pub returns-in_ok-offer_stop-in-Some-clause-entries : goal.returns-in_ok-offer_stop-in-Some-clause-entries
 returns-in_ok-offer_stop-in-Some-clause-entries g c c' e s known =
-    let config = config_of c.args.setup.now in
+    let config = c.args.setup.now in
     let found = c.in-Some.ensures Stepping config config c.args.job.now e c' _ s (c.instances.ensures Stepping config c' s) in
     rw found.1.1 (c.in_ok-offer_stop-in-Some.ensures c' found.0 e s found.1.0 known)
 
 pub returns-in_ok-offer_stop-in-Some-clause-any : goal.returns-in_ok-offer_stop-in-Some-clause-any
 returns-in_ok-offer_stop-in-Some-clause-any g c c' e s =
-    let config = config_of c.args.setup.now in
+    let config = c.args.setup.now in
     let found = c.in-Some.ensures Stepping config config c.args.job.now e c' _ s (c.instances.ensures Stepping config c' s) in
     rw found.1.1 (sym (filled_stop config c.args.job.now found.0 e c'))

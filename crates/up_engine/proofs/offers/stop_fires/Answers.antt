@@ -1,4 +1,3 @@
-use Rattle.up_engine.specs.Setups.{config_of}
 use Rattle.up_model.specs.Chronicle.{Fired, StopOn}
 use Rattle.up_model.specs.Seen.{seen, taken}
 use Rattle.std.proofs.Common.{◌∷◌}
@@ -6,6 +5,6 @@ use Rattle.up_engine.proofs.offers.stop_fires.Goals as goal
 
 pub returns : goal.returns
 returns g c c' i s known =
-    let config = config_of c.args.setup.now in
+    let config = c.args.setup.now in
     let events = taken c.args.job.now.stop_on (seen config (StopOn i) c') in
     c.in_ok-stop_by.ensures config (Fired (StopOn i) events ∷ c') i events (c.in_ok-holders.ensures.after c' i s known) (c.in_ok-holders.ensures.instances c' i s known) (c.in_ok-holders.ensures.taken c' i s known)

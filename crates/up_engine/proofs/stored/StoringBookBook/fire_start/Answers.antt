@@ -2,7 +2,6 @@ use Rattle.std.proofs.Common.{◌≡◌, ◌∙◌, ap, ◌∷◌, [], length, f
 use Rattle.up_engine.proofs.Entries.{some_same}
 use Rattle.up_model.specs.Chronicle.{Fired, StartOn}
 use Rattle.std.proofs.Common.{Some, ℕ}
-use Rattle.up_engine.specs.Setups.{config_of}
 use Rattle.up_engine.proofs.Entries.{same_start}
 use Rattle.up_engine.proofs.Slots.{keys_known}
 use Rattle.up_model.specs.Seen.{seen, taken}
@@ -10,7 +9,7 @@ use Rattle.up_engine.proofs.stored.StoringBookBook.fire_start.Goals as goal
 
 pub returns-clause-after : goal.returns-clause-after
 returns-clause-after c c' s =
-    let config = config_of c.args.setup.now in
+    let config = c.args.setup.now in
     c.in_ok-keys.ensures.after config c' (Fired (StartOn c.args.job.now.name) (taken c.args.job.now.start_on (seen config (StartOn c.args.job.now.name) c'))) s
     (same_start c.in_ok-name.ensures (c.in_ok-taken.ensures c' s))
 

@@ -2,14 +2,13 @@ use Rattle.std.proofs.Common.{◌≡◌, ◌∙◌, ap, ◌∷◌, [], length, f
 use Rattle.up_engine.proofs.Entries.{some_same}
 use Rattle.up_model.specs.Chronicle.{Fired, StopOn}
 use Rattle.std.proofs.Common.{Some, ℕ}
-use Rattle.up_engine.specs.Setups.{config_of}
 use Rattle.up_engine.proofs.Slots.{keys_known}
 use Rattle.up_model.specs.Seen.{seen, taken}
 use Rattle.up_engine.proofs.stored.StoringBookBook.fire_stop.Goals as goal
 
 pub returns-clause-after : goal.returns-clause-after
 returns-clause-after c c' i s known =
-    let config = config_of c.args.setup.now in
+    let config = c.args.setup.now in
     rw (← some_same known) (c.in_ok-keys.ensures.after config c' (Fired (StopOn c.args.key.place) (taken c.args.job.now.stop_on (seen config (StopOn c.args.key.place) c'))) s
     (ap (Fired (StopOn c.args.key.place)) (c.in_ok-taken.ensures c' s)))
 
