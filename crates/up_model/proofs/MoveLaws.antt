@@ -14,7 +14,7 @@ use Rattle.up_model.specs.declared.who.Who.{Who}
 use Rattle.up_model.specs.Chronicle.{Chronicle, Entry, Given, Queued, Handled, Offered, Made, Aimed, Released, Entered, Ordered, Signalled, Entering, Expression, StartOn, StopOn}
 use Rattle.up_model.specs.Instances.{Instance, without_instance, instances_of, existing}
 use Rattle.up_model.specs.Life.{next_state, wait_in, entering}
-use Rattle.up_model.specs.Moves.{has_process, kill_signal, emitting, ordering, releasing, enter, enter_whole, is_over, may_leave, next_of, who_of, move, move_of}
+use Rattle.up_model.specs.Moves.{has_process, emitting, ordering, releasing, enter, enter_whole, is_over, may_leave, next_of, who_of, move, move_of}
 use Rattle.up_model.specs.Offers.{is_newborn, is_open}
 use Rattle.up_model.specs.Readings.{goal, state_of, is_blocking, blocker, lives}
 use Rattle.up_model.specs.Seen.{was_offered}
@@ -149,14 +149,14 @@ emitted job who p to entry c = emitting job who p to entry.emits ((ordering job 
 abbrev beside : JobDef → Who → ℕ → State → table.Entry → Chronicle → List Entry
 beside job who p to entry c =
     entries_if entry.releases (releasing p false (enter job who p to entry c ++ c))
-    ++ (entries_if (entry.kills && lives p Main c) (Signalled p kill_signal false ∷ []) ++ (emitted job who p to entry c ++ ordering job p entry.orders))
+    ++ (entries_if (entry.kills && lives p Main c) (Signalled p job.kill_signal false ∷ []) ++ (emitted job who p to entry c ++ ordering job p entry.orders))
 
 beside-all : (job : JobDef) (who : Who) (p : ℕ) (to : State) (entry : table.Entry) (c : Chronicle) → AllByRecursion (IsBeside p) (beside job who p to entry c)
 beside-all job who p to entry c =
     all-append (IsBeside p) (entries_if entry.releases (releasing p false (enter job who p to entry c ++ c))) _
     (all-if (IsBeside p) entry.releases (releasing p false (enter job who p to entry c ++ c)) (tt, tt))
-    (all-append (IsBeside p) (entries_if (entry.kills && lives p Main c) (Signalled p kill_signal false ∷ [])) _
-    (all-if (IsBeside p) (entry.kills && lives p Main c) (Signalled p kill_signal false ∷ []) (tt, tt))
+    (all-append (IsBeside p) (entries_if (entry.kills && lives p Main c) (Signalled p job.kill_signal false ∷ [])) _
+    (all-if (IsBeside p) (entry.kills && lives p Main c) (Signalled p job.kill_signal false ∷ []) (tt, tt))
     (all-append (IsBeside p) (emitted job who p to entry c) (ordering job p entry.orders) (emitting-beside job who p to entry.emits ((ordering job p entry.orders ++ Entered p to ∷ []) ++ c)) (ordering-beside job p entry.orders)))
 
 four : (xs ys zs ws es : List Entry) → xs ++ (ys ++ (zs ++ (ws ++ es))) ≡ (xs ++ (ys ++ (zs ++ ws))) ++ es
@@ -168,12 +168,12 @@ four xs ys zs ws es =
 enter-is : (job : JobDef) (who : Who) (p : ℕ) (to : State) (entry : table.Entry) (c : Chronicle)
     → enter_whole job who p to entry c ++ c ≡ beside job who p to entry c ++ Entered p to ∷ c
 enter-is job who p to entry c =
-    ap (λ es. es ++ c) (four (entries_if entry.releases (releasing p false (enter job who p to entry c ++ c))) (entries_if (entry.kills && lives p Main c) (Signalled p kill_signal false ∷ [])) (emitted job who p to entry c) (ordering job p entry.orders) (Entered p to ∷ []))
+    ap (λ es. es ++ c) (four (entries_if entry.releases (releasing p false (enter job who p to entry c ++ c))) (entries_if (entry.kills && lives p Main c) (Signalled p job.kill_signal false ∷ [])) (emitted job who p to entry c) (ordering job p entry.orders) (Entered p to ∷ []))
     ∙ append_assoc (beside job who p to entry c) (Entered p to ∷ []) c
 
 enter-moves : (job : JobDef) (who : Who) (p : ℕ) (to : State) (entry : table.Entry) (c : Chronicle) → AllByRecursion (IsMove p) (enter_whole job who p to entry c)
 enter-moves job who p to entry c =
-    subst (AllByRecursion (IsMove p)) (sym (four (entries_if entry.releases (releasing p false (enter job who p to entry c ++ c))) (entries_if (entry.kills && lives p Main c) (Signalled p kill_signal false ∷ [])) (emitted job who p to entry c) (ordering job p entry.orders) (Entered p to ∷ [])))
+    subst (AllByRecursion (IsMove p)) (sym (four (entries_if entry.releases (releasing p false (enter job who p to entry c ++ c))) (entries_if (entry.kills && lives p Main c) (Signalled p job.kill_signal false ∷ [])) (emitted job who p to entry c) (ordering job p entry.orders) (Entered p to ∷ [])))
     (all-append (IsMove p) (beside job who p to entry c) (Entered p to ∷ []) (all-weaker (IsBeside p) (IsMove p) (beside-is_move p) (beside job who p to entry c) (beside-all job who p to entry c)) (refl, tt))
 
 -- the instance is then in that state

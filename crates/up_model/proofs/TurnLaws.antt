@@ -13,7 +13,8 @@ use Rattle.up_stanza.specs.declared.process.Process.{Process}
 use Rattle.up_model.specs.declared.input.Input.{Input}
 use Rattle.up_model.specs.declared.input.Input.TheVariants as input
 use Rattle.up_model.specs.Configuration.{Configuration, job_named}
-use Rattle.up_model.specs.Chronicle.{Entry, Given, Aimed, Replied, Queued, Handled, Finished, Outside}
+use Rattle.up_model.specs.Chronicle.{Entry, Given, Aimed, Signalled, Replied, Queued, Handled, Finished, Outside}
+use Rattle.up_model.specs.Clock.{all_overdue, kill, killing}
 use Rattle.up_model.specs.Readings.{goal, failure, holders}
 use Rattle.up_model.specs.Queue.{Live, with_handled, without_event, queue}
 use Rattle.up_model.specs.Held.{is_held}
@@ -185,7 +186,7 @@ fail-quiet instance its c =
 -- so is what a verdict does
 carry_out-quiet : (instance : ℕ) (its : Verdict) (c : List Entry) → AllByRecursion IsQuiet (carry_out instance its c)
 carry_out-quiet instance verdict.Note c = tt
-carry_out-quiet instance verdict.Respawn c = tt
+carry_out-quiet instance verdict.Respawn c = (tt, tt)
 carry_out-quiet instance verdict.Stop c = end_itself-quiet instance c
 carry_out-quiet instance (verdict.Fail its) c = fail-quiet instance its c
 
@@ -194,6 +195,11 @@ end_of-quiet : (its_job : Option JobDef) (o : Option ℕ) (process : Process) (i
 end_of-quiet None o process its c = tt
 end_of-quiet (Some job) None process its c = tt
 end_of-quiet (Some job) (Some instance) process its c = carry_out-quiet instance (judged job instance process its c) c
+
+-- so is that the timer kills
+killing-quiet : (instances : List ℕ) → AllByRecursion IsQuiet (killing instances)
+killing-quiet [] = tt
+killing-quiet (instance ∷ instances) = all-append IsQuiet (killing instances) (Signalled instance kill true ∷ []) (killing-quiet instances) (tt, tt)
 
 -- the effect of an input leaves the counts fitting
 pub effect-keeps : (config : Configuration) (given : Input) (c : List Entry) → Keeps config c → Keeps config (effect config given c ++ c)
@@ -207,7 +213,9 @@ effect-keeps config (input.Refused who process) c keeps =
 effect-keeps config (input.Ended who process how) c keeps =
     let its : List Entry = end_of (job_named who.job config.jobs) (instance_named who c) process (end.Ended how) c in
     rw append_assoc (quiets-keep config its (Given (input.Ended who process how) ∷ c) (end_of-quiet (job_named who.job config.jobs) (instance_named who c) process (end.Ended how) c) (quiet-keeps config (Given (input.Ended who process how)) c tt keeps))
-effect-keeps config (input.Clock reading) c keeps = quiet-keeps config (Given (input.Clock reading)) c tt keeps
+effect-keeps config (input.Clock reading) c keeps =
+    let d : List Entry = Given (input.Clock reading) ∷ c in
+    rw append_assoc (quiets-keep config (killing (all_overdue config.jobs d)) d (killing-quiet (all_overdue config.jobs d)) (quiet-keeps config (Given (input.Clock reading)) c tt keeps))
 effect-keeps config input.Turn c keeps = rw append_assoc (turn-keeps config c (turn_event config (queue c) c) refl (quiet-keeps config (Given input.Turn) c tt keeps))
 
 -- so does an input

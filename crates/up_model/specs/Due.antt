@@ -9,6 +9,7 @@ use Rattle.up_model.specs.declared.event.Event.{Event}
 use Rattle.up_model.specs.declared.input.Input.{Input}
 use Rattle.up_model.specs.declared.input.Input.TheVariants as input
 use Rattle.up_model.specs.Chronicle.{Chronicle, Entry, Given, Queued, Handled, Finished, Replied, Outside, Spoilt}
+use Rattle.up_model.specs.Clock.{all_overdue, killing}
 use Rattle.up_model.specs.Configuration.{Configuration, job_named}
 use Rattle.up_model.specs.Events.{failure_of_event}
 use Rattle.up_model.specs.Held.{is_held, is_spoilt}
@@ -59,5 +60,5 @@ effect config (input.Request id request) c = Replied (length c) (not_supported r
 effect config (input.Spawned who process pid) c = Given (input.Spawned who process pid) ∷ []
 effect config (input.Refused who process) c = end_of (job_named who.job config.jobs) (instance_named who c) process end.Refused c ++ Given (input.Refused who process) ∷ []
 effect config (input.Ended who process how) c = end_of (job_named who.job config.jobs) (instance_named who c) process (end.Ended how) c ++ Given (input.Ended who process how) ∷ []
-effect config (input.Clock reading) c = Given (input.Clock reading) ∷ []
+effect config (input.Clock reading) c = killing (all_overdue config.jobs (Given (input.Clock reading) ∷ c)) ++ Given (input.Clock reading) ∷ []
 effect config input.Turn c = turn_of (turn_event config (queue c) c) c ++ Given input.Turn ∷ []

@@ -3,6 +3,10 @@
 use Rattle.std.specs.Prelude.{ℕ, Bool, true, false, ◌&&◌, ◌||◌, not, ◌==◌, List, [], ◌∷◌, ◌++◌, Option, None, Some, is_some, if◌then◌else◌}
 use Rattle.up_stanza.specs.declared.process.Process.{Process}
 use Rattle.up_stanza.specs.declared.process.Process.TheVariants.{Main, PreStart, PostStart, PreStop, PostStop}
+use Rattle.std.specs.List.{list_any}
+use Rattle.up_stanza.specs.declared.exit.Exit.{Exit}
+use Rattle.up_stanza.specs.declared.exit.Exit.TheVariants as exit
+use Rattle.up_conf.specs.Jobs.{same_exit}
 use Rattle.up_conf.specs.declared.job.JobDef.{JobDef}
 use Rattle.up_model.specs.declared.failure.Cause.TheVariants as cause
 use Rattle.up_model.specs.declared.failure.End.{End}
@@ -16,7 +20,8 @@ use Rattle.up_model.specs.declared.state.Goal.{Goal}
 use Rattle.up_model.specs.declared.state.Goal.TheVariants as goal
 use Rattle.up_model.specs.declared.state.State.{State}
 use Rattle.up_model.specs.declared.state.State.TheVariants as state
-use Rattle.up_model.specs.Chronicle.{Chronicle, Entry, Aimed, Failed}
+use Rattle.up_model.specs.Chronicle.{Chronicle, Entry, Aimed, Respawned, Failed}
+use Rattle.up_model.specs.Clock.{now, may_respawn}
 use Rattle.up_model.specs.Moves.{releasing}
 use Rattle.up_model.specs.Readings as read
 use Rattle.up_model.specs.Tests.{is_start, entries_if}
@@ -68,9 +73,21 @@ judge aim now PreStop end task respawn normal may = verdict.Note
 judge aim now PostStop Refused task respawn normal may = verdict.Fail (failure_of PostStop None)
 judge aim now PostStop (Ended how) task respawn normal may = judge_other PostStop how
 
--- what an end does to an instance of a job, as long as no respawn and no normal exit has an effect
+-- the end of a process as job files name ends
+abbrev pub exit_of : How → Exit
+exit_of (how.Exit status) = exit.Status status
+exit_of (how.Signal signal) = exit.Signal signal
+
+-- whether an end is one of those that are normal for a job (init(5), "normal exit")
+abbrev pub is_normal : List Exit → End → Bool
+is_normal exits Refused = false
+is_normal exits (Ended how) = list_any (same_exit (exit_of how)) exits
+
+-- what an end does to an instance of a job
 abbrev pub judged : JobDef → ℕ → Process → End → Chronicle → Verdict
-judged job instance process end c = judge (read.goal instance c) (read.state_of instance c) process end job.task false false false
+judged job instance process end c =
+    judge (read.goal instance c) (read.state_of instance c) process end
+    job.task job.respawn (is_normal job.normal end) (may_respawn job.limit instance c)
 
 -- the goal becomes stop, if it is start; the holders stay
 abbrev pub end_itself : ℕ → Chronicle → List Entry
@@ -89,6 +106,6 @@ fail instance failure c =
 -- what a verdict does
 abbrev pub carry_out : ℕ → Verdict → Chronicle → List Entry
 carry_out instance verdict.Note c = []
-carry_out instance verdict.Respawn c = []
+carry_out instance verdict.Respawn c = Respawned instance (now c) ∷ []
 carry_out instance verdict.Stop c = end_itself instance c
 carry_out instance (verdict.Fail failure) c = fail instance failure c

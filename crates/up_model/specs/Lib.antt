@@ -6,6 +6,7 @@ pub mod Chronicle
 pub mod Tests
 pub mod Readings
 pub mod Instances
+pub mod Clock
 pub mod Queue
 pub mod Seen
 pub mod Held

@@ -5,7 +5,6 @@ use Rattle.up_stanza.specs.declared.action.Action.{Action}
 use Rattle.up_stanza.specs.declared.process.Process.{Process}
 use Rattle.up_stanza.specs.declared.process.Process.TheVariants as process
 use Rattle.up_conf.specs.declared.job.JobDef.{JobDef}
-use Rattle.up_conf.specs.Signals.{term}
 use Rattle.up_model.specs.declared.event.Event.{Event}
 use Rattle.up_model.specs.declared.life.Entry as table
 use Rattle.up_model.specs.declared.life.JobEvent.{JobEvent}
@@ -33,10 +32,6 @@ has_process job its = is_some (action_of job its)
 abbrev pub who_of : JobDef → Instance → Who
 who_of job instance = record { job = job.name; instance = instance.name }
 
--- the signal that ends a process on entering killed: TERM, so far
-abbrev pub kill_signal : ℕ
-kill_signal = term
-
 -- an instance lets its holders go
 abbrev pub releasing : ℕ → (failed : Bool) → Chronicle → List Entry
 releasing instance failed c = Released instance failed ∷ []
@@ -59,7 +54,7 @@ ordering job instance (Some its) = entries_if (has_process job its) (Ordered ins
 abbrev pub enter : JobDef → Who → ℕ → (to : State) → table.Entry → Chronicle → List Entry
 enter job who instance to entry c =
     let entered = ordering job instance entry.orders ++ Entered instance to ∷ [] in
-    entries_if (entry.kills && lives instance process.Main c) (Signalled instance kill_signal false ∷ [])
+    entries_if (entry.kills && lives instance process.Main c) (Signalled instance job.kill_signal false ∷ [])
     ++ (emitting job who instance to entry.emits (entered ++ c) ++ entered)
 
 -- and with its release

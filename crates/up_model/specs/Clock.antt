@@ -1,0 +1,75 @@
+-- The clock, and what depends on it: how often main may be respawned, and when it is killed (init(5), "respawn limit" and "kill
+-- timeout"). The clock reads milliseconds, limits and timeouts count seconds.
+use Rattle.std.specs.Prelude.{ℕ, zero, suc, ◌+◌, ◌-◌, ◌*◌, nat_le, nat_lt, Bool, true, false, ◌&&◌, ◌||◌, ◌==◌, List, [], ◌∷◌, ◌++◌, Option, None, Some, if◌then◌else◌}
+use Rattle.up_conf.specs.declared.job.JobDef.{JobDef}
+use Rattle.up_stanza.specs.declared.limit.Limit.{Limit}
+use Rattle.up_stanza.specs.declared.process.Process.TheVariants.{Main}
+use Rattle.up_model.specs.declared.input.Input.TheVariants as input
+use Rattle.up_model.specs.declared.state.State.{State}
+use Rattle.up_model.specs.declared.state.State.TheVariants as state
+use Rattle.up_model.specs.Chronicle.{Chronicle, Entry, Given, Respawned, Entered, Signalled}
+use Rattle.up_model.specs.Instances.{Instance, instances_of}
+use Rattle.up_model.specs.Readings.{state_of, lives}
+
+-- what the clock reads: the greatest reading so far, and 0 before the first
+abbrev pub now : Chronicle → ℕ
+now [] = 0
+now (Given (input.Clock reading) ∷ c) = if nat_lt (now c) reading then reading else now c
+now (entry ∷ c) = now c
+
+abbrev pub milliseconds : (seconds : ℕ) → ℕ
+milliseconds seconds = seconds * 1000
+
+-- how often an instance was respawned less than a span ago
+abbrev pub respawns : (instance : ℕ) → (today span : ℕ) → Chronicle → ℕ
+respawns instance today span [] = 0
+respawns instance today span (Respawned other moment ∷ c) =
+    if (other == instance) && nat_lt (today - moment) span then respawns instance today span c + 1 else respawns instance today span c
+respawns instance today span (entry ∷ c) = respawns instance today span c
+
+-- whether a limit allows one respawn more: a window that slides, and no limit if one of its numbers is 0
+abbrev pub may_respawn : Limit → ℕ → Chronicle → Bool
+may_respawn limit instance c =
+    limit.count == 0 || limit.interval == 0 || nat_lt (respawns instance (now c) (milliseconds limit.interval) c) limit.count
+
+-- what the clock read when main was sent its signal on entering the last state, until the timer has sent KILL
+abbrev pub kill_moment : ℕ → Chronicle → Option ℕ
+kill_moment instance [] = None
+kill_moment instance (Entered other entered ∷ c) = if other == instance then None else kill_moment instance c
+kill_moment instance (Signalled other signal true ∷ c) = if other == instance then None else kill_moment instance c
+kill_moment instance (Signalled other signal false ∷ c) = if other == instance then Some (now c) else kill_moment instance c
+kill_moment instance (entry ∷ c) = kill_moment instance c
+
+-- whether so much time has passed since a moment
+abbrev pub has_passed : Option ℕ → (today span : ℕ) → Bool
+has_passed None today span = false
+has_passed (Some moment) today span = nat_le span (today - moment)
+
+abbrev pub is_killed : State → Bool
+is_killed state.Killed = true
+is_killed other = false
+
+-- whether the timer is to kill main of an instance
+abbrev pub kill_due : JobDef → ℕ → Chronicle → Bool
+kill_due job instance c =
+    is_killed (state_of instance c) && lives instance Main c && has_passed (kill_moment instance c) (now c) (milliseconds job.kill_timeout)
+
+-- the instances of a job of which that is so, in order
+abbrev pub overdue : JobDef → List Instance → Chronicle → List ℕ
+overdue job [] c = []
+overdue job (instance ∷ instances) c =
+    if kill_due job instance.place c then instance.place ∷ overdue job instances c else overdue job instances c
+
+-- those of all jobs
+abbrev pub all_overdue : List JobDef → Chronicle → List ℕ
+all_overdue [] c = []
+all_overdue (job ∷ jobs) c = overdue job (instances_of job.name c) c ++ all_overdue jobs c
+
+-- the signal that no process can pass over (signal(7))
+abbrev pub kill : ℕ
+kill = 9
+
+-- main of each of these is sent KILL by the timer, in order
+abbrev pub killing : List ℕ → List Entry
+killing [] = []
+killing (instance ∷ instances) = killing instances ++ Signalled instance kill true ∷ []
