@@ -4,7 +4,8 @@ use Rattle.up_engine.specs.Keys.{instance_at}
 use Rattle.up_model.specs.declared.failure.Verdict.{Verdict}
 use Rattle.up_model.specs.declared.failure.Verdict.TheVariants as verdict
 use Rattle.up_model.specs.declared.input.Input.{Input}
-use Rattle.up_model.specs.Chronicle.{Chronicle, Entry, Given, Offered, Fired, StartOn, StopOn}
+use Rattle.up_model.specs.Chronicle.{Chronicle, Entry, Given, Respawned, Offered, Fired, StartOn, StopOn}
+use Rattle.up_model.specs.Clock.{now}
 use Rattle.up_model.specs.Judgement.{carry_out}
 use Rattle.up_model.specs.Tests.{or_else}
 use Rattle.up_model.specs.Values.{Bytes}
@@ -71,9 +72,9 @@ same_start p q = cc
 pub same_instance : {i j : ℕ} {name other : Bytes} → i ≡ j → name ≡ other → instance_at i name ≡ instance_at j other
 same_instance p q = cc
 
--- a verdict is carried out after an input as before it
-pub carry_out-given : (i : ℕ) (its : Verdict) (given : Input) (c : Chronicle) → carry_out i its (Given given ∷ c) ≡ carry_out i its c
-carry_out-given i verdict.Note given c = refl
-carry_out-given i verdict.Respawn given c = refl
-carry_out-given i verdict.Stop given c = refl
-carry_out-given i (verdict.Fail failure) given c = refl
+-- a verdict is carried out after an input as before it, if that is no reading of the clock
+pub carry_out-given : (i : ℕ) (its : Verdict) (given : Input) (c : Chronicle) → now (Given given ∷ c) ≡ now c → carry_out i its (Given given ∷ c) ≡ carry_out i its c
+carry_out-given i verdict.Note given c quiet = refl
+carry_out-given i verdict.Respawn given c quiet = ap (λ moment. Respawned i moment ∷ []) quiet
+carry_out-given i verdict.Stop given c quiet = refl
+carry_out-given i (verdict.Fail failure) given c quiet = refl

@@ -2,6 +2,7 @@ pub mod Entries
 pub mod Slots
 pub mod Chronicles
 pub mod EventLemmas
+pub mod ClockLemmas
 pub mod GroupLemmas
 pub mod HeldLemmas
 pub mod MoveLemmas

@@ -12,9 +12,9 @@ use Rattle.up_model.specs.declared.who.Who.{Who}
 use Rattle.up_stanza.specs.declared.process.Process.TheVariants.{Main}
 use Rattle.up_model.specs.Chronicle.{Chronicle, Entry, Entered, Signalled}
 use Rattle.up_model.specs.Instances.{Instance, instances_of}
-use Rattle.up_model.specs.Moves.{may_leave, move, move_of, move_in, move_first, enter, who_of, next_of, releasing, kill_signal, emitting, ordering}
+use Rattle.up_model.specs.Moves.{may_leave, move, move_of, move_in, move_first, enter, who_of, next_of, releasing, emitting, ordering}
 use Rattle.up_model.specs.Life.{entering}
-use Rattle.up_model.specs.Readings.{state_of, failure, lives}
+use Rattle.up_model.specs.Readings.{state_of, lives}
 use Rattle.up_model.specs.Tests.{entries_if, or_else}
 use Rattle.up_text.specs.Scripts.{is_filled}
 
@@ -42,8 +42,8 @@ move_past jobs i job c within is none left = sym (or_else-none _ _ (sym none)) �
 
 pub filled_move : (job : JobDef) (instance : Instance) (c : Chronicle) → is_filled (move job instance c) ≡ true
 filled_move job instance c =
-    filled_five (entries_if table.releases (releasing instance.place false (enter job who instance.place to table c ++ c))) (entries_if (table.kills && lives instance.place Main c) (Signalled instance.place kill_signal false ∷ []))
-    (emitting who instance.place to table.emits (failure instance.place c)) (ordering job instance.place table.orders) (Entered instance.place to)
+    filled_five (entries_if table.releases (releasing instance.place false (enter job who instance.place to table c ++ c))) (entries_if (table.kills && lives instance.place Main c) (Signalled instance.place job.kill_signal false ∷ []))
+    (emitting job who instance.place to table.emits ((ordering job instance.place table.orders ++ Entered instance.place to ∷ []) ++ c)) (ordering job instance.place table.orders) (Entered instance.place to)
   where
     who : Who
     who = who_of job instance

@@ -89,11 +89,3 @@ places_known [] [] h = refl
 places_known [] (event ∷ events) h = absurd cc
 places_known (key ∷ keys) [] h = absurd cc
 places_known (key ∷ keys) (event ∷ events) h = let rest = places_known keys events (cc) in cc
-
--- there are as many slots as instances
-pub slots_length : (places : InstanceKey → Option ℕ) (slots : List Slot) (instances : List Instance) → map (slot_at places) slots ≡ map Some instances
-    → length slots ≡ length instances
-slots_length places [] [] h = refl
-slots_length places [] (instance ∷ instances) h = absurd cc
-slots_length places (slot ∷ slots) [] h = absurd cc
-slots_length places (slot ∷ slots) (instance ∷ instances) h = ap suc (slots_length places slots instances cc)

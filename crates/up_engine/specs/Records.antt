@@ -44,7 +44,8 @@ entry_of (record_of.Released instance failed) = model.Released instance failed
 entry_of (record_of.Failed instance failure) = model.Failed instance failure
 entry_of (record_of.Entered instance state) = model.Entered instance state
 entry_of (record_of.Ordered instance process) = model.Ordered instance process
-entry_of (record_of.Signalled instance signal) = model.Signalled instance signal false
+entry_of (record_of.Respawned instance moment) = model.Respawned instance moment
+entry_of (record_of.Signalled instance signal by_timer) = model.Signalled instance signal by_timer
 entry_of (record_of.Replied request answer) = model.Replied request answer
 
 -- the chronicle that records stand for, which are kept oldest first

@@ -10,6 +10,7 @@ ghost use Rattle.up_model.specs.declared.state.Goal.TheVariants.{Stop as goal_st
 ghost use Rattle.up_model.specs.declared.state.State.TheVariants as entered;
 ghost use Rattle.up_model.specs.Chronicle.{Chronicle};
 ghost use Rattle.up_model.specs.Chronicle as entry;
+ghost use Rattle.up_model.specs.Clock as clock;
 ghost use Rattle.up_model.specs.Configuration.{Configuration};
 ghost use Rattle.up_model.specs.Due.{turn_event, telling};
 ghost use Rattle.up_model.specs.Held as held;
@@ -23,6 +24,7 @@ ghost use Rattle.up_model.specs.Seen as seen;
 use crate::keys::{EventKey, InstanceKey, Live, Slot};
 use crate::setup::Setup;
 use std::alloc::{AllocError, Global};
+use up_conf::Limit;
 use up_model::{Answer, Event, Failure, Goal, Input, JobDef, Output, Process, State};
 use up_text::{Env, Items, Name};
 
@@ -48,6 +50,20 @@ pub trait Book: Drop {
     fn state_of(&self, key: InstanceKey) -> State
         ensures { (mode : Mode) (config : Configuration) (c : Chronicle) (i : ℕ) → stands self.now mode config c
             → instance_place self.now c key ≡ Some i → result ≡ read.state_of i c };
+
+    /// What the clock reads.
+    fn now(&self) -> u64
+        ensures { (mode : Mode) (config : Configuration) (c : Chronicle) → stands self.now mode config c → result ≡ clock.now c };
+
+    /// Whether a limit allows one respawn more of an instance.
+    fn may_respawn(&self, key: InstanceKey, limit: Limit) -> bool
+        ensures { (mode : Mode) (config : Configuration) (c : Chronicle) (i : ℕ) → stands self.now mode config c
+            → instance_place self.now c key ≡ Some i → result ≡ clock.may_respawn limit i c };
+
+    /// What the clock read when main was sent its signal, until the timer has sent KILL.
+    fn kill_moment(&self, key: InstanceKey) -> Option<u64>
+        ensures { (mode : Mode) (config : Configuration) (c : Chronicle) (i : ℕ) → stands self.now mode config c
+            → instance_place self.now c key ≡ Some i → result ≡ clock.kill_moment i c };
 
     /// The environment in force, if the instance has one.
     fn env(&self, key: InstanceKey) -> Option<&Env>
@@ -183,6 +199,19 @@ pub trait Book: Drop {
             → instance_place self.old c key ≡ Some i → stands self.new Stepping config (entry.Signalled i signal false ∷ c)) }
         ensures instances { OnOk result ((config : Configuration) (c : Chronicle) (i : ℕ) → stands self.old Stepping config c
             → instance_place self.old c key ≡ Some i → instance_place self.new (entry.Signalled i signal false ∷ c) key ≡ Some i) };
+
+    /// Main of an instance is sent KILL by the timer.
+    fn kill(&mut self, key: InstanceKey) -> Result<(), AllocError>
+        ensures after { OnOk result ((config : Configuration) (c : Chronicle) (i : ℕ) → stands self.old Stepping config c
+            → instance_place self.old c key ≡ Some i → stands self.new Stepping config (entry.Signalled i clock.kill true ∷ c)) }
+        ensures instances { OnOk result ((config : Configuration) (c : Chronicle) (i : ℕ) (ks : List InstanceKeyValue) (js : List ℕ)
+            → stands self.old Stepping config c → instance_place self.old c key ≡ Some i → map (instance_place self.old c) ks ≡ map Some js
+            → map (instance_place self.new (entry.Signalled i clock.kill true ∷ c)) ks ≡ map Some js) };
+
+    /// Main of an instance is respawned.
+    fn respawn(&mut self, key: InstanceKey) -> Result<(), AllocError>
+        ensures { OnOk result ((config : Configuration) (c : Chronicle) (i : ℕ) → stands self.old Stepping config c
+            → instance_place self.old c key ≡ Some i → stands self.new Stepping config (entry.Respawned i (clock.now c) ∷ c)) };
 
     /// An instance lets its holders go.
     fn release(&mut self, key: InstanceKey) -> Result<(), AllocError>

@@ -19,6 +19,7 @@ use crate::keys::{EventKey, Live};
 use crate::moves::move_first;
 use crate::offers::{instance_named, offer_next};
 use crate::setup::Setup;
+use crate::time::kill_overdue;
 use std::alloc::{AllocError, Global};
 use up_model::{Answer, Command, End, Event, How, Input, Process, Request, Who};
 use up_text::Text;
@@ -202,6 +203,21 @@ fn take_turn<B: Book>(alloc: Global, book: &mut B) -> Result<(), AllocError>
     Ok(())
 }
 
+#[tactic(auto, unfolding(up_model::specs::Due::effect), using(crate::proofs::Entries::one_last))]
+fn take_reading<B: Book>(
+    alloc: Global,
+    setup: &Setup,
+    book: &mut B,
+    reading: u64,
+) -> Result<(), AllocError>
+    ensures { OnOk result ((c : Chronicle) → B.stands book.old Resting setup.now c
+        → B.stands book.new Stepping setup.now (model.effect setup.now (given_as.Clock reading) c ++ c)) }
+{
+    book.given(Input::Clock(reading))?;
+    kill_overdue(alloc, book, setup.jobs())?;
+    Ok(())
+}
+
 /// Takes an input in, with its own effect.
 #[tactic(auto, unfolding(up_model::specs::Due::effect))]
 pub(crate) fn act<B: Book>(
@@ -219,7 +235,7 @@ pub(crate) fn act<B: Book>(
         Input::Spawned { who, process, pid } => book.given(Input::Spawned { who, process, pid })?,
         Input::Refused { who, process } => take_refusal(setup, book, who, process)?,
         Input::Ended { who, process, how } => take_end(setup, book, who, process, how)?,
-        Input::Clock(reading) => book.given(Input::Clock(reading))?,
+        Input::Clock(reading) => take_reading(alloc, setup, book, reading)?,
         Input::Turn => take_turn(alloc, book)?,
     }
     Ok(())

@@ -1,6 +1,9 @@
 //! What the end or the refusal of a process does to its instance.
 ghost use Rattle.std.specs.Prelude.{◌≡◌, ℕ, List, ◌∷◌, ◌++◌, map, Option, None, Some, IfOk, OnOk};
 ghost use Rattle.up_engine.specs.Keys.{Mode, Resting, Stepping, Judges};
+ghost use Rattle.std.specs.List.{list_any};
+ghost use Rattle.up_conf.specs.Jobs.{same_exit};
+ghost use Rattle.up_model.specs.Clock.{now};
 ghost use Rattle.up_model.specs.Chronicle as entry;
 ghost use Rattle.up_model.specs.Chronicle.{Chronicle, Entry as EntryValue};
 ghost use Rattle.up_model.specs.Configuration.{Configuration, job_named};
@@ -15,8 +18,9 @@ use crate::offers::instance_named;
 use crate::outputs::job_named;
 use crate::setup::Setup;
 use std::alloc::AllocError;
+use up_conf::Exit;
 use up_job::judge_end;
-use up_model::{End, Failure, Input, JobDef, Process, Verdict, Who};
+use up_model::{End, Failure, How, Input, JobDef, Process, Verdict, Who};
 
 // The goal of an instance becomes stop by itself, if it is start.
 fn end_itself<B: Book>(book: &mut B, key: InstanceKey) -> Result<(), AllocError>
@@ -49,21 +53,60 @@ fn carry_out<B: Book>(book: &mut B, key: InstanceKey, verdict: Verdict) -> Resul
         → B.instance_place book.old c key ≡ Some i → B.stands book.new Stepping config (model.carry_out i verdict c ++ c)) }
 {
     match verdict {
-        Verdict::Note | Verdict::Respawn => {}
+        Verdict::Note => {}
+        Verdict::Respawn => book.respawn(key)?,
         Verdict::Stop => end_itself(book, key)?,
         Verdict::Fail(failure) => fail(book, key, failure)?,
     }
     Ok(())
 }
 
-// What an end does to an instance, as long as no respawn and no normal exit has an effect.
+fn same_exit(exit: &Exit, how: How) -> bool
+    ensures { result ≡ same_exit (model.exit_of how) exit.now }
+{
+    match (exit, how) {
+        (Exit::Status(status), How::Exit(other)) => other == *status,
+        (Exit::Signal(signal), How::Signal(other)) => other == signal.number(),
+        (Exit::Status(_), How::Signal(_)) => false,
+        (Exit::Signal(_), How::Exit(_)) => false,
+    }
+}
+
+fn is_listed(exits: &[Exit], how: How) -> bool
+    ensures { result ≡ list_any (same_exit (model.exit_of how)) exits.now }
+{
+    exits.iter().any(|exit| same_exit(exit, how))
+}
+
+// Whether an end is normal for a job.
+fn is_normal(exits: &[Exit], end: End) -> bool
+    ensures { result ≡ model.is_normal exits.now end }
+{
+    match end {
+        End::Refused => false,
+        End::Ended(how) => is_listed(exits, how),
+    }
+}
+
+// What an end does to an instance.
 fn judged<B: Book>(book: &B, job: &JobDef, key: InstanceKey, process: Process, end: End) -> Verdict
     ensures { (mode : Mode) (config : Configuration) (c : Chronicle) (i : ℕ) → B.stands book.now mode config c
         → B.instance_place book.now c key ≡ Some i → result ≡ model.judged job.now i process end c }
 {
     let goal = book.goal(key);
     let state = book.state_of(key);
-    judge_end(goal, state, process, end, job.task, false, false, false)
+    let normal = is_normal(job.normal.as_slice(), end);
+    let may = book.may_respawn(key, job.limit);
+    judge_end(
+        goal,
+        state,
+        process,
+        end,
+        job.task,
+        job.respawn,
+        normal,
+        may,
+    )
 }
 
 // What the end of a process does to which instance of a job, if that exists.
@@ -107,7 +150,7 @@ pub(crate) fn conclude<B: Book>(
     judged: Option<(InstanceKey, Verdict)>,
 ) -> Result<(), AllocError>
     ensures { OnOk result ((config : Configuration) (c : Chronicle) (entries : List EntryValue) → B.stands book.old Resting config c
-        → Judges (B.instance_place book.old c) judged entries c → B.stands book.new Stepping config (entries ++ entry.Given input ∷ c)) }
+        → Judges (B.instance_place book.old c) judged entries c → now (entry.Given input ∷ c) ≡ now c → B.stands book.new Stepping config (entries ++ entry.Given input ∷ c)) }
 {
     match judged {
         Some((key, verdict)) => {

@@ -21,6 +21,7 @@ mod run;
 mod settle;
 mod setup;
 mod stored;
+mod time;
 mod truth;
 
 pub use engine::Engine;

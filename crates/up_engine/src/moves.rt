@@ -21,7 +21,6 @@ use crate::keys::{InstanceKey, Slot};
 use crate::life::{has_process, is_start, is_waiting};
 use crate::setup::Setup;
 use std::alloc::{AllocError, Global};
-use up_conf::Signal;
 use up_job::{entering, next_state};
 use up_model::{Entry, Goal, JobDef, JobEvent, Process, State};
 
@@ -162,16 +161,16 @@ fn emit<B: Book>(
 }
 
 // Sends main its signal.
-fn kill<B: Book>(book: &mut B, key: InstanceKey, kills: bool) -> Result<(), AllocError>
+fn kill<B: Book>(book: &mut B, key: InstanceKey, signal: u8, kills: bool) -> Result<(), AllocError>
     ensures after { OnOk result ((config : Configuration) (c : Chronicle) (i : ℕ) → B.stands book.old Stepping config c
         → B.instance_place book.old c key ≡ Some i
-        → B.stands book.new Stepping config (entries_if kills (entry.Signalled i model.kill_signal false ∷ []) ++ c)) }
+        → B.stands book.new Stepping config (entries_if kills (entry.Signalled i signal false ∷ []) ++ c)) }
     ensures instances { OnOk result ((config : Configuration) (c : Chronicle) (i : ℕ) → B.stands book.old Stepping config c
         → B.instance_place book.old c key ≡ Some i
-        → B.instance_place book.new (entries_if kills (entry.Signalled i model.kill_signal false ∷ []) ++ c) key ≡ Some i) }
+        → B.instance_place book.new (entries_if kills (entry.Signalled i signal false ∷ []) ++ c) key ≡ Some i) }
 {
     if kills {
-        book.signal(key, Signal::term().number())?;
+        book.signal(key, signal)?;
     }
     Ok(())
 }
@@ -229,7 +228,12 @@ fn enter_other<B: Book>(
 {
     let lives = book.lives(slot.key, Process::Main);
     enter_with(alloc, setup, book, job, slot, to, table)?;
-    kill(book, slot.key, table.kills && lives)?;
+    kill(
+        book,
+        slot.key,
+        job.kill_signal.number(),
+        table.kills && lives,
+    )?;
     release(book, slot.key, table.releases)?;
     Ok(())
 }

@@ -209,7 +209,11 @@ fn output_of(
         Record::Ordered { instance, process } => order_of(
             alloc, setup, earlier, *instance, *process,
         ),
-        Record::Signalled { instance, signal } => signal_of(alloc, earlier, *instance, *signal),
+        Record::Signalled {
+            instance,
+            signal,
+            ..
+        } => signal_of(alloc, earlier, *instance, *signal),
         Record::Replied { request, answer } => reply_of(earlier, *request, answer),
         _ => Ok(None),
     }

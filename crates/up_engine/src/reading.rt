@@ -1,5 +1,6 @@
 //! Readings of the stored chronicle: one pass over the records for each, without memory.
 
+pub mod clock;
 pub mod environment;
 pub mod life;
 pub mod place;

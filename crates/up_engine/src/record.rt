@@ -70,9 +70,14 @@ pub enum Record {
         instance: usize,
         process: Process,
     },
+    Respawned {
+        instance: usize,
+        moment: u64,
+    },
     Signalled {
         instance: usize,
         signal: u8,
+        by_timer: bool,
     },
     Replied {
         request: usize,

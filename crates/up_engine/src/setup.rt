@@ -109,7 +109,7 @@ fn environment_at<'a>(base: &'a Env, environments: &'a [Env], place: usize) -> &
     }
 }
 
-#[tactic(auto, using(crate::proofs::SetupLemmas::jobs_left, crate::proofs::SetupLemmas::environment_there))]
+#[tactic(auto, using(crate::proofs::OutputLemmas::jobs_left, crate::proofs::SetupLemmas::environment_there))]
 fn find<'a>(base: &'a Env, environments: &'a [Env], jobs: &[JobDef], name: &Name) -> &'a Env
     ensures { environments.now ≡ map (job_env base.now) jobs.now → result.now ≡ env_by_job base.now (job_named name.now jobs.now) }
 {

@@ -22,14 +22,18 @@ use crate::held::turn_event;
 use crate::keys::{EventKey, InstanceKey, Live, Slot};
 use crate::outputs::outputs;
 use crate::queue::{mark_handled, remove};
-use crate::reading::{environment, life, place, process, seen, spoilt};
+use crate::reading::{clock, environment, life, place, process, seen, spoilt};
 use crate::record::{Expression, Origin, Record, Wanted};
 use crate::setup::Setup;
 use crate::truth::{Verdict, verdict_of};
 use std::alloc::{AllocError, Global};
+use up_conf::Limit;
 use up_expr::Condition;
 use up_model::{Answer, Event, Failure, Goal, Input, JobDef, Output, Process, State};
 use up_text::{Env, Items, Name, Text};
+
+/// The signal that no process can pass over.
+const KILL: u8 = 9;
 
 fn count(records: &Vec<Record>) -> usize
     ensures { result ≡ length (chronicle records.now.items) }
@@ -204,6 +208,7 @@ pub struct StoringBook {
 impl StoringBook {
     ghost use Rattle.up_engine.specs.Stored.{Stored};
     ghost use Rattle.up_engine.specs.Records.{wanted_of};
+    ghost use Rattle.up_model.specs.Clock.{now as reading_of};
     ghost use Rattle.up_model.specs.Due.{telling};
     ghost use Rattle.std.specs.Prelude.{◌++◌};
     ghost use Rattle.up_model.specs.Seen as model_seen;
@@ -305,6 +310,13 @@ impl StoringBook {
         Ok(())
     }
 
+    // What the clock reads.
+    fn today(&self) -> u64
+        ensures { (config : Configuration) (c : Chronicle) → Stored self.now Stepping config c → result ≡ reading_of c }
+    {
+        clock::now(self.records.as_slice())
+    }
+
     // The place of the newest record.
     fn last(&self) -> usize
         ensures { (config : Configuration) (c : Chronicle) (input : InputValue) → Stored self.now Stepping config (entry.Given input ∷ c) → result ≡ length c }
@@ -338,6 +350,18 @@ impl Book for StoringBook {
 
     fn state_of(&self, key: InstanceKey) -> State {
         life::state_of(self.records.as_slice(), key.place)
+    }
+
+    fn now(&self) -> u64 {
+        clock::now(self.records.as_slice())
+    }
+
+    fn may_respawn(&self, key: InstanceKey, limit: Limit) -> bool {
+        clock::may_respawn(self.records.as_slice(), key.place, limit)
+    }
+
+    fn kill_moment(&self, key: InstanceKey) -> Option<u64> {
+        clock::kill_moment(self.records.as_slice(), key.place)
     }
 
     fn env(&self, key: InstanceKey) -> Option<&Env> {
@@ -470,6 +494,25 @@ impl Book for StoringBook {
         self.write(Record::Signalled {
             instance: key.place,
             signal,
+            by_timer: false,
+        })?;
+        Ok(())
+    }
+
+    fn kill(&mut self, key: InstanceKey) -> Result<(), AllocError> {
+        self.write(Record::Signalled {
+            instance: key.place,
+            signal: KILL,
+            by_timer: true,
+        })?;
+        Ok(())
+    }
+
+    fn respawn(&mut self, key: InstanceKey) -> Result<(), AllocError> {
+        let moment = self.today();
+        self.write(Record::Respawned {
+            instance: key.place,
+            moment,
         })?;
         Ok(())
     }

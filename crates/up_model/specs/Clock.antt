@@ -1,6 +1,6 @@
 -- The clock, and what depends on it: how often main may be respawned, and when it is killed (init(5), "respawn limit" and "kill
 -- timeout"). The clock reads milliseconds, limits and timeouts count seconds.
-use Rattle.std.specs.Prelude.{ℕ, zero, suc, ◌+◌, ◌-◌, ◌*◌, nat_le, nat_lt, Bool, true, false, ◌&&◌, ◌||◌, ◌==◌, List, [], ◌∷◌, ◌++◌, Option, None, Some, if◌then◌else◌}
+use Rattle.std.specs.Prelude.{ℕ, ◌+◌, ◌-◌, ◌*◌, nat_le, nat_lt, Bool, true, false, ◌&&◌, ◌||◌, ◌==◌, List, [], ◌∷◌, ◌++◌, Option, None, Some, if◌then◌else◌}
 use Rattle.up_conf.specs.declared.job.JobDef.{JobDef}
 use Rattle.up_stanza.specs.declared.limit.Limit.{Limit}
 use Rattle.up_stanza.specs.declared.process.Process.TheVariants.{Main}
@@ -10,6 +10,7 @@ use Rattle.up_model.specs.declared.state.State.TheVariants as state
 use Rattle.up_model.specs.Chronicle.{Chronicle, Entry, Given, Respawned, Entered, Signalled}
 use Rattle.up_model.specs.Instances.{Instance, instances_of}
 use Rattle.up_model.specs.Readings.{state_of, lives}
+use Rattle.up_model.specs.Tests.{entries_if}
 
 -- what the clock reads: the greatest reading so far, and 0 before the first
 abbrev pub now : Chronicle → ℕ
@@ -27,10 +28,14 @@ respawns instance today span (Respawned other moment ∷ c) =
     if (other == instance) && nat_lt (today - moment) span then respawns instance today span c + 1 else respawns instance today span c
 respawns instance today span (entry ∷ c) = respawns instance today span c
 
--- whether a limit allows one respawn more: a window that slides, and no limit if one of its numbers is 0
+-- a limit of which one number is 0 is none
+abbrev pub is_unlimited : Limit → Bool
+is_unlimited limit = (limit.count == 0) || (limit.interval == 0)
+
+-- whether a limit allows one respawn more: fewer than its count lie in the window that slides with the clock
 abbrev pub may_respawn : Limit → ℕ → Chronicle → Bool
 may_respawn limit instance c =
-    limit.count == 0 || limit.interval == 0 || nat_lt (respawns instance (now c) (milliseconds limit.interval) c) limit.count
+    is_unlimited limit || nat_lt (respawns instance (now c) (milliseconds limit.interval) c) limit.count
 
 -- what the clock read when main was sent its signal on entering the last state, until the timer has sent KILL
 abbrev pub kill_moment : ℕ → Chronicle → Option ℕ
@@ -49,16 +54,18 @@ abbrev pub is_killed : State → Bool
 is_killed state.Killed = true
 is_killed other = false
 
+-- whether an instance is in killed and its main process lives
+abbrev pub is_dying : ℕ → Chronicle → Bool
+is_dying instance c = is_killed (state_of instance c) && lives instance Main c
+
 -- whether the timer is to kill main of an instance
 abbrev pub kill_due : JobDef → ℕ → Chronicle → Bool
-kill_due job instance c =
-    is_killed (state_of instance c) && lives instance Main c && has_passed (kill_moment instance c) (now c) (milliseconds job.kill_timeout)
+kill_due job instance c = is_dying instance c && has_passed (kill_moment instance c) (now c) (milliseconds job.kill_timeout)
 
 -- the instances of a job of which that is so, in order
 abbrev pub overdue : JobDef → List Instance → Chronicle → List ℕ
 overdue job [] c = []
-overdue job (instance ∷ instances) c =
-    if kill_due job instance.place c then instance.place ∷ overdue job instances c else overdue job instances c
+overdue job (instance ∷ instances) c = entries_if (kill_due job instance.place c) (instance.place ∷ []) ++ overdue job instances c
 
 -- those of all jobs
 abbrev pub all_overdue : List JobDef → Chronicle → List ℕ

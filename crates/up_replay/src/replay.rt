@@ -49,7 +49,7 @@ fn run(alloc: Global, table: Table, inputs: Vec<Input>) -> Result<Items<Step>, A
     ensures { IfOk result (λ steps. steps ≡ answers (record { base = []; jobs = table }) [] inputs.items) }
 {
     let base = Env::new(alloc);
-    let mut engine = Engine::new(alloc, table, base);
+    let mut engine = Engine::new(alloc, table, base)?;
     let run = engine.run(inputs);
     drop(engine);
     match run {

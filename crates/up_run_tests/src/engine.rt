@@ -1,7 +1,9 @@
 //! The worked rows, step by step.
 mod base;
 mod chain;
+mod clock;
 mod expressions;
+mod instances;
 mod processes;
 mod restarts;
 mod tasks;
@@ -37,7 +39,7 @@ impl From<CompileError> for Untried {
     }
 }
 
-/// An input, as a row writes it. The processes are those of the job `a`, and main if none is named.
+/// An input, as a row writes it. The processes are those of the job `a`, of its instance without a name if none is named, and main.
 #[derive(Clone, Copy)]
 pub(crate) enum Given {
     Emit(&'static str),
@@ -49,6 +51,7 @@ pub(crate) enum Given {
     SpawnedAs(Process, u32),
     RefusedAs(Process),
     EndedAs(Process, How),
+    SpawnedIn(&'static str, u32),
     Start(u64),
     Clock(u64),
 }
@@ -193,9 +196,9 @@ static CASES: [Case; 5] = [
     },
 ];
 
-fn who(alloc: Global) -> Result<Who, Untried> {
+fn who(alloc: Global, instance: &str) -> Result<Who, Untried> {
     let job = Name::new(alloc, "a")?;
-    let instance = Text::from_str(alloc, "")?;
+    let instance = Text::from_str(alloc, instance)?;
     Ok(Who { job, instance })
 }
 
@@ -218,18 +221,18 @@ fn start(alloc: Global, id: u64) -> Result<Input, Untried> {
     }
 }
 
-fn spawned(alloc: Global, process: Process, pid: u32) -> Result<Input, Untried> {
-    let who = who(alloc)?;
+fn spawned(alloc: Global, instance: &str, process: Process, pid: u32) -> Result<Input, Untried> {
+    let who = who(alloc, instance)?;
     Ok(Input::Spawned { who, process, pid })
 }
 
 fn refused(alloc: Global, process: Process) -> Result<Input, Untried> {
-    let who = who(alloc)?;
+    let who = who(alloc, "")?;
     Ok(Input::Refused { who, process })
 }
 
 fn ended(alloc: Global, process: Process, how: How) -> Result<Input, Untried> {
-    let who = who(alloc)?;
+    let who = who(alloc, "")?;
     Ok(Input::Ended { who, process, how })
 }
 
@@ -238,10 +241,11 @@ fn input(alloc: Global, given: Given) -> Result<Input, Untried> {
         Given::Emit(name) => event(alloc, name, Env::new(alloc)),
         Given::EmitWith(name, key, value) => event(alloc, name, var(alloc, key, value)?),
         Given::Turn => Ok(Input::Turn),
-        Given::Spawned(pid) => spawned(alloc, Process::Main, pid),
+        Given::Spawned(pid) => spawned(alloc, "", Process::Main, pid),
         Given::Refused => refused(alloc, Process::Main),
         Given::Ended(how) => ended(alloc, Process::Main, how),
-        Given::SpawnedAs(process, pid) => spawned(alloc, process, pid),
+        Given::SpawnedAs(process, pid) => spawned(alloc, "", process, pid),
+        Given::SpawnedIn(instance, pid) => spawned(alloc, instance, Process::Main, pid),
         Given::RefusedAs(process) => refused(alloc, process),
         Given::EndedAs(process, how) => ended(alloc, process, how),
         Given::Start(id) => start(alloc, id),
@@ -375,7 +379,8 @@ pub(crate) fn engine(
 ) -> Result<Engine, Untried> {
     let table = table(alloc, files)?;
     let base = environment(alloc, pairs)?;
-    Ok(Engine::new(alloc, table, base))
+    let engine = Engine::new(alloc, table, base)?;
+    Ok(engine)
 }
 
 /// A step gives what its row says.

@@ -6,5 +6,5 @@ use Rattle.up_engine.proofs.events.export_all.Given as goal
 -- exporting what is left gives the whole
 abbrev pub invariant-loop-key : goal.invariant-loop-key
 invariant-loop-key l =
-    model.with_exports (option_map_or (λ env. env.now) l.environment.entry []) (drop l.key-index l.keys) l.vars
-    ≡ model.with_exports (option_map_or (λ env. env.now) l.environment.entry []) l.keys l.initial.vars
+    model.with_exports (option_map_or (λ env. env.now) l.environment []) (drop l.key-index l.keys) l.vars
+    ≡ model.with_exports (option_map_or (λ env. env.now) l.environment []) l.keys l.initial.vars

@@ -1,0 +1,41 @@
+-- What the timer kills.
+use Rattle.std.proofs.Common.{◌≡◌, ℕ, zero, suc, ◌+◌, ◌<◌, true, List, [], ◌∷◌, ◌++◌, length, take, drop, get_or, map, Option, None, Some, refl, sym, ◌∙◌, ap, arith, add-one, append_assoc, append-nil, drop-cons}
+use Rattle.up_conf.specs.declared.job.JobDef.{JobDef}
+use Rattle.up_engine.specs.declared.keys.InstanceKey.{InstanceKey}
+use Rattle.up_model.specs.Chronicle.{Chronicle, Entry, Signalled}
+use Rattle.up_model.specs.Clock.{kill, kill_due, overdue, all_overdue, killing}
+use Rattle.up_model.specs.Instances.{Instance, instances_of}
+use Rattle.up_model.specs.Tests.{entries_if}
+
+-- one more is sent KILL after the others
+pub killing_push : (places : List ℕ) (place : ℕ) → killing (places ++ place ∷ []) ≡ Signalled place kill true ∷ killing places
+killing_push [] place = refl
+killing_push (first ∷ places) place = ap (λ es. es ++ Signalled first kill true ∷ []) (killing_push places place)
+
+-- the place of an instance's key at an index, and those before it with it
+pub record InstanceThere (places : InstanceKey → Option ℕ) (key : InstanceKey) (found : List ℕ) (n : ℕ) : Type 0 where
+  pub place : ℕ
+  pub is : places key ≡ Some place
+  pub upto : take (suc n) found ≡ take n found ++ place ∷ []
+
+pub instance_there : (places : InstanceKey → Option ℕ) (keys : List InstanceKey) (found : List ℕ) (n : ℕ) (d : InstanceKey)
+    → map places keys ≡ map Some found → n < length keys → InstanceThere places (get_or keys n d) found n
+instance_there places [] found n d h within = absurd (omega arith)
+instance_there places (key ∷ keys) [] n d h within = absurd cc
+instance_there places (key ∷ keys) (first ∷ found) zero d h within = record { place = first; is = cc; upto = refl }
+instance_there places (key ∷ keys) (first ∷ found) (suc n) d h within =
+    let there = instance_there places keys found n d (cc) (omega arith) in
+    record { place = there.place; is = there.is; upto = ap (λ rest. first ∷ rest) there.upto }
+
+pub instances_length : (places : InstanceKey → Option ℕ) (keys : List InstanceKey) (found : List ℕ) → map places keys ≡ map Some found → length keys ≡ length found
+instances_length places [] [] h = refl
+instances_length places [] (first ∷ found) h = absurd cc
+instances_length places (key ∷ keys) [] h = absurd cc
+instances_length places (key ∷ keys) (first ∷ found) h = ap suc (instances_length places keys found (cc))
+
+-- those of the jobs from one on
+pub overdue_left : (jobs : List JobDef) (i : ℕ) (job : JobDef) (c : Chronicle) → i < length jobs → job ≡ get_or jobs i job
+    → all_overdue (drop i jobs) c ≡ overdue job (instances_of job.name c) c ++ all_overdue (drop (i + 1) jobs) c
+overdue_left jobs i job c within here =
+    let one : drop i jobs ≡ get_or jobs i job ∷ drop (i + 1) jobs = rw add-one (drop-cons jobs i job within) in
+    ap (λ left. all_overdue left c) one ∙ ap (λ j. overdue j (instances_of j.name c) c ++ all_overdue (drop (i + 1) jobs) c) (sym here)

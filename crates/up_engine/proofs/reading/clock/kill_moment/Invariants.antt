@@ -1,0 +1,10 @@
+use Rattle.std.proofs.Common.{◌≡◌, take}
+use Rattle.up_model.specs.Clock as clock
+use Rattle.up_engine.specs.Records.{chronicle}
+use Rattle.up_engine.proofs.reading.clock.kill_moment.Given as goal
+
+abbrev pub invariant-loop-next : goal.invariant-loop-next
+invariant-loop-next l = record {
+  today : l.today ≡ clock.now (chronicle (take l.next-index l.records));
+  found : l.found ≡ clock.kill_moment l.instance (chronicle (take l.next-index l.records));
+}

@@ -1,0 +1,142 @@
+//! Times in milliseconds, and what the timer does.
+ghost use Rattle.std.specs.Prelude.{◌≡◌, ℕ, List, ◌∷◌, ◌++◌, [], map, Some, IfOk, OnOk};
+ghost use Rattle.up_engine.specs.Keys.{Mode, Stepping, slot_at};
+ghost use Rattle.up_model.specs.Chronicle.{Chronicle};
+ghost use Rattle.up_model.specs.Clock as clock;
+ghost use Rattle.up_model.specs.Configuration.{Configuration};
+ghost use Rattle.up_model.specs.Instances.{Instance};
+ghost use Rattle.up_model.specs.Tests.{entries_if};
+
+use crate::book::Book;
+use crate::keys::{InstanceKey, Slot};
+use std::alloc::{AllocError, Global};
+use up_model::{JobDef, Process, State};
+
+/// So many seconds.
+pub(crate) fn milliseconds(seconds: u32) -> u64
+    ensures { result ≡ clock.milliseconds seconds }
+{
+    u64::from(seconds) * 1_000
+}
+
+fn is_killed(state: State) -> bool
+    ensures { result ≡ clock.is_killed state }
+{
+    matches!(state, State::Killed)
+}
+
+// Whether so much time has passed since a moment.
+fn has_passed(moment: Option<u64>, today: u64, span: u64) -> bool
+    ensures { result ≡ clock.has_passed moment today span }
+{
+    match moment {
+        Some(moment) => span <= today.saturating_sub(moment),
+        None => false,
+    }
+}
+
+fn is_overdue<B: Book>(book: &B, job: &JobDef, key: InstanceKey) -> bool
+    ensures { (mode : Mode) (config : Configuration) (c : Chronicle) (i : ℕ) → B.stands book.now mode config c
+        → B.instance_place book.now c key ≡ Some i → result ≡ clock.has_passed (clock.kill_moment i c) (clock.now c) (clock.milliseconds job.now.kill_timeout) }
+{
+    has_passed(
+        book.kill_moment(key),
+        book.now(),
+        milliseconds(job.kill_timeout),
+    )
+}
+
+fn is_in_killed<B: Book>(book: &B, key: InstanceKey) -> bool
+    ensures { (mode : Mode) (config : Configuration) (c : Chronicle) (i : ℕ) → B.stands book.now mode config c
+        → B.instance_place book.now c key ≡ Some i → result ≡ clock.is_dying i c }
+{
+    is_killed(book.state_of(key)) && book.lives(key, Process::Main)
+}
+
+// Whether the timer is to kill main of an instance.
+fn kill_due<B: Book>(book: &B, job: &JobDef, key: InstanceKey) -> bool
+    ensures { (mode : Mode) (config : Configuration) (c : Chronicle) (i : ℕ) → B.stands book.now mode config c
+        → B.instance_place book.now c key ≡ Some i → result ≡ clock.kill_due job.now i c }
+{
+    is_in_killed(book, key) && is_overdue(book, job, key)
+}
+
+// Adds an instance, if the timer is to kill its main process.
+fn add_if_due<B: Book>(
+    book: &B,
+    job: &JobDef,
+    key: InstanceKey,
+    keys: &mut Vec<InstanceKey>,
+) -> Result<(), AllocError>
+    ensures { OnOk result ((mode : Mode) (config : Configuration) (c : Chronicle) (i : ℕ) (done : List ℕ) → B.stands book.now mode config c
+        → B.instance_place book.now c key ≡ Some i → map (B.instance_place book.now c) keys.old.items ≡ map Some done
+        → map (B.instance_place book.now c) keys.new.items ≡ map Some (done ++ entries_if (clock.kill_due job.now i c) (i ∷ []))) }
+{
+    if kill_due(book, job, key) {
+        keys.push(key)?;
+    }
+    Ok(())
+}
+
+// Adds those of a job's instances whose main process the timer is to kill.
+fn add_overdue<B: Book>(
+    book: &B,
+    job: &JobDef,
+    slots: &[Slot],
+    keys: &mut Vec<InstanceKey>,
+) -> Result<(), AllocError>
+    ensures { OnOk result ((mode : Mode) (config : Configuration) (c : Chronicle) (its : List Instance) (done : List ℕ) → B.stands book.now mode config c
+        → map (slot_at (B.instance_place book.now c)) slots.now ≡ map Some its → map (B.instance_place book.now c) keys.old.items ≡ map Some done
+        → map (B.instance_place book.now c) keys.new.items ≡ map Some (done ++ clock.overdue job.now its c)) }
+{
+    for slot in slots {
+        add_if_due(book, job, slot.key, keys)?;
+    }
+    Ok(())
+}
+
+fn no_keys(alloc: Global) -> Vec<InstanceKey>
+    ensures { result.items ≡ [] }
+{
+    Vec::new(alloc)
+}
+
+fn all_overdue<B: Book>(
+    alloc: Global,
+    book: &B,
+    jobs: &[JobDef],
+) -> Result<Vec<InstanceKey>, AllocError>
+    ensures { IfOk result (λ keys. (mode : Mode) (config : Configuration) (c : Chronicle) → B.stands book.now mode config c
+        → map (B.instance_place book.now c) keys.items ≡ map Some (clock.all_overdue jobs.now c)) }
+{
+    let mut keys = no_keys(alloc);
+    for job in jobs {
+        add_overdue(book, job, book.instances(&job.name), &mut keys)?;
+    }
+    Ok(keys)
+}
+
+// Main of each of these is sent KILL.
+fn kill_each<B: Book>(book: &mut B, keys: &[InstanceKey]) -> Result<(), AllocError>
+    ensures { OnOk result ((config : Configuration) (c : Chronicle) (places : List ℕ) → B.stands book.old Stepping config c
+        → map (B.instance_place book.old c) keys.now ≡ map Some places → B.stands book.new Stepping config (clock.killing places ++ c)) }
+{
+    for key in keys {
+        book.kill(*key)?;
+    }
+    Ok(())
+}
+
+/// Kills each main process whose time is up.
+pub(crate) fn kill_overdue<B: Book>(
+    alloc: Global,
+    book: &mut B,
+    jobs: &[JobDef],
+) -> Result<(), AllocError>
+    ensures { OnOk result ((config : Configuration) (c : Chronicle) → B.stands book.old Stepping config c
+        → B.stands book.new Stepping config (clock.killing (clock.all_overdue jobs.now c) ++ c)) }
+{
+    let keys = all_overdue(alloc, book, jobs)?;
+    kill_each(book, keys.as_slice())?;
+    Ok(())
+}
