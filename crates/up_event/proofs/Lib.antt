@@ -1,0 +1,4 @@
+pub mod Lists
+pub mod Linking
+pub mod Steps
+pub mod Turns
