@@ -2,3 +2,4 @@ pub mod Lists
 pub mod Linking
 pub mod Steps
 pub mod Turns
+pub mod CallerLemmas

@@ -1,5 +1,5 @@
 -- Which nodes keep the list of live events.
-use Rattle.std.proofs.Common.{◌≡◌, ◌≢◌, ◌⊎◌, ℕ, suc, ◌+◌, ◌==◌, Bool, true, false, List, [], ◌∷◌, ◌++◌, length, Option, None, Some, IsSome, IfSome, option_map, cond, if◌then◌else◌, refl, sym, ◌∙◌, ap, subst, arith, inl, inr, eqb-true, eq-eqb, ne_eqb}
+use Rattle.std.proofs.Common.{◌≡◌, ◌≢◌, ◌⊎◌, ℕ, ◌==◌, Bool, true, false, List, [], ◌∷◌, ◌++◌, length, Option, None, Some, IsSome, IfSome, option_map, cond, if◌then◌else◌, refl, sym, ◌∙◌, ap, subst, inl, inr, eqb-true, eq-eqb, ne_eqb}
 use Rattle.std.proofs.lemmas.Bool.{eqb-false}
 use Rattle.std.proofs.lemmas.Bool.Decides.{eqb_tells}
 use Rattle.up_event.specs.declared.live.LiveEvent.{LiveEvent}
@@ -8,7 +8,7 @@ use Rattle.std.proofs.lemmas.Option.{IfSome_then}
 use Rattle.std.specs.Option.{option_or}
 use Rattle.slab.specs.Slab.{Slab, get, slab_len}
 use Rattle.up_event.specs.Links.{first, last_or, node_at, is_at, with_newer, with_older, with_live, end_without, walk, AreLinked}
-use Rattle.up_event.specs.LiveEvents.{is, named, AreDistinct, changed, without}
+use Rattle.up_event.specs.LiveEvents.{is, named, AreDistinct, changed}
 use Rattle.up_event.proofs.Lists.{absent_parts, absent_middle, is_other}
 use Rattle.up_model.specs.declared.event_id.EventId.{EventId}
 

@@ -1,5 +1,5 @@
 -- Laws of the list of live events.
-use Rattle.std.proofs.Common.{◌≡◌, ◌≢◌, ℕ, ◌+◌, ◌==◌, Bool, true, false, List, [], ◌∷◌, ◌++◌, length, Option, None, Some, suc, cond, refl, sym, ◌∙◌, ap, subst, arith, inl, inr, eqb-true, eq-eqb, ne_eqb, add-one}
+use Rattle.std.proofs.Common.{◌≡◌, Bool, true, false, List, [], ◌∷◌, ◌++◌, length, None, Some, suc, cond, refl, sym, ◌∙◌, ap, eqb-true, eq-eqb, ne_eqb}
 use Rattle.up_event.specs.declared.live.LiveEvent.{LiveEvent}
 use Rattle.up_event.specs.LiveEvents.{is, named, AreDistinct, changed, without}
 use Rattle.up_model.specs.declared.event_id.EventId.{EventId}

@@ -1,14 +1,13 @@
 -- What each call leaves of the queue.
-use Rattle.std.proofs.Common.{◌≡◌, ◌≢◌, ℕ, suc, ◌+◌, ◌==◌, Bool, true, false, List, [], ◌∷◌, ◌++◌, length, length-append, Option, None, Some, IsSome, IsSomeAnd, IfSome, option_map, cond, if◌then◌else◌, refl, sym, ◌∙◌, ap, subst, arith, eq-eqb}
-use Rattle.std.proofs.lemmas.Bool.{eqb-false}
+use Rattle.std.proofs.Common.{◌≡◌, ℕ, ◌+◌, ◌==◌, List, [], ◌∷◌, ◌++◌, length-append, Option, None, Some, IsSome, IsSomeAnd, IfSome, option_map, if◌then◌else◌, refl, sym, ◌∙◌, ap, subst, arith}
 use Rattle.std.proofs.lemmas.Option.{IfSome_then}
 use Rattle.std.specs.Option.{option_or}
 use Rattle.slab.specs.Slab.{Slab, get, slab_len, ContainsKey}
 use Rattle.up_event.specs.declared.live.LiveEvent.{LiveEvent}
 use Rattle.up_event.specs.declared.nodes.Node.{Node}
-use Rattle.up_event.specs.Links.{first, last_or, node_at, is_at, with_newer, with_older, with_live, end_without, walk, AreLinked, Changes, IsNeighbour}
-use Rattle.up_event.specs.LiveEvents.{is, named, AreDistinct, changed, without}
-use Rattle.up_event.proofs.Lists.{Split, split, distinct_push, distinct_changed, distinct_without, length_changed}
+use Rattle.up_event.specs.Links.{first, last_or, node_at, with_newer, with_older, with_live, end_without, walk, AreLinked, Changes, IsNeighbour}
+use Rattle.up_event.specs.LiveEvents.{named, changed, without}
+use Rattle.up_event.proofs.Lists.{split, distinct_push, distinct_changed, distinct_without, length_changed}
 use Rattle.up_event.proofs.Linking.{id_at, live_at, last_is_named, are_others, node_push, node_changed, node_without, first_changed, last_changed, first_push, last_append, node_middle, first_without, last_without, walk_linked, linked}
 use Rattle.up_model.specs.declared.event_id.EventId.{EventId}
 

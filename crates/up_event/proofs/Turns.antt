@@ -1,15 +1,19 @@
 -- The search for the next turn.
-use Rattle.std.proofs.Common.{◌≡◌, ◌≢◌, ◌⊎◌, ℕ, ◌+◌, ◌<◌, ◌==◌, Bool, true, false, List, [], ◌∷◌, length, Option, None, Some, is_some, cond, if◌then◌else◌, refl, sym, ◌∙◌, ap, subst, arith, inl, inr, eqb-true, eq-eqb, ne_eqb}
+use Rattle.std.proofs.Common.{◌≡◌, ℕ, ◌<◌, ◌==◌, Bool, true, false, List, [], ◌∷◌, length, Option, None, Some, IsSomeAnd, is_some, not, cond, if◌then◌else◌, refl, sym, ◌∙◌, ap, subst, arith, inl, inr, eqb-true, eq-eqb, ne_eqb}
 use Rattle.std.proofs.lemmas.Bool.{eqb-false}
 use Rattle.std.proofs.lemmas.Bool.Decides.{eqb_tells}
+use Rattle.std.proofs.lemmas.Option.{same_Some}
 use Rattle.slab.specs.Slab.{Slab, get, ContainsKey}
 use Rattle.up_event.specs.declared.live.LiveEvent.{LiveEvent}
+use Rattle.up_event.specs.declared.live.TurnKind.{TurnKind}
+use Rattle.up_event.specs.declared.live.TurnKind.TheVariants.{Handle, Finish}
 use Rattle.up_event.specs.declared.nodes.Node.{Node}
-use Rattle.up_event.specs.Links.{first, node_at, AreLinked}
-use Rattle.up_event.specs.LiveEvents.{named, AreDistinct, next_turn, or_later, turn_of}
+use Rattle.up_event.specs.Links.{first, node_at}
+use Rattle.up_event.specs.LiveEvents.{named, AreDistinct, next_turn, or_later, turn_of, IsLive, MayFinish}
 use Rattle.up_event.proofs.Lists.{absent_parts}
 use Rattle.up_event.proofs.Linking.{id_at}
 use Rattle.up_event.proofs.Steps.{Rests, opened}
+use Rattle.up_model.specs.declared.event_id.EventId.{EventId}
 
 -- the events from a key on
 abbrev from_key : ℕ → List LiveEvent → List LiveEvent
@@ -105,3 +109,49 @@ stays lives at node s none = record { starts = s.starts; turn = sym (rw none at 
 
 pub whole : (lives : List LiveEvent) → Left lives (first lives)
 whole lives = record { starts = ap first (from_first lives); turn = ap next_turn (from_first lives) }
+
+-- the event of the turn that is due
+pub record Due (lives : List LiveEvent) (turn : EventId × TurnKind) : Type 0 where
+  pub live : LiveEvent
+  pub named : named turn.0 lives ≡ Some live
+  pub due : turn_of live ≡ Some turn
+
+id_of_turn : (live : LiveEvent) (turn : EventId × TurnKind) → turn_of live ≡ Some turn → live.id ≡ turn.0
+id_of_turn live turn h = by_case live.handled (live.holds == 0) h
+  where
+    by_case : (handled unheld : Bool) → cond (not handled) (Some (live.id, Handle)) (cond unheld (Some (live.id, Finish)) None) ≡ Some turn → live.id ≡ turn.0
+    by_case false unheld h = ap (λ (t : EventId × TurnKind). t.0) (same_Some (live.id, Handle) turn h)
+    by_case true true h = ap (λ (t : EventId × TurnKind). t.0) (same_Some (live.id, Finish) turn h)
+    by_case true false h = absurd cc
+
+pub due : (lives : List LiveEvent) (turn : EventId × TurnKind) → AreDistinct lives → next_turn lives ≡ Some turn → Due lives turn
+due [] turn d h = absurd cc
+due (x ∷ xs) turn d h = by_case (turn_of x) refl h (due xs turn d.1)
+  where
+    by_case : (now : Option (EventId × TurnKind)) → turn_of x ≡ now → or_later now (next_turn xs) ≡ Some turn → (next_turn xs ≡ Some turn → Due xs turn) → Due (x ∷ xs) turn
+    by_case None e h ih =
+        let later = ih h in
+        elim (eqb_tells x.id.key turn.0.key) [
+          | inl same ↦ absurd (cc (ap (λ key. named (id_at key) xs) same.1, d.0, later.named))
+          | inr other ↦ record { live = later.live; named = rw other.0 later.named; due = later.due }
+        ]
+    by_case (Some now) e h ih =
+        let same : x.id ≡ turn.0 = id_of_turn x turn (e ∙ h) in
+        record { live = x; named = rw (eq-eqb x.id.key turn.0.key (ap (λ (id : EventId). id.key) same)) refl; due = e ∙ h }
+
+finishes : (live : LiveEvent) (turn : EventId × TurnKind) → turn_of live ≡ Some turn → turn.1 ≡ Finish → (live.handled ≡ true) × (live.holds ≡ 0)
+finishes live turn h finish = by_case live.handled (live.holds == 0) refl refl h
+  where
+    by_case : (handled unheld : Bool) → live.handled ≡ handled → (live.holds == 0) ≡ unheld
+        → cond (not handled) (Some (live.id, Handle)) (cond unheld (Some (live.id, Finish)) None) ≡ Some turn → (live.handled ≡ true) × (live.holds ≡ 0)
+    by_case false unheld a b h = absurd (cc (ap (λ (t : EventId × TurnKind). t.1) (same_Some (live.id, Handle) turn h), finish))
+    by_case true true a b h = (a, eqb-true live.holds 0 b)
+    by_case true false a b h = absurd cc
+
+pub is_live : (lives : List LiveEvent) (turn : EventId × TurnKind) → AreDistinct lives → next_turn lives ≡ Some turn → IsLive turn.0 lives
+is_live lives turn d h = ap is_some (due lives turn d h).named
+
+pub may_finish : (lives : List LiveEvent) (turn : EventId × TurnKind) → AreDistinct lives → next_turn lives ≡ Some turn → turn.1 ≡ Finish → MayFinish turn.0 lives
+may_finish lives turn d h finish =
+    let it = due lives turn d h in
+    subst (λ (o : Option LiveEvent). IsSomeAnd o (λ live. (live.handled ≡ true) × (live.holds ≡ 0))) (sym it.named) (finishes it.live turn it.due finish)

@@ -1,5 +1,5 @@
 //! The queue of live events.
-ghost use Rattle.std.specs.Prelude.{◌≡◌, ◌++◌, ◌∷◌, [], length, option_map, IfOk, IsSomeAnd, OnErr, Some, None};
+ghost use Rattle.std.specs.Prelude.{◌≡◌, ◌++◌, ◌∷◌, [], length, option_map, IfOk, IfSome, IsSomeAnd, OnErr, Some, None};
 ghost use Rattle.up_event.specs.LiveEvents.{named, AreDistinct, queued, changed, without, handled, held, released, outcome_of, next_turn, IsLive, IsHeld, MayBeHeld, MayFinish};
 
 use crate::live::{self, Finished, TurnKind};
@@ -75,6 +75,8 @@ impl Events {
     /// What the next turn does: it takes up or finishes the oldest event that isn't both taken up and held.
     pub fn next_turn(&self) -> Option<(EventId, TurnKind)>
         ensures turn { result ≡ next_turn self.now }
+        ensures live { IfSome result (λ turn. IsLive turn.0 self.now) }
+        ensures finishes { IfSome result (λ turn. turn.1 ≡ TurnKind.Finish → MayFinish turn.0 self.now) }
         ensures distinct { AreDistinct self.now }
     {
         let mut at = self.oldest;

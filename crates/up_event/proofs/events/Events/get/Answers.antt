@@ -1,6 +1,6 @@
 use Rattle.std.proofs.Common.{◌≡◌, refl, sym, subst, Option, IsSomeAnd}
 use Rattle.up_event.specs.declared.live.LiveEvent.{LiveEvent}
-use Rattle.up_event.proofs.Steps.{Rests, has_key, found}
+use Rattle.up_event.proofs.Steps.{has_key, found}
 use Rattle.up_event.proofs.events.Events.get.Goals as goal
 
 pub index-requires : goal.index-requires

@@ -1,6 +1,4 @@
 use Rattle.std.proofs.Common.{length}
-use Rattle.slab.specs.Slab.{slab_len}
-use Rattle.up_event.specs.Links.{walk}
 use Rattle.up_event.proofs.Turns.{Left, from}
 use Rattle.up_event.proofs.events.Events.next_turn.Given as goal
 
