@@ -28,6 +28,12 @@ absent_push id (first ∷ lives) live absent other =
     let parts = absent_parts id first lives absent in
     absent_cons id first (lives ++ live ∷ []) parts.0 (absent_push id lives live parts.1 other)
 
+pub present_push : (lives : List LiveEvent) (live : LiveEvent) → named live.id lives ≡ None → named live.id (lives ++ live ∷ []) ≡ Some live
+present_push [] live absent = rw (eq-eqb live.id.key live.id.key refl) refl
+present_push (first ∷ lives) live absent =
+    let parts = absent_parts live.id first lives absent in
+    rw parts.0 (present_push lives live parts.1)
+
 pub distinct_push : (lives : List LiveEvent) (live : LiveEvent) → AreDistinct lives → named live.id lives ≡ None
     → AreDistinct (lives ++ live ∷ [])
 distinct_push [] live d absent = (refl, tt)

@@ -63,6 +63,7 @@ impl Events {
     pub fn push(&mut self, event: Event, waiter: Option<u64>) -> Result<EventId, AllocError>
         ensures pushed { IfOk result (λ id. self.new ≡ self.old ++ queued id event waiter ∷ []) }
         ensures fresh { IfOk result (λ id. named id self.old ≡ None) }
+        ensures live { IfOk result (λ id. named id self.new ≡ Some (queued id event waiter)) }
         ensures refused { OnErr result (self.new ≡ self.old) }
         ensures distinct { AreDistinct self.new }
     {

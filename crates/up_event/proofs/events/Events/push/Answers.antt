@@ -1,6 +1,8 @@
-use Rattle.std.proofs.Common.{◌++◌, ◌∷◌, [], Some}
+use Rattle.std.proofs.Common.{◌≡◌, List, ◌++◌, ◌∷◌, [], Some, sym, subst}
 use Rattle.std.proofs.lemmas.Result.{err_from_is_err_and}
-use Rattle.up_event.specs.LiveEvents.{queued}
+use Rattle.up_event.specs.declared.live.LiveEvent.{LiveEvent}
+use Rattle.up_event.specs.LiveEvents.{named, queued}
+use Rattle.up_event.proofs.Lists.{present_push}
 use Rattle.up_event.proofs.Steps.{Rests, newest_has_key, vacant, pushes, refuses}
 use Rattle.up_event.proofs.events.Events.push.Goals as goal
 
@@ -35,6 +37,11 @@ returns-clause-pushed c = (pushed c).view_is
 
 pub returns-clause-fresh : goal.returns-clause-fresh
 returns-clause-fresh c = vacant _ _ _ _ c.in_ok-id.id (record { invariant = c.self.invariant; view_is = c.self.view_is }) c.in_ok-id.ensures.was_vacant
+
+pub returns-clause-live : goal.returns-clause-live
+returns-clause-live c =
+    let live = queued c.in_ok-id.id c.args.event c.args.waiter in
+    subst (λ (lives : List LiveEvent). named live.id lives ≡ Some live) (sym (pushed c).view_is) (present_push c.args.self.now live (returns-clause-fresh c))
 
 pub returns-clause-distinct : goal.returns-clause-distinct
 returns-clause-distinct c = (pushed c).invariant.distinct
