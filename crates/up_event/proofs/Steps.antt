@@ -1,11 +1,11 @@
 -- What each call leaves of the queue.
-use Rattle.std.proofs.Common.{◌≡◌, ℕ, ◌+◌, ◌==◌, List, [], ◌∷◌, ◌++◌, length-append, Option, None, Some, IsSome, IsSomeAnd, IfSome, option_map, if◌then◌else◌, refl, sym, ◌∙◌, ap, subst, arith}
+use Rattle.std.proofs.Common.{◌≡◌, ℕ, ◌+◌, List, [], ◌∷◌, ◌++◌, length-append, Option, None, Some, IsSome, IsSomeAnd, IfSome, option_map, refl, sym, ◌∙◌, ap, subst, arith}
 use Rattle.std.proofs.lemmas.Option.{IfSome_then}
 use Rattle.std.specs.Option.{option_or}
 use Rattle.slab.specs.Slab.{Slab, get, slab_len, ContainsKey}
 use Rattle.up_event.specs.declared.live.LiveEvent.{LiveEvent}
 use Rattle.up_event.specs.declared.nodes.Node.{Node}
-use Rattle.up_event.specs.Links.{first, last_or, node_at, with_newer, with_older, with_live, end_without, walk, AreLinked, Changes, IsNeighbour}
+use Rattle.up_event.specs.Links.{after_push, after_removal, first, last_or, node_at, with_live, end_without, walk, AreLinked, Changes, IsNeighbour}
 use Rattle.up_event.specs.LiveEvents.{named, changed, without}
 use Rattle.up_event.proofs.Lists.{split, distinct_push, distinct_changed, distinct_without, length_changed}
 use Rattle.up_event.proofs.Linking.{id_at, live_at, last_is_named, are_others, node_push, node_changed, node_without, first_changed, last_changed, first_push, last_append, node_middle, first_without, last_without, walk_linked, linked}
@@ -86,7 +86,7 @@ newest_has_key nodes oldest newest lives r =
 
 -- after a push
 pub pushes : (old new : Slab Node) (oldest newest : Option ℕ) (lives : List LiveEvent) (live : LiveEvent) → Rests old oldest newest lives → get old live.id.key ≡ None
-    → ((key : ℕ) → get new key ≡ (if live.id.key == key then Some (record { live = live; older = newest; newer = None }) else with_newer newest (Some live.id.key) key (get old key)))
+    → ((key : ℕ) → get new key ≡ after_push newest live key (get old key))
     → slab_len new ≡ slab_len old + 1
     → Rests new (option_or oldest (Some live.id.key)) (Some live.id.key) (lives ++ live ∷ [])
 pushes old new oldest newest lives live r free nodes count =
@@ -135,7 +135,7 @@ may_take nodes oldest newest lives key r h = by_case (get nodes key) refl h
 -- after one is taken out
 without_middle : (old new : Slab Node) (oldest newest older newer : Option ℕ) (before : List LiveEvent) (live : LiveEvent) (after : List LiveEvent) (key : ℕ)
     → AreLinked old oldest newest (before ++ live ∷ after) → key ≡ live.id.key → older ≡ last_or None before → newer ≡ first after
-    → ((other : ℕ) → get new other ≡ with_older newer older other (with_newer older newer other (if key == other then None else get old other)))
+    → ((other : ℕ) → get new other ≡ after_removal key older newer other (get old other))
     → slab_len new + 1 ≡ slab_len old
     → Rests new (end_without older oldest newer) (end_without newer newest older) (before ++ after)
 without_middle old new oldest newest older newer before live after key l same is_older is_newer nodes count =
@@ -148,7 +148,7 @@ without_middle old new oldest newest older newer before live after key l same is
     })
 
 pub takes : (old new : Slab Node) (oldest newest : Option ℕ) (lives : List LiveEvent) (id : EventId) (node : Node) → Rests old oldest newest lives → get old id.key ≡ Some node
-    → ((key : ℕ) → get new key ≡ with_older node.newer node.older key (with_newer node.older node.newer key (if id.key == key then None else get old key)))
+    → ((key : ℕ) → get new key ≡ after_removal id.key node.older node.newer key (get old key))
     → slab_len new + 1 ≡ slab_len old
     → Rests new (end_without node.older oldest node.newer) (end_without node.newer newest node.older) (without id lives)
 takes old new oldest newest lives id node r at nodes count =

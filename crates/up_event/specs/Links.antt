@@ -37,7 +37,18 @@ with_older at older key node = if is_at at key then option_map {T = Node} (λ n.
 abbrev pub with_live : ℕ → (LiveEvent → LiveEvent) → ℕ → Option Node → Option Node
 with_live at change key node = if at == key then option_map {T = Node} (λ n. record n { live = change n.live }) node else node
 
--- an end of the queue after the event beyond which nobody or somebody stood was taken out
+-- the node at a key after a push of this event, which comes after the newest one
+abbrev pub after_push : (newest : Option ℕ) → LiveEvent → ℕ → Option Node → Option Node
+after_push newest live key node =
+    if live.id.key == key then Some (record { live = live; older = newest; newer = None })
+    else with_newer newest (Some live.id.key) key node
+
+-- the node at a key after the one at `at` was taken out, of which these were the neighbours
+abbrev pub after_removal : (at : ℕ) → (older newer : Option ℕ) → ℕ → Option Node → Option Node
+after_removal at older newer key node =
+    with_older newer older key (with_newer older newer key (if at == key then None else node))
+
+-- an end of the queue after an event was taken out, by who stood beyond that event and on its other side
 abbrev pub end_without : (beyond at inner : Option ℕ) → Option ℕ
 end_without None at inner = inner
 end_without (Some key) at inner = at

@@ -1,4 +1,4 @@
-//! The live events, by age: which of them a turn takes up or finishes next, who holds them, and who waits for them.
+//! The live events, by age: which of them a turn takes up or finishes next, how often each is held, and which client waits for it.
 #![tactic(auto)]
 
 mod events;

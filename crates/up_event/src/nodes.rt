@@ -1,7 +1,7 @@
 //! The nodes in which the live events are kept: each is linked to the next older and the next newer one.
-ghost use Rattle.std.specs.Prelude.{◌≡◌, ℕ, ◌+◌, ◌<◌, ◌^◌, ◌==◌, if◌then◌else◌, IfSome, IsSomeAnd, IfOk, OnOk, OnErr, Some, None};
+ghost use Rattle.std.specs.Prelude.{◌≡◌, ℕ, ◌+◌, ◌<◌, ◌^◌, IfSome, IsSomeAnd, IfOk, OnOk, OnErr, Some};
 ghost use Rattle.slab.specs.Slab.{get, slab_len, ContainsKey};
-ghost use Rattle.up_event.specs.Links.{Changes, IsNeighbour, end_without, with_live, with_newer, with_older};
+ghost use Rattle.up_event.specs.Links.{Changes, IsNeighbour, after_push, after_removal, end_without, with_live, with_newer, with_older};
 ghost use Rattle.up_event.specs.LiveEvents.{handled, held, queued, released};
 
 use crate::live::{self, LiveEvent};
@@ -72,7 +72,8 @@ pub(crate) fn append(
 ) -> Result<EventId, AllocError>
     requires { IfSome newest (ContainsKey nodes.old) }
     ensures was_vacant { IfOk result (λ id. get nodes.old id.key ≡ None) }
-    ensures nodes { IfOk result (λ id. (key : ℕ) → get nodes.new key ≡ (if id.key == key then Some (record { live = queued id event waiter; older = newest; newer = None }) else with_newer newest (Some id.key) key (get nodes.old key))) }
+    ensures nodes { IfOk result (λ id. (key : ℕ) →
+        get nodes.new key ≡ after_push newest (queued id event waiter) key (get nodes.old key)) }
     ensures count { OnOk result (slab_len nodes.new ≡ slab_len nodes.old + 1) }
     ensures refused { OnErr result (nodes.new ≡ record nodes.old { capacity = nodes.new.capacity }) }
 {
@@ -95,10 +96,11 @@ pub(crate) fn append(
 
 /// Takes an event out from between its neighbours.
 pub(crate) fn take_out(nodes: &mut Slab<Node>, key: usize) -> Node
-    requires { IsSomeAnd (get nodes.old key) (λ node. IsNeighbour nodes.old key node.older × IsNeighbour nodes.old key node.newer) }
+    requires { IsSomeAnd (get nodes.old key)
+        (λ node. IsNeighbour nodes.old key node.older × IsNeighbour nodes.old key node.newer) }
     ensures taken { get nodes.old key ≡ Some result }
-    ensures nodes { (other : ℕ) → get nodes.new other
-        ≡ with_older result.newer result.older other (with_newer result.older result.newer other (if key == other then None else get nodes.old other)) }
+    ensures nodes { (other : ℕ) →
+        get nodes.new other ≡ after_removal key result.older result.newer other (get nodes.old other) }
     ensures count { slab_len nodes.new + 1 ≡ slab_len nodes.old }
 {
     let node = nodes.remove(key);
@@ -107,7 +109,7 @@ pub(crate) fn take_out(nodes: &mut Slab<Node>, key: usize) -> Node
     node
 }
 
-/// An end of the queue after an event was taken out, by who stood beyond that event on the side of this end, and on the other side.
+/// An end of the queue after an event was taken out: the event on its inner side, if none stood beyond it.
 pub(crate) fn end_without(
     beyond: Option<usize>,
     end: Option<usize>,
