@@ -1,7 +1,7 @@
 use Rattle.std.proofs.Common.{◌≡◌, sym, subst, Some}
 use Rattle.up_event.specs.LiveEvents.{AreDistinct, next_turn}
 use Rattle.up_event.proofs.Steps.{Rests}
-use Rattle.up_event.proofs.Turns.{Step, there, step, stays, is_live, may_finish}
+use Rattle.up_event.proofs.Turns.{there, step, stays, is_live, may_finish}
 use Rattle.up_event.proofs.events.Events.next_turn.Goals as goal
 
 pub index-node-requires : goal.index-node-requires
@@ -26,11 +26,13 @@ returns-in-Some-turn_of-clause-live c = is_live c.args.self.now c.in-Some-turn_o
 pub returns-in-Some-turn_of-clause-finishes : goal.returns-in-Some-turn_of-clause-finishes
 returns-in-Some-turn_of-clause-finishes c = may_finish c.args.self.now c.in-Some-turn_of.turn (distinct c) (found c)
 
-passes : (c : goal.After-at-in-Some-1) → Step c.args.self.now c.loop-at.at c.index-node.result.now
-passes c = step _ _ _ _ c.loop-at.at c.in-Some.key c.index-node.result.now (record { invariant = c.self.invariant; view_is = c.self.view_is }) c.loop-at.invariant c.in-Some.is c.index-node.ensures
-
 pub loop-at-smaller : goal.loop-at-smaller
-loop-at-smaller c = (passes c).fewer
+loop-at-smaller c =
+    let r : Rests c.self.inside.nodes c.self.inside.oldest c.self.inside.newest c.args.self.now = record { invariant = c.self.invariant; view_is = c.self.view_is } in
+    (step _ _ _ _ c.loop-at.at c.in-Some.key c.index-node.result.now r c.loop-at.invariant c.in-Some.is c.index-node.ensures).fewer
 
 pub loop-at-preserved : goal.loop-at-preserved
-loop-at-preserved c = stays _ _ _ (passes c) (sym c.in_default-turn_of.ensures)
+loop-at-preserved c =
+    let r : Rests c.self.inside.nodes c.self.inside.oldest c.self.inside.newest c.args.self.now = record { invariant = c.self.invariant; view_is = c.self.view_is } in
+    let passed = step _ _ _ _ c.loop-at.at c.in-Some.key c.index-node.result.now r c.loop-at.invariant c.in-Some.is c.index-node.ensures in
+    stays _ _ _ passed (sym c.in_default-turn_of.ensures)
