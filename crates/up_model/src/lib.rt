@@ -4,6 +4,7 @@
 #![tactic(auto)]
 
 pub mod event;
+pub mod event_id;
 pub mod failure;
 pub mod input;
 pub mod laws;
@@ -17,6 +18,7 @@ pub mod step;
 pub mod who;
 
 pub use event::Event;
+pub use event_id::EventId;
 pub use failure::{Cause, End, Failure, Verdict};
 pub use input::Input;
 pub use life::{Entry, JobEvent};

@@ -1,0 +1,2 @@
+pub mod LiveEvents
+pub mod Links

@@ -1,0 +1,133 @@
+//! The queue of live events.
+ghost use Rattle.std.specs.Prelude.{◌≡◌, ◌++◌, ◌∷◌, [], length, option_map, IfOk, IfSome, IsSomeAnd, OnErr, Some, None};
+ghost use Rattle.up_event.specs.LiveEvents.{named, AreDistinct, queued, changed, without, handled, held, released, outcome_of, next_turn, IsLive, IsHeld, MayBeHeld, MayFinish};
+
+use crate::live::{self, Finished, TurnKind};
+use crate::nodes::{self, Node};
+use slab::Slab;
+use std::alloc::{AllocError, Global};
+use std::marker::Model;
+use up_model::{Event, EventId};
+
+/// The live events, which contracts see as a list of them, the oldest first.
+#[derive(Drop)]
+pub struct Events {
+    nodes: Slab<Node>,
+    oldest: Option<usize>,
+    newest: Option<usize>,
+}
+
+impl Model for Events {
+    ghost use Rattle.std.specs.Prelude.{List};
+    ghost use Rattle.slab.specs.Slab.{slab_len};
+    ghost use Rattle.up_event.specs.declared.live.LiveEvent.{LiveEvent};
+
+    ghost Value = { List LiveEvent };
+
+    ghost use Rattle.up_event.specs.Links.{AreLinked, walk};
+
+    ghost view = { λ e. walk e.nodes (slab_len e.nodes) e.oldest };
+
+    ghost invariant = { λ e. AreLinked e.nodes e.oldest e.newest (walk e.nodes (slab_len e.nodes) e.oldest) };
+}
+
+impl Events {
+    /// No event.
+    pub fn new(alloc: Global) -> Self
+        ensures { result ≡ [] }
+    {
+        Events {
+            nodes: Slab::new(alloc),
+            oldest: None,
+            newest: None,
+        }
+    }
+
+    /// How many events live.
+    pub fn len(&self) -> usize
+        ensures count { result ≡ length self.now }
+        ensures distinct { AreDistinct self.now }
+    {
+        self.nodes.len()
+    }
+
+    /// The event that an id names.
+    pub fn get(&self, id: EventId) -> &Event
+        requires { IsLive id self.now }
+        ensures { IsSomeAnd (named id self.now) (λ live. live.event ≡ result.now) }
+    {
+        &self.nodes[id.key].live.event
+    }
+
+    /// Adds an event, which is the newest, with the client that waits for it. Its id may be that of an event that finished.
+    pub fn push(&mut self, event: Event, waiter: Option<u64>) -> Result<EventId, AllocError>
+        ensures pushed { IfOk result (λ id. self.new ≡ self.old ++ queued id event waiter ∷ []) }
+        ensures fresh { IfOk result (λ id. named id self.old ≡ None) }
+        ensures live { IfOk result (λ id. named id self.new ≡ Some (queued id event waiter)) }
+        ensures refused { OnErr result (self.new ≡ self.old) }
+        ensures distinct { AreDistinct self.new }
+    {
+        let id = nodes::append(&mut self.nodes, self.newest, event, waiter)?;
+        self.oldest = self.oldest.or(Some(id.key));
+        self.newest = Some(id.key);
+        Ok(id)
+    }
+
+    /// What the next turn does: it takes up or finishes the oldest event that isn't both taken up and held.
+    pub fn next_turn(&self) -> Option<(EventId, TurnKind)>
+        ensures turn { result ≡ next_turn self.now }
+        ensures live { IfSome result (λ turn. IsLive turn.0 self.now) }
+        ensures finishes { IfSome result (λ turn. turn.1 ≡ TurnKind.Finish → MayFinish turn.0 self.now) }
+        ensures distinct { AreDistinct self.now }
+    {
+        let mut at = self.oldest;
+        while let Some(key) = at {
+            let node = &self.nodes[key];
+            if let Some(turn) = live::turn_of(&node.live) {
+                return Some(turn);
+            }
+            at = node.newer;
+        }
+        None
+    }
+
+    /// Notes that a turn took an event up.
+    pub fn handled(&mut self, id: EventId)
+        requires { IsLive id self.old }
+        ensures changed { self.new ≡ changed id handled self.old }
+        ensures distinct { AreDistinct self.new }
+    {
+        nodes::handle(&mut self.nodes, id.key);
+    }
+
+    /// Holds an event once more: until all its holds are released, it can't finish.
+    pub fn hold(&mut self, id: EventId)
+        requires { MayBeHeld id self.old }
+        ensures changed { self.new ≡ changed id held self.old }
+        ensures distinct { AreDistinct self.new }
+    {
+        nodes::hold(&mut self.nodes, id.key);
+    }
+
+    /// Releases one hold of an event.
+    pub fn release(&mut self, id: EventId, failed: bool)
+        requires { IsHeld id self.old }
+        ensures changed { self.new ≡ changed id (released failed) self.old }
+        ensures distinct { AreDistinct self.new }
+    {
+        nodes::release(&mut self.nodes, id.key, failed);
+    }
+
+    /// Ends an event's life.
+    pub fn finish(&mut self, id: EventId) -> Finished
+        requires { MayFinish id self.old }
+        ensures outcome { option_map outcome_of (named id self.old) ≡ Some result }
+        ensures gone { self.new ≡ without id self.old }
+        ensures distinct { AreDistinct self.new }
+    {
+        let node = nodes::take_out(&mut self.nodes, id.key);
+        self.oldest = nodes::end_without(node.older, self.oldest, node.newer);
+        self.newest = nodes::end_without(node.newer, self.newest, node.older);
+        live::outcome_of(node.live)
+    }
+}

@@ -1,0 +1,77 @@
+//! A live event, and what becomes of it.
+ghost use Rattle.std.specs.Prelude.{◌≡◌};
+ghost use Rattle.up_event.specs.LiveEvents.{queued, turn_of, outcome_of};
+
+use up_model::{Event, EventId};
+
+/// A live event, as contracts see it.
+#[derive(Drop)]
+pub struct LiveEvent {
+    pub id: EventId,
+    pub event: Event,
+    /// Whether a turn took it up.
+    pub handled: bool,
+    /// How often it is held.
+    pub holds: u128,
+    /// Whether one of its holds failed.
+    pub spoilt: bool,
+    /// The client that waits for it.
+    pub waiter: Option<u64>,
+}
+
+/// What a turn does.
+#[derive(Clone, Copy, Debug, PartialEq, Eq)]
+pub enum TurnKind {
+    /// It takes an event up.
+    Handle,
+    /// It finishes an event.
+    Finish,
+}
+
+/// What is left of an event that finished.
+#[derive(Drop)]
+pub struct Finished {
+    pub event: Event,
+    /// Whether one of its holds failed.
+    pub spoilt: bool,
+    /// The client that waits for it.
+    pub waiter: Option<u64>,
+}
+
+/// An event that nobody took up or held yet.
+pub(crate) fn queued(id: EventId, event: Event, waiter: Option<u64>) -> LiveEvent
+    ensures { result ≡ queued id event waiter }
+{
+    LiveEvent {
+        id,
+        event,
+        handled: false,
+        holds: 0,
+        spoilt: false,
+        waiter,
+    }
+}
+
+/// The turn that is due for an event, if any.
+pub(crate) fn turn_of(live: &LiveEvent) -> Option<(EventId, TurnKind)>
+    ensures { result ≡ turn_of live.now }
+{
+    if !live.handled {
+        Some((live.id, TurnKind::Handle))
+    } else if live.holds == 0 {
+        Some((live.id, TurnKind::Finish))
+    } else {
+        None
+    }
+}
+
+/// What is left of an event.
+pub(crate) fn outcome_of(live: LiveEvent) -> Finished
+    ensures { result ≡ outcome_of live }
+{
+    Finished {
+        event: live.event,
+        spoilt: live.spoilt,
+        waiter: live.waiter,
+    }
+}
