@@ -11,4 +11,5 @@ pub mod Payloads
 pub mod Pending
 pub mod Reading
 pub mod Sizes
+pub mod Sound
 pub mod Texts

@@ -36,6 +36,11 @@ abbrev pub with_word : Bytes → Variables → Option Variables
 with_word word vars =
     if nat_lt (position_or_len is_equals word) (length word) then with_binding (before_first is_equals word) (after_first is_equals word) vars else None
 
+-- whether a word is KEY=VALUE
+abbrev pub is_binding : Bytes → Bool
+is_binding word =
+    nat_lt (position_or_len is_equals word) (length word) && (is_key (before_first is_equals word) && is_value (after_first is_equals word))
+
 -- variables with those of words, each set in turn
 abbrev pub with_words : Variables → List Bytes → Option Variables
 with_words vars [] = Some vars
