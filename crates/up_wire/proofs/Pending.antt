@@ -1,19 +1,18 @@
 -- An answer that isn't whole yet: the text of its full frames, joined, and the bytes after them.
-use Rattle.std.proofs.Common.{◌≡◌, ◌<◌, ◌≤◌, ◌+◌, ◌*◌, ◌/◌, ℕ, true, false, List, [], ◌∷◌, ◌++◌, length, take, drop, min, Option, Some, None, refl, sym, ap, subst, ◌∙◌, Result, Ok, Err, IsErrAnd, length-append, length-take, arith}
-use Rattle.std.specs.List.{flat_map, AllByRecursion}
-use Rattle.std.specs.Str.{is_utf8}
+use Rattle.std.proofs.Common.{◌≡◌, ◌≤◌, ◌*◌, ◌/◌, ℕ, true, false, List, [], ◌∷◌, ◌++◌, length, take, Some, None, refl, sym, ap, subst, ◌∙◌, Result, Ok, Err, IsErrAnd, length-take, arith}
+use Rattle.std.specs.List.{flat_map}
 use Rattle.std.proofs.lemmas.List.{append_assoc, take-append-le}
 use Rattle.up_model.specs.declared.request.Answer.{Answer}
 use Rattle.up_wire.specs.declared.answers.Ahead.{Ahead}
 use Rattle.up_wire.specs.declared.fault.FrameFault.{FrameFault}
-use Rattle.up_wire.specs.declared.fault.FrameFault.TheVariants.{TooLarge, Malformed}
+use Rattle.up_wire.specs.declared.fault.FrameFault.TheVariants.{TooLarge}
 use Rattle.up_wire.specs.declared.fault.WireFault.{WireFault}
 use Rattle.up_wire.specs.declared.fault.WireFault.TheVariants.{FrameTooLarge, BadFrame, BadWord, Memory}
 use Rattle.up_wire.specs.Frames.{Bytes, frame, max_payload, is_partial, IsFaulty}
 use Rattle.up_wire.specs.Fault.{wire_fault}
 use Rattle.up_wire.specs.Feeding.{FeedValue, frame_fault, refused}
 use Rattle.up_wire.specs.Fields.{Refuses}
-use Rattle.up_wire.specs.Answers.{max_chunk, chunk_frames, answer_frames, is_chunk, last_in, Opens, IsFaultyAnswer, AnswerFrames, AnswerBegins, AnswersStop, LiesAhead, AreFull, pending}
+use Rattle.up_wire.specs.Answers.{max_chunk, chunk_frames, answer_frames, is_chunk, last_in, Opens, AnswerFrames, AnswerBegins, AnswersStop, LiesAhead, AreFull, pending}
 use Rattle.up_wire.proofs.Joining.{closes}
 
 -- what came first stays first

@@ -1,5 +1,5 @@
-use Rattle.std.proofs.Common.{◌≡◌, ◌≤◌, ◌∷◌, ◌++◌, ◌∙◌, sym, ap, refl, drop, length, arith}
-use Rattle.up_wire.specs.Answers.{Opens, AreFull}
+use Rattle.std.proofs.Common.{◌∙◌, sym, ap, refl, drop, length, arith}
+use Rattle.up_wire.specs.Answers.{Opens}
 use Rattle.up_wire.proofs.Pending.{open_answers, first_answers, first_stops, begins_stops, end_begins, pending_nothing}
 use Rattle.up_wire.proofs.answer_feed.take_answers.Goals as goal
 

@@ -1,4 +1,4 @@
-use Rattle.std.proofs.Common.{◌≡◌, ◌++◌, refl}
+use Rattle.std.proofs.Common.{◌++◌, refl}
 use Rattle.up_wire.specs.Frames.{frame}
 use Rattle.up_wire.specs.Answers.{Opens}
 use Rattle.up_wire.proofs.Joining.{closes, opens_nothing}

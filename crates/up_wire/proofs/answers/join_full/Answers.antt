@@ -1,5 +1,4 @@
-use Rattle.std.proofs.Common.{◌≡◌, ◌<◌, ◌+◌, ◌++◌, ◌∙◌, ap, length, length-append, arith}
-use Rattle.byteorder.specs.Endian.{big_bytes}
+use Rattle.std.proofs.Common.{◌<◌, ap, length, length-append, arith}
 use Rattle.up_wire.specs.Frames.{frame}
 use Rattle.up_wire.proofs.Joining.{opens_more}
 use Rattle.up_wire.proofs.Pending.{front_more, ahead_fault}
