@@ -19,3 +19,8 @@ IsSent (Err Memory) wanted = Unit {0}
 -- the bytes begin with the frames of an answer
 abbrev pub BeginsWith : Bytes → Answer → Type 0
 BeginsWith bytes answer = (rest : Bytes) × (is_utf8 answer.text ≡ true) × (bytes ≡ answer_frames answer ++ rest)
+
+-- what was made of bytes: an answer that they begin with, or none yet, and these bytes are left
+abbrev pub Hears : Bytes → Bytes → Option Answer → Type 0
+Hears bytes left None = bytes ≡ left
+Hears bytes left (Some answer) = BeginsWith bytes answer

@@ -1,6 +1,7 @@
 //! One question and its answer over a stream.
-ghost use Rattle.std.specs.Prelude.{◌≡◌, [], ◌∷◌, drop, length, IfOk, IfSome, MatchOption, if◌then◌else◌};
-ghost use Rattle.up_client.specs.Asking.{BeginsWith};
+ghost use Rattle.std.specs.Prelude.{◌≡◌, ◌++◌, [], ◌∷◌, None, Some, drop, IfOk, MatchOption};
+ghost use Rattle.up_wire.specs.Frames.{Bytes};
+ghost use Rattle.up_client.specs.Asking.{BeginsWith, Hears};
 
 use std::alloc::Global;
 use std::io;
@@ -40,7 +41,9 @@ fn first_of(mut answers: Vec<Answer>) -> Option<Answer>
 }
 
 // The first answer that is whole after these bytes.
-fn take(feed: &mut AnswerFeed, piece: &[u8]) -> Result<Option<Answer>, TalkFault> {
+fn take(feed: &mut AnswerFeed, piece: &[u8]) -> Result<Option<Answer>, TalkFault>
+    ensures { feed.old.fault ≡ None → IfOk result (λ found. (feed.new.fault ≡ None) × Hears (feed.old.rest ++ piece.now) feed.new.rest found) }
+{
     match feed.feed(piece) {
         Ok(answers) => Ok(first_of(answers)),
         Err(WireFault::Memory) => Err(TalkFault::Memory),
@@ -53,7 +56,9 @@ fn read_once<S: Read>(
     stream: &mut S,
     buffer: &mut [u8],
     feed: &mut AnswerFeed,
-) -> Result<Option<Answer>, TalkFault> {
+) -> Result<Option<Answer>, TalkFault>
+    ensures { (bytes : Bytes) → S.remaining stream.old ≡ Some bytes → feed.old.fault ≡ None → IfOk result (λ found. (left : Bytes) × (S.remaining stream.new ≡ Some left) × (feed.new.fault ≡ None) × Hears (feed.old.rest ++ bytes) (feed.new.rest ++ left) found) }
+{
     match stream.read(buffer) {
         Ok(0) => Err(TalkFault::Lost),
         Ok(count) => take(feed, &buffer[..count]),
@@ -68,13 +73,15 @@ fn read_once<S: Read>(
 }
 
 /// Reads the first answer, with at most `MAX_READS` reads.
-pub fn hear<S: Read>(alloc: Global, stream: &mut S) -> Result<Answer, TalkFault> {
+pub fn hear<S: Read>(alloc: Global, stream: &mut S) -> Result<Answer, TalkFault>
+    ensures { (bytes : Bytes) → S.remaining stream.old ≡ Some bytes → IfOk result (BeginsWith bytes) }
+{
     let mut feed = AnswerFeed::new(alloc);
     let mut buffer = match Vec::from_elem(alloc, 0u8, READ_SIZE) {
         Ok(buffer) => buffer,
         Err(_) => return Err(TalkFault::Memory),
     };
-    for _ in 0..MAX_READS {
+    for i in 0..MAX_READS {
         if let Some(answer) = read_once(stream, &mut buffer, &mut feed)? {
             return Ok(answer);
         }
