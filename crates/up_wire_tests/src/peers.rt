@@ -8,13 +8,13 @@ use std::os::fd::OwnedFd;
 use std::os::unix::net::UnixStream;
 use std::process::Command;
 use std::test::Fail;
-use up_client::talk::{MAX_READS, TalkFault, talk};
 use up_client::run;
+use up_client::talk::{MAX_READS, TalkFault, talk};
 use up_model::Answer;
 
 struct Peer {
     name: &'static str,
-    // What the shell runs; its input and its output are the socket.
+    // What the shell runs once it has read the request; its input and its output are the socket.
     line: &'static str,
     // Whether the answer is a good one, and its text.
     answer: Result<(bool, &'static str), TalkFault>,
@@ -32,8 +32,8 @@ const PEERS: &'static [Peer] = &[
         answer: Ok((false, "failed")),
     },
     Peer {
-        name: "a peer that reads the request and answers late",
-        line: "head -c 11 >/dev/null; sleep 0.3; printf '\\000\\000\\000\\003\\000ok'",
+        name: "a peer that answers late",
+        line: "sleep 0.3; printf '\\000\\000\\000\\003\\000ok'",
         answer: Ok((true, "ok")),
     },
     Peer {
@@ -68,13 +68,15 @@ const PEERS: &'static [Peer] = &[
     },
 ];
 
-// Starts a shell whose input and output are the other end, and returns ours.
+// Starts a shell whose input and output are the other end, and returns ours. It reads the request first: a peer that ends before the
+// client has written is one that can't be written to.
 fn peer_of(rt: &HostRuntime, line: &str) -> Result<UnixStream, Fail> {
+    let line = format!(in rt.alloc(); "head -c 11 >/dev/null; {line}")?;
     let (ours, theirs) = UnixStream::pair(rt)?;
     let input = theirs.try_clone()?;
     let mut command = Command::new(rt.alloc(), "/bin/sh")?;
     command.arg("-c")?;
-    command.arg(line)?;
+    command.arg(line.as_str())?;
     command.stdin(OwnedFd::from(input));
     command.stdout(OwnedFd::from(theirs));
     let _child = command.spawn(rt)?;
@@ -172,7 +174,14 @@ const LINES: &'static [Line] = &[
         status: 2,
     },
     Line {
-        words: &["initctl", "--socket", "/no/such/socket", "status", "--no-wait", "a"],
+        words: &[
+            "initctl",
+            "--socket",
+            "/no/such/socket",
+            "status",
+            "--no-wait",
+            "a",
+        ],
         status: 2,
     },
     Line {
@@ -197,7 +206,11 @@ fn strings(alloc: Global, words: &[&str]) -> Result<Vec<String>, Fail> {
 fn lines_that_reach_no_peer_end_by_their_status(rt: HostRuntime) -> Result<(), Fail> {
     for line in LINES {
         let words = strings(rt.alloc(), line.words)?;
-        same("a line", (line.words.len(), run(&rt, &words)), (line.words.len(), line.status))?;
+        same(
+            "a line",
+            (line.words.len(), run(&rt, &words)),
+            (line.words.len(), line.status),
+        )?;
     }
     Ok(())
 }

@@ -132,9 +132,7 @@ fn text_of(alloc: Global, case: &Case) -> Result<Text, Fail> {
         job: Name::new(alloc, case.job)?,
         instance: Text::from_str(alloc, case.instance)?,
     };
-    Ok(status_text(
-        alloc, &who, case.goal, case.state, case.main, case.own,
-    )?)
+    Ok(status_text(alloc, &who, case.goal, case.state, case.main, case.own)?)
 }
 
 #[test]

@@ -39,16 +39,18 @@ fn bad_word(rt: HostRuntime) -> Result<(), Fail> {
     let request = request_in(rt.alloc(), &["initctl", "emit", "go", "X=1"])?;
     assert!(rt; is_go(&request));
     for words in BAD {
-        same("a bad word", refusal(rt.alloc(), words), Some(WireFault::BadWord))?;
+        same(
+            "a bad word",
+            refusal(rt.alloc(), words),
+            Some(WireFault::BadWord),
+        )?;
     }
     Ok(())
 }
 
 // Whether the later value of a key is there, at its earlier place, and a value is cut at the first `=`.
 fn has_later_values(request: &Request) -> bool {
-    request.vars.len() == 2
-        && request.vars.at(0) == ("X", "3=4")
-        && request.vars.at(1) == ("Y", "")
+    request.vars.len() == 2 && request.vars.at(0) == ("X", "3=4") && request.vars.at(1) == ("Y", "")
 }
 
 #[test]
