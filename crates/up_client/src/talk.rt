@@ -1,4 +1,8 @@
 //! One question and its answer over a stream.
+ghost use Rattle.std.specs.Prelude.{◌≡◌, ◌++◌, [], ◌∷◌, None, Some, drop, IfOk, MatchOption};
+ghost use Rattle.up_wire.specs.Frames.{Bytes};
+ghost use Rattle.up_client.specs.Asking.{BeginsWith, Hears};
+
 use std::alloc::Global;
 use std::io;
 use std::io::{ErrorKind, Read, Write};
@@ -7,6 +11,8 @@ use up_wire::{AnswerFeed, WireFault};
 
 /// How many times the client reads before it gives up.
 pub const MAX_READS: u32 = 1_048_576;
+
+const READ_SIZE: usize = 65_536;
 
 /// Why there is no answer.
 #[derive(Clone, Copy, Debug, PartialEq, Eq)]
@@ -24,28 +30,63 @@ fn fault_of(error: &io::Error) -> TalkFault {
     }
 }
 
+// The first of some answers.
+fn first_of(mut answers: Vec<Answer>) -> Option<Answer>
+    ensures { MatchOption result (answers.items ≡ []) (λ first. answers.items ≡ first ∷ drop 1 answers.items) }
+{
+    if answers.is_empty() {
+        return None;
+    }
+    Some(answers.remove(0))
+}
+
+// The first answer that is whole after these bytes.
+fn take(feed: &mut AnswerFeed, piece: &[u8]) -> Result<Option<Answer>, TalkFault>
+    ensures { feed.old.fault ≡ None → IfOk result (λ found. (feed.new.fault ≡ None) × Hears (feed.old.rest ++ piece.now) feed.new.rest found) }
+{
+    match feed.feed(piece) {
+        Ok(answers) => Ok(first_of(answers)),
+        Err(WireFault::Memory) => Err(TalkFault::Memory),
+        Err(_) => Err(TalkFault::Lost),
+    }
+}
+
 // The first answer that is whole after one more read.
 fn read_once<S: Read>(
     stream: &mut S,
     buffer: &mut [u8],
     feed: &mut AnswerFeed,
-) -> Result<Option<Answer>, TalkFault> {
-    let count = match stream.read(buffer) {
-        Ok(0) => return Err(TalkFault::Lost),
-        Ok(count) => count,
+) -> Result<Option<Answer>, TalkFault>
+    ensures { (bytes : Bytes) → S.remaining stream.old ≡ Some bytes → feed.old.fault ≡ None → IfOk result (λ found. (left : Bytes) × (S.remaining stream.new ≡ Some left) × (feed.new.fault ≡ None) × Hears (feed.old.rest ++ bytes) (feed.new.rest ++ left) found) }
+{
+    match stream.read(buffer) {
+        Ok(0) => Err(TalkFault::Lost),
+        Ok(count) => take(feed, &buffer[..count]),
         Err(error) => {
-            return if error.kind() == ErrorKind::Interrupted {
+            if error.kind() == ErrorKind::Interrupted {
                 Ok(None)
             } else {
                 Err(fault_of(&error))
-            };
+            }
         }
-    };
-    match feed.feed(&buffer[..count]) {
-        Ok(mut answers) => Ok(answers.pop()),
-        Err(WireFault::Memory) => Err(TalkFault::Memory),
-        Err(_) => Err(TalkFault::Lost),
     }
+}
+
+/// Reads the first answer, with at most `MAX_READS` reads.
+pub fn hear<S: Read>(alloc: Global, stream: &mut S) -> Result<Answer, TalkFault>
+    ensures { (bytes : Bytes) → S.remaining stream.old ≡ Some bytes → IfOk result (BeginsWith bytes) }
+{
+    let mut feed = AnswerFeed::new(alloc);
+    let mut buffer = match Vec::from_elem(alloc, 0u8, READ_SIZE) {
+        Ok(buffer) => buffer,
+        Err(_) => return Err(TalkFault::Memory),
+    };
+    for i in 0..MAX_READS {
+        if let Some(answer) = read_once(stream, &mut buffer, &mut feed)? {
+            return Ok(answer);
+        }
+    }
+    Err(TalkFault::Lost)
 }
 
 /// Writes a request's frame and reads the answer.
@@ -57,15 +98,5 @@ pub fn talk<S: Read + Write>(
     if let Err(error) = stream.write_all(frame) {
         return Err(fault_of(&error));
     }
-    let mut feed = AnswerFeed::new(alloc);
-    let mut buffer = match Vec::from_elem(alloc, 0u8, 65536) {
-        Ok(buffer) => buffer,
-        Err(_) => return Err(TalkFault::Memory),
-    };
-    for _ in 0..MAX_READS {
-        if let Some(answer) = read_once(stream, &mut buffer, &mut feed)? {
-            return Ok(answer);
-        }
-    }
-    Err(TalkFault::Lost)
+    hear(alloc, stream)
 }

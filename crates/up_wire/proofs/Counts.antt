@@ -1,5 +1,5 @@
 -- Variables that are read one after another.
-use Rattle.std.proofs.Common.{◌≡◌, ◌+◌, ◌-◌, ◌<◌, ℕ, suc, List, Option, option_and_then, ap, arith}
+use Rattle.std.proofs.Common.{◌≡◌, ◌+◌, ◌-◌, ◌<◌, ℕ, suc, option_and_then, ap, arith}
 use Rattle.up_wire.specs.Frames.{Bytes, Variables}
 use Rattle.up_wire.specs.Fields.{variable_at, variables_at}
 

@@ -1,15 +1,15 @@
 -- Bytes are frames in one way.
-use Rattle.std.proofs.Common.{◌≡◌, ◌<◌, ◌≤◌, ◌+◌, ◌||◌, ◌&&◌, nat_le, nat_lt, ℕ, Bool, true, false, List, [], ◌∷◌, ◌++◌, length, take, drop, Option, Some, refl, sym, ap, ◌∙◌, length-append, arith}
+use Rattle.std.proofs.Common.{◌≡◌, ◌<◌, ◌≤◌, ◌+◌, ◌||◌, ◌&&◌, nat_le, nat_lt, ℕ, true, List, [], ◌∷◌, ◌++◌, length, take, drop, refl, sym, ap, ◌∙◌, length-append, arith}
 use Rattle.std.specs.List.{flat_map, AllByRecursion}
 use Rattle.std.proofs.lemmas.Bool.Decides.{nat_tests}
 use Rattle.std.proofs.lemmas.Grind.{flat_map-append}
 use Rattle.std.proofs.lemmas.List.{append_assoc, take_at, drop_at}
 use Rattle.std.proofs.lemmas.Option.{cond_some}
-use Rattle.byteorder.specs.Endian.{big_bytes, big_number}
+use Rattle.byteorder.specs.Endian.{big_number}
 use Rattle.up_model.specs.Requests.{RequestValue}
 use Rattle.up_wire.specs.declared.fault.FrameFault.{FrameFault}
 use Rattle.up_wire.specs.declared.fault.FrameFault.TheVariants.{TooLarge, Malformed}
-use Rattle.up_wire.specs.Frames.{Bytes, max_payload, frame, payload_of, request_frame, IsSendable, IsFaulty, Frames, Breaks, is_partial}
+use Rattle.up_wire.specs.Frames.{Bytes, max_payload, frame, payload_of, request_frame, IsSendable, IsFaulty, Frames, is_partial}
 use Rattle.up_wire.specs.Fields.{request_in}
 use Rattle.up_wire.proofs.Numbers.{length_again}
 use Rattle.up_wire.proofs.Payloads.{request_again}

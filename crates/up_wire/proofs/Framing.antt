@@ -1,19 +1,19 @@
 -- The first frame of some bytes, and the frames of all of them.
-use Rattle.std.proofs.Common.{◌≡◌, ◌<◌, ◌≤◌, ◌+◌, ℕ, zero, suc, Bool, true, false, List, [], ◌∷◌, ◌++◌, length, get_or, Option, Some, None, refl, sym, ap, ◌∙◌, subst, length-append, arith}
+use Rattle.std.proofs.Common.{◌≡◌, ◌<◌, ◌≤◌, ◌+◌, ℕ, suc, List, [], ◌∷◌, ◌++◌, length, get_or, Some, None, sym, ap, ◌∙◌, subst, length-append, arith}
 use Rattle.std.specs.List.{flat_map, AllByRecursion}
 use Rattle.std.proofs.lemmas.Option.{none-some}
 use Rattle.std.proofs.lemmas.List.{append_assoc, append-nil}
 use Rattle.std.proofs.lemmas.Grind.{flat_map-append}
 use Rattle.byteorder.specs.Endian.{big_bytes}
 use Rattle.up_model.specs.Requests.{RequestValue}
-use Rattle.up_wire.specs.declared.fault.FrameFault.TheVariants.{TooLarge, Malformed}
-use Rattle.up_wire.specs.Frames.{Bytes, max_payload, frame, payload_of, request_frame, IsSendable, IsFaulty, Frames, Breaks, is_partial}
+use Rattle.up_wire.specs.declared.fault.FrameFault.TheVariants.{Malformed}
+use Rattle.up_wire.specs.Frames.{Bytes, max_payload, frame, payload_of, request_frame, IsSendable, IsFaulty}
 use Rattle.up_wire.specs.Octets.{AreOctets}
 use Rattle.up_wire.specs.Fields.{request_in, Refuses}
 use Rattle.up_wire.specs.Feeding.{Begins, Stops}
 use Rattle.up_wire.specs.declared.fault.WireFault.{WireFault}
 use Rattle.up_wire.specs.declared.fault.WireFault.TheVariants.{FrameTooLarge, BadFrame, BadWord, Memory}
-use Rattle.up_wire.proofs.Payloads.{IsPayload, request_takes, request_again}
+use Rattle.up_wire.proofs.Payloads.{request_takes, request_again}
 
 pub octets_from : (bytes : Bytes) → ((i : ℕ) → get_or bytes i 0 < 256) → AreOctets bytes
 octets_from [] each = tt

@@ -2,10 +2,14 @@ pub mod Bindings
 pub mod Chunks
 pub mod Counts
 pub mod Cuts
+pub mod Cutting
+pub mod Flags
 pub mod Framing
 pub mod Joining
 pub mod Numbers
 pub mod Payloads
+pub mod Pending
 pub mod Reading
 pub mod Sizes
+pub mod Sound
 pub mod Texts

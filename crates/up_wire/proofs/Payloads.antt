@@ -1,5 +1,5 @@
 -- A payload has a request exactly if it is that request's.
-use Rattle.std.proofs.Common.{◌≡◌, ◌==◌, ◌<◌, ◌≤◌, ◌+◌, ◌&&◌, ℕ, Bool, true, false, List, [], ◌∷◌, ◌++◌, length, Option, Some, None, cond, option_and_then, refl, sym, ap, ◌∙◌, length-append, arith}
+use Rattle.std.proofs.Common.{◌≡◌, ◌==◌, ◌<◌, ◌≤◌, ◌+◌, ℕ, Bool, true, false, [], ◌∷◌, ◌++◌, length, Option, Some, cond, option_and_then, refl, sym, ap, ◌∙◌, length-append, arith}
 use Rattle.std.specs.List.{list_all, flat_map}
 use Rattle.std.specs.Str.{is_utf8}
 use Rattle.std.proofs.lemmas.Bool.{and_parts}
@@ -11,12 +11,12 @@ use Rattle.up_text.specs.Bindings.{are_bindings}
 use Rattle.up_model.specs.Requests.{RequestValue, is_request}
 use Rattle.up_model.specs.declared.request.Command.{Command}
 use Rattle.up_model.specs.declared.request.Command.TheVariants as command
-use Rattle.up_wire.specs.Frames.{Bytes, Variables, max_payload, short_text, variable, command_number, wait_number, payload_of, are_texts, IsSendable}
+use Rattle.up_wire.specs.Frames.{Bytes, Variables, short_text, variable, command_number, wait_number, payload_of, are_texts, IsSendable}
 use Rattle.up_wire.specs.Octets.{AreOctets}
-use Rattle.up_wire.specs.Fields.{byte_at, number_at, text_at, variables_at, command_of, wait_of, if_request, about_at, request_in}
+use Rattle.up_wire.specs.Fields.{number_at, text_at, variables_at, command_of, wait_of, if_request, about_at, request_in}
 use Rattle.up_wire.proofs.Numbers.{Takes, number_takes, number_again}
-use Rattle.up_wire.proofs.Texts.{IsText, text_takes, text_again}
-use Rattle.up_wire.proofs.Reading.{is_text_pair, takes_two, AreVariables, variables_take, variables_again}
+use Rattle.up_wire.proofs.Texts.{text_takes, text_again}
+use Rattle.up_wire.proofs.Reading.{is_text_pair, takes_two, variables_take, variables_again}
 
 -- a byte is that of a command, or else the others decide
 next : (n : ℕ) (its : Command) (others : Option Command) (byte : ℕ) (found : Command) → command_number its ≡ n → cond (byte == n) (Some its) others ≡ Some found → (others ≡ Some found → byte ≡ command_number found) → byte ≡ command_number found

@@ -1,5 +1,5 @@
 -- How long the variables of a request are.
-use Rattle.std.proofs.Common.{◌≡◌, ◌<◌, ◌≤◌, ◌+◌, ℕ, zero, suc, Bool, true, false, List, [], ◌∷◌, ◌++◌, length, take, drop, nat_le, ◌-◌, add-one, Option, Some, None, slice_get, refl, sym, ap, ◌∙◌, length-append, arith}
+use Rattle.std.proofs.Common.{◌≡◌, ◌<◌, ◌≤◌, ◌+◌, ℕ, zero, suc, false, [], ◌∷◌, ◌++◌, length, take, drop, nat_le, ◌-◌, add-one, Some, slice_get, refl, sym, ap, ◌∙◌, length-append, arith}
 use Rattle.std.specs.List.{flat_map}
 use Rattle.std.specs.Cmp.{both_ways}
 use Rattle.std.proofs.lemmas.Bool.Decides.{nat_tests}

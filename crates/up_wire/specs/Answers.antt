@@ -1,9 +1,11 @@
 -- The bytes by which a client is answered: frames whose payload is a byte and text. Full frames say that more follows, and the last one
 -- whether the request succeeded.
-use Rattle.std.specs.Prelude.{◌≡◌, ◌≤◌, ◌+◌, ◌-◌, ◌*◌, ◌/◌, ◌==◌, ◌&&◌, ◌||◌, not, ℕ, zero, suc, Bool, true, false, List, [], ◌∷◌, ◌++◌, length, take, drop, Option, None, Some, option_map, if◌then◌else◌}
+use Rattle.std.specs.Prelude.{◌≡◌, ◌≤◌, ◌-◌, ◌*◌, ◌/◌, ◌==◌, ◌&&◌, ◌||◌, not, ℕ, zero, suc, Bool, true, false, List, [], ◌∷◌, ◌++◌, length, take, drop, Option, None, Some, option_map, Result, Ok, Err, if◌then◌else◌}
 use Rattle.std.specs.List.{flat_map, AllByRecursion}
 use Rattle.std.specs.Str.{is_utf8}
 use Rattle.up_model.specs.declared.request.Answer.{Answer}
+use Rattle.up_wire.specs.declared.answers.Ahead.{Ahead}
+use Rattle.up_wire.specs.declared.answers.Ahead.TheVariants.{Open, Last}
 use Rattle.up_wire.specs.declared.fault.FrameFault.{FrameFault}
 use Rattle.up_wire.specs.declared.fault.FrameFault.TheVariants.{TooLarge, Malformed}
 use Rattle.up_wire.specs.declared.fault.WireFault.{WireFault}
@@ -104,3 +106,24 @@ AnswersStop FrameTooLarge bytes = AnswersBreak TooLarge bytes
 AnswersStop BadFrame bytes = AnswersBreak Malformed bytes
 AnswersStop BadWord bytes = ⊥
 AnswersStop Memory bytes = Unit {0}
+
+-- what comes after the full frames of a text: no whole frame, or one that isn't full
+abbrev pub LiesAhead : Bytes → Bytes → Result Ahead WireFault → Type 0
+LiesAhead bytes text (Ok (Open rest)) = Opens bytes text rest.now × (is_partial rest.now ≡ true)
+LiesAhead bytes text (Ok (Last payload after)) =
+    Opens bytes text (frame payload.now ++ after.now) × (length payload.now ≤ max_payload) × (is_chunk payload.now ≡ false)
+LiesAhead bytes text (Err fault) = AnswerBegins fault bytes
+
+-- where no frame was taken, the bytes are what is left
+abbrev pub KeepsWhole : Bytes → Result Ahead WireFault → Type 0
+KeepsWhole bytes (Ok (Open rest)) = length bytes ≤ length rest.now → rest.now ≡ bytes
+KeepsWhole bytes (Ok (Last payload after)) = Unit {0}
+KeepsWhole bytes (Err fault) = Unit {0}
+
+-- the text of full frames, as long as so many of them have
+abbrev pub AreFull : Bytes → Type 0
+AreFull text = length text ≡ max_chunk * (length text / max_chunk)
+
+-- the full frames of a text, and then these bytes
+unfoldable pub pending : Bytes → Bytes → Bytes
+pending text rest = chunk_frames (length text / max_chunk) text ++ rest

@@ -1,6 +1,5 @@
 -- What a feed makes of the bytes that it is given.
-use Rattle.std.specs.Prelude.{◌≡◌, ◌++◌, List, [], Option, None, Some}
-use Rattle.up_model.specs.Requests.{RequestValue}
+use Rattle.std.specs.Prelude.{[], Option, None, Some}
 use Rattle.up_wire.specs.declared.fault.FrameFault.{FrameFault}
 use Rattle.up_wire.specs.declared.fault.FrameFault.TheVariants.{TooLarge, Malformed}
 use Rattle.up_wire.specs.declared.fault.WireFault.{WireFault}

@@ -1,5 +1,5 @@
 -- The fields of a payload, read one after another: a field and the bytes after it.
-use Rattle.std.specs.Prelude.{◌≡◌, ◌==◌, ◌&&◌, ℕ, zero, suc, Bool, true, false, nat_le, List, [], ◌∷◌, length, take, drop, Option, None, Some, option_and_then, is_none, if◌then◌else◌, Result, Ok, Err}
+use Rattle.std.specs.Prelude.{◌≡◌, ◌==◌, ◌&&◌, ℕ, zero, suc, Bool, true, false, nat_le, [], ◌∷◌, length, take, drop, Option, None, Some, option_and_then, is_none, if◌then◌else◌, Result, Ok, Err}
 use Rattle.std.specs.Str.{is_utf8}
 use Rattle.byteorder.specs.Endian.{big_number}
 use Rattle.up_text.specs.Names.{is_key, is_value}

@@ -4,3 +4,5 @@ pub mod Feeding
 pub mod Fields
 pub mod Frames
 pub mod Octets
+pub mod Usage
+pub mod Words

@@ -1,5 +1,5 @@
 -- Bytes as numbers.
-use Rattle.std.specs.Prelude.{◌<◌, ℕ}
+use Rattle.std.specs.Prelude.{◌<◌}
 use Rattle.std.specs.List.{AllByRecursion}
 use Rattle.up_wire.specs.Frames.{Bytes}
 

@@ -1,10 +1,12 @@
 //! Takes the bytes of the init as they come.
-ghost use Rattle.std.specs.Prelude.{◌≡◌, ◌++◌, None, Some, Err, [], take, option_map, IfOk, IfErr, IfSome};
+ghost use Rattle.std.specs.Prelude.{◌≡◌, ◌++◌, ◌∷◌, None, Some, Err, [], take, drop, length, IfOk, IfErr, IfSome};
+ghost use Rattle.up_wire.specs.declared.fault.WireFault.TheVariants.{Memory};
 ghost use Rattle.up_wire.specs.Fault.{wire_fault};
-ghost use Rattle.up_wire.specs.Answers.{AnswerFrames, AnswersStop};
-ghost use Rattle.up_wire.specs.Feeding.{frame_fault, refused, kept_of};
+ghost use Rattle.up_wire.specs.Frames.{Bytes};
+ghost use Rattle.up_wire.specs.Answers.{AnswerFrames, AnswersStop, AreFull, Opens, pending};
+ghost use Rattle.up_wire.specs.Feeding.{refused};
 
-use crate::answers::answers_in;
+use crate::answers::{Ahead, answers_in, end, join_full};
 use crate::fault::{FrameFault, WireFault};
 use crate::feed::frame_fault;
 use std::alloc::Global;
@@ -14,37 +16,100 @@ use up_model::Answer;
 /// What has come of the init's bytes: those after the last whole answer, or the fault that is answered for good.
 #[derive(Drop)]
 pub struct AnswerFeed {
+    // The text of the full frames of an answer that isn't whole, joined once.
+    text: Vec<u8>,
+    // The bytes after them.
     rest: Vec<u8>,
     fault: Option<FrameFault>,
 }
 
 impl Model for AnswerFeed {
+    ghost use Rattle.up_wire.specs.Answers.{AreFull, pending};
     ghost use Rattle.up_wire.specs.Feeding.{FeedValue};
 
     ghost Value = { FeedValue };
 
-    ghost view = { λ f. record { rest = f.rest.items; fault = f.fault } };
+    ghost view = { λ f. record { rest = pending f.text.items f.rest.items; fault = f.fault } };
+
+    ghost invariant = { λ f. AreFull f.text.items };
 }
 
-/// The answers of the whole frames, and a copy of the bytes after them if there is one.
-fn split(alloc: Global, bytes: &[u8]) -> Result<(Vec<Answer>, Option<Vec<u8>>), WireFault>
-    ensures frames { IfOk result (λ found. AnswerFrames bytes.now found.0.items (kept_of (option_map (λ rest. rest.items) found.1) bytes.now)) }
+// The answers of the whole frames, and a copy of the bytes after them.
+fn split(alloc: Global, bytes: &[u8]) -> Result<(Vec<Answer>, Vec<u8>), WireFault>
+    ensures frames { IfOk result (λ found. AnswerFrames bytes.now found.0.items found.1.items) }
     ensures fault { IfErr result (λ fault. AnswersStop fault bytes.now) }
 {
     let (answers, rest) = answers_in(alloc, bytes)?;
-    if answers.is_empty() {
-        return Ok((answers, None));
-    }
     let rest = Vec::from_slice(alloc, rest)?;
-    Ok((answers, Some(rest)))
+    Ok((answers, rest))
+}
+
+// The same after a first answer, which a refusal hands back.
+fn split_after(
+    alloc: Global,
+    first: Answer,
+    bytes: &[u8],
+) -> Result<(Vec<Answer>, Vec<u8>), (WireFault, Answer)>
+    ensures frames { IfOk result (λ found. (found.0.items ≡ first ∷ drop 1 found.0.items) × AnswerFrames bytes.now (drop 1 found.0.items) found.1.items) }
+    ensures fault { IfErr result (λ refused. AnswersStop refused.0 bytes.now × (refused.1 ≡ first)) }
+{
+    match split(alloc, bytes) {
+        Ok(found) => {
+            let (mut answers, rest) = found;
+            match answers.insert(0, first) {
+                Ok(()) => Ok((answers, rest)),
+                Err(failed) => Err((WireFault::Memory, failed.value)),
+            }
+        }
+        Err(fault) => Err((fault, first)),
+    }
+}
+
+// The answers of the text of full frames and of the bytes after them, of which what is no whole answer stays.
+fn take_answers(
+    alloc: Global,
+    text: &mut Vec<u8>,
+    rest: &mut Vec<u8>,
+) -> Result<Vec<Answer>, WireFault>
+    ensures taken { (total : Bytes) → Opens total text.old.items rest.old.items → IfOk result (λ answers. AreFull text.new.items × AnswerFrames total answers.items (pending text.new.items rest.new.items)) }
+    ensures refused { (total : Bytes) → Opens total text.old.items rest.old.items → IfErr result (λ fault. AnswersStop fault total) }
+    ensures kept { result ≡ Err Memory → (take (length text.old.items) text.new.items ≡ text.old.items) × (rest.new.items ≡ rest.old.items) }
+{
+    match join_full(text, rest) {
+        Ok(Ahead::Open(left)) => {
+            if left.len() == rest.len() {
+                return Ok(Vec::new(alloc));
+            }
+            *rest = Vec::from_slice(alloc, left)?;
+            Ok(Vec::new(alloc))
+        }
+        Ok(Ahead::Last(payload, after)) => match end(text, payload) {
+            Ok(first) => match split_after(alloc, first, after) {
+                Ok(found) => {
+                    let (answers, left) = found;
+                    *rest = left;
+                    Ok(answers)
+                }
+                Err(refused) => {
+                    let (fault, first) = refused;
+                    *text = first.text.into_string().into_bytes();
+                    Err(fault)
+                }
+            },
+            Err(fault) => Err(fault),
+        },
+        Err(fault) => Err(fault),
+    }
 }
 
 impl AnswerFeed {
     /// No byte has come.
+    #[tactic(auto, unfolding(crate::specs::Answers::pending))]
     pub fn new(alloc: Global) -> Self
         ensures { result ≡ record { rest = []; fault = None } }
     {
         AnswerFeed {
+            text: Vec::new(alloc),
             rest: Vec::new(alloc),
             fault: None,
         }
@@ -61,33 +126,24 @@ impl AnswerFeed {
             return Err(WireFault::from(fault));
         }
         let alloc = *self.rest.allocator();
+        let joined = self.text.len();
         let before = self.rest.len();
         self.rest.extend_from_slice(piece)?;
-        match split(alloc, &self.rest) {
-            Ok(found) => {
-                let (answers, rest) = found;
-                if let Some(rest) = rest {
-                    self.rest = rest;
+        match take_answers(alloc, &mut self.text, &mut self.rest) {
+            Ok(answers) => Ok(answers),
+            Err(fault) => match frame_fault(fault) {
+                Some(frame) => {
+                    self.text.clear();
+                    self.rest.clear();
+                    self.fault = Some(frame);
+                    Err(fault)
                 }
-                Ok(answers)
-            }
-            Err(fault) => {
-                self.refuse(before, fault);
-                Err(fault)
-            }
-        }
-    }
-
-    // A frame's fault is kept for good; out of memory, the rest is what it was.
-    fn refuse(&mut self, before: usize, fault: WireFault)
-        ensures { self.new ≡ refused fault (record { rest = take before self.old.rest; fault = self.old.fault }) }
-    {
-        match frame_fault(fault) {
-            Some(fault) => {
-                self.rest.clear();
-                self.fault = Some(fault);
-            }
-            None => self.rest.truncate(before),
+                None => {
+                    self.text.truncate(joined);
+                    self.rest.truncate(before);
+                    Err(fault)
+                }
+            },
         }
     }
 }

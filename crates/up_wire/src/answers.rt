@@ -1,12 +1,15 @@
 //! Finds the answers in bytes.
-ghost use Rattle.std.specs.Prelude.{◌≡◌, ◌≤◌, ◌++◌, ◌∷◌, true, false, length, IfOk, IfErr, IfSome, IfNone};
+ghost use Rattle.std.specs.Prelude.{◌≡◌, ◌≤◌, ◌++◌, ◌∷◌, [], true, false, length, take, Err, IfOk, IfErr, IfSome, IfNone, OnOk};
 ghost use Rattle.std.specs.Str.{is_utf8};
 ghost use Rattle.up_wire.specs.Fields.{Reads};
-ghost use Rattle.up_wire.specs.Answers.{max_chunk, is_chunk, if_text_is, last_in, verdict_of, answer_frames, IsOpen, AnswerFrames, AnswerBegins, AnswersStop};
+ghost use Rattle.up_wire.specs.declared.fault.WireFault.TheVariants.{Memory};
+ghost use Rattle.up_wire.specs.Frames.{Bytes};
+ghost use Rattle.up_wire.specs.Answers.{max_chunk, is_chunk, last_in, verdict_of, answer_frames, Opens, IsOpen, AnswerFrames, AnswerBegins, AnswersStop, LiesAhead, KeepsWhole};
 
 use crate::fault::WireFault;
 use crate::frames::payload_at;
 use std::alloc::Global;
+use std::mem;
 use up_model::Answer;
 use up_text::Text;
 
@@ -40,24 +43,51 @@ fn verdict_of(kind: u8) -> Result<bool, WireFault>
     }
 }
 
-// The answer of this text.
-#[tactic(auto, using(crate::proofs::Texts::is_text, crate::proofs::Texts::is_no_text))]
-fn answer_of(alloc: Global, kind: u8, text: &[u8]) -> Result<Answer, WireFault>
-    ensures { Reads (λ x. x) result (if_text_is text.now kind) }
+/// What comes after the full frames of an answer.
+pub(crate) enum Ahead<'a> {
+    /// No whole frame, but these bytes.
+    Open(&'a [u8]),
+    /// The payload of a frame that isn't full, and the bytes after it.
+    Last(&'a [u8], &'a [u8]),
+}
+
+/// Appends the text of the full frames, and returns what comes after them.
+pub(crate) fn join_full<'a>(text: &mut Vec<u8>, bytes: &'a [u8]) -> Result<Ahead<'a>, WireFault>
+    ensures kept { take (length text.old.items) text.new.items ≡ text.old.items }
+    ensures whole { KeepsWhole bytes.now result }
+    ensures ahead { (total : Bytes) → Opens total text.old.items bytes.now → LiesAhead total text.new.items result }
 {
-    match str::from_utf8(text) {
-        Ok(text) => {
-            let ok = verdict_of(kind)?;
-            let text = Text::from_str(alloc, text)?;
-            Ok(Answer { ok, text })
-        }
-        Err(_) => Err(WireFault::BadFrame),
+    let mut rest = bytes;
+    loop {
+        let Some((payload, after)) = payload_at(rest)? else {
+            return Ok(Ahead::Open(rest));
+        };
+        let Some(chunk) = chunk_of(payload) else {
+            return Ok(Ahead::Last(payload, after));
+        };
+        text.extend_from_slice(chunk)?;
+        rest = after;
     }
 }
 
-// The answer that ends with a payload, after the text of its full frames.
-fn last_in(alloc: Global, mut text: Vec<u8>, payload: &[u8]) -> Result<Answer, WireFault>
-    ensures { Reads (λ x. x) result (last_in text.items payload.now) }
+/// The text of these bytes, which keeps their memory; bytes that are no text stay.
+#[tactic(auto, using(crate::proofs::Texts::is_text, crate::proofs::Texts::is_no_text))]
+fn text_of(bytes: &mut Vec<u8>) -> Option<Text>
+    ensures text { IfSome result (λ text. (is_utf8 bytes.old.items ≡ true) × (text ≡ bytes.old.items) × (bytes.new.items ≡ [])) }
+    ensures none { IfNone result (is_utf8 bytes.old.items ≡ false) }
+{
+    let alloc = *bytes.allocator();
+    match String::from_utf8(mem::replace(bytes, Vec::new(alloc))) {
+        Ok(text) => Some(Text::new(text)),
+        Err(_) => None,
+    }
+}
+
+/// The answer that ends with a payload, after the text of its full frames, which becomes part of it; out of memory it stays.
+pub(crate) fn end(text: &mut Vec<u8>, payload: &[u8]) -> Result<Answer, WireFault>
+    ensures answer { Reads (λ x. x) result (last_in text.old.items payload.now) }
+    ensures taken { OnOk result (text.new.items ≡ []) }
+    ensures kept { result ≡ Err Memory → text.new.items ≡ text.old.items }
 {
     let Some((kind, last)) = payload.split_first() else {
         return Err(WireFault::BadFrame);
@@ -65,8 +95,12 @@ fn last_in(alloc: Global, mut text: Vec<u8>, payload: &[u8]) -> Result<Answer, W
     if !text.is_empty() && last.is_empty() {
         return Err(WireFault::BadFrame);
     }
+    let ok = verdict_of(*kind)?;
     text.extend_from_slice(last)?;
-    answer_of(alloc, *kind, &text)
+    match text_of(text) {
+        Some(text) => Ok(Answer { ok, text }),
+        None => Err(WireFault::BadFrame),
+    }
 }
 
 // The first answer, and the bytes after it, once it is whole.
@@ -76,19 +110,12 @@ fn answer_at(alloc: Global, bytes: &[u8]) -> Result<Option<(Answer, &[u8])>, Wir
     ensures fault { IfErr result (λ fault. AnswerBegins fault bytes.now) }
 {
     let mut text = Vec::new(alloc);
-    let mut rest = bytes;
-    loop {
-        let Some((payload, after)) = payload_at(rest)? else {
-            return Ok(None);
-        };
-        let Some(chunk) = chunk_of(payload) else {
-            return match last_in(alloc, text, payload) {
-                Ok(answer) => Ok(Some((answer, after))),
-                Err(fault) => Err(fault),
-            };
-        };
-        text.extend_from_slice(chunk)?;
-        rest = after;
+    match join_full(&mut text, bytes)? {
+        Ahead::Open(_) => Ok(None),
+        Ahead::Last(payload, after) => match end(&mut text, payload) {
+            Ok(answer) => Ok(Some((answer, after))),
+            Err(fault) => Err(fault),
+        },
     }
 }
 

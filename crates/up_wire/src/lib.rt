@@ -8,6 +8,7 @@ pub mod feed;
 mod fields;
 mod frames;
 pub mod laws;
+mod usage;
 mod words;
 pub mod writing;
 
@@ -17,5 +18,6 @@ pub use fault::{FrameFault, WireFault};
 pub use feed::Feed;
 pub use frames::MAX_PAYLOAD;
 pub use up_model::status_text;
-pub use words::{command_line, request_of};
+pub use usage::command_line;
+pub use words::request_of;
 pub use writing::{write_answer, write_request};

@@ -1,118 +1,42 @@
-//! The command line of `initctl`, and the request of its words.
+//! The requests of words.
+ghost use Rattle.std.specs.Prelude.{◌≡◌, [], map, not, nat_lt, length, true, false, MatchOption};
+ghost use Rattle.std.specs.List.{position_or_len, before_first, after_first};
+ghost use Rattle.clap.specs.Words.{found_of, rows_of, subcommand_rows_of};
+ghost use Rattle.up_wire.specs.Words.{command_named, is_equals, with_binding, with_word, with_words, request_with, is_set, text_in, request_in, request_matched, Makes, Sets};
+
 use crate::fault::WireFault;
-use clap::{Arg, ArgAction, ArgMatches, Command};
-use std::alloc::{AllocError, Global};
-use up_model::Request;
+use clap::ArgMatches;
+use std::alloc::Global;
+use up_model::{Command, Request};
 use up_text::{Env, Text, TextFault};
 
-// A command about a job or an event, with variables.
-fn about<'a>(
-    alloc: Global,
-    name: &'a str,
-    what: &'a str,
-    help: &'a str,
-) -> Result<Command<'a>, AllocError> {
-    let subject = Arg::new(alloc, "NAME")
-        .value_name(what)
-        .help("The name of the job or the event")
-        .required(true)
-        .action(ArgAction::Set);
-    let variables = Arg::new(alloc, "VARS")
-        .value_name("KEY=VALUE")
-        .help("Variables; of a repeated key the later value counts")
-        .num_args(0..)
-        .action(ArgAction::Append);
-    Command::new(alloc, name)
-        .about(help)
-        .arg(subject)?
-        .arg(variables)
-}
-
-// The same, where the client may choose not to wait.
-fn waiting<'a>(
-    alloc: Global,
-    name: &'a str,
-    what: &'a str,
-    help: &'a str,
-) -> Result<Command<'a>, AllocError> {
-    let no_wait = Arg::new(alloc, "no-wait")
-        .long("no-wait")
-        .help("Answers at once, not when it is done")
-        .action(ArgAction::SetTrue);
-    about(alloc, name, what, help)?.arg(no_wait)
-}
-
-fn job_commands<'a>(alloc: Global, command: Command<'a>) -> Result<Command<'a>, AllocError> {
-    let start = waiting(alloc, "start", "JOB", "Starts an instance of a job")?;
-    let stop = waiting(alloc, "stop", "JOB", "Stops an instance of a job")?;
-    let restart = waiting(
-        alloc,
-        "restart",
-        "JOB",
-        "Stops an instance of a job and starts it again",
-    )?;
-    let status = about(
-        alloc,
-        "status",
-        "JOB",
-        "Prints the status of an instance of a job",
-    )?;
-    let reload = about(
-        alloc,
-        "reload",
-        "JOB",
-        "Sends an instance of a job its reload signal",
-    )?;
-    command
-        .subcommand(start)?
-        .subcommand(stop)?
-        .subcommand(restart)?
-        .subcommand(status)?
-        .subcommand(reload)
-}
-
-fn other_commands<'a>(alloc: Global, command: Command<'a>) -> Result<Command<'a>, AllocError> {
-    let emit = waiting(alloc, "emit", "EVENT", "Emits an event")?;
-    let list = Command::new(alloc, "list").about("Prints the status of every job");
-    let reread = Command::new(alloc, "reload-configuration").about("Reads the job files again");
-    let version = Command::new(alloc, "version").about("Prints the version of the init");
-    command
-        .subcommand(emit)?
-        .subcommand(list)?
-        .subcommand(reread)?
-        .subcommand(version)
-}
-
-/// The command line of `initctl` without the options of the program.
-pub fn command_line<'a>(alloc: Global) -> Result<Command<'a>, WireFault> {
-    let command = Command::new(alloc, "initctl")
-        .version("(upstart profile 1)")
-        .about("Asks a running init to start, stop and report on jobs")
-        .subcommand_required(true);
-    let command = job_commands(alloc, command)?;
-    let command = other_commands(alloc, command)?;
-    Ok(command)
-}
-
-fn command_of(name: &str) -> Option<up_model::Command> {
-    match name {
-        "start" => Some(up_model::Command::Start),
-        "stop" => Some(up_model::Command::Stop),
-        "restart" => Some(up_model::Command::Restart),
-        "status" => Some(up_model::Command::Status),
-        "list" => Some(up_model::Command::List),
-        "emit" => Some(up_model::Command::Emit),
-        "reload" => Some(up_model::Command::Reload),
-        "reload-configuration" => Some(up_model::Command::ReloadConfiguration),
-        "version" => Some(up_model::Command::Version),
+fn command_named(word: &str) -> Option<Command>
+    ensures { result ≡ command_named word.now }
+{
+    match word {
+        "start" => Some(Command::Start),
+        "stop" => Some(Command::Stop),
+        "restart" => Some(Command::Restart),
+        "status" => Some(Command::Status),
+        "reload" => Some(Command::Reload),
+        "emit" => Some(Command::Emit),
+        "list" => Some(Command::List),
+        "reload-configuration" => Some(Command::ReloadConfiguration),
+        "version" => Some(Command::Version),
         _ => None,
     }
 }
 
-fn set(vars: &mut Env, word: &str) -> Result<(), WireFault> {
-    let Some((key, value)) = word.split_once('=') else {
-        return Err(WireFault::BadWord);
-    };
+// The key and the value of a word KEY=VALUE.
+fn cut(word: &str) -> Option<(&str, &str)>
+    ensures { MatchOption result (nat_lt (position_or_len is_equals word.now) (length word.now) ≡ false) (λ parts. (nat_lt (position_or_len is_equals word.now) (length word.now) ≡ true) × (parts.0.now ≡ before_first is_equals word.now) × (parts.1.now ≡ after_first is_equals word.now)) }
+{
+    word.split_once('=')
+}
+
+fn set(vars: &mut Env, key: &str, value: &str) -> Result<(), WireFault>
+    ensures { Sets result vars.new (with_binding key.now value.now vars.old) }
+{
     match vars.set(key, value) {
         Ok(()) => Ok(()),
         Err(TextFault::Memory) => Err(WireFault::Memory),
@@ -120,23 +44,40 @@ fn set(vars: &mut Env, word: &str) -> Result<(), WireFault> {
     }
 }
 
-fn vars_of(alloc: Global, words: &[&str]) -> Result<Env, WireFault> {
+// Sets the variable of a word.
+fn set_word(vars: &mut Env, word: &str) -> Result<(), WireFault>
+    ensures { Sets result vars.new (with_word word.now vars.old) }
+{
+    match cut(word) {
+        Some((key, value)) => set(vars, key, value),
+        None => Err(WireFault::BadWord),
+    }
+}
+
+// The variables of words; of a repeated key the later value counts.
+#[tactic(auto, using(crate::proofs::Cutting::words_left))]
+fn with_words(alloc: Global, words: &[&str]) -> Result<Env, WireFault>
+    ensures { Makes result (with_words [] (map (λ word. word.now) words.now)) }
+{
     let mut vars = Env::new(alloc);
     for word in words {
-        set(&mut vars, word)?;
+        if let Err(fault) = set_word(&mut vars, word) {
+            return Err(fault);
+        }
     }
     Ok(vars)
 }
 
-// The request of a command's words.
-fn request(
+fn request_with(
     alloc: Global,
-    command: up_model::Command,
+    command: Command,
     wait: bool,
     name: &str,
     words: &[&str],
-) -> Result<Request, WireFault> {
-    let vars = vars_of(alloc, words)?;
+) -> Result<Request, WireFault>
+    ensures { Makes result (request_with command wait name.now (map (λ word. word.now) words.now)) }
+{
+    let vars = with_words(alloc, words)?;
     let name = Text::from_str(alloc, name)?;
     match Request::new(command, wait, name, vars) {
         Some(request) => Ok(request),
@@ -144,17 +85,44 @@ fn request(
     }
 }
 
-/// The request of what was matched; a repeated key takes the later value. Refused with `BadWord` if a word is no name or no
-/// `KEY=VALUE`.
-pub fn request_of(alloc: Global, matches: &ArgMatches) -> Result<Request, WireFault> {
-    let Some((name, given)) = matches.subcommand() else {
-        return Err(WireFault::BadWord);
-    };
-    let Some(command) = command_of(name) else {
-        return Err(WireFault::BadWord);
-    };
-    let wait = !given.get_flag("no-wait");
-    let subject = given.get_str("NAME").unwrap_or("");
+fn is_set(given: &ArgMatches, flag: &str) -> bool
+    ensures { result ≡ is_set flag.now (rows_of (found_of given.now)) }
+{
+    match given.get_one::<bool>(flag) {
+        Some(set) => set,
+        None => false,
+    }
+}
+
+fn text_in<'a>(given: &ArgMatches<'a>, argument: &str) -> &'a str
+    ensures { result.now ≡ text_in argument.now (rows_of (found_of given.now)) }
+{
+    match given.get_str(argument) {
+        Some(text) => text,
+        None => "",
+    }
+}
+
+// The request of a command, of which this was matched.
+fn request_in(alloc: Global, command: Command, given: &ArgMatches) -> Result<Request, WireFault>
+    ensures { Makes result (request_in (rows_of (found_of given.now)) command) }
+{
+    let wait = !is_set(given, "no-wait");
+    let name = text_in(given, "NAME");
     let words = given.get_strs("VARS").unwrap_or(&[]);
-    request(alloc, command, wait, subject, words)
+    request_with(alloc, command, wait, name, words)
+}
+
+/// The request of what was matched; of a repeated key the later value counts. Refused with `BadWord` if it is none: a word is no name
+/// or no `KEY=VALUE`.
+pub fn request_of(alloc: Global, matches: &ArgMatches) -> Result<Request, WireFault>
+    ensures { Makes result (request_matched (subcommand_rows_of matches.now)) }
+{
+    let Some((word, given)) = matches.subcommand() else {
+        return Err(WireFault::BadWord);
+    };
+    match command_named(word) {
+        Some(command) => request_in(alloc, command, given),
+        None => Err(WireFault::BadWord),
+    }
 }

@@ -5,9 +5,9 @@ use up_model::{Answer, Command, Request};
 use up_text::{Env, Text};
 use up_wire::{AnswerFeed, Feed, WireFault, write_answer, write_request};
 
-const START: &'static [u8] = &[0, 0, 0, 7, 1, 0, 0, 1, 97, 0, 0];
+pub(crate) const START: &'static [u8] = &[0, 0, 0, 7, 1, 0, 0, 1, 97, 0, 0];
 
-const STATUS: &'static [u8] = &[
+pub(crate) const STATUS: &'static [u8] = &[
     0, 0, 0, 15, 0, 97, 32, 115, 116, 111, 112, 47, 119, 97, 105, 116, 105, 110, 103,
 ];
 

@@ -1,7 +1,15 @@
-//! Tests of `up_wire`, of what no contract can say: bytes that are written out, and words.
+//! Tests of `up_wire` and `up_client`, of what no contract can say: bytes that are written out, words, and peers.
 #![tactic(auto)]
 
 #[cfg(test)]
+mod cases;
+#[cfg(test)]
 mod frames;
+#[cfg(test)]
+mod peers;
+#[cfg(test)]
+mod statuses;
+#[cfg(test)]
+mod streams;
 #[cfg(test)]
 mod words;

@@ -1,4 +1,3 @@
-use Rattle.std.proofs.Common.{◌<◌}
 use Rattle.up_wire.proofs.Joining.{answer_shorter}
 use Rattle.up_wire.proofs.answers.answers_in.Goals as goal
 

@@ -1,4 +1,4 @@
-use Rattle.std.proofs.Common.{◌≡◌, ◌-◌, ◌≤◌}
+use Rattle.std.proofs.Common.{◌≡◌, ◌-◌}
 use Rattle.up_wire.specs.Fields.{variables_at}
 use Rattle.up_wire.proofs.fields.variables_at.Given as goal
 

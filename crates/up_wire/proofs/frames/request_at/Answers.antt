@@ -1,4 +1,4 @@
-use Rattle.std.proofs.Common.{◌≡◌, ℕ, get_or, arith}
+use Rattle.std.proofs.Common.{arith}
 use Rattle.up_wire.proofs.Framing.{begins, sendable, octets_inside}
 use Rattle.up_wire.proofs.frames.request_at.Goals as goal
 

@@ -1,4 +1,3 @@
-use Rattle.std.proofs.Common.{◌<◌}
 use Rattle.up_wire.proofs.Framing.{shorter}
 use Rattle.up_wire.proofs.frames.requests_in.Goals as goal
 

@@ -1,4 +1,4 @@
-use Rattle.std.proofs.Common.{◌≡◌, ◌≤◌, ◌+◌, arith, length}
+use Rattle.std.proofs.Common.{◌+◌, arith, length}
 use Rattle.std.specs.List.{flat_map}
 use Rattle.up_wire.specs.Frames.{variable}
 use Rattle.up_wire.proofs.Sizes.{variable_fits, next_size, length-take_flat, not_within}

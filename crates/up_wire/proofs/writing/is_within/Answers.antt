@@ -1,4 +1,4 @@
-use Rattle.std.proofs.Common.{◌≡◌, ◌∙◌, ◌+◌, ap, nat_le, length}
+use Rattle.std.proofs.Common.{◌∙◌, ◌+◌, ap, nat_le, length}
 use Rattle.std.specs.List.{flat_map}
 use Rattle.up_wire.specs.Frames.{payload_of, max_payload, variable}
 use Rattle.up_wire.proofs.Sizes.{within_payload}

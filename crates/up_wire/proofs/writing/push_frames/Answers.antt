@@ -1,5 +1,3 @@
-use Rattle.std.proofs.Common.{◌≡◌, ◌++◌}
-use Rattle.up_wire.specs.Answers.{frames_of}
 use Rattle.up_wire.proofs.Chunks.{written}
 use Rattle.up_wire.proofs.writing.push_frames.Goals as goal
 

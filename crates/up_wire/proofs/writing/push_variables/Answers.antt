@@ -1,4 +1,4 @@
-use Rattle.std.proofs.Common.{◌≡◌, ◌++◌, ◌∙◌, ap, sym, append_assoc, take}
+use Rattle.std.proofs.Common.{◌++◌, ◌∙◌, ap, sym, append_assoc, take}
 use Rattle.std.specs.List.{flat_map}
 use Rattle.up_wire.specs.Frames.{variable}
 use Rattle.up_wire.proofs.Sizes.{one_more}

@@ -1,0 +1,145 @@
+//! The command line of `initctl`.
+ghost use Rattle.std.specs.Prelude.{◌≡◌, [], ◌∷◌, false, IfOk, IfErr};
+ghost use Rattle.clap.specs.Words.{App, new_app, rule_of, with_subcommand};
+ghost use Rattle.up_model.specs.declared.request.Command.TheVariants as asked;
+ghost use Rattle.up_wire.specs.declared.fault.WireFault.TheVariants.{Memory};
+ghost use Rattle.up_wire.specs.Usage.{name_rule, words_rule, no_wait_rule, about_app, waiting_app, program_app, with_commands, usage, IsUsage};
+
+use crate::fault::WireFault;
+use clap::{Arg, ArgAction, Command};
+use std::alloc::{AllocError, Global};
+
+fn subject<'a>(alloc: Global, what: &'a str) -> Arg<'a>
+    ensures rule { rule_of result ≡ name_rule }
+    ensures local { result.global ≡ false }
+{
+    Arg::new(alloc, "NAME")
+        .value_name(what)
+        .help("The name of the job or the event")
+        .required(true)
+        .action(ArgAction::Set)
+}
+
+fn variables<'a>(alloc: Global) -> Arg<'a>
+    ensures rule { rule_of result ≡ words_rule }
+    ensures local { result.global ≡ false }
+{
+    Arg::new(alloc, "VARS")
+        .value_name("KEY=VALUE")
+        .help("Variables; of a repeated key the later value counts")
+        .num_args(0..)
+        .action(ArgAction::Append)
+}
+
+fn no_wait<'a>(alloc: Global) -> Arg<'a>
+    ensures rule { rule_of result ≡ no_wait_rule }
+    ensures local { result.global ≡ false }
+{
+    Arg::new(alloc, "no-wait")
+        .long("no-wait")
+        .help("Answers at once, not when it is done")
+        .action(ArgAction::SetTrue)
+}
+
+// A command about a job or an event, with variables.
+fn about<'a>(
+    alloc: Global,
+    name: &'a str,
+    what: &'a str,
+    help: &'a str,
+) -> Result<Command<'a>, AllocError>
+    ensures { IfOk result (IsUsage (about_app name.entry.now)) }
+{
+    Command::new(alloc, name)
+        .about(help)
+        .arg(subject(alloc, what))?
+        .arg(variables(alloc))
+}
+
+// The same, where the client may choose not to wait.
+fn waiting<'a>(
+    alloc: Global,
+    name: &'a str,
+    what: &'a str,
+    help: &'a str,
+) -> Result<Command<'a>, AllocError>
+    ensures { IfOk result (IsUsage (waiting_app name.entry.now)) }
+{
+    about(alloc, name, what, help)?.arg(no_wait(alloc))
+}
+
+// A command that stands alone.
+fn alone<'a>(alloc: Global, name: &'a str, help: &'a str) -> Command<'a>
+    ensures { IsUsage (new_app name.entry.now) result }
+{
+    Command::new(alloc, name).about(help)
+}
+
+// A command line with one command more.
+fn add<'a>(line: Command<'a>, command: Command<'a>) -> Result<Command<'a>, AllocError>
+    ensures { (app its : App) → IsUsage app line.entry → IsUsage its command.entry → IfOk result (IsUsage (with_subcommand app its.top)) }
+{
+    line.subcommand(command)
+}
+
+fn job_commands<'a>(alloc: Global, line: Command<'a>) -> Result<Command<'a>, AllocError>
+    ensures { (app : App) → IsUsage app line.entry → IfOk result (IsUsage (with_commands app (asked.Start ∷ asked.Stop ∷ asked.Restart ∷ asked.Status ∷ asked.Reload ∷ []))) }
+{
+    let start = waiting(alloc, "start", "JOB", "Starts an instance of a job")?;
+    let stop = waiting(alloc, "stop", "JOB", "Stops an instance of a job")?;
+    let restart = waiting(
+        alloc,
+        "restart",
+        "JOB",
+        "Stops an instance of a job and starts it again",
+    )?;
+    let status = about(
+        alloc,
+        "status",
+        "JOB",
+        "Prints the status of an instance of a job",
+    )?;
+    let reload = about(
+        alloc,
+        "reload",
+        "JOB",
+        "Sends an instance of a job its reload signal",
+    )?;
+    let line = add(line, start)?;
+    let line = add(line, stop)?;
+    let line = add(line, restart)?;
+    let line = add(line, status)?;
+    add(line, reload)
+}
+
+fn other_commands<'a>(alloc: Global, line: Command<'a>) -> Result<Command<'a>, AllocError>
+    ensures { (app : App) → IsUsage app line.entry → IfOk result (IsUsage (with_commands app (asked.Emit ∷ asked.List ∷ asked.ReloadConfiguration ∷ asked.Version ∷ []))) }
+{
+    let emit = waiting(alloc, "emit", "EVENT", "Emits an event")?;
+    let list = alone(alloc, "list", "Prints the status of every job");
+    let reread = alone(alloc, "reload-configuration", "Reads the job files again");
+    let version = alone(alloc, "version", "Prints the version of the init");
+    let line = add(line, emit)?;
+    let line = add(line, list)?;
+    let line = add(line, reread)?;
+    add(line, version)
+}
+
+fn program<'a>(alloc: Global) -> Command<'a>
+    ensures { IsUsage program_app result }
+{
+    Command::new(alloc, "initctl")
+        .version("(upstart profile 1)")
+        .about("Asks a running init to start, stop and report on jobs")
+        .subcommand_required(true)
+}
+
+/// The command line of `initctl` without the options of the program.
+pub fn command_line<'a>(alloc: Global) -> Result<Command<'a>, WireFault>
+    ensures ok { IfOk result (IsUsage usage) }
+    ensures refused { IfErr result (λ fault. fault ≡ Memory) }
+{
+    let line = job_commands(alloc, program(alloc))?;
+    let line = other_commands(alloc, line)?;
+    Ok(line)
+}
