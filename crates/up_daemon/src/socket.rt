@@ -6,6 +6,7 @@ use mio::net::UnixListener;
 use std::alloc::Global;
 use std::fs::{
     DirBuilder, Files, Permissions, hard_link, remove_dir, remove_file, set_permissions,
+    symlink_metadata,
 };
 use std::io;
 use std::io::ErrorKind;
@@ -71,6 +72,10 @@ fn listen_through<R: Files + Net>(
     inner: &str,
     path: &str,
 ) -> io::Result<UnixListener> {
+    // It is told as well if the folder can't be made. A path that comes to be later, the link refuses.
+    if symlink_metadata(rt, path).is_ok() {
+        return Err(io::Error::from(ErrorKind::AlreadyExists));
+    }
     let mut builder = DirBuilder::new();
     builder.mode(0o700);
     builder.create(rt, folder)?;

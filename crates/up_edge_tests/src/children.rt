@@ -52,29 +52,39 @@ fn send(rt: &HostRuntime, host: &mut System, pid: u32, signal: u8) -> Result<(),
 struct Refused {
     name: &'static str,
     dir: &'static str,
-    program: &'static str,
+    argv: &'static [&'static str],
 }
 
 const REFUSED: &'static [Refused] = &[
     Refused {
         name: "a missing program",
         dir: "/",
-        program: "/no/such/program",
+        argv: &["/no/such/program"],
     },
     Refused {
         name: "a folder that isn't there",
         dir: "/no/such/folder",
-        program: "/bin/true",
+        argv: &["/bin/true"],
     },
     Refused {
         name: "a program that can't be executed",
         dir: "/",
-        program: "/etc/passwd",
+        argv: &["/etc/passwd"],
+    },
+    Refused {
+        name: "a folder in a program's place",
+        dir: "/",
+        argv: &["/usr"],
+    },
+    Refused {
+        name: "no words",
+        dir: "/",
+        argv: &[],
     },
 ];
 
 fn is_refused(rt: &HostRuntime, host: &mut System, case: &Refused) -> Result<bool, Fail> {
-    let order = order_in(rt.alloc(), case.dir, &[case.program], true)?;
+    let order = order_in(rt.alloc(), case.dir, case.argv, true)?;
     Ok(host.spawn(&order) == Err(HostFault))
 }
 
@@ -85,16 +95,18 @@ fn try_refused(rt: &HostRuntime, host: &mut System) -> Result<(), Fail> {
     same(
         "entries and faults",
         (host.happened().len(), host.faults()),
-        (0, 3),
+        (0, 5),
     )?;
-    let left = children(rt)?;
-    same("children that are left", left.as_str(), "")?;
-    Ok(())
+    same("no child is left", is_childless(rt)?, true)
 }
 
 // The processes that this one started and that it has not waited for.
 fn children(rt: &HostRuntime) -> io::Result<String> {
     fs::read_to_string(rt, "/proc/thread-self/children")
+}
+
+fn is_childless(rt: &HostRuntime) -> io::Result<bool> {
+    Ok(children(rt)?.is_empty())
 }
 
 #[test]
@@ -172,9 +184,7 @@ fn try_many(rt: &HostRuntime, host: &mut System) -> Result<(), Fail> {
     let count = count_ends(rt, host, 600)?;
     same("ends", count, 600)?;
     same("a poll", polled(host)?, None)?;
-    let left = children(rt)?;
-    same("children that are left", left.as_str(), "")?;
-    Ok(())
+    same("no child is left", is_childless(rt)?, true)
 }
 
 #[test]
@@ -183,19 +193,46 @@ fn children_that_end_at_once_have_one_end_each(rt: HostRuntime) -> Result<(), Fa
     try_many(&rt, &mut host)
 }
 
+// Whether a child runs the program of this name, once it does.
+fn is_running(rt: &HostRuntime, pid: u32, name: &str) -> Result<bool, Fail> {
+    let path = format!(in rt.alloc(); "/proc/{pid}/comm")?;
+    for _ in 0..MOST_WAIT {
+        let found = fs::read_to_string(rt, path.as_str())?;
+        if found.as_str().trim_end() == name {
+            return Ok(true);
+        }
+        pause(rt, 1);
+    }
+    Ok(false)
+}
+
+// Whether this child lives and no other is left, once the shell that sends it a signal has ended.
+fn is_alone(rt: &HostRuntime, host: &mut System, pid: u32) -> Result<bool, Fail> {
+    let alone = format!(in rt.alloc(); "{pid}")?;
+    for _ in 0..MOST_WAIT {
+        if polled(host)?.is_some() {
+            return Ok(false);
+        }
+        if children(rt)?.as_str().trim_end() == alone.as_str() {
+            return Ok(true);
+        }
+        pause(rt, 1);
+    }
+    Ok(false)
+}
+
 fn try_kill(rt: &HostRuntime, host: &mut System) -> Result<(), Fail> {
     let pid = run_line(rt, host, "trap '' TERM; exec sleep 50")?;
-    pause(rt, 300);
+    same("it sleeps", is_running(rt, pid, "sleep")?, true)?;
     send(rt, host, pid, 15)?;
-    pause(rt, 300);
+    same("it stays", is_alone(rt, host, pid)?, true)?;
+    pause(rt, 100);
     same("a poll", polled(host)?, None)?;
     send(rt, host, pid, 9)?;
     same("an end", next_end(rt, host)?, Some(How::Signal(9)))?;
     same("a poll", polled(host)?, None)?;
-    let left = children(rt)?;
-    same("children that are left", left.as_str(), "")?;
-    same("faults", host.faults(), 0)?;
-    Ok(())
+    same("no child is left", is_childless(rt)?, true)?;
+    same("faults", host.faults(), 0)
 }
 
 #[test]

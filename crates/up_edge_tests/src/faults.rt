@@ -1,6 +1,7 @@
-//! A system whose processes end strangely.
-use crate::orders::{order_in, same};
+//! A system whose processes end strangely, and which refuses what the real one can't be made to refuse.
+use crate::orders::{order_in, same, who};
 use std::alloc::Allocator;
+use std::cell::Cell;
 use std::io;
 use std::os::unix::process::ExitStatusExt;
 use std::process::{Child, Command, ExitStatus, OpenProcess, Processes, Stdio};
@@ -12,6 +13,8 @@ use up_model::How;
 
 #[derive(Drop)]
 enum FakeProcess {
+    // It goes on until it is waited for.
+    Living,
     // Its status is that of a process that was stopped, which is neither an exit nor a signal.
     Stopped,
     // The system doesn't tell of it.
@@ -36,6 +39,7 @@ impl OpenProcess for FakeProcess {
 
     fn try_wait(&mut self) -> io::Result<Option<ExitStatus>> {
         match self {
+            FakeProcess::Living => Ok(None),
             FakeProcess::Stopped => Ok(Some(ExitStatus::from_raw(0x7f))),
             FakeProcess::Lost => Err(io::Error::from(io::ErrorKind::Other)),
             FakeProcess::Exited => Ok(Some(ExitStatus::from_raw(5 * 256))),
@@ -44,7 +48,10 @@ impl OpenProcess for FakeProcess {
 }
 
 #[derive(Drop)]
-struct FakeSystem;
+struct FakeSystem {
+    // How often its clock can be read.
+    readings: Cell<u32>,
+}
 
 impl Processes for FakeSystem {
     type Started = FakeProcess;
@@ -57,6 +64,8 @@ impl Processes for FakeSystem {
         _stderr: &Stdio,
     ) -> io::Result<Child<FakeProcess>> {
         let process = match command.get_program() {
+            "/refused" => return Err(io::Error::from(io::ErrorKind::Other)),
+            "/living" => FakeProcess::Living,
             "/stopped" => FakeProcess::Stopped,
             "/lost" => FakeProcess::Lost,
             _ => FakeProcess::Exited,
@@ -67,6 +76,10 @@ impl Processes for FakeSystem {
 
 impl Clock for FakeSystem {
     fn monotonic(&self) -> io::Result<Duration> {
+        let Some(left) = self.readings.get().checked_sub(1) else {
+            return Err(io::Error::from(io::ErrorKind::Other));
+        };
+        self.readings.set(left);
         Ok(Duration::from_millis(1))
     }
 
@@ -78,6 +91,12 @@ impl Clock for FakeSystem {
 }
 
 type System = RealHost<FakeSystem>;
+
+// A host over a system whose clock can be read so often.
+fn host_of(rt: &HostRuntime, readings: u32) -> io::Result<System> {
+    let readings = Cell::new(readings);
+    RealHost::new(rt.alloc(), FakeSystem { readings })
+}
 
 fn start(rt: &HostRuntime, host: &mut System, program: &str) -> Result<(), Fail> {
     let order = order_in(rt.alloc(), "/", &[program], true)?;
@@ -100,7 +119,7 @@ fn try_stopped(rt: &HostRuntime, host: &mut System) -> Result<(), Fail> {
 
 #[test]
 fn an_unknown_status_is_signal_0(rt: HostRuntime) -> Result<(), Fail> {
-    let mut host = RealHost::new(rt.alloc(), FakeSystem)?;
+    let mut host = host_of(&rt, 1)?;
     try_stopped(&rt, &mut host)
 }
 
@@ -120,6 +139,49 @@ fn try_lost(rt: &HostRuntime, host: &mut System) -> Result<(), Fail> {
 
 #[test]
 fn a_child_of_which_nothing_is_told_hides_no_other(rt: HostRuntime) -> Result<(), Fail> {
-    let mut host = RealHost::new(rt.alloc(), FakeSystem)?;
+    let mut host = host_of(&rt, 1)?;
     try_lost(&rt, &mut host)
+}
+
+fn try_living(rt: &HostRuntime, host: &mut System) -> Result<(), Fail> {
+    start(rt, host, "/living")?;
+    start(rt, host, "/exited")?;
+    same("a poll", polled(host), Ok(Some(How::Exit(5))))?;
+    same("a poll", polled(host), Ok(None))?;
+    same("a poll", polled(host), Ok(None))?;
+    same(
+        "entries and faults",
+        (host.happened().len(), host.faults()),
+        (5, 0),
+    )?;
+    Ok(())
+}
+
+#[test]
+fn a_child_that_lives_is_not_waited_for(rt: HostRuntime) -> Result<(), Fail> {
+    let mut host = host_of(&rt, 1)?;
+    try_living(&rt, &mut host)
+}
+
+fn try_refusals(rt: &HostRuntime, host: &mut System) -> Result<(), Fail> {
+    let order = order_in(rt.alloc(), "/", &["/refused"], true)?;
+    same("a spawn", host.spawn(&order), Err(HostFault))?;
+    start(rt, host, "/living")?;
+    let who = who(rt.alloc())?;
+    same("a signal", host.signal(&who, 7, 9), Err(HostFault))?;
+    same("a reading", host.now(), Ok(0))?;
+    same("a reading", host.now(), Err(HostFault))?;
+    same(
+        "entries and faults",
+        (host.happened().len(), host.faults()),
+        (2, 3),
+    )?;
+    Ok(())
+}
+
+#[test]
+fn what_the_system_refuses_is_a_fault(rt: HostRuntime) -> Result<(), Fail> {
+    same("a host without a clock", host_of(&rt, 0).is_err(), true)?;
+    let mut host = host_of(&rt, 2)?;
+    try_refusals(&rt, &mut host)
 }

@@ -29,7 +29,12 @@ fn env_of(alloc: Global) -> Result<Env, Fail> {
 }
 
 /// An order to run these words in a folder, with the environment of two variables.
-pub(crate) fn order_in(alloc: Global, dir: &str, argv: &[&str], silent: bool) -> Result<Order, Fail> {
+pub(crate) fn order_in(
+    alloc: Global,
+    dir: &str,
+    argv: &[&str],
+    silent: bool,
+) -> Result<Order, Fail> {
     Ok(Order {
         who: who(alloc)?,
         process: Process::Main,
@@ -46,7 +51,11 @@ pub(crate) fn shell(alloc: Global, line: &str) -> Result<Order, Fail> {
 }
 
 /// Fails with the case's name, what came and what was expected, unless these are the same.
-pub(crate) fn same<T: PartialEq + Debug + Drop>(case: &str, found: T, expected: T) -> Result<(), Fail> {
+pub(crate) fn same<T: PartialEq + Debug + Drop>(
+    case: &str,
+    found: T,
+    expected: T,
+) -> Result<(), Fail> {
     if found == expected {
         return Ok(());
     }

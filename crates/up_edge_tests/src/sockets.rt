@@ -2,7 +2,7 @@
 use crate::orders::same;
 use mio::net::UnixStream;
 use std::fs::{metadata, remove_file};
-use std::io::{Read, Write};
+use std::io::{ErrorKind, Read, Write};
 use std::os::unix::fs::PermissionsExt;
 use std::test::Fail;
 use std::time::{Duration, Instant};
@@ -164,6 +164,59 @@ fn a_client_that_never_reads_fills_its_socket_alone(rt: HostRuntime) -> Result<(
     let path = path_of(&rt, "full")?;
     let mut door = bind(&rt, path.as_str())?;
     try_full(&rt, &mut door, path.as_str())
+}
+
+fn try_lost(rt: &HostRuntime, door: &mut UnixDoor, path: &str) -> Result<(), Fail> {
+    let stream = client_of(rt, path)?;
+    same("accepts", door.accept(), Ok(Some(0)))?;
+    same("bytes that were taken", filled(door, 0)? > 0, true)?;
+    drop(stream);
+    same(
+        "writes",
+        (door.write(0, b"x"), door.write(0, b"x")),
+        (Err(DoorFault), Err(DoorFault)),
+    )?;
+    same("faults", door.faults(), 2)?;
+    Ok(())
+}
+
+#[test]
+fn a_peer_that_closes_while_bytes_wait_for_it_is_a_fault(rt: HostRuntime) -> Result<(), Fail> {
+    let path = path_of(&rt, "lost")?;
+    let mut door = bind(&rt, path.as_str())?;
+    try_lost(&rt, &mut door, path.as_str())
+}
+
+// Reads all that has come.
+fn read_all(stream: &mut UnixStream) -> Result<(), Fail> {
+    let mut buffer = [0u8; 4096];
+    for _ in 0..10_000u32 {
+        match stream.read(&mut buffer) {
+            Ok(0) => return Err(Fail::new("the door closed its client")),
+            Ok(_) => {}
+            Err(error) if error.kind() == ErrorKind::WouldBlock => return Ok(()),
+            Err(error) => return Err(Fail::from(error)),
+        }
+    }
+    Err(Fail::new("more bytes than were written"))
+}
+
+fn try_room(rt: &HostRuntime, door: &mut UnixDoor, path: &str) -> Result<(), Fail> {
+    let mut stream = client_of(rt, path)?;
+    same("accepts", door.accept(), Ok(Some(0)))?;
+    same("bytes that were taken", filled(door, 0)? > 0, true)?;
+    same("a pause", paused(rt, door)? >= 1_900, true)?;
+    read_all(&mut stream)?;
+    same("a pause", paused(rt, door)? < 1_000, true)?;
+    same("writes", door.write(0, b"x"), Ok(1))?;
+    Ok(())
+}
+
+#[test]
+fn a_pause_ends_when_a_full_socket_takes_bytes_again(rt: HostRuntime) -> Result<(), Fail> {
+    let path = path_of(&rt, "room")?;
+    let mut door = bind(&rt, path.as_str())?;
+    try_room(&rt, &mut door, path.as_str())
 }
 
 // How many clients wait, whose numbers are 0 and so on.

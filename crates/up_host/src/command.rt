@@ -60,6 +60,20 @@ fn set_streams(command: &mut Command, silent: bool)
     }
 }
 
+// All of an order's command but its program.
+fn fill(command: &mut Command, words: &[Text], order: &Order) -> Result<(), AllocError>
+    ensures words { OnOk result (command_args command.new ≡ command_args command.old ++ words.now) }
+    ensures program { OnOk result (command_program command.new ≡ command_program command.old) }
+    ensures dir { OnOk result (command_dir command.new ≡ Some order.now.dir) }
+    ensures env { OnOk result (HasEnv command.new order.now.env) }
+{
+    add_words(command, words)?;
+    command.current_dir(order.dir.as_str())?;
+    set_env(command, &order.env)?;
+    set_streams(command, order.silent);
+    Ok(())
+}
+
 /// The command of an order. An order without words has none.
 pub(crate) fn command_of(alloc: Global, order: &Order) -> Result<Option<Command>, AllocError>
     ensures { IfOk result (λ found. IfSome found (λ command. IsCommandOf order.now command)) }
@@ -68,19 +82,32 @@ pub(crate) fn command_of(alloc: Global, order: &Order) -> Result<Option<Command>
         return Ok(None);
     };
     let mut command = Command::new(alloc, program.as_str())?;
-    add_words(&mut command, words)?;
-    command.current_dir(order.dir.as_str())?;
-    set_env(&mut command, &order.env)?;
-    set_streams(&mut command, order.silent);
-    Ok(Some(command))
+    match fill(&mut command, words, order) {
+        Ok(()) => Ok(Some(command)),
+        Err(error) => {
+            drop(command);
+            Err(error)
+        }
+    }
 }
 
-/// The command that sends a signal by its name (kill(1)), without any output.
-pub(crate) fn kill_command(alloc: Global, name: &str, pid: u32) -> Result<Command, AllocError> {
+// The words by which a shell sends a signal by its name (kill(1)), without any output.
+fn fill_kill(alloc: Global, command: &mut Command, name: &str, pid: u32) -> Result<(), AllocError> {
     let line = format!(in alloc; "kill -s {name} {pid}")?;
-    let mut command = Command::new(alloc, "/bin/sh")?;
     command.arg("-c")?;
     command.arg(line.as_str())?;
-    set_streams(&mut command, true);
-    Ok(command)
+    set_streams(command, true);
+    Ok(())
+}
+
+/// The command that sends a signal by its name.
+pub(crate) fn kill_command(alloc: Global, name: &str, pid: u32) -> Result<Command, AllocError> {
+    let mut command = Command::new(alloc, "/bin/sh")?;
+    match fill_kill(alloc, &mut command, name, pid) {
+        Ok(()) => Ok(command),
+        Err(error) => {
+            drop(command);
+            Err(error)
+        }
+    }
 }

@@ -12,7 +12,7 @@ use crate::host::Host;
 use crate::journal::Journal;
 use std::alloc::Global;
 use std::io;
-use std::process::{Child, OpenProcess, Processes};
+use std::process::{Child, Command, OpenProcess, Processes};
 use std::rt::Clock;
 use std::time::Instant;
 use up_model::{How, Order, Process, Who};
@@ -38,9 +38,16 @@ pub struct RealHost<R: Processes> {
 // Starts the process of an order.
 fn started<R: Processes>(system: &R, alloc: Global, order: &Order) -> Option<Child<R::Started>> {
     match command_of(alloc, order) {
-        Ok(Some(mut command)) => command.spawn(system).ok(),
+        Ok(Some(command)) => started_by(system, command),
         Ok(None) | Err(_) => None,
     }
+}
+
+// Starts the process of a command.
+fn started_by<R: Processes>(system: &R, mut command: Command) -> Option<Child<R::Started>> {
+    let child = command.spawn(system);
+    drop(command);
+    child.ok()
 }
 
 // Starts a shell that sends the signal.
@@ -52,7 +59,7 @@ fn kill_by_shell<R: Processes>(
 ) -> Option<Child<R::Started>> {
     let name = signal_name(signal)?;
     match kill_command(alloc, name, pid) {
-        Ok(mut command) => command.spawn(system).ok(),
+        Ok(command) => started_by(system, command),
         Err(_) => None,
     }
 }

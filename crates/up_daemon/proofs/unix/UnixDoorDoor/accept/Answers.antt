@@ -1,0 +1,6 @@
+-- for the gate's time alone: without it a wrong body is gone over once more, to offer an answer
+use Rattle.std.proofs.Common.{rules}
+use Rattle.up_daemon.proofs.unix.UnixDoorDoor.accept.Goals as goal
+
+pub returns-in-Client-clause-told : goal.returns-in-Client-clause-told
+returns-in-Client-clause-told c = search rules
