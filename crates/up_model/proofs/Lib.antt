@@ -8,3 +8,4 @@ pub mod Settling
 pub mod QueueLaws
 pub mod HeldLaws
 pub mod TurnLaws
+pub mod BlockLaws

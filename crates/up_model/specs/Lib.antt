@@ -22,3 +22,4 @@ pub mod Work
 pub mod Outputs
 pub mod Answers
 pub mod Laws
+pub mod Blocks

@@ -1,6 +1,7 @@
 //! Laws: what holds of every run, whatever the jobs are and whatever is given.
 ghost use Rattle.std.specs.Prelude.{ℕ, ◌≡◌, ◌≤◌, length, List, []};
 ghost use Rattle.up_model.specs.Answers.{after, after_all};
+ghost use Rattle.up_model.specs.Blocks.{IsPatient};
 ghost use Rattle.up_model.specs.Chronicle.{Chronicle};
 ghost use Rattle.up_model.specs.Configuration.{Configuration};
 ghost use Rattle.up_model.specs.Due.{due};
@@ -33,4 +34,10 @@ pub fn finished_once()
 /// is not held.
 pub fn orderly()
     ensures { (config : Configuration) (inputs : List Input) → IsOrderly config (after_all config [] inputs) }
+{}
+
+/// An instance orders no process, and none of its processes gets a signal, between its `starting` or `stopping` event and that event's
+/// finish.
+pub fn blocks()
+    ensures { (config : Configuration) (inputs : List Input) → IsPatient (after_all config [] inputs) }
 {}

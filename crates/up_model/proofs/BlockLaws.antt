@@ -1,0 +1,437 @@
+-- An instance waits for an event of its own in starting and stopping alone, and does nothing before that has finished.
+use Rattle.std.proofs.Common.{◌≡◌, ℕ, zero, suc, ◌==◌, Bool, true, false, ◌&&◌, not, nat_lt, List, [], ◌∷◌, ◌++◌, length, Option, None, Some, is_some, if◌then◌else◌, refl, sym, ◌∙◌, ap, subst, eqb-true, eq-eqb, append_assoc}
+use Rattle.std.specs.List.{AllByRecursion}
+use Rattle.up_expr.specs.Truth.{Sight}
+use Rattle.up_conf.specs.declared.job.JobDef.{JobDef}
+use Rattle.up_stanza.specs.declared.process.Process.{Process}
+use Rattle.up_stanza.specs.declared.process.Process.TheVariants.{Main}
+use Rattle.up_model.specs.declared.failure.End.{End}
+use Rattle.up_model.specs.declared.failure.End.TheVariants as end
+use Rattle.up_model.specs.declared.failure.Failure.{Failure}
+use Rattle.up_model.specs.declared.failure.Verdict.{Verdict}
+use Rattle.up_model.specs.declared.failure.Verdict.TheVariants as verdict
+use Rattle.up_model.specs.declared.event.Event.{Event}
+use Rattle.up_model.specs.declared.input.Input.{Input}
+use Rattle.up_model.specs.declared.input.Input.TheVariants as input
+use Rattle.up_model.specs.declared.life.Entry as table
+use Rattle.up_model.specs.declared.life.JobEvent.{JobEvent}
+use Rattle.up_model.specs.declared.state.Goal.TheVariants.{Start, Stop}
+use Rattle.up_model.specs.declared.state.State.{State}
+use Rattle.up_model.specs.declared.state.State.TheVariants.{Starting, Stopping}
+use Rattle.up_model.specs.declared.who.Who.{Who}
+use Rattle.up_model.specs.Answers.{after, next, is_expected, after_all}
+use Rattle.up_model.specs.Blocks.{IsPatient}
+use Rattle.up_model.specs.Chronicle.{Chronicle, Entry, Given, Queued, Handled, Offered, Fired, Finished, Made, Aimed, Released, Entered, Ordered, Signalled, Replied, Outside, Entering, Spoilt, StartOn, StopOn}
+use Rattle.up_model.specs.Clock.{is_killed, kill_due, overdue, all_overdue, has_passed, kill_moment, now, milliseconds, kill, killing}
+use Rattle.up_model.specs.Configuration.{Configuration, job_named}
+use Rattle.up_model.specs.Due.{due, end_of, telling, told_of, turn_event, turn_of, effect}
+use Rattle.up_model.specs.Environments.{env_of_job, instance_name}
+use Rattle.up_model.specs.Events.{events_at, events_env, with_instance, stopped_by}
+use Rattle.up_model.specs.Instances.{Instance, instances_of, instance_named}
+use Rattle.up_model.specs.Judgement.{end_itself, keep_failure, fail, carry_out, judged}
+use Rattle.up_model.specs.Life.{wait_in, entering}
+use Rattle.up_model.specs.Moves.{has_process, job_event, emitting, ordering, releasing, enter, enter_whole, is_over, may_leave, next_of, who_of, move, move_of, move_in, move_first}
+use Rattle.up_model.specs.Offers.{is_open, stop_by, stop_offer, stop_offer_in, max_instances, start_of, who_called, start_who, start_by, start_offer, offer_in, offer_first, offering, offer_next}
+use Rattle.up_model.specs.Queue.{Live, queue}
+use Rattle.up_model.specs.Readings.{goal, state_of, failure, holders, is_blocking, without, blocker, lives}
+use Rattle.up_model.specs.Requests.{not_supported}
+use Rattle.up_model.specs.Seen.{seen, holds, taken, was_offered}
+use Rattle.up_model.specs.Tests.{is_start, entries_if, or_else}
+use Rattle.up_model.specs.Values.{Bindings}
+use Rattle.up_model.specs.Work.{work, settle}
+use Rattle.up_model.proofs.Sparing.{all-append, all-if}
+
+-- in a state that asks for no event of its own an instance waits for none, and none did anything while it waited
+pub record Keeps (c : Chronicle) : Type 0 where
+  pub waiting : (instance : ℕ) → is_blocking (state_of instance c) ≡ false → blocker instance c ≡ None
+  pub patient : IsPatient c
+
+-- an entry by which no instance changes its state, comes to wait or does anything
+abbrev IsIdle : Entry → Type 0
+IsIdle (Queued (Entering instance entered) event) = ⊥
+IsIdle (Entered instance entered) = ⊥
+IsIdle (Ordered instance process) = ⊥
+IsIdle (Signalled instance signal by_timer) = ⊥
+IsIdle entry = Unit {0}
+
+-- it leaves the rules kept
+idle-keeps : (e : Entry) (c : Chronicle) → IsIdle e → Keeps c → Keeps (e ∷ c)
+idle-keeps (Queued (Entering instance entered) event) c idle keeps = absurd idle
+idle-keeps (Entered instance entered) c idle keeps = absurd idle
+idle-keeps (Ordered instance process) c idle keeps = absurd idle
+idle-keeps (Signalled instance signal by_timer) c idle keeps = absurd idle
+idle-keeps (Finished event) c idle keeps = record {
+  waiting = λ instance apart. ap (without event) (keeps.waiting instance apart);
+  patient = keeps.patient;
+}
+idle-keeps (Queued (Outside given) event) c idle keeps = record { waiting = keeps.waiting; patient = keeps.patient }
+idle-keeps (Queued (Spoilt spoilt) event) c idle keeps = record { waiting = keeps.waiting; patient = keeps.patient }
+idle-keeps e c idle keeps = record { waiting = keeps.waiting; patient = keeps.patient }
+
+-- so do several
+idles-keep : (es c : Chronicle) → AllByRecursion IsIdle es → Keeps c → Keeps (es ++ c)
+idles-keep [] c idle keeps = keeps
+idles-keep (e ∷ es) c idle keeps = idle-keeps e (es ++ c) idle.0 (idles-keep es c idle.1 keeps)
+
+-- an instance that waits for no event enters a state
+entered-keeps : (p : ℕ) (to : State) (c : Chronicle) → blocker p c ≡ None → Keeps c → Keeps (Entered p to ∷ c)
+entered-keeps p to c free keeps = record {
+  waiting = λ instance. by_case instance (p == instance) refl;
+  patient = keeps.patient;
+}
+  where
+    by_case : (instance : ℕ) (b : Bool) → (p == instance) ≡ b → is_blocking (if b then to else state_of instance c) ≡ false → blocker instance c ≡ None
+    by_case instance true same apart = subst (λ place. blocker place c ≡ None) (eqb-true p instance same) free
+    by_case instance false differs apart = keeps.waiting instance apart
+
+-- it orders a process
+ordered-keeps : (p : ℕ) (its : Process) (c : Chronicle) → blocker p c ≡ None → Keeps c → Keeps (Ordered p its ∷ c)
+ordered-keeps p its c free keeps = record { waiting = keeps.waiting; patient = (free, keeps.patient) }
+
+-- its main gets a signal
+signalled-keeps : (p signal : ℕ) (by_timer : Bool) (c : Chronicle) → blocker p c ≡ None → Keeps c → Keeps (Signalled p signal by_timer ∷ c)
+signalled-keeps p signal by_timer c free keeps = record { waiting = keeps.waiting; patient = (free, keeps.patient) }
+
+-- an instance emits the event of the state that it is in
+queued-keeps : (p : ℕ) (to : State) (event : Event) (c : Chronicle) → state_of p c ≡ to → Keeps c → Keeps (Queued (Entering p to) event ∷ c)
+queued-keeps p to event c here keeps = record {
+  waiting = λ instance apart. by_case instance apart (p == instance) refl (is_blocking to) refl;
+  patient = keeps.patient;
+}
+  where
+    by_case : (instance : ℕ) → is_blocking (state_of instance c) ≡ false → (b : Bool) → (p == instance) ≡ b → (blocks : Bool) → is_blocking to ≡ blocks
+        → (if b && blocks then Some (length c) else blocker instance c) ≡ None
+    by_case instance apart false differs blocks e = keeps.waiting instance apart
+    by_case instance apart true same false e = keeps.waiting instance apart
+    by_case instance apart true same true e =
+        absurd (not-both (is_blocking (state_of instance c)) (ap is_blocking (subst (λ place. state_of place c ≡ to) (eqb-true p instance same) here) ∙ e) apart)
+      where
+        not-both : (b : Bool) → b ≡ true → b ≡ false → ⊥
+        not-both b is isnt = cc
+
+-- what holds with and without some entries holds with those that a test lets in
+if-keeps : (b : Bool) (es c : Chronicle) → Keeps (es ++ c) → Keeps c → Keeps (entries_if b es ++ c)
+if-keeps true es c some none = some
+if-keeps false es c some none = none
+
+-- the first of two lists in which there is anything does what both do
+or_else-keeps : (es others c : Chronicle) → Keeps (es ++ c) → Keeps (others ++ c) → Keeps (or_else es others ++ c)
+or_else-keeps [] others c some other = other
+or_else-keeps (e ∷ es) others c some other = some
+
+-- an instance that entered this state and waits for no event
+record Ready (p : ℕ) (to : State) (c : Chronicle) : Type 0 where
+  keeps : Keeps c
+  here : state_of p c ≡ to
+  free : blocker p c ≡ None
+
+entered-ready : (p : ℕ) (to : State) (c : Chronicle) → blocker p c ≡ None → Keeps c → Ready p to (Entered p to ∷ c)
+entered-ready p to c free keeps = record { keeps = entered-keeps p to c free keeps; here = rw (eq-eqb p p refl) refl; free = free }
+
+-- it is still so after it ordered a process
+ordering-ready : (job : JobDef) (p : ℕ) (to : State) (its : Option Process) (c : Chronicle) → Ready p to c → Ready p to (ordering job p its ++ c)
+ordering-ready job p to None c ready = ready
+ordering-ready job p to (Some its) c ready = by_case (has_process job its)
+  where
+    by_case : (b : Bool) → Ready p to (entries_if b (Ordered p its ∷ []) ++ c)
+    by_case true = record { keeps = ordered-keeps p its c ready.free ready.keeps; here = ready.here; free = ready.free }
+    by_case false = ready
+
+-- then it emits its event
+emitting-keeps : (job : JobDef) (who : Who) (p : ℕ) (to : State) (kind : Option JobEvent) (d c : Chronicle) → Ready p to c
+    → Keeps (emitting job who p to kind d ++ c) × (state_of p (emitting job who p to kind d ++ c) ≡ to)
+emitting-keeps job who p to None d c ready = (ready.keeps, ready.here)
+emitting-keeps job who p to (Some kind) d c ready = (queued-keeps p to (job_event job who p kind d) c ready.here ready.keeps, ready.here)
+
+-- and its main gets its signal, if the state asks for no event
+signal-keeps : (kills alive : Bool) (p signal : ℕ) (to : State) (c : Chronicle) → (kills ≡ true → is_blocking to ≡ false)
+    → Keeps c × (state_of p c ≡ to) → Keeps (entries_if (kills && alive) (Signalled p signal false ∷ []) ++ c)
+signal-keeps false alive p signal to c apart h = h.0
+signal-keeps true false p signal to c apart h = h.0
+signal-keeps true true p signal to c apart h = signalled-keeps p signal false c (h.0.waiting p (ap is_blocking h.1 ∙ apart refl)) h.0
+
+five : (xs ys zs ws es c : Chronicle) → (xs ++ (ys ++ (zs ++ (ws ++ es)))) ++ c ≡ xs ++ (ys ++ (zs ++ (ws ++ (es ++ c))))
+five xs ys zs ws es c =
+    append_assoc xs (ys ++ (zs ++ (ws ++ es))) c ∙ ap (λ rest. xs ++ rest) (append_assoc ys (zs ++ (ws ++ es)) c
+    ∙ ap (λ rest. ys ++ rest) (append_assoc zs (ws ++ es) c ∙ ap (λ rest. zs ++ rest) (append_assoc ws es c)))
+
+-- an instance that waits for no event enters a state, with all that the table says of that
+enter-keeps : (job : JobDef) (who : Who) (p : ℕ) (to : State) (entry : table.Entry) (c : Chronicle) → (entry.kills ≡ true → is_blocking to ≡ false)
+    → blocker p c ≡ None → Keeps c → Keeps (enter_whole job who p to entry c ++ c)
+enter-keeps job who p to entry c apart free keeps =
+    subst Keeps (sym (five releases signals emits orders (Entered p to ∷ []) c))
+    (if-keeps entry.releases (releasing p false (enter job who p to entry c ++ c)) d (idle-keeps (Released p false) d tt done) done)
+  where
+    orders : List Entry
+    orders = ordering job p entry.orders
+
+    emits : List Entry
+    emits = emitting job who p to entry.emits ((orders ++ Entered p to ∷ []) ++ c)
+
+    signals : List Entry
+    signals = entries_if (entry.kills && lives p Main c) (Signalled p job.kill_signal false ∷ [])
+
+    releases : List Entry
+    releases = entries_if entry.releases (releasing p false (enter job who p to entry c ++ c))
+
+    d : Chronicle
+    d = signals ++ (emits ++ (orders ++ Entered p to ∷ c))
+
+    done : Keeps d
+    done =
+        signal-keeps entry.kills (lives p Main c) p job.kill_signal to (emits ++ (orders ++ Entered p to ∷ c)) apart
+        (emitting-keeps job who p to entry.emits ((orders ++ Entered p to ∷ []) ++ c) (orders ++ Entered p to ∷ c)
+        (ordering-ready job p to entry.orders (Entered p to ∷ c) (entered-ready p to c free keeps)))
+
+-- main gets its signal in killed, which asks for no event
+kills-apart : (to from : State) (task : Bool) → (entering to from task).kills ≡ true → is_blocking to ≡ false
+kills-apart Starting from task kills = cc
+kills-apart Stopping from task kills = cc
+kills-apart to from task kills = refl
+
+none-of : (o : Option ℕ) → not (is_some o) ≡ true → o ≡ None
+none-of None h = refl
+none-of (Some place) h = cc
+
+-- an instance that may leave its state waits for no event
+leave-free : (job : JobDef) (p : ℕ) (from : State) (c : Chronicle) → state_of p c ≡ from → is_over job p (wait_in from) c ≡ true → Keeps c → blocker p c ≡ None
+leave-free job p Starting c here over keeps = none-of (blocker p c) over
+leave-free job p Stopping c here over keeps = none-of (blocker p c) over
+leave-free job p from c here over keeps = keeps.waiting p (ap is_blocking here)
+
+-- so a move leaves the rules kept
+move_of-keeps : (job : JobDef) (x : Instance) (c : Chronicle) → Keeps c → Keeps (move_of job x c ++ c)
+move_of-keeps job x c keeps = by_case (may_leave job x.place c) refl
+  where
+    from : State
+    from = state_of x.place c
+
+    to : State
+    to = next_of job x.place c
+
+    by_case : (b : Bool) → may_leave job x.place c ≡ b → Keeps (entries_if b (move job x c) ++ c)
+    by_case true may =
+        enter-keeps job (who_of job x) x.place to (entering to from job.task) c (kills-apart to from job.task)
+        (leave-free job x.place from c refl may keeps) keeps
+    by_case false stays = keeps
+
+move_in-keeps : (job : JobDef) (xs : List Instance) (c : Chronicle) → Keeps c → Keeps (move_in job xs c ++ c)
+move_in-keeps job [] c keeps = keeps
+move_in-keeps job (x ∷ xs) c keeps = or_else-keeps (move_of job x c) (move_in job xs c) c (move_of-keeps job x c keeps) (move_in-keeps job xs c keeps)
+
+move_first-keeps : (jobs : List JobDef) (c : Chronicle) → Keeps c → Keeps (move_first jobs c ++ c)
+move_first-keeps [] c keeps = keeps
+move_first-keeps (job ∷ jobs) c keeps =
+    or_else-keeps (move_in job (instances_of job.name c) c) (move_first jobs c) c (move_in-keeps job (instances_of job.name c) c keeps) (move_first-keeps jobs c keeps)
+
+-- an offer to an instance's `stop on` is idle
+stop_by-idle : (p : ℕ) (events : List ℕ) (c : Chronicle) → AllByRecursion IsIdle (stop_by p events c)
+stop_by-idle p events c = all-if IsIdle (is_start (goal p c)) (Aimed p Stop (stopped_by (events_at events c)) events ∷ Released p false ∷ []) (tt, (tt, tt))
+
+stop_offer-idle : (config : Configuration) (job : JobDef) (p event : ℕ) (c : Chronicle) → AllByRecursion IsIdle (stop_offer config job p event c)
+stop_offer-idle config job p event c =
+    all-append IsIdle (entries_if (holds job.stop_on sights) fires) (Offered (StopOn p) event ∷ [])
+    (all-if IsIdle (holds job.stop_on sights) fires
+    (all-append IsIdle (stop_by p events fired) (Fired (StopOn p) events ∷ []) (stop_by-idle p events fired) (tt, tt)))
+    (tt, tt)
+  where
+    sights : List Sight
+    sights = seen config (StopOn p) (Offered (StopOn p) event ∷ c)
+
+    events : List ℕ
+    events = taken job.stop_on sights
+
+    fired : Chronicle
+    fired = Fired (StopOn p) events ∷ Offered (StopOn p) event ∷ c
+
+    fires : List Entry
+    fires = stop_by p events fired ++ Fired (StopOn p) events ∷ []
+
+stop_offer_in-keeps : (config : Configuration) (job : JobDef) (xs : List Instance) (event : ℕ) (c : Chronicle) → Keeps c → Keeps (stop_offer_in config job xs event c ++ c)
+stop_offer_in-keeps config job [] event c keeps = keeps
+stop_offer_in-keeps config job (x ∷ xs) event c keeps =
+    or_else-keeps (entries_if (is_open x.place c) (stop_offer config job x.place event c)) (stop_offer_in config job xs event c) c
+    (if-keeps (is_open x.place c) (stop_offer config job x.place event c) c (idles-keep (stop_offer config job x.place event c) c (stop_offer-idle config job x.place event c) keeps) keeps)
+    (stop_offer_in-keeps config job xs event c keeps)
+
+-- so is one to a job's `start on`
+start_of-idle : (who : Who) (environment : Bindings) (holders : List ℕ) (o : Option ℕ) (c : Chronicle) → AllByRecursion IsIdle (start_of who environment holders o c)
+start_of-idle who environment holders None c =
+    all-if IsIdle (nat_lt (length (instances_of who.job c)) max_instances) (Aimed (length c) Start environment holders ∷ Made who.job who.instance ∷ []) (tt, (tt, tt))
+start_of-idle who environment holders (Some p) c =
+    all-if IsIdle (not (is_start (goal p c))) (Aimed p Start environment holders ∷ Released p false ∷ []) (tt, (tt, tt))
+
+start_who-idle : (environment : Bindings) (holders : List ℕ) (o : Option Who) (c : Chronicle) → AllByRecursion IsIdle (start_who environment holders o c)
+start_who-idle environment holders None c = tt
+start_who-idle environment holders (Some who) c = start_of-idle who (with_instance who environment) holders (instance_named who c) c
+
+start_offer-idle : (config : Configuration) (job : JobDef) (event : ℕ) (c : Chronicle) → AllByRecursion IsIdle (start_offer config job event c)
+start_offer-idle config job event c =
+    all-append IsIdle (entries_if (holds job.start_on sights) fires) (Offered (StartOn job.name) event ∷ [])
+    (all-if IsIdle (holds job.start_on sights) fires
+    (all-append IsIdle (start_by config job events fired) (Fired (StartOn job.name) events ∷ []) (start_who-idle environment events (who_called job.name (instance_name job environment)) fired) (tt, tt)))
+    (tt, tt)
+  where
+    sights : List Sight
+    sights = seen config (StartOn job.name) (Offered (StartOn job.name) event ∷ c)
+
+    events : List ℕ
+    events = taken job.start_on sights
+
+    fired : Chronicle
+    fired = Fired (StartOn job.name) events ∷ Offered (StartOn job.name) event ∷ c
+
+    environment : Bindings
+    environment = events_env (env_of_job config job.name) (events_at events fired)
+
+    fires : List Entry
+    fires = start_by config job events fired ++ Fired (StartOn job.name) events ∷ []
+
+offer_in-keeps : (config : Configuration) (job : JobDef) (event : ℕ) (c : Chronicle) → Keeps c → Keeps (offer_in config job event c ++ c)
+offer_in-keeps config job event c keeps =
+    or_else-keeps (stop_offer_in config job (instances_of job.name c) event c) (entries_if (not (was_offered (StartOn job.name) c)) (start_offer config job event c)) c
+    (stop_offer_in-keeps config job (instances_of job.name c) event c keeps)
+    (if-keeps (not (was_offered (StartOn job.name) c)) (start_offer config job event c) c (idles-keep (start_offer config job event c) c (start_offer-idle config job event c) keeps) keeps)
+
+offer_first-keeps : (config : Configuration) (jobs : List JobDef) (event : ℕ) (c : Chronicle) → Keeps c → Keeps (offer_first config jobs event c ++ c)
+offer_first-keeps config [] event c keeps = keeps
+offer_first-keeps config (job ∷ jobs) event c keeps =
+    or_else-keeps (offer_in config job event c) (offer_first config jobs event c) c (offer_in-keeps config job event c keeps) (offer_first-keeps config jobs event c keeps)
+
+offer_next-keeps : (config : Configuration) (event : Option ℕ) (c : Chronicle) → Keeps c → Keeps (offer_next config event c ++ c)
+offer_next-keeps config None c keeps = keeps
+offer_next-keeps config (Some event) c keeps = offer_first-keeps config config.jobs event c keeps
+
+-- what is due leaves the rules kept
+due-keeps : (config : Configuration) (c : Chronicle) → Keeps c → Keeps (due config c ++ c)
+unfolding due
+due-keeps config c keeps =
+    or_else-keeps (move_first config.jobs c) (offer_next config (offering c) c) c (move_first-keeps config.jobs c keeps) (offer_next-keeps config (offering c) c keeps)
+
+settle-keeps : (n : ℕ) (config : Configuration) (c : Chronicle) → Keeps c → Keeps (settle n config c)
+unfolding settle
+settle-keeps zero config c keeps = keeps
+settle-keeps (suc n) config c keeps = settle-keeps n config (due config c ++ c) (due-keeps config c keeps)
+
+-- that an instance ends itself is idle, and that it fails, and what an end does
+end_itself-idle : (p : ℕ) (c : Chronicle) → AllByRecursion IsIdle (end_itself p c)
+end_itself-idle p c = all-if IsIdle (is_start (goal p c)) (Aimed p Stop [] (holders p c) ∷ []) (tt, tt)
+
+fail-idle : (p : ℕ) (its : Failure) (c : Chronicle) → AllByRecursion IsIdle (fail p its c)
+fail-idle p its c =
+    all-append IsIdle (entries_if (not (is_some (failure p c))) (keep_failure p its (end_itself p c ++ c))) (end_itself p c)
+    (all-if IsIdle (not (is_some (failure p c))) (keep_failure p its (end_itself p c ++ c)) (tt, (tt, tt))) (end_itself-idle p c)
+
+carry_out-idle : (p : ℕ) (its : Verdict) (c : Chronicle) → AllByRecursion IsIdle (carry_out p its c)
+carry_out-idle p verdict.Note c = tt
+carry_out-idle p verdict.Respawn c = (tt, tt)
+carry_out-idle p verdict.Stop c = end_itself-idle p c
+carry_out-idle p (verdict.Fail its) c = fail-idle p its c
+
+end_of-idle : (its_job : Option JobDef) (o : Option ℕ) (process : Process) (its : End) (c : Chronicle) → AllByRecursion IsIdle (end_of its_job o process its c)
+end_of-idle None o process its c = tt
+end_of-idle (Some job) None process its c = tt
+end_of-idle (Some job) (Some p) process its c = carry_out-idle p (judged job p process its c) c
+
+-- these instances wait for no event
+abbrev AreFree : Chronicle → List ℕ → Type 0
+AreFree c places = AllByRecursion (λ place. blocker place c ≡ None) places
+
+free-append : (c : Chronicle) (xs ys : List ℕ) → AreFree c xs → AreFree c ys → AreFree c (xs ++ ys)
+free-append c [] ys all other = other
+free-append c (x ∷ xs) ys all other = (all.0, free-append c xs ys all.1 other)
+
+and-left : (a b : Bool) → a && b ≡ true → a ≡ true
+and-left true b h = refl
+and-left false b h = cc
+
+killed-apart : (its : State) → is_killed its ≡ true → is_blocking its ≡ false
+killed-apart Starting h = cc
+killed-apart Stopping h = cc
+killed-apart its h = refl
+
+-- an instance whose main the timer kills waits for none
+due-free : (job : JobDef) (p : ℕ) (c : Chronicle) → kill_due job p c ≡ true → Keeps c → blocker p c ≡ None
+due-free job p c h keeps =
+    keeps.waiting p (killed-apart (state_of p c) (and-left (is_killed (state_of p c)) (lives p Main c)
+    (and-left (is_killed (state_of p c) && lives p Main c) (has_passed (kill_moment p c) (now c) (milliseconds job.kill_timeout)) h)))
+
+overdue-free : (job : JobDef) (xs : List Instance) (c : Chronicle) → Keeps c → AreFree c (overdue job xs c)
+overdue-free job [] c keeps = tt
+overdue-free job (x ∷ xs) c keeps =
+    free-append c (entries_if (kill_due job x.place c) (x.place ∷ [])) (overdue job xs c) (by_case (kill_due job x.place c) refl) (overdue-free job xs c keeps)
+  where
+    by_case : (b : Bool) → kill_due job x.place c ≡ b → AreFree c (entries_if b (x.place ∷ []))
+    by_case true h = (due-free job x.place c h keeps, tt)
+    by_case false h = tt
+
+all_overdue-free : (jobs : List JobDef) (c : Chronicle) → Keeps c → AreFree c (all_overdue jobs c)
+all_overdue-free [] c keeps = tt
+all_overdue-free (job ∷ jobs) c keeps =
+    free-append c (overdue job (instances_of job.name c) c) (all_overdue jobs c) (overdue-free job (instances_of job.name c) c keeps) (all_overdue-free jobs c keeps)
+
+-- so the timer's signals leave the rules kept
+killing-keeps : (places : List ℕ) (c : Chronicle) → AreFree c places → Keeps c → Keeps (killing places ++ c)
+killing-keeps [] c free keeps = keeps
+killing-keeps (place ∷ places) c free keeps =
+    rw append_assoc (killing-keeps places (Signalled place kill true ∷ c) free.1 (signalled-keeps place kill true c free.0 keeps))
+
+-- what a turn does is idle
+telling-idle : (spoilt : ℕ) (told : Option Event) → AllByRecursion IsIdle (telling spoilt told)
+telling-idle spoilt None = tt
+telling-idle spoilt (Some told) = (tt, tt)
+
+turn-idle : (found : Option Live) (c : Chronicle) → AllByRecursion IsIdle (turn_of found c)
+turn-idle None c = tt
+turn-idle (Some live) c = by_case live.handled
+  where
+    by_case : (b : Bool) → AllByRecursion IsIdle (if b then telling live.place (told_of live.place c) ++ Finished live.place ∷ [] else Handled live.place ∷ [])
+    by_case true = all-append IsIdle (telling live.place (told_of live.place c)) (Finished live.place ∷ []) (telling-idle live.place (told_of live.place c)) (tt, tt)
+    by_case false = (tt, tt)
+
+-- idle entries in front of an input
+given-keeps : (es : List Entry) (given : Input) (c : Chronicle) → AllByRecursion IsIdle es → Keeps c → Keeps ((es ++ Given given ∷ []) ++ c)
+given-keeps es given c idle keeps = rw append_assoc (idles-keep es (Given given ∷ c) idle (idle-keeps (Given given) c tt keeps))
+
+-- the effect of an input leaves the rules kept
+effect-keeps : (config : Configuration) (given : Input) (c : Chronicle) → Keeps c → Keeps (effect config given c ++ c)
+unfolding effect
+effect-keeps config (input.Emit event) c keeps = idles-keep (Queued (Outside (length c)) event ∷ Given (input.Emit event) ∷ []) c (tt, (tt, tt)) keeps
+effect-keeps config (input.Request id request) c keeps = idles-keep (Replied (length c) (not_supported request.command) ∷ Given (input.Request id request) ∷ []) c (tt, (tt, tt)) keeps
+effect-keeps config (input.Spawned who process pid) c keeps = idle-keeps (Given (input.Spawned who process pid)) c tt keeps
+effect-keeps config (input.Refused who process) c keeps =
+    given-keeps (end_of (job_named who.job config.jobs) (instance_named who c) process end.Refused c) (input.Refused who process) c
+    (end_of-idle (job_named who.job config.jobs) (instance_named who c) process end.Refused c) keeps
+effect-keeps config (input.Ended who process how) c keeps =
+    given-keeps (end_of (job_named who.job config.jobs) (instance_named who c) process (end.Ended how) c) (input.Ended who process how) c
+    (end_of-idle (job_named who.job config.jobs) (instance_named who c) process (end.Ended how) c) keeps
+effect-keeps config (input.Clock reading) c keeps =
+    let d : List Entry = Given (input.Clock reading) ∷ c in
+    let given : Keeps d = idle-keeps (Given (input.Clock reading)) c tt keeps in
+    rw append_assoc (killing-keeps (all_overdue config.jobs d) d (all_overdue-free config.jobs d given) given)
+effect-keeps config input.Turn c keeps = given-keeps (turn_of (turn_event config (queue c) c) c) input.Turn c (turn-idle (turn_event config (queue c) c) c) keeps
+
+-- so do inputs, one after another
+after-keeps : (config : Configuration) (c : Chronicle) (given : Input) → Keeps c → Keeps (after config c given)
+unfolding after
+after-keeps config c given keeps = settle-keeps (work config (effect config given c ++ c)) config (effect config given c ++ c) (effect-keeps config given c keeps)
+
+next-keeps : (config : Configuration) (c : Chronicle) (given : Input) → Keeps c → Keeps (next config c given)
+next-keeps config c given keeps = by_case (is_expected given c)
+  where
+    by_case : (b : Bool) → Keeps (if b then after config c given else c)
+    by_case true = after-keeps config c given keeps
+    by_case false = keeps
+
+after_all-keeps : (config : Configuration) (c : Chronicle) (inputs : List Input) → Keeps c → Keeps (after_all config c inputs)
+unfolding after_all
+after_all-keeps config c [] keeps = keeps
+after_all-keeps config c (given ∷ inputs) keeps = after_all-keeps config (next config c given) inputs (next-keeps config c given keeps)
+
+-- at the start they are kept, and so in every chronicle that is reached
+pub reached-keeps : (config : Configuration) (inputs : List Input) → Keeps (after_all config [] inputs)
+reached-keeps config inputs = after_all-keeps config [] inputs (record { waiting = λ instance apart. refl; patient = tt })
+
+-- so no instance does anything while it waits for its own event
+pub patient : (config : Configuration) (inputs : List Input) → IsPatient (after_all config [] inputs)
+patient config inputs = (reached-keeps config inputs).patient
