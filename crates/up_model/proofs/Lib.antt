@@ -9,3 +9,4 @@ pub mod QueueLaws
 pub mod HeldLaws
 pub mod TurnLaws
 pub mod BlockLaws
+pub mod NameLaws
