@@ -10,3 +10,4 @@ pub mod HeldLaws
 pub mod TurnLaws
 pub mod BlockLaws
 pub mod NameLaws
+pub mod MainLaws
