@@ -23,7 +23,7 @@ use Rattle.up_model.specs.declared.state.State.TheVariants.{Waiting, Starting, P
 use Rattle.up_model.specs.declared.who.Who.{Who}
 use Rattle.up_model.specs.Answers.{after, next, awaits, is_expected, after_all}
 use Rattle.up_model.specs.Blocks.{AreFound, IsLone}
-use Rattle.up_model.specs.Chronicle.{Chronicle, Entry, Given, Queued, Handled, Offered, Fired, Finished, Made, Aimed, Restarted, Released, Failed, Respawned, Entered, Ordered, Signalled, Replied, Outside, Entering, Spoilt, StartOn, StopOn}
+use Rattle.up_model.specs.Chronicle.{Chronicle, Entry, Given, Queued, Handled, Offered, Fired, Finished, Made, Aimed, Released, Entered, Ordered, Signalled, Replied, Outside, StartOn, StopOn}
 use Rattle.up_model.specs.Clock.{all_overdue, kill, killing}
 use Rattle.up_model.specs.Configuration.{Configuration, job_named}
 use Rattle.up_model.specs.Due.{due, end_of, telling, told_of, turn_event, turn_of, effect}
@@ -31,8 +31,8 @@ use Rattle.up_model.specs.Environments.{env_of_job, instance_name}
 use Rattle.up_model.specs.Events.{events_at, events_env, with_instance, stopped_by}
 use Rattle.up_model.specs.Instances.{Instance, instances_of, instance_named}
 use Rattle.up_model.specs.Judgement.{end_itself, keep_failure, fail, carry_out, judged}
-use Rattle.up_model.specs.Life.{if_whole, next_state, wait_in, entering}
-use Rattle.up_model.specs.Moves.{has_process, job_event, emitting, ordering, releasing, enter, enter_whole, is_over, may_leave, next_of, who_of, move, move_of, move_in, move_first}
+use Rattle.up_model.specs.Life.{next_state, wait_in, entering}
+use Rattle.up_model.specs.Moves.{has_process, emitting, ordering, releasing, enter, enter_whole, is_over, may_leave, next_of, who_of, move, move_of, move_in, move_first}
 use Rattle.up_model.specs.Offers.{is_open, stop_by, stop_offer, stop_offer_in, max_instances, start_of, who_called, start_who, start_by, start_offer, offer_in, offer_first, offering, offer_next}
 use Rattle.up_model.specs.Queue.{Live, queue}
 use Rattle.up_model.specs.Readings.{goal, state_of, failure, holders, made_at, speaks_of, awaited, pid_of, lives}
@@ -416,9 +416,10 @@ move-keeps config job x c found there may keeps =
     fits = keeps.fits its p there
 
     ready : to ≡ Spawned → (instance_named its (Entered p to ∷ c) ≡ Some p) × (lives p process.Main c ≡ false)
-    ready e =
-        (subst (λ to. instance_named its (Entered p to ∷ c) ≡ Some p) (sym e) there,
-        spawned-next (goal p c) from (has_process job process.Main) (lives p process.Main c) fits.alive e)
+    ready e = (
+      subst (λ to. instance_named its (Entered p to ∷ c) ≡ Some p) (sym e) there,
+      spawned-next (goal p c) from (has_process job process.Main) (lives p process.Main c) fits.alive e,
+    )
 
 move_of-keeps : (config : Configuration) (job : JobDef) (x : Instance) (c : Chronicle) → job_named job.name config.jobs ≡ Some job
     → instance_named (called job.name x.name) c ≡ Some x.place → Keeps config c → Keeps config (move_of job x c ++ c)

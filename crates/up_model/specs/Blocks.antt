@@ -16,7 +16,7 @@ IsPatient (Ordered instance process ∷ c) = (blocker instance c ≡ None) × Is
 IsPatient (Signalled instance signal by_timer ∷ c) = (blocker instance c ≡ None) × IsPatient c
 IsPatient (entry ∷ c) = IsPatient c
 
--- each of the jobs is the one that its name finds: no two jobs have one name
+-- each of the jobs is the one that its name finds, as is so if no two have one name
 abbrev pub AreFound : List JobDef → Type 0
 AreFound jobs = AllByRecursion (λ job. job_named job.name jobs ≡ Some job) jobs
 

@@ -42,7 +42,8 @@ pub fn blocks()
     ensures { (config : Configuration) (inputs : List Input) → IsPatient (after_all config [] inputs) }
 {}
 
-/// An instance doesn't order its main process while that lives, if no two jobs have one name.
+/// An instance doesn't order its main process while that lives, if each job is the one that its name finds. (Of two jobs with one name,
+/// one with a main process and one without, an instance could get a second.)
 pub fn one_main()
     ensures { (config : Configuration) (inputs : List Input) → AreFound config.jobs → IsLone (after_all config [] inputs) }
 {}
