@@ -150,7 +150,7 @@ signal-keeps false alive p signal to c apart h = h.0
 signal-keeps true false p signal to c apart h = h.0
 signal-keeps true true p signal to c apart h = signalled-keeps p signal false c (h.0.waiting p (ap is_blocking h.1 ∙ apart refl)) h.0
 
-five : (xs ys zs ws es c : Chronicle) → (xs ++ (ys ++ (zs ++ (ws ++ es)))) ++ c ≡ xs ++ (ys ++ (zs ++ (ws ++ (es ++ c))))
+pub five : (xs ys zs ws es c : Chronicle) → (xs ++ (ys ++ (zs ++ (ws ++ es)))) ++ c ≡ xs ++ (ys ++ (zs ++ (ws ++ (es ++ c))))
 five xs ys zs ws es c =
     append_assoc xs (ys ++ (zs ++ (ws ++ es))) c ∙ ap (λ rest. xs ++ rest) (append_assoc ys (zs ++ (ws ++ es)) c
     ∙ ap (λ rest. ys ++ rest) (append_assoc zs (ws ++ es) c ∙ ap (λ rest. zs ++ rest) (append_assoc ws es c)))
@@ -189,7 +189,7 @@ kills-apart Starting from task kills = cc
 kills-apart Stopping from task kills = cc
 kills-apart to from task kills = refl
 
-none-of : (o : Option ℕ) → not (is_some o) ≡ true → o ≡ None
+pub none-of : (o : Option ℕ) → not (is_some o) ≡ true → o ≡ None
 none-of None h = refl
 none-of (Some place) h = cc
 
@@ -341,7 +341,7 @@ free-append : (c : Chronicle) (xs ys : List ℕ) → AreFree c xs → AreFree c 
 free-append c [] ys all other = other
 free-append c (x ∷ xs) ys all other = (all.0, free-append c xs ys all.1 other)
 
-and-left : (a b : Bool) → a && b ≡ true → a ≡ true
+pub and-left : (a b : Bool) → a && b ≡ true → a ≡ true
 and-left true b h = refl
 and-left false b h = cc
 

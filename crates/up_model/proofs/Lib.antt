@@ -9,3 +9,5 @@ pub mod QueueLaws
 pub mod HeldLaws
 pub mod TurnLaws
 pub mod BlockLaws
+pub mod NameLaws
+pub mod MainLaws

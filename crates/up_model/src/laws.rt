@@ -1,7 +1,7 @@
 //! Laws: what holds of every run, whatever the jobs are and whatever is given.
 ghost use Rattle.std.specs.Prelude.{ℕ, ◌≡◌, ◌≤◌, length, List, []};
 ghost use Rattle.up_model.specs.Answers.{after, after_all};
-ghost use Rattle.up_model.specs.Blocks.{IsPatient};
+ghost use Rattle.up_model.specs.Blocks.{AreFound, IsLone, IsPatient};
 ghost use Rattle.up_model.specs.Chronicle.{Chronicle};
 ghost use Rattle.up_model.specs.Configuration.{Configuration};
 ghost use Rattle.up_model.specs.Due.{due};
@@ -40,4 +40,10 @@ pub fn orderly()
 /// finish.
 pub fn blocks()
     ensures { (config : Configuration) (inputs : List Input) → IsPatient (after_all config [] inputs) }
+{}
+
+/// An instance doesn't order its main process while that lives, if each job is the one that its name finds. (Of two jobs with one name,
+/// one with a main process and one without, an instance could get a second.)
+pub fn one_main()
+    ensures { (config : Configuration) (inputs : List Input) → AreFound config.jobs → IsLone (after_all config [] inputs) }
 {}

@@ -1,0 +1,632 @@
+-- The main process of an instance lives from spawned to killed alone, and is awaited in spawned alone, so it isn't ordered while it lives.
+use Rattle.std.proofs.Common.{◌≡◌, ℕ, zero, suc, ◌==◌, Bool, true, false, ◌&&◌, ◌||◌, not, nat_lt, List, [], ◌∷◌, ◌++◌, length, Option, None, Some, is_some, if◌then◌else◌, bytes_eq, refl, sym, ◌∙◌, ap, subst, eqb-true, eq-eqb, append_assoc}
+use Rattle.std.specs.List.{AllByRecursion}
+use Rattle.up_expr.specs.Truth.{Sight}
+use Rattle.up_conf.specs.declared.job.JobDef.{JobDef}
+use Rattle.up_stanza.specs.declared.process.Process.{Process}
+use Rattle.up_stanza.specs.declared.process.Process.TheVariants as process
+use Rattle.up_model.specs.declared.failure.End.{End}
+use Rattle.up_model.specs.declared.failure.End.TheVariants as end
+use Rattle.up_model.specs.declared.failure.Failure.{Failure}
+use Rattle.up_model.specs.declared.failure.Verdict.{Verdict}
+use Rattle.up_model.specs.declared.failure.Verdict.TheVariants as verdict
+use Rattle.up_model.specs.declared.event.Event.{Event}
+use Rattle.up_model.specs.declared.input.Input.{Input}
+use Rattle.up_model.specs.declared.input.Input.TheVariants as input
+use Rattle.up_model.specs.declared.life.Entry as table
+use Rattle.up_model.specs.declared.life.JobEvent.{JobEvent}
+use Rattle.up_model.specs.declared.process.How.{How}
+use Rattle.up_model.specs.declared.state.Goal.{Goal}
+use Rattle.up_model.specs.declared.state.Goal.TheVariants.{Start, Stop}
+use Rattle.up_model.specs.declared.state.State.{State}
+use Rattle.up_model.specs.declared.state.State.TheVariants.{Waiting, Starting, PreStart, Spawned, PostStart, Running, PreStop, Stopping, Killed, PostStop}
+use Rattle.up_model.specs.declared.who.Who.{Who}
+use Rattle.up_model.specs.Answers.{after, next, awaits, is_expected, after_all}
+use Rattle.up_model.specs.Blocks.{AreFound, IsLone}
+use Rattle.up_model.specs.Chronicle.{Chronicle, Entry, Given, Queued, Handled, Offered, Fired, Finished, Made, Aimed, Released, Entered, Ordered, Signalled, Replied, Outside, StartOn, StopOn}
+use Rattle.up_model.specs.Clock.{all_overdue, kill, killing}
+use Rattle.up_model.specs.Configuration.{Configuration, job_named}
+use Rattle.up_model.specs.Due.{due, end_of, telling, told_of, turn_event, turn_of, effect}
+use Rattle.up_model.specs.Environments.{env_of_job, instance_name}
+use Rattle.up_model.specs.Events.{events_at, events_env, with_instance, stopped_by}
+use Rattle.up_model.specs.Instances.{Instance, instances_of, instance_named}
+use Rattle.up_model.specs.Judgement.{end_itself, keep_failure, fail, carry_out, judged}
+use Rattle.up_model.specs.Life.{next_state, wait_in, entering}
+use Rattle.up_model.specs.Moves.{has_process, emitting, ordering, releasing, enter, enter_whole, is_over, may_leave, next_of, who_of, move, move_of, move_in, move_first}
+use Rattle.up_model.specs.Offers.{is_open, stop_by, stop_offer, stop_offer_in, max_instances, start_of, who_called, start_who, start_by, start_offer, offer_in, offer_first, offering, offer_next}
+use Rattle.up_model.specs.Queue.{Live, queue}
+use Rattle.up_model.specs.Readings.{goal, state_of, failure, holders, made_at, speaks_of, awaited, pid_of, lives}
+use Rattle.up_model.specs.Requests.{not_supported}
+use Rattle.up_model.specs.Seen.{seen, holds, taken, was_offered}
+use Rattle.up_model.specs.Tests.{same_process, same_who, is_start, entries_if, or_else}
+use Rattle.up_model.specs.Values.{Bytes, Bindings}
+use Rattle.up_model.specs.Work.{work, settle}
+use Rattle.up_model.proofs.BlockLaws.{five, and-left}
+use Rattle.up_model.proofs.NameLaws.{called, made-named, AreSingle, Singles, entered-singles, entered-named, made-singles, made-found}
+use Rattle.up_model.proofs.Places.{bytes_same}
+use Rattle.up_model.proofs.Sparing.{all-append, all-if}
+
+-- the states in which main may live
+abbrev may_live : State → Bool
+may_live Spawned = true
+may_live PostStart = true
+may_live Running = true
+may_live PreStop = true
+may_live Stopping = true
+may_live Killed = true
+may_live other = false
+
+-- whether a job is there and has a main process
+abbrev has_main : Option JobDef → Bool
+has_main None = false
+has_main (Some job) = has_process job process.Main
+
+-- what is so of an instance that exists, by its job's name: its main lives in these states alone, and is awaited in spawned alone, if its
+-- job has one
+record Fits (config : Configuration) (job : Bytes) (p : ℕ) (c : Chronicle) : Type 0 where
+  alive : lives p process.Main c ≡ true → may_live (state_of p c) ≡ true
+  asked : awaited p process.Main c ≡ true → (state_of p c ≡ Spawned) × (has_main (job_named job config.jobs) ≡ true)
+
+-- each instance is found by its name, these things are so of each, and none ordered its main while that lived
+record Keeps (config : Configuration) (c : Chronicle) : Type 0 where
+  single : Singles c
+  fits : (who : Who) (p : ℕ) → instance_named who c ≡ Some p → Fits config who.job p c
+  lone : IsLone c
+
+-- an entry that changes no instance, no state, and nothing of what is awaited or lives
+abbrev IsStill : Entry → Type 0
+IsStill (Given (input.Spawned who its pid)) = ⊥
+IsStill (Given (input.Refused who its)) = ⊥
+IsStill (Given (input.Ended who its how)) = ⊥
+IsStill (Made job name) = ⊥
+IsStill (Entered instance entered) = ⊥
+IsStill (Ordered instance process) = ⊥
+IsStill entry = Unit {0}
+
+-- it leaves the rules kept
+still-keeps : (config : Configuration) (e : Entry) (c : Chronicle) → IsStill e → Keeps config c → Keeps config (e ∷ c)
+still-keeps config (Given (input.Spawned who its pid)) c still keeps = absurd still
+still-keeps config (Given (input.Refused who its)) c still keeps = absurd still
+still-keeps config (Given (input.Ended who its how)) c still keeps = absurd still
+still-keeps config (Made job name) c still keeps = absurd still
+still-keeps config (Entered instance entered) c still keeps = absurd still
+still-keeps config (Ordered instance its) c still keeps = absurd still
+still-keeps config (Given given) c still keeps = record {
+  single = keeps.single;
+  fits = λ who p found. record { alive = (keeps.fits who p found).alive; asked = (keeps.fits who p found).asked };
+  lone = keeps.lone;
+}
+still-keeps config e c still keeps = record {
+  single = keeps.single;
+  fits = λ who p found. record { alive = (keeps.fits who p found).alive; asked = (keeps.fits who p found).asked };
+  lone = keeps.lone;
+}
+
+-- so do several
+stills-keep : (config : Configuration) (es c : Chronicle) → AllByRecursion IsStill es → Keeps config c → Keeps config (es ++ c)
+stills-keep config [] c still keeps = keeps
+stills-keep config (e ∷ es) c still keeps = still-keeps config e (es ++ c) still.0 (stills-keep config es c still.1 keeps)
+
+-- an instance whose main isn't awaited enters a state in which main may live if it lives
+entered-keeps : (config : Configuration) (p : ℕ) (to : State) (c : Chronicle) → awaited p process.Main c ≡ false → (lives p process.Main c ≡ true → may_live to ≡ true)
+    → Keeps config c → Keeps config (Entered p to ∷ c)
+entered-keeps config p to c idle may keeps = record {
+  single = entered-singles p to c keeps.single;
+  fits = λ who q found. record {
+    alive = λ lives_still. alive-now q lives_still ((keeps.fits who q (entered-named who p q to c keeps.single found)).alive) (p == q) refl;
+    asked = λ awaited_still. asked-now who q awaited_still ((keeps.fits who q (entered-named who p q to c keeps.single found)).asked) (p == q) refl;
+  };
+  lone = keeps.lone;
+}
+  where
+    alive-now : (q : ℕ) → lives q process.Main c ≡ true → (lives q process.Main c ≡ true → may_live (state_of q c) ≡ true) → (b : Bool) → (p == q) ≡ b
+        → may_live (if b then to else state_of q c) ≡ true
+    alive-now q so before true same = may (subst (λ its. lives its process.Main c ≡ true) (sym (eqb-true p q same)) so)
+    alive-now q so before false differs = before so
+
+    asked-now : (who : Who) (q : ℕ) → awaited q process.Main c ≡ true
+        → (awaited q process.Main c ≡ true → (state_of q c ≡ Spawned) × (has_main (job_named who.job config.jobs) ≡ true)) → (b : Bool) → (p == q) ≡ b
+        → ((if b then to else state_of q c) ≡ Spawned) × (has_main (job_named who.job config.jobs) ≡ true)
+    asked-now who q so before true same =
+        let no : awaited q process.Main c ≡ false = subst (λ its. awaited its process.Main c ≡ false) (eqb-true p q same) idle in
+        absurd (cc)
+    asked-now who q so before false differs = before so
+
+-- an instance orders another process than main
+other-keeps : (config : Configuration) (p : ℕ) (its : Process) (c : Chronicle) → same_process its process.Main ≡ false → Keeps config c → Keeps config (Ordered p its ∷ c)
+other-keeps config p process.Main c other keeps = cc
+other-keeps config p its c other keeps = record {
+  single = keeps.single;
+  fits = λ who q found. record { alive = (keeps.fits who q found).alive; asked = λ so. (keeps.fits who q found).asked (by_case q (p == q) so) };
+  lone = keeps.lone;
+}
+  where
+    by_case : (q : ℕ) (b : Bool) → (if b && false then true else awaited q process.Main c) ≡ true → awaited q process.Main c ≡ true
+    by_case q true so = so
+    by_case q false so = so
+
+-- a name in a place that was made under a name
+one-name : (who other : Who) (p : ℕ) (c : Chronicle) → instance_named who c ≡ Some p → instance_named other c ≡ Some p → who ≡ other
+one-name who other p c found again = one (made-named who p c found).1 (made-named other p c again).1
+  where
+    one : made_at p c ≡ Some who → made_at p c ≡ Some other → who ≡ other
+    one e f = cc
+
+-- an instance in spawned, whose main doesn't live, orders main
+main-keeps : (config : Configuration) (its : Who) (p : ℕ) (c : Chronicle) → instance_named its c ≡ Some p → state_of p c ≡ Spawned → has_main (job_named its.job config.jobs) ≡ true
+    → lives p process.Main c ≡ false → Keeps config c → Keeps config (Ordered p process.Main ∷ c)
+main-keeps config its p c there here has gone keeps = record {
+  single = keeps.single;
+  fits = λ who q found. record { alive = (keeps.fits who q found).alive; asked = λ so. by_case who q found (p == q) refl so };
+  lone = (gone, keeps.lone);
+}
+  where
+    by_case : (who : Who) (q : ℕ) → instance_named who c ≡ Some q → (b : Bool) → (p == q) ≡ b → (if b && true then true else awaited q process.Main c) ≡ true
+        → (state_of q c ≡ Spawned) × (has_main (job_named who.job config.jobs) ≡ true)
+    by_case who q found true same so =
+        let place : p ≡ q = eqb-true p q same in
+        let name : its ≡ who = one-name its who q c (subst (λ at. instance_named its c ≡ Some at) place there) found in
+        (subst (λ at. state_of at c ≡ Spawned) place here, subst (λ who. has_main (job_named who.job config.jobs) ≡ true) name has)
+    by_case who q found false differs so = (keeps.fits who q found).asked so
+
+-- an instance of a new name is made
+made-keeps : (config : Configuration) (job name : Bytes) (c : Chronicle) → instance_named (called job name) c ≡ None → Keeps config c → Keeps config (Made job name ∷ c)
+made-keeps config job name c none keeps = record {
+  single = made-singles job name c none keeps.single;
+  fits = λ who q found. record {
+    alive = λ so. by_alive who q found (length c == q) refl so;
+    asked = λ so. by_asked who q found (length c == q) refl so;
+  };
+  lone = keeps.lone;
+}
+  where
+    by_alive : (who : Who) (q : ℕ) → instance_named who (Made job name ∷ c) ≡ Some q → (b : Bool) → (length c == q) ≡ b
+        → is_some (if b then None else pid_of q process.Main c) ≡ true → may_live (state_of q c) ≡ true
+    by_alive who q found true same so = cc
+    by_alive who q found false differs so = (keeps.fits who q (made-found who job name q c differs found)).alive so
+
+    by_asked : (who : Who) (q : ℕ) → instance_named who (Made job name ∷ c) ≡ Some q → (b : Bool) → (length c == q) ≡ b
+        → (if b then false else awaited q process.Main c) ≡ true → (state_of q c ≡ Spawned) × (has_main (job_named who.job config.jobs) ≡ true)
+    by_asked who q found true same so = cc
+    by_asked who q found false differs so = (keeps.fits who q (made-found who job name q c differs found)).asked so
+
+and-right : (a b : Bool) → a && b ≡ true → b ≡ true
+and-right true b h = h
+and-right false b h = cc
+
+-- equal names, and equal processes
+who_same : (who other : Who) → same_who who other ≡ true → who ≡ other
+who_same who other h =
+    ap (λ job. called job who.instance) (bytes_same who.job other.job (and-left (bytes_eq who.job other.job) (bytes_eq who.instance other.instance) h))
+    ∙ ap (λ name. called other.job name) (bytes_same who.instance other.instance (and-right (bytes_eq who.job other.job) (bytes_eq who.instance other.instance) h))
+
+main_same : (its : Process) → same_process its process.Main ≡ true → its ≡ process.Main
+main_same process.Main h = refl
+main_same its h = cc
+
+-- an awaited process was spawned
+spawned-keeps : (config : Configuration) (who : Who) (its : Process) (pid : ℕ) (c : Chronicle) → awaits (instance_named who c) its c ≡ true
+    → Keeps config c → Keeps config (Given (input.Spawned who its pid) ∷ c)
+spawned-keeps config who its pid c expected keeps = record {
+  single = keeps.single;
+  fits = λ other q found. record {
+    alive = λ so. alive-now other q found (made_at q c) (made-named other q c found).1 so;
+    asked = λ so. (keeps.fits other q found).asked (asked-then q (speaks_of (made_at q c) process.Main who its) so);
+  };
+  lone = keeps.lone;
+}
+  where
+    asked-then : (q : ℕ) (b : Bool) → (if b then false else awaited q process.Main c) ≡ true → awaited q process.Main c ≡ true
+    asked-then q true so = cc
+    asked-then q false so = so
+
+    spoken : (other : Who) (q : ℕ) → instance_named other c ≡ Some q → who ≡ other → its ≡ process.Main → may_live (state_of q c) ≡ true
+    spoken other q found name main =
+        let there : instance_named who c ≡ Some q = subst (λ who. instance_named who c ≡ Some q) (sym name) found in
+        let so : awaited q process.Main c ≡ true = subst (λ its. awaited q its c ≡ true) main (subst (λ o. awaits o its c ≡ true) there expected) in
+        ap may_live ((keeps.fits other q found).asked so).0
+
+    by_case : (other : Who) (q : ℕ) → instance_named other c ≡ Some q → (b : Bool) → (same_who who other && same_process its process.Main) ≡ b
+        → is_some (if b then Some pid else pid_of q process.Main c) ≡ true → may_live (state_of q c) ≡ true
+    by_case other q found true spoke so =
+        spoken other q found (who_same who other (and-left (same_who who other) (same_process its process.Main) spoke))
+        (main_same its (and-right (same_who who other) (same_process its process.Main) spoke))
+    by_case other q found false silent so = (keeps.fits other q found).alive so
+
+    alive-now : (other : Who) (q : ℕ) → instance_named other c ≡ Some q → (o : Option Who) → o ≡ Some other
+        → is_some (if speaks_of o process.Main who its then Some pid else pid_of q process.Main c) ≡ true → may_live (state_of q c) ≡ true
+    alive-now other q found o is so =
+        by_case other q found (same_who who other && same_process its process.Main) refl
+        (subst (λ o. is_some (if speaks_of o process.Main who its then Some pid else pid_of q process.Main c) ≡ true) is so)
+
+-- a process was refused, or ended
+refused-keeps : (config : Configuration) (who : Who) (its : Process) (c : Chronicle) → Keeps config c → Keeps config (Given (input.Refused who its) ∷ c)
+refused-keeps config who its c keeps = record {
+  single = keeps.single;
+  fits = λ other q found. record {
+    alive = (keeps.fits other q found).alive;
+    asked = λ so. (keeps.fits other q found).asked (by_case q (speaks_of (made_at q c) process.Main who its) so);
+  };
+  lone = keeps.lone;
+}
+  where
+    by_case : (q : ℕ) (b : Bool) → (if b then false else awaited q process.Main c) ≡ true → awaited q process.Main c ≡ true
+    by_case q true so = cc
+    by_case q false so = so
+
+ended-keeps : (config : Configuration) (who : Who) (its : Process) (how : How) (c : Chronicle) → Keeps config c → Keeps config (Given (input.Ended who its how) ∷ c)
+ended-keeps config who its how c keeps = record {
+  single = keeps.single;
+  fits = λ other q found. record {
+    alive = λ so. (keeps.fits other q found).alive (by_case q (speaks_of (made_at q c) process.Main who its) so);
+    asked = (keeps.fits other q found).asked;
+  };
+  lone = keeps.lone;
+}
+  where
+    by_case : (q : ℕ) (b : Bool) → is_some (if b then None else pid_of q process.Main c) ≡ true → lives q process.Main c ≡ true
+    by_case q true so = cc
+    by_case q false so = so
+
+-- what holds with and without some entries holds with those that a test lets in
+if-keeps : (config : Configuration) (b : Bool) (es c : Chronicle) → Keeps config (es ++ c) → Keeps config c → Keeps config (entries_if b es ++ c)
+if-keeps config true es c some none = some
+if-keeps config false es c some none = none
+
+-- the first of two lists in which there is anything does what both do
+or_else-keeps : (config : Configuration) (es others c : Chronicle) → Keeps config (es ++ c) → Keeps config (others ++ c) → Keeps config (or_else es others ++ c)
+or_else-keeps config [] others c some other = other
+or_else-keeps config (e ∷ es) others c some other = some
+
+-- killed is left when main has ended
+abbrev Goes : State → (alive : Bool) → Type 0
+Goes Killed alive = not alive ≡ true
+Goes from alive = Unit {0}
+
+goes : (job : JobDef) (p : ℕ) (from : State) (c : Chronicle) → is_over job p (wait_in from) c ≡ true → Goes from (lives p process.Main c)
+goes job p Killed c over = over
+goes job p from c over = tt
+
+whole-lives : (b : Bool) → may_live (if b then Running else Stopping) ≡ true
+whole-lives true = refl
+whole-lives false = refl
+
+-- a main that lives may do so in the next state
+lived-next : (aim : Goal) (from : State) (has alive : Bool) → Goes from alive → (alive ≡ true → may_live from ≡ true) → alive ≡ true
+    → may_live (next_state aim from has alive) ≡ true
+lived-next aim from has false goes may so = cc
+lived-next aim Killed has true goes may so = cc
+lived-next aim Waiting has true goes may so = let no : false ≡ true = may refl in cc
+lived-next aim Starting has true goes may so = let no : false ≡ true = may refl in cc
+lived-next aim PreStart has true goes may so = let no : false ≡ true = may refl in cc
+lived-next aim PostStop has true goes may so = let no : false ≡ true = may refl in cc
+lived-next Start PostStart has true goes may so = whole-lives (not has || true)
+lived-next Start PreStop has true goes may so = whole-lives (not has || true)
+lived-next Start from has true goes may so = refl
+lived-next Stop from has true goes may so = refl
+
+-- spawned is entered from a state in which main doesn't live
+abbrev is_spawned : State → Bool
+is_spawned Spawned = true
+is_spawned other = false
+
+whole-apart : (b : Bool) → is_spawned (if b then Running else Stopping) ≡ false
+whole-apart true = refl
+whole-apart false = refl
+
+spawned-apart : (aim : Goal) (from : State) (has : Bool) → may_live from ≡ true → is_spawned (next_state aim from has true) ≡ false
+spawned-apart Start PreStart has may = cc
+spawned-apart Start PostStart has may = whole-apart (not has || true)
+spawned-apart Start PreStop has may = whole-apart (not has || true)
+spawned-apart Start from has may = refl
+spawned-apart Stop Waiting has may = refl
+spawned-apart Stop from has may = refl
+
+spawned-next : (aim : Goal) (from : State) (has alive : Bool) → (alive ≡ true → may_live from ≡ true) → next_state aim from has alive ≡ Spawned → alive ≡ false
+spawned-next aim from has false may e = refl
+spawned-next aim from has true may e = absurd (apart (is_spawned (next_state aim from has true)) (ap is_spawned e) (spawned-apart aim from has (may refl)))
+  where
+    apart : (b : Bool) → b ≡ true → b ≡ false → ⊥
+    apart b is isnt = cc
+
+not-both : (a b : Bool) → a ≡ true → b ≡ true → (not a || not b) ≡ true → ⊥
+not-both true true e f h = cc
+not-both true false e f h = cc
+not-both false b e f h = cc
+
+-- an instance that may leave its state doesn't await main
+leave-idle : (config : Configuration) (job : JobDef) (p : ℕ) (c : Chronicle) → job_named job.name config.jobs ≡ Some job → Fits config job.name p c
+    → may_leave job p c ≡ true → awaited p process.Main c ≡ false
+leave-idle config job p c found fits may = by_case (awaited p process.Main c) refl
+  where
+    by_case : (b : Bool) → awaited p process.Main c ≡ b → b ≡ false
+    by_case true so =
+        let spawned : (state_of p c ≡ Spawned) × (has_main (job_named job.name config.jobs) ≡ true) = fits.asked so in
+        let has : has_process job process.Main ≡ true = subst (λ o. has_main o ≡ true) found spawned.1 in
+        absurd (not-both (has_process job process.Main) (awaited p process.Main c) has so (subst (λ from. is_over job p (wait_in from) c ≡ true) spawned.0 may))
+    by_case false so = refl
+
+-- the order for another process
+other-order : (config : Configuration) (job : JobDef) (p : ℕ) (its : Process) (c : Chronicle) → same_process its process.Main ≡ false → Keeps config c
+    → Keeps config (ordering job p (Some its) ++ c)
+other-order config job p its c other keeps = if-keeps config (has_process job its) (Ordered p its ∷ []) c (other-keeps config p its c other keeps) keeps
+
+-- the order on entering a state
+order-keeps : (config : Configuration) (job : JobDef) (its : Who) (p : ℕ) (to from : State) (task : Bool) (c : Chronicle) → job_named its.job config.jobs ≡ Some job
+    → state_of p c ≡ to → (to ≡ Spawned → (instance_named its c ≡ Some p) × (lives p process.Main c ≡ false)) → Keeps config c
+    → Keeps config (ordering job p (entering to from task).orders ++ c)
+order-keeps config job its p Spawned from task c found here ready keeps = by_case (has_process job process.Main) refl
+  where
+    by_case : (b : Bool) → has_process job process.Main ≡ b → Keeps config (entries_if b (Ordered p process.Main ∷ []) ++ c)
+    by_case true has = main-keeps config its p c (ready refl).0 here (ap has_main found ∙ has) (ready refl).1 keeps
+    by_case false has = keeps
+order-keeps config job its p PreStart from task c found here ready keeps = other-order config job p process.PreStart c refl keeps
+order-keeps config job its p PostStart from task c found here ready keeps = other-order config job p process.PostStart c refl keeps
+order-keeps config job its p PreStop from task c found here ready keeps = other-order config job p process.PreStop c refl keeps
+order-keeps config job its p PostStop from task c found here ready keeps = other-order config job p process.PostStop c refl keeps
+order-keeps config job its p to from task c found here ready keeps = keeps
+
+emitting-still : (job : JobDef) (who : Who) (p : ℕ) (to : State) (kind : Option JobEvent) (c : Chronicle) → AllByRecursion IsStill (emitting job who p to kind c)
+emitting-still job who p to None c = tt
+emitting-still job who p to (Some kind) c = (tt, tt)
+
+-- what an instance does on entering a state, after its order
+enter-keeps : (config : Configuration) (job : JobDef) (who : Who) (p : ℕ) (to : State) (entry : table.Entry) (c : Chronicle)
+    → Keeps config (ordering job p entry.orders ++ Entered p to ∷ c) → Keeps config (enter_whole job who p to entry c ++ c)
+enter-keeps config job who p to entry c keeps =
+    subst (Keeps config) (sym (five releases signals emits orders (Entered p to ∷ []) c))
+    (stills-keep config releases (signals ++ (emits ++ (orders ++ Entered p to ∷ c))) (all-if IsStill entry.releases (releasing p false (enter job who p to entry c ++ c)) (tt, tt))
+    (stills-keep config signals (emits ++ (orders ++ Entered p to ∷ c)) (all-if IsStill (entry.kills && lives p process.Main c) (Signalled p job.kill_signal false ∷ []) (tt, tt))
+    (stills-keep config emits (orders ++ Entered p to ∷ c) (emitting-still job who p to entry.emits ((orders ++ Entered p to ∷ []) ++ c)) keeps)))
+  where
+    orders : List Entry
+    orders = ordering job p entry.orders
+
+    emits : List Entry
+    emits = emitting job who p to entry.emits ((orders ++ Entered p to ∷ []) ++ c)
+
+    signals : List Entry
+    signals = entries_if (entry.kills && lives p process.Main c) (Signalled p job.kill_signal false ∷ [])
+
+    releases : List Entry
+    releases = entries_if entry.releases (releasing p false (enter job who p to entry c ++ c))
+
+-- a move leaves the rules kept
+move-keeps : (config : Configuration) (job : JobDef) (x : Instance) (c : Chronicle) → job_named job.name config.jobs ≡ Some job
+    → instance_named (called job.name x.name) c ≡ Some x.place → may_leave job x.place c ≡ true → Keeps config c → Keeps config (move job x c ++ c)
+move-keeps config job x c found there may keeps =
+    enter-keeps config job (who_of job x) p to (entering to from job.task) c
+    (order-keeps config job its p to from job.task (Entered p to ∷ c) found (rw (eq-eqb p p refl) refl) ready
+    (entered-keeps config p to c (leave-idle config job p c found fits may)
+    (lived-next (goal p c) from (has_process job process.Main) (lives p process.Main c) (goes job p from c may) fits.alive) keeps))
+  where
+    p : ℕ
+    p = x.place
+
+    its : Who
+    its = called job.name x.name
+
+    from : State
+    from = state_of p c
+
+    to : State
+    to = next_of job p c
+
+    fits : Fits config job.name p c
+    fits = keeps.fits its p there
+
+    ready : to ≡ Spawned → (instance_named its (Entered p to ∷ c) ≡ Some p) × (lives p process.Main c ≡ false)
+    ready e = (
+      subst (λ to. instance_named its (Entered p to ∷ c) ≡ Some p) (sym e) there,
+      spawned-next (goal p c) from (has_process job process.Main) (lives p process.Main c) fits.alive e,
+    )
+
+move_of-keeps : (config : Configuration) (job : JobDef) (x : Instance) (c : Chronicle) → job_named job.name config.jobs ≡ Some job
+    → instance_named (called job.name x.name) c ≡ Some x.place → Keeps config c → Keeps config (move_of job x c ++ c)
+move_of-keeps config job x c found there keeps = by_case (may_leave job x.place c) refl
+  where
+    by_case : (b : Bool) → may_leave job x.place c ≡ b → Keeps config (entries_if b (move job x c) ++ c)
+    by_case true may = move-keeps config job x c found there may keeps
+    by_case false stays = keeps
+
+move_in-keeps : (config : Configuration) (job : JobDef) (xs : List Instance) (c : Chronicle) → job_named job.name config.jobs ≡ Some job
+    → AreSingle (instances_of job.name c) xs → Keeps config c → Keeps config (move_in job xs c ++ c)
+move_in-keeps config job [] c found single keeps = keeps
+move_in-keeps config job (x ∷ xs) c found single keeps =
+    or_else-keeps config (move_of job x c) (move_in job xs c) c (move_of-keeps config job x c found single.0 keeps) (move_in-keeps config job xs c found single.1 keeps)
+
+move_first-keeps : (config : Configuration) (jobs : List JobDef) (c : Chronicle) → AllByRecursion (λ job. job_named job.name config.jobs ≡ Some job) jobs
+    → Keeps config c → Keeps config (move_first jobs c ++ c)
+move_first-keeps config [] c found keeps = keeps
+move_first-keeps config (job ∷ jobs) c found keeps =
+    or_else-keeps config (move_in job (instances_of job.name c) c) (move_first jobs c) c
+    (move_in-keeps config job (instances_of job.name c) c found.0 (keeps.single job.name) keeps) (move_first-keeps config jobs c found.1 keeps)
+
+-- an offer to an instance's `stop on` is still
+stop_by-still : (p : ℕ) (events : List ℕ) (c : Chronicle) → AllByRecursion IsStill (stop_by p events c)
+stop_by-still p events c = all-if IsStill (is_start (goal p c)) (Aimed p Stop (stopped_by (events_at events c)) events ∷ Released p false ∷ []) (tt, (tt, tt))
+
+stop_offer-still : (config : Configuration) (job : JobDef) (p event : ℕ) (c : Chronicle) → AllByRecursion IsStill (stop_offer config job p event c)
+stop_offer-still config job p event c =
+    all-append IsStill (entries_if (holds job.stop_on sights) fires) (Offered (StopOn p) event ∷ [])
+    (all-if IsStill (holds job.stop_on sights) fires
+    (all-append IsStill (stop_by p events fired) (Fired (StopOn p) events ∷ []) (stop_by-still p events fired) (tt, tt)))
+    (tt, tt)
+  where
+    sights : List Sight
+    sights = seen config (StopOn p) (Offered (StopOn p) event ∷ c)
+
+    events : List ℕ
+    events = taken job.stop_on sights
+
+    fired : Chronicle
+    fired = Fired (StopOn p) events ∷ Offered (StopOn p) event ∷ c
+
+    fires : List Entry
+    fires = stop_by p events fired ++ Fired (StopOn p) events ∷ []
+
+stop_offer_in-keeps : (config : Configuration) (job : JobDef) (xs : List Instance) (event : ℕ) (c : Chronicle) → Keeps config c → Keeps config (stop_offer_in config job xs event c ++ c)
+stop_offer_in-keeps config job [] event c keeps = keeps
+stop_offer_in-keeps config job (x ∷ xs) event c keeps =
+    or_else-keeps config (entries_if (is_open x.place c) (stop_offer config job x.place event c)) (stop_offer_in config job xs event c) c
+    (if-keeps config (is_open x.place c) (stop_offer config job x.place event c) c (stills-keep config (stop_offer config job x.place event c) c (stop_offer-still config job x.place event c) keeps) keeps)
+    (stop_offer_in-keeps config job xs event c keeps)
+
+-- a start makes an instance only if none has its name
+start_of-keeps : (config : Configuration) (who : Who) (environment : Bindings) (its : List ℕ) (o : Option ℕ) (c : Chronicle) → instance_named who c ≡ o
+    → Keeps config c → Keeps config (start_of who environment its o c ++ c)
+start_of-keeps config who environment its None c none keeps =
+    if-keeps config (nat_lt (length (instances_of who.job c)) max_instances) (Aimed (length c) Start environment its ∷ Made who.job who.instance ∷ []) c
+    (still-keeps config (Aimed (length c) Start environment its) (Made who.job who.instance ∷ c) tt (made-keeps config who.job who.instance c none keeps)) keeps
+start_of-keeps config who environment its (Some p) c found keeps =
+    if-keeps config (not (is_start (goal p c))) (Aimed p Start environment its ∷ Released p false ∷ []) c
+    (stills-keep config (Aimed p Start environment its ∷ Released p false ∷ []) c (tt, (tt, tt)) keeps) keeps
+
+start_who-keeps : (config : Configuration) (environment : Bindings) (its : List ℕ) (o : Option Who) (c : Chronicle) → Keeps config c → Keeps config (start_who environment its o c ++ c)
+start_who-keeps config environment its None c keeps = keeps
+start_who-keeps config environment its (Some who) c keeps = start_of-keeps config who (with_instance who environment) its (instance_named who c) c refl keeps
+
+three : (xs c : Chronicle) (e f : Entry) → ((xs ++ e ∷ []) ++ f ∷ []) ++ c ≡ xs ++ e ∷ f ∷ c
+three xs c e f = append_assoc (xs ++ e ∷ []) (f ∷ []) c ∙ append_assoc xs (e ∷ []) (f ∷ c)
+
+-- so an offer to a job's `start on` leaves the rules kept
+start_offer-keeps : (config : Configuration) (job : JobDef) (event : ℕ) (c : Chronicle) → Keeps config c → Keeps config (start_offer config job event c ++ c)
+start_offer-keeps config job event c keeps = by_case (holds job.start_on sights)
+  where
+    sights : List Sight
+    sights = seen config (StartOn job.name) (Offered (StartOn job.name) event ∷ c)
+
+    events : List ℕ
+    events = taken job.start_on sights
+
+    fired : Chronicle
+    fired = Fired (StartOn job.name) events ∷ Offered (StartOn job.name) event ∷ c
+
+    environment : Bindings
+    environment = events_env (env_of_job config job.name) (events_at events fired)
+
+    done : Keeps config fired
+    done = stills-keep config (Fired (StartOn job.name) events ∷ Offered (StartOn job.name) event ∷ []) c (tt, (tt, tt)) keeps
+
+    by_case : (b : Bool) → Keeps config ((entries_if b (start_by config job events fired ++ Fired (StartOn job.name) events ∷ []) ++ Offered (StartOn job.name) event ∷ []) ++ c)
+    by_case true =
+        subst (Keeps config) (sym (three (start_by config job events fired) c (Fired (StartOn job.name) events) (Offered (StartOn job.name) event)))
+        (start_who-keeps config environment events (who_called job.name (instance_name job environment)) fired done)
+    by_case false = still-keeps config (Offered (StartOn job.name) event) c tt keeps
+
+offer_in-keeps : (config : Configuration) (job : JobDef) (event : ℕ) (c : Chronicle) → Keeps config c → Keeps config (offer_in config job event c ++ c)
+offer_in-keeps config job event c keeps =
+    or_else-keeps config (stop_offer_in config job (instances_of job.name c) event c) (entries_if (not (was_offered (StartOn job.name) c)) (start_offer config job event c)) c
+    (stop_offer_in-keeps config job (instances_of job.name c) event c keeps)
+    (if-keeps config (not (was_offered (StartOn job.name) c)) (start_offer config job event c) c (start_offer-keeps config job event c keeps) keeps)
+
+offer_first-keeps : (config : Configuration) (jobs : List JobDef) (event : ℕ) (c : Chronicle) → Keeps config c → Keeps config (offer_first config jobs event c ++ c)
+offer_first-keeps config [] event c keeps = keeps
+offer_first-keeps config (job ∷ jobs) event c keeps =
+    or_else-keeps config (offer_in config job event c) (offer_first config jobs event c) c (offer_in-keeps config job event c keeps) (offer_first-keeps config jobs event c keeps)
+
+offer_next-keeps : (config : Configuration) (event : Option ℕ) (c : Chronicle) → Keeps config c → Keeps config (offer_next config event c ++ c)
+offer_next-keeps config None c keeps = keeps
+offer_next-keeps config (Some event) c keeps = offer_first-keeps config config.jobs event c keeps
+
+-- what is due leaves the rules kept
+due-keeps : (config : Configuration) (c : Chronicle) → AreFound config.jobs → Keeps config c → Keeps config (due config c ++ c)
+unfolding due
+due-keeps config c found keeps =
+    or_else-keeps config (move_first config.jobs c) (offer_next config (offering c) c) c (move_first-keeps config config.jobs c found keeps) (offer_next-keeps config (offering c) c keeps)
+
+settle-keeps : (n : ℕ) (config : Configuration) (c : Chronicle) → AreFound config.jobs → Keeps config c → Keeps config (settle n config c)
+unfolding settle
+settle-keeps zero config c found keeps = keeps
+settle-keeps (suc n) config c found keeps = settle-keeps n config (due config c ++ c) found (due-keeps config c found keeps)
+
+-- that an instance ends itself is still, and that it fails, and what an end does
+end_itself-still : (p : ℕ) (c : Chronicle) → AllByRecursion IsStill (end_itself p c)
+end_itself-still p c = all-if IsStill (is_start (goal p c)) (Aimed p Stop [] (holders p c) ∷ []) (tt, tt)
+
+fail-still : (p : ℕ) (its : Failure) (c : Chronicle) → AllByRecursion IsStill (fail p its c)
+fail-still p its c =
+    all-append IsStill (entries_if (not (is_some (failure p c))) (keep_failure p its (end_itself p c ++ c))) (end_itself p c)
+    (all-if IsStill (not (is_some (failure p c))) (keep_failure p its (end_itself p c ++ c)) (tt, (tt, tt))) (end_itself-still p c)
+
+carry_out-still : (p : ℕ) (its : Verdict) (c : Chronicle) → AllByRecursion IsStill (carry_out p its c)
+carry_out-still p verdict.Note c = tt
+carry_out-still p verdict.Respawn c = (tt, tt)
+carry_out-still p verdict.Stop c = end_itself-still p c
+carry_out-still p (verdict.Fail its) c = fail-still p its c
+
+end_of-still : (its_job : Option JobDef) (o : Option ℕ) (its : Process) (how : End) (c : Chronicle) → AllByRecursion IsStill (end_of its_job o its how c)
+end_of-still None o its how c = tt
+end_of-still (Some job) None its how c = tt
+end_of-still (Some job) (Some p) its how c = carry_out-still p (judged job p its how c) c
+
+-- so are the timer's signals, and what a turn does
+killing-still : (places : List ℕ) → AllByRecursion IsStill (killing places)
+killing-still [] = tt
+killing-still (place ∷ places) = all-append IsStill (killing places) (Signalled place kill true ∷ []) (killing-still places) (tt, tt)
+
+telling-still : (spoilt : ℕ) (told : Option Event) → AllByRecursion IsStill (telling spoilt told)
+telling-still spoilt None = tt
+telling-still spoilt (Some told) = (tt, tt)
+
+turn-still : (found : Option Live) (c : Chronicle) → AllByRecursion IsStill (turn_of found c)
+turn-still None c = tt
+turn-still (Some live) c = by_case live.handled
+  where
+    by_case : (b : Bool) → AllByRecursion IsStill (if b then telling live.place (told_of live.place c) ++ Finished live.place ∷ [] else Handled live.place ∷ [])
+    by_case true = all-append IsStill (telling live.place (told_of live.place c)) (Finished live.place ∷ []) (telling-still live.place (told_of live.place c)) (tt, tt)
+    by_case false = (tt, tt)
+
+-- still entries in front of an input
+given-keeps : (config : Configuration) (es : List Entry) (given : Input) (c : Chronicle) → AllByRecursion IsStill es → Keeps config (Given given ∷ c)
+    → Keeps config ((es ++ Given given ∷ []) ++ c)
+given-keeps config es given c still keeps = rw append_assoc (stills-keep config es (Given given ∷ c) still keeps)
+
+-- an answer that is expected is awaited
+expected_spawned : (who : Who) (its : Process) (pid : ℕ) (c : Chronicle) → is_expected (input.Spawned who its pid) c ≡ true → awaits (instance_named who c) its c ≡ true
+unfolding is_expected
+expected_spawned who its pid c expected = expected
+
+-- the effect of an input that is expected leaves the rules kept
+effect-keeps : (config : Configuration) (given : Input) (c : Chronicle) → is_expected given c ≡ true → Keeps config c → Keeps config (effect config given c ++ c)
+unfolding effect
+effect-keeps config (input.Emit event) c expected keeps = stills-keep config (Queued (Outside (length c)) event ∷ Given (input.Emit event) ∷ []) c (tt, (tt, tt)) keeps
+effect-keeps config (input.Request id request) c expected keeps = stills-keep config (Replied (length c) (not_supported request.command) ∷ Given (input.Request id request) ∷ []) c (tt, (tt, tt)) keeps
+effect-keeps config (input.Spawned who its pid) c expected keeps = spawned-keeps config who its pid c (expected_spawned who its pid c expected) keeps
+effect-keeps config (input.Refused who its) c expected keeps =
+    given-keeps config (end_of (job_named who.job config.jobs) (instance_named who c) its end.Refused c) (input.Refused who its) c
+    (end_of-still (job_named who.job config.jobs) (instance_named who c) its end.Refused c) (refused-keeps config who its c keeps)
+effect-keeps config (input.Ended who its how) c expected keeps =
+    given-keeps config (end_of (job_named who.job config.jobs) (instance_named who c) its (end.Ended how) c) (input.Ended who its how) c
+    (end_of-still (job_named who.job config.jobs) (instance_named who c) its (end.Ended how) c) (ended-keeps config who its how c keeps)
+effect-keeps config (input.Clock reading) c expected keeps =
+    given-keeps config (killing (all_overdue config.jobs (Given (input.Clock reading) ∷ c))) (input.Clock reading) c
+    (killing-still (all_overdue config.jobs (Given (input.Clock reading) ∷ c))) (still-keeps config (Given (input.Clock reading)) c tt keeps)
+effect-keeps config input.Turn c expected keeps =
+    given-keeps config (turn_of (turn_event config (queue c) c) c) input.Turn c (turn-still (turn_event config (queue c) c) c) (still-keeps config (Given input.Turn) c tt keeps)
+
+-- so do inputs, one after another
+after-keeps : (config : Configuration) (c : Chronicle) (given : Input) → AreFound config.jobs → is_expected given c ≡ true → Keeps config c → Keeps config (after config c given)
+unfolding after
+after-keeps config c given found expected keeps =
+    settle-keeps (work config (effect config given c ++ c)) config (effect config given c ++ c) found (effect-keeps config given c expected keeps)
+
+next-keeps : (config : Configuration) (c : Chronicle) (given : Input) → AreFound config.jobs → Keeps config c → Keeps config (next config c given)
+next-keeps config c given found keeps = by_case (is_expected given c) refl
+  where
+    by_case : (b : Bool) → is_expected given c ≡ b → Keeps config (if b then after config c given else c)
+    by_case true expected = after-keeps config c given found expected keeps
+    by_case false other = keeps
+
+after_all-keeps : (config : Configuration) (c : Chronicle) (inputs : List Input) → AreFound config.jobs → Keeps config c → Keeps config (after_all config c inputs)
+unfolding after_all
+after_all-keeps config c [] found keeps = keeps
+after_all-keeps config c (given ∷ inputs) found keeps = after_all-keeps config (next config c given) inputs found (next-keeps config c given found keeps)
+
+-- at the start no instance exists
+empty-keeps : (config : Configuration) → Keeps config []
+empty-keeps config = record { single = λ job. tt; fits = λ who p found. record { alive = λ so. absurd (cc); asked = λ so. absurd (cc) }; lone = tt }
+
+-- so no instance orders its main while that lives
+pub lone : (config : Configuration) (inputs : List Input) → AreFound config.jobs → IsLone (after_all config [] inputs)
+lone config inputs found = (after_all-keeps config [] inputs found (empty-keeps config)).lone
