@@ -4,7 +4,7 @@ use Rattle.up_conf.specs.declared.job.JobDef.{JobDef}
 use Rattle.up_model.specs.declared.input.Input.{Input}
 use Rattle.up_model.specs.Chronicle.{Chronicle, Given}
 use Rattle.up_model.specs.Configuration.{Configuration}
-use Rattle.up_model.specs.Held.{held_by, held_by_instances, held_by_job, held_by_jobs, has, is_held}
+use Rattle.up_model.specs.Held.{held_by, held_by_instances, held_by_jobs, has, is_held}
 use Rattle.up_model.specs.Instances.{Instance, instances_of}
 
 instances-given : (config : Configuration) (job : JobDef) (xs : List Instance) (given : Input) (c : Chronicle)

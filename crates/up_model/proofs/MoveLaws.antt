@@ -1,5 +1,5 @@
 -- A move: what its entries leave alone, and that it leaves its instance less work.
-use Rattle.std.proofs.Common.{◌≡◌, ℕ, ◌+◌, ◌<◌, ◌≤◌, ◌⊎◌, inl, inr, Bool, true, false, ◌&&◌, ◌||◌, not, List, [], ◌∷◌, ◌++◌, length, Option, None, Some, is_some, if◌then◌else◌, refl, sym, ◌∙◌, ap, subst, arith, eq-eqb, append_assoc}
+use Rattle.std.proofs.Common.{◌≡◌, ℕ, ◌+◌, ◌<◌, ◌≤◌, Bool, true, false, ◌&&◌, ◌||◌, not, List, [], ◌∷◌, ◌++◌, Option, None, Some, is_some, if◌then◌else◌, refl, sym, ◌∙◌, ap, subst, arith, eq-eqb, append_assoc}
 use Rattle.std.specs.List.{AllByRecursion}
 use Rattle.up_stanza.specs.declared.process.Process.{Process}
 use Rattle.up_stanza.specs.declared.process.Process.TheVariants.{Main}
@@ -9,12 +9,12 @@ use Rattle.up_model.specs.declared.life.JobEvent.{JobEvent}
 use Rattle.up_model.specs.declared.state.Goal.{Goal}
 use Rattle.up_model.specs.declared.state.Goal.TheVariants.{Start, Stop}
 use Rattle.up_model.specs.declared.state.State.{State}
-use Rattle.up_model.specs.declared.state.State.TheVariants.{Waiting, Starting, PreStart, Spawned, PostStart, Running, PreStop, Stopping, Killed, PostStop}
+use Rattle.up_model.specs.declared.state.State.TheVariants.{Waiting, Starting, PostStart, Running, PreStop, Stopping}
 use Rattle.up_model.specs.declared.who.Who.{Who}
-use Rattle.up_model.specs.Chronicle.{Chronicle, Entry, Given, Queued, Handled, Offered, Made, Aimed, Released, Entered, Ordered, Signalled, Entering, Expression, StartOn, StopOn}
+use Rattle.up_model.specs.Chronicle.{Chronicle, Entry, Given, Queued, Offered, Made, Aimed, Released, Entered, Ordered, Signalled, Entering, Expression, StartOn, StopOn}
 use Rattle.up_model.specs.Instances.{Instance, without_instance, instances_of, existing}
 use Rattle.up_model.specs.Life.{next_state, wait_in, entering}
-use Rattle.up_model.specs.Moves.{has_process, emitting, ordering, releasing, enter, enter_whole, is_over, may_leave, next_of, who_of, move, move_of}
+use Rattle.up_model.specs.Moves.{has_process, emitting, ordering, releasing, enter, enter_whole, is_over, may_leave, next_of, who_of, move}
 use Rattle.up_model.specs.Offers.{is_newborn, is_open}
 use Rattle.up_model.specs.Readings.{goal, state_of, is_blocking, blocker, lives}
 use Rattle.up_model.specs.Seen.{was_offered}

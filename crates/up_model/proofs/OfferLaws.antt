@@ -1,5 +1,5 @@
 -- An offer leaves one expression fewer to be offered, which counts for more than the moves that it can bring.
-use Rattle.std.proofs.Common.{◌≡◌, ℕ, suc, nat_lt, ◌+◌, ◌<◌, ◌≤◌, ◌==◌, Bool, true, false, ◌||◌, not, List, [], ◌∷◌, ◌++◌, length, Option, None, Some, is_some, if◌then◌else◌, bytes_eq, refl, sym, ◌∙◌, ap, subst, arith, eq-eqb}
+use Rattle.std.proofs.Common.{◌≡◌, ℕ, suc, nat_lt, ◌+◌, ◌<◌, ◌≤◌, Bool, true, false, ◌||◌, not, List, [], ◌∷◌, ◌++◌, length, Option, None, Some, is_some, bytes_eq, refl, ◌∙◌, ap, subst, arith, eq-eqb}
 use Rattle.std.proofs.Math.Bool.{or-true}
 use Rattle.std.specs.List.{AllByRecursion}
 use Rattle.up_expr.specs.Truth.{Sight}

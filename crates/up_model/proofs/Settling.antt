@@ -1,5 +1,5 @@
 -- Doing what is due comes to rest, and the count by which it is done is enough.
-use Rattle.std.proofs.Common.{◌≡◌, ℕ, zero, suc, ◌<◌, ◌≤◌, ◌⊎◌, inl, inr, List, [], ◌++◌, refl, sym, ◌∙◌, ap, arith}
+use Rattle.std.proofs.Common.{◌≡◌, ℕ, zero, suc, ◌<◌, ◌≤◌, ◌⊎◌, inl, inr, [], ◌++◌, refl, sym, ◌∙◌, ap, arith}
 use Rattle.up_model.specs.Configuration.{Configuration}
 use Rattle.up_model.specs.declared.input.Input.{Input}
 use Rattle.up_model.specs.Chronicle.{Chronicle}

@@ -1,5 +1,5 @@
 -- The environment of a job, and which instance a start by it concerns (init(5), "Job environment" and "instance").
-use Rattle.std.specs.Prelude.{ℕ, List, [], ◌∷◌, Option, None, Some}
+use Rattle.std.specs.Prelude.{List, [], ◌∷◌, Option, None, Some}
 use Rattle.up_conf.specs.declared.job.JobDef.{JobDef}
 use Rattle.up_stanza.specs.declared.setting.Setting.{Setting}
 use Rattle.up_text.specs.Bindings.{value_of, set_in}

@@ -1,6 +1,6 @@
 -- The life of an instance: what it waits for in a state, which state follows, and what entering one does (the Upstart Cookbook's
 -- table of states).
-use Rattle.std.specs.Prelude.{Bool, true, false, ◌||◌, not, Option, None, Some, if◌then◌else◌}
+use Rattle.std.specs.Prelude.{Bool, true, false, ◌||◌, not, None, Some, if◌then◌else◌}
 use Rattle.up_stanza.specs.declared.process.Process as processes
 use Rattle.up_stanza.specs.declared.process.Process.TheVariants as process
 use Rattle.up_model.specs.declared.life.Entry.{Entry}

@@ -13,7 +13,7 @@ use Rattle.up_model.specs.declared.state.State.TheVariants as state
 use Rattle.up_model.specs.declared.who.Who.{Who}
 use Rattle.up_model.specs.Chronicle.{Chronicle, Entry, Given, Queued, Finished, Made, Aimed, Restarted, Released, Failed, Entered, Ordered, Entering}
 use Rattle.up_model.specs.Tests.{same_process, same_who}
-use Rattle.up_model.specs.Values.{Bytes, Bindings}
+use Rattle.up_model.specs.Values.{Bindings}
 
 -- the entry at a place
 abbrev pub entry_at : ℕ → Chronicle → Option Entry
