@@ -403,17 +403,39 @@ fn check_rows(
     rt: &impl Abort,
     alloc: Global,
     engine: &mut Engine,
-    case: &Case,
+    name: &str,
+    rows: &[Row],
 ) -> Result<(), Untried> {
-    for (place, row) in case.rows.iter().enumerate() {
-        check_row(rt, alloc, engine, row, (case.name, place))?;
+    for (place, row) in rows.iter().enumerate() {
+        check_row(rt, alloc, engine, row, (name, place))?;
     }
     Ok(())
 }
 
-pub(crate) fn check_case(rt: &impl Abort, alloc: Global, case: &Case) -> Result<(), Untried> {
+fn check_case(rt: &impl Abort, alloc: Global, case: &Case) -> Result<(), Untried> {
     let mut engine = engine(alloc, case.files, case.base)?;
-    check_rows(rt, alloc, &mut engine, case)
+    check_rows(rt, alloc, &mut engine, case.name, case.rows)
+}
+
+// The engine of a folder with this job file alone.
+fn engine_of(alloc: Global, file: &str) -> Result<Engine, Untried> {
+    let mut folder = Folder::new(alloc);
+    add_file(alloc, &mut folder, "a.conf", file.as_bytes())?;
+    let (table, _) = compile(alloc, &folder)?;
+    let engine = Engine::new(alloc, table, Env::new(alloc))?;
+    Ok(engine)
+}
+
+/// The rows of a folder with this job file alone.
+pub(crate) fn check_file(
+    rt: &impl Abort,
+    alloc: Global,
+    name: &str,
+    file: &str,
+    rows: &[Row],
+) -> Result<(), Untried> {
+    let mut engine = engine_of(alloc, file)?;
+    check_rows(rt, alloc, &mut engine, name, rows)
 }
 
 pub(crate) fn check_cases(rt: &impl Abort, alloc: Global, cases: &[Case]) -> Result<(), Untried> {

@@ -1,5 +1,5 @@
 //! Expressions as deep as a job file may have them.
-use crate::engine::{Case, Given, Row, STARTING, check_case};
+use crate::engine::{Given, Row, STARTING, check_file};
 use std::alloc::{AllocError, Global};
 use std::test::Fail;
 
@@ -48,13 +48,7 @@ fn deepest_chain(rt: HostRuntime) -> Result<(), Fail> {
     let spawn = spawn(rt.alloc(), "A")?;
     let mut rows = TRUE_BY_ONE;
     rows[3].1 = spawn.as_str();
-    let case = Case {
-        name: "deepest_chain",
-        files: &[("a.conf", file.as_str())],
-        base: &[],
-        rows: &rows,
-    };
-    check_case(&rt, rt.alloc(), &case)?;
+    check_file(&rt, rt.alloc(), "deepest_chain", file.as_str(), &rows)?;
     Ok(())
 }
 
@@ -74,12 +68,12 @@ fn deepest_chain_keeps_an_event(rt: HostRuntime) -> Result<(), Fail> {
     let spawn = spawn(rt.alloc(), "B")?;
     let mut rows = TRUE_BY_TWO;
     rows[5].1 = spawn.as_str();
-    let case = Case {
-        name: "deepest_chain_keeps_an_event",
-        files: &[("a.conf", file.as_str())],
-        base: &[],
-        rows: &rows,
-    };
-    check_case(&rt, rt.alloc(), &case)?;
+    check_file(
+        &rt,
+        rt.alloc(),
+        "deepest_chain_keeps_an_event",
+        file.as_str(),
+        &rows,
+    )?;
     Ok(())
 }
