@@ -1,0 +1,2 @@
+//! The tests of `up_job`, over its public interface.
+#![tactic(auto)]
