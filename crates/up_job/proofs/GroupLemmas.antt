@@ -1,5 +1,5 @@
 -- The instances of each job after a group changed or came.
-use Rattle.std.proofs.Common.{◌≡◌, ℕ, Bool, true, false, cond, List, [], ◌∷◌, Option, None, Some, Result, Ok, Err, OnOk, IsSome, get_or, set, insert, bytes_eq, refl, sym, ◌∙◌, ap, subst}
+use Rattle.std.proofs.Common.{◌≡◌, ℕ, Bool, true, false, cond, List, [], Option, None, Some, Result, Ok, Err, OnOk, IsSome, get_or, set, insert, bytes_eq, refl, sym, ◌∙◌, ap, subst}
 use Rattle.up_job.specs.declared.instance.Instance.{Instance}
 use Rattle.up_job.specs.declared.instances.Group.{Group}
 use Rattle.up_job.specs.Groups.{job_of, row_of, instances_in, Changes}

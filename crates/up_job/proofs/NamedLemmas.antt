@@ -8,7 +8,7 @@ use Rattle.std.specs.Cmp.Lexicographic.{slice_cmp}
 use Rattle.std.proofs.lemmas.Cmp.{nat_list_cmp_total}
 use Rattle.std.proofs.lemmas.Map.Text.{is_eq-slice_cmp}
 use Rattle.std.proofs.lemmas.Slice.Eq.{bytes_eq-Decides}
-use Rattle.up_conf.specs.Order.{is_below, put_by}
+use Rattle.up_conf.specs.Order.{is_below}
 use Rattle.up_job.specs.Named.{named, position, put, replaced, without, IsBelowAll, AreInOrder}
 use Rattle.up_model.specs.Values.{Bytes}
 

@@ -1,8 +1,8 @@
 -- The list of a job's instances after each change.
-use Rattle.std.proofs.Common.{◌≡◌, ℕ, ◌+◌, ◌<◌, ◌≤◌, List, None, length, refl, arith}
+use Rattle.std.proofs.Common.{◌≡◌, ◌<◌, List, None, length, refl, arith}
 use Rattle.up_job.specs.declared.instance.Instance.{Instance}
 use Rattle.up_job.specs.declared.instance.Life.{Life}
-use Rattle.up_job.specs.InstanceLists.{name_of, named, new_instance, with_instance, with_life, without, limit, IsRow}
+use Rattle.up_job.specs.InstanceLists.{name_of, named, with_instance, with_life, without, limit, IsRow}
 use Rattle.up_job.proofs.NamedLemmas.{order_put, order_replaced, order_without, length_put, length_replaced, length_without}
 use Rattle.up_model.specs.Values.{Bytes}
 

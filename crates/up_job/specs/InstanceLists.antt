@@ -1,6 +1,5 @@
 -- What a contract sees of the instances: for each job a list of them, in byte order of their names.
-use Rattle.std.specs.Prelude.{ℕ, ◌≡◌, ◌≤◌, ◌==◌, List, [], ◌∷◌, Option, None, Some, length, IsSome, if◌then◌else◌}
-use Rattle.std.specs.Str.{bytes_eq}
+use Rattle.std.specs.Prelude.{ℕ, ◌≤◌, ◌==◌, List, [], Option, None, length, if◌then◌else◌}
 use Rattle.up_job.specs.declared.fault.JobFault.{JobFault}
 use Rattle.up_job.specs.declared.fault.JobFault.TheVariants.{Full, Memory}
 use Rattle.up_job.specs.declared.instance.Instance.{Instance}

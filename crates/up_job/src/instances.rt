@@ -119,12 +119,7 @@ fn take(groups: &mut Vec<Group>, job: &Name, instance: &str) -> Instance
 }
 
 // Gives an instance another life, and returns the one that it had.
-fn exchange(
-    groups: &mut Vec<Group>,
-    job: &Name,
-    instance: &str,
-    life: Life,
-) -> Life
+fn exchange(groups: &mut Vec<Group>, job: &Name, instance: &str, life: Life) -> Life
     requires order { by_name.AreInOrder job_of groups.old.items }
     requires there { IsSome (named instance.now (instances_in job.now groups.old.items)) }
     ensures order { by_name.AreInOrder job_of groups.new.items }

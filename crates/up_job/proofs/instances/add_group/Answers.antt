@@ -1,9 +1,9 @@
-use Rattle.std.proofs.Common.{◌≡◌, [], rules, arith, length, IsSome, Some, None, refl, sym, subst, ap, ◌∙◌}
+use Rattle.std.proofs.Common.{◌≡◌, [], rules, arith, length, sym, subst, ap}
 use Rattle.up_job.specs.Groups.{job_of, Changes}
-use Rattle.up_job.specs.InstanceLists.{named, new_instance, with_instance, with_life, without, limit, refusal}
+use Rattle.up_job.specs.InstanceLists.{new_instance, with_instance}
 use Rattle.up_job.specs.Named as by_name
-use Rattle.up_job.proofs.NamedLemmas.{within_here, position_within}
-use Rattle.up_job.proofs.GroupLemmas.{has_group, row_here, changed_order, changed_group, added_order, added_group}
+use Rattle.up_job.proofs.NamedLemmas.{position_within}
+use Rattle.up_job.proofs.GroupLemmas.{added_order, added_group}
 use Rattle.up_job.proofs.instances.add_group.Goals as goal
 
 pub insert-requires : goal.insert-requires

@@ -1,9 +1,9 @@
-use Rattle.std.proofs.Common.{◌≡◌, ◌<◌, IfErr, rules, arith, length, IsSome, Some, None, refl, sym, subst, ap, ◌∙◌}
+use Rattle.std.proofs.Common.{◌≡◌, ◌<◌, IfErr, rules, arith, length, None, sym, subst, ap}
 use Rattle.up_job.specs.Groups.{job_of}
-use Rattle.up_job.specs.InstanceLists.{named, new_instance, with_instance, with_life, without, limit, refusal}
+use Rattle.up_job.specs.InstanceLists.{named, new_instance, with_instance, limit, refusal}
 use Rattle.up_job.specs.Named as by_name
-use Rattle.up_job.proofs.NamedLemmas.{within_here, position_within}
-use Rattle.up_job.proofs.GroupLemmas.{on_ok, has_group, row_here, changed_order, changed_group, added_order, added_group}
+use Rattle.up_job.proofs.NamedLemmas.{within_here}
+use Rattle.up_job.proofs.GroupLemmas.{on_ok, row_here, changed_order, changed_group}
 use Rattle.up_job.proofs.instances.add_to.Goals as goal
 
 pub index_mut-requires : goal.index_mut-requires

@@ -11,8 +11,8 @@ returns-then-is-clause-there c =
 pub returns-else-at-groups-clause-absent : goal.returns-else-at-groups-clause-absent
 returns-else-at-groups-clause-absent c =
     elim c.else-at-groups.branch [
-      else-at-groups-via-then-at-groups+else-is w ↦
-        absent_here job_of c.args.job.now c.args.groups.now c.position-at.result w.index-groups-at.result c.position-at.ensures c.requires w.if-at-groups.true (sym w.if-is.ensures.test)
-    | else-at-groups-via-else-at-groups w ↦
-        absent_beyond job_of c.args.job.now c.args.groups.now c.position-at.result c.position-at.ensures w.if-at-groups.false
+      | else-at-groups-via-then-at-groups+else-is w ↦
+          absent_here job_of c.args.job.now c.args.groups.now c.position-at.result w.index-groups-at.result c.position-at.ensures c.requires w.if-at-groups.true (sym w.if-is.ensures.test)
+      | else-at-groups-via-else-at-groups w ↦
+          absent_beyond job_of c.args.job.now c.args.groups.now c.position-at.result c.position-at.ensures w.if-at-groups.false
     ]

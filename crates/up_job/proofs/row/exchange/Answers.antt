@@ -1,6 +1,5 @@
-use Rattle.std.proofs.Common.{◌≡◌, rules, arith, length, Some, get_or, set, sym, ap, ◌∙◌}
-use Rattle.up_job.specs.declared.instance.Instance.{Instance}
-use Rattle.up_job.specs.InstanceLists.{name_of, named}
+use Rattle.std.proofs.Common.{◌≡◌, rules, arith, length, Some, set, sym, ap, ◌∙◌}
+use Rattle.up_job.specs.InstanceLists.{name_of}
 use Rattle.up_job.specs.Named as by_name
 use Rattle.up_job.proofs.NamedLemmas.{within_here, named_here, has_name, replaced_at}
 use Rattle.up_job.proofs.row.exchange.Goals as goal

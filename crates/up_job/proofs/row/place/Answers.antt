@@ -11,8 +11,8 @@ returns-then-is-clause-there c =
 pub returns-else-at-instances-clause-absent : goal.returns-else-at-instances-clause-absent
 returns-else-at-instances-clause-absent c =
     elim c.else-at-instances.branch [
-      else-at-instances-via-then-at-instances+else-is w ↦
-        absent_here name_of c.args.name.now c.args.instances.now c.position-at.result w.index-instances-at.result c.position-at.ensures c.requires w.if-at-instances.true (sym w.if-is.ensures.test)
-    | else-at-instances-via-else-at-instances w ↦
-        absent_beyond name_of c.args.name.now c.args.instances.now c.position-at.result c.position-at.ensures w.if-at-instances.false
+      | else-at-instances-via-then-at-instances+else-is w ↦
+          absent_here name_of c.args.name.now c.args.instances.now c.position-at.result w.index-instances-at.result c.position-at.ensures c.requires w.if-at-instances.true (sym w.if-is.ensures.test)
+      | else-at-instances-via-else-at-instances w ↦
+          absent_beyond name_of c.args.name.now c.args.instances.now c.position-at.result c.position-at.ensures w.if-at-instances.false
     ]

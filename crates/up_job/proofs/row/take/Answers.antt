@@ -1,4 +1,4 @@
-use Rattle.std.proofs.Common.{◌≡◌, rules, arith, length, Some, get_or, remove, sym, ap, ◌∙◌}
+use Rattle.std.proofs.Common.{◌≡◌, rules, arith, length, Some, remove, sym, ap, ◌∙◌}
 use Rattle.up_job.specs.InstanceLists.{name_of}
 use Rattle.up_job.specs.Named as by_name
 use Rattle.up_job.proofs.NamedLemmas.{within_here, named_here, without_at}

@@ -1,4 +1,4 @@
-use Rattle.std.proofs.Common.{◌≡◌, ◌<◌, None, length, sym, subst, arith, rules}
+use Rattle.std.proofs.Common.{◌≡◌, ◌<◌, None, length, subst, arith, rules}
 use Rattle.up_job.specs.InstanceLists.{named, new_instance, limit, IsRow}
 use Rattle.up_job.proofs.RowLemmas.{row_with}
 use Rattle.up_job.proofs.row.Row.add.Goals as goal
