@@ -1,0 +1,3 @@
+mod NamedLemmas
+mod RowLemmas
+mod GroupLemmas

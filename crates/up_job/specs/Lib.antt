@@ -1,0 +1,4 @@
+pub mod Faults
+pub mod Named
+pub mod InstanceLists
+pub mod Groups

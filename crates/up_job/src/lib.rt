@@ -2,9 +2,16 @@
 #![tactic(auto)]
 
 mod entry;
+mod fault;
+mod instance;
+mod instances;
 mod judgement;
+mod row;
 mod state;
 
 pub use entry::entering;
+pub use fault::JobFault;
+pub use instance::{Instance, Life, Pids};
+pub use instances::Instances;
 pub use judgement::judge_end;
 pub use state::next_state;
