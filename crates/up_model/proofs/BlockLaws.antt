@@ -21,24 +21,27 @@ use Rattle.up_model.specs.declared.state.State.TheVariants.{Starting, Stopping}
 use Rattle.up_model.specs.declared.who.Who.{Who}
 use Rattle.up_model.specs.Answers.{after, next, is_expected, after_all}
 use Rattle.up_model.specs.Blocks.{IsPatient}
-use Rattle.up_model.specs.Chronicle.{Chronicle, Entry, Given, Queued, Handled, Offered, Fired, Finished, Made, Aimed, Released, Entered, Ordered, Signalled, Replied, Outside, Entering, Spoilt, StartOn, StopOn}
+use Rattle.up_model.specs.Chronicle.{Chronicle, Entry, Given, Queued, Handled, Offered, Fired, Finished, Made, Aimed, Failed, Entered, Ordered, Signalled, Outside, Entering, Spoilt, StartOn, StopOn}
 use Rattle.up_model.specs.Clock.{is_killed, kill_due, overdue, all_overdue, has_passed, kill_moment, now, milliseconds, kill, killing}
 use Rattle.up_model.specs.Configuration.{Configuration, job_named}
-use Rattle.up_model.specs.Due.{due, end_of, telling, told_of, turn_event, turn_of, effect}
+use Rattle.up_model.specs.Due.{due, end_of, telling, told_of, finishing, turn_event, turn_of, effect}
 use Rattle.up_model.specs.Environments.{env_of_job, instance_name}
 use Rattle.up_model.specs.Events.{events_at, events_env, with_instance, stopped_by}
+use Rattle.up_model.specs.Held.{is_spoilt}
 use Rattle.up_model.specs.Instances.{Instance, instances_of, instance_named}
 use Rattle.up_model.specs.Judgement.{end_itself, keep_failure, fail, carry_out, judged}
 use Rattle.up_model.specs.Life.{wait_in, entering}
-use Rattle.up_model.specs.Moves.{has_process, job_event, emitting, ordering, releasing, enter, enter_whole, is_over, may_leave, next_of, who_of, move, move_of, move_in, move_first}
-use Rattle.up_model.specs.Offers.{is_open, stop_by, stop_offer, stop_offer_in, max_instances, start_of, who_called, start_who, start_by, start_offer, offer_in, offer_first, offering, offer_next}
+use Rattle.up_model.specs.Moves.{has_process, job_event, emitting, ordering, enter, enter_whole, is_over, may_leave, next_of, who_of, move, move_of, move_in, move_first}
+use Rattle.up_model.specs.Offers.{is_open, stop_of, stop_by, stop_offer, stop_offer_in, max_instances, start_of, who_called, start_who, start_by, start_offer, offer_in, offer_first, offering, offer_next}
 use Rattle.up_model.specs.Queue.{Live, queue}
 use Rattle.up_model.specs.Readings.{goal, state_of, failure, holders, is_blocking, without, blocker, lives}
-use Rattle.up_model.specs.Requests.{not_supported}
+use Rattle.up_model.specs.Commands.{outcome_of, entries_of}
+use Rattle.up_model.specs.Replies.{releasing, waiter, answering_waiter, unanswered, answering_last}
 use Rattle.up_model.specs.Seen.{seen, holds, taken, was_offered}
 use Rattle.up_model.specs.Tests.{is_start, entries_if, or_else}
 use Rattle.up_model.specs.Values.{Bindings}
 use Rattle.up_model.specs.Work.{work, settle}
+use Rattle.up_model.proofs.ReplyLaws.{Allows, releasing-all, answering_waiter-all, answering_hurried-all, start_of-all, stop_of-all, outcome-all}
 use Rattle.up_model.proofs.Sparing.{all-append, all-if}
 
 -- in a state that asks for no event of its own an instance waits for none, and none did anything while it waited
@@ -72,6 +75,19 @@ idle-keeps e c idle keeps = record { waiting = keeps.waiting; patient = keeps.pa
 idles-keep : (es c : Chronicle) → AllByRecursion IsIdle es → Keeps c → Keeps (es ++ c)
 idles-keep [] c idle keeps = keeps
 idles-keep (e ∷ es) c idle keeps = idle-keeps e (es ++ c) idle.0 (idles-keep es c idle.1 keeps)
+
+idle-allows : Allows IsIdle
+idle-allows = record {
+  replied = λ request answer. tt;
+  released = λ instance failed. tt;
+  aimed = λ instance aim environment its. tt;
+  restarted = λ instance its. tt;
+  queued = λ given event. tt;
+}
+
+-- a release is idle
+releasing-idle : (p : ℕ) (failed : Bool) (c : Chronicle) → AllByRecursion IsIdle (releasing p failed c)
+releasing-idle p failed c = releasing-all IsIdle (λ request answer. tt) p failed tt c
 
 -- an instance that waits for no event enters a state
 entered-keeps : (p : ℕ) (to : State) (c : Chronicle) → blocker p c ≡ None → Keeps c → Keeps (Entered p to ∷ c)
@@ -160,7 +176,7 @@ enter-keeps : (job : JobDef) (who : Who) (p : ℕ) (to : State) (entry : table.E
     → blocker p c ≡ None → Keeps c → Keeps (enter_whole job who p to entry c ++ c)
 enter-keeps job who p to entry c apart free keeps =
     subst Keeps (sym (five releases signals emits orders (Entered p to ∷ []) c))
-    (if-keeps entry.releases (releasing p false (enter job who p to entry c ++ c)) d (idle-keeps (Released p false) d tt done) done)
+    (if-keeps entry.releases (releasing p false (enter job who p to entry c ++ c)) d (idles-keep (releasing p false (enter job who p to entry c ++ c)) d (releasing-idle p false (enter job who p to entry c ++ c)) done) done)
   where
     orders : List Entry
     orders = ordering job p entry.orders
@@ -226,7 +242,7 @@ move_first-keeps (job ∷ jobs) c keeps =
 
 -- an offer to an instance's `stop on` is idle
 stop_by-idle : (p : ℕ) (events : List ℕ) (c : Chronicle) → AllByRecursion IsIdle (stop_by p events c)
-stop_by-idle p events c = all-if IsIdle (is_start (goal p c)) (Aimed p Stop (stopped_by (events_at events c)) events ∷ Released p false ∷ []) (tt, (tt, tt))
+stop_by-idle p events c = all-if IsIdle (is_start (goal p c)) (stop_of p (stopped_by (events_at events c)) events c) (stop_of-all IsIdle idle-allows p (stopped_by (events_at events c)) events c)
 
 stop_offer-idle : (config : Configuration) (job : JobDef) (p event : ℕ) (c : Chronicle) → AllByRecursion IsIdle (stop_offer config job p event c)
 stop_offer-idle config job p event c =
@@ -258,8 +274,7 @@ stop_offer_in-keeps config job (x ∷ xs) event c keeps =
 start_of-idle : (who : Who) (environment : Bindings) (holders : List ℕ) (o : Option ℕ) (c : Chronicle) → AllByRecursion IsIdle (start_of who environment holders o c)
 start_of-idle who environment holders None c =
     all-if IsIdle (nat_lt (length (instances_of who.job c)) max_instances) (Aimed (length c) Start environment holders ∷ Made who.job who.instance ∷ []) (tt, (tt, tt))
-start_of-idle who environment holders (Some p) c =
-    all-if IsIdle (not (is_start (goal p c))) (Aimed p Start environment holders ∷ Released p false ∷ []) (tt, (tt, tt))
+start_of-idle who environment holders (Some p) c = start_of-all IsIdle idle-allows who environment holders p c
 
 start_who-idle : (environment : Bindings) (holders : List ℕ) (o : Option Who) (c : Chronicle) → AllByRecursion IsIdle (start_who environment holders o c)
 start_who-idle environment holders None c = tt
@@ -306,7 +321,9 @@ offer_next-keeps config (Some event) c keeps = offer_first-keeps config config.j
 due-keeps : (config : Configuration) (c : Chronicle) → Keeps c → Keeps (due config c ++ c)
 unfolding due
 due-keeps config c keeps =
-    or_else-keeps (move_first config.jobs c) (offer_next config (offering c) c) c (move_first-keeps config.jobs c keeps) (offer_next-keeps config (offering c) c keeps)
+    or_else-keeps (move_first config.jobs c) (or_else (offer_next config (offering c) c) (answering_last c)) c (move_first-keeps config.jobs c keeps)
+    (or_else-keeps (offer_next config (offering c) c) (answering_last c) c (offer_next-keeps config (offering c) c keeps)
+    (idles-keep (answering_last c) c (answering_hurried-all IsIdle (λ request answer. tt) (unanswered c) c) keeps))
 
 settle-keeps : (n : ℕ) (config : Configuration) (c : Chronicle) → Keeps c → Keeps (settle n config c)
 unfolding settle
@@ -320,7 +337,7 @@ end_itself-idle p c = all-if IsIdle (is_start (goal p c)) (Aimed p Stop [] (hold
 fail-idle : (p : ℕ) (its : Failure) (c : Chronicle) → AllByRecursion IsIdle (fail p its c)
 fail-idle p its c =
     all-append IsIdle (entries_if (not (is_some (failure p c))) (keep_failure p its (end_itself p c ++ c))) (end_itself p c)
-    (all-if IsIdle (not (is_some (failure p c))) (keep_failure p its (end_itself p c ++ c)) (tt, (tt, tt))) (end_itself-idle p c)
+    (all-if IsIdle (not (is_some (failure p c))) (keep_failure p its (end_itself p c ++ c)) (all-append IsIdle (releasing p true (Failed p its ∷ end_itself p c ++ c)) (Failed p its ∷ []) (releasing-idle p true (Failed p its ∷ end_itself p c ++ c)) (tt, tt))) (end_itself-idle p c)
 
 carry_out-idle : (p : ℕ) (its : Verdict) (c : Chronicle) → AllByRecursion IsIdle (carry_out p its c)
 carry_out-idle p verdict.Note c = tt
@@ -381,12 +398,18 @@ telling-idle : (spoilt : ℕ) (told : Option Event) → AllByRecursion IsIdle (t
 telling-idle spoilt None = tt
 telling-idle spoilt (Some told) = (tt, tt)
 
+finishing-idle : (event : ℕ) (c : Chronicle) → AllByRecursion IsIdle (finishing event c)
+finishing-idle event c =
+    all-append IsIdle (telling event (told_of event c)) (answering_waiter (waiter event c) (is_spoilt event c) ++ Finished event ∷ []) (telling-idle event (told_of event c))
+    (all-append IsIdle (answering_waiter (waiter event c) (is_spoilt event c)) (Finished event ∷ [])
+    (answering_waiter-all IsIdle (λ request answer. tt) (waiter event c) (is_spoilt event c)) (tt, tt))
+
 turn-idle : (found : Option Live) (c : Chronicle) → AllByRecursion IsIdle (turn_of found c)
 turn-idle None c = tt
 turn-idle (Some live) c = by_case live.handled
   where
-    by_case : (b : Bool) → AllByRecursion IsIdle (if b then telling live.place (told_of live.place c) ++ Finished live.place ∷ [] else Handled live.place ∷ [])
-    by_case true = all-append IsIdle (telling live.place (told_of live.place c)) (Finished live.place ∷ []) (telling-idle live.place (told_of live.place c)) (tt, tt)
+    by_case : (b : Bool) → AllByRecursion IsIdle (if b then finishing live.place c else Handled live.place ∷ [])
+    by_case true = finishing-idle live.place c
     by_case false = (tt, tt)
 
 -- idle entries in front of an input
@@ -397,19 +420,26 @@ given-keeps es given c idle keeps = rw append_assoc (idles-keep es (Given given 
 effect-keeps : (config : Configuration) (given : Input) (c : Chronicle) → Keeps c → Keeps (effect config given c ++ c)
 unfolding effect
 effect-keeps config (input.Emit event) c keeps = idles-keep (Queued (Outside (length c)) event ∷ Given (input.Emit event) ∷ []) c (tt, (tt, tt)) keeps
-effect-keeps config (input.Request id request) c keeps = idles-keep (Replied (length c) (not_supported request.command) ∷ Given (input.Request id request) ∷ []) c (tt, (tt, tt)) keeps
+effect-keeps config (input.Request id request) c keeps =
+    let d : Chronicle = Given (input.Request id request) ∷ c in
+    given-keeps (entries_of (length c) (outcome_of config (length c) request d)) (input.Request id request) c
+    (outcome-all IsIdle idle-allows (λ job name. tt) config (length c) request d) keeps
 effect-keeps config (input.Spawned who process pid) c keeps = idle-keeps (Given (input.Spawned who process pid)) c tt keeps
 effect-keeps config (input.Refused who process) c keeps =
-    given-keeps (end_of (job_named who.job config.jobs) (instance_named who c) process end.Refused c) (input.Refused who process) c
-    (end_of-idle (job_named who.job config.jobs) (instance_named who c) process end.Refused c) keeps
+    let d : Chronicle = Given (input.Refused who process) ∷ c in
+    given-keeps (end_of (job_named who.job config.jobs) (instance_named who c) process end.Refused d) (input.Refused who process) c
+    (end_of-idle (job_named who.job config.jobs) (instance_named who c) process end.Refused d) keeps
 effect-keeps config (input.Ended who process how) c keeps =
-    given-keeps (end_of (job_named who.job config.jobs) (instance_named who c) process (end.Ended how) c) (input.Ended who process how) c
-    (end_of-idle (job_named who.job config.jobs) (instance_named who c) process (end.Ended how) c) keeps
+    let d : Chronicle = Given (input.Ended who process how) ∷ c in
+    given-keeps (end_of (job_named who.job config.jobs) (instance_named who c) process (end.Ended how) d) (input.Ended who process how) c
+    (end_of-idle (job_named who.job config.jobs) (instance_named who c) process (end.Ended how) d) keeps
 effect-keeps config (input.Clock reading) c keeps =
     let d : List Entry = Given (input.Clock reading) ∷ c in
     let given : Keeps d = idle-keeps (Given (input.Clock reading)) c tt keeps in
     rw append_assoc (killing-keeps (all_overdue config.jobs d) d (all_overdue-free config.jobs d given) given)
-effect-keeps config input.Turn c keeps = given-keeps (turn_of (turn_event config (queue c) c) c) input.Turn c (turn-idle (turn_event config (queue c) c) c) keeps
+effect-keeps config input.Turn c keeps =
+    given-keeps (turn_of (turn_event config (queue c) c) (Given input.Turn ∷ c)) input.Turn c
+    (turn-idle (turn_event config (queue c) c) (Given input.Turn ∷ c)) keeps
 
 -- so do inputs, one after another
 after-keeps : (config : Configuration) (c : Chronicle) (given : Input) → Keeps c → Keeps (after config c given)

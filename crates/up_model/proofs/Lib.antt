@@ -1,5 +1,6 @@
 pub mod Places
 pub mod Sparing
+pub mod ReplyLaws
 pub mod Sums
 pub mod MoveLaws
 pub mod OfferLaws

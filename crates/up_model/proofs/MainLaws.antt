@@ -1,5 +1,5 @@
 -- The main process of an instance lives from spawned to killed alone, and is awaited in spawned alone, so it isn't ordered while it lives.
-use Rattle.std.proofs.Common.{◌≡◌, ℕ, zero, suc, ◌==◌, Bool, true, false, ◌&&◌, ◌||◌, not, nat_lt, List, [], ◌∷◌, ◌++◌, length, Option, None, Some, is_some, if◌then◌else◌, bytes_eq, refl, sym, ◌∙◌, ap, subst, eqb-true, eq-eqb, append_assoc}
+use Rattle.std.proofs.Common.{◌≡◌, ℕ, zero, suc, ◌==◌, Bool, true, false, ◌&&◌, ◌||◌, not, nat_lt, List, [], ◌∷◌, ◌++◌, length, Option, None, Some, is_some, codes, if◌then◌else◌, bytes_eq, refl, sym, ◌∙◌, ap, subst, eqb-true, eq-eqb, append_assoc}
 use Rattle.std.specs.List.{AllByRecursion}
 use Rattle.up_expr.specs.Truth.{Sight}
 use Rattle.up_conf.specs.declared.job.JobDef.{JobDef}
@@ -16,6 +16,8 @@ use Rattle.up_model.specs.declared.input.Input.TheVariants as input
 use Rattle.up_model.specs.declared.life.Entry as table
 use Rattle.up_model.specs.declared.life.JobEvent.{JobEvent}
 use Rattle.up_model.specs.declared.process.How.{How}
+use Rattle.up_model.specs.declared.request.Command.{Command}
+use Rattle.up_model.specs.declared.request.Command.TheVariants as command
 use Rattle.up_model.specs.declared.state.Goal.{Goal}
 use Rattle.up_model.specs.declared.state.Goal.TheVariants.{Start, Stop}
 use Rattle.up_model.specs.declared.state.State.{State}
@@ -23,20 +25,23 @@ use Rattle.up_model.specs.declared.state.State.TheVariants.{Waiting, Starting, P
 use Rattle.up_model.specs.declared.who.Who.{Who}
 use Rattle.up_model.specs.Answers.{after, next, awaits, is_expected, after_all}
 use Rattle.up_model.specs.Blocks.{AreFound, IsLone}
-use Rattle.up_model.specs.Chronicle.{Chronicle, Entry, Given, Queued, Handled, Offered, Fired, Finished, Made, Aimed, Released, Entered, Ordered, Signalled, Replied, Outside, StartOn, StopOn}
+use Rattle.up_model.specs.Chronicle.{Chronicle, Entry, Given, Queued, Handled, Offered, Fired, Finished, Made, Aimed, Failed, Entered, Ordered, Signalled, Replied, Outside, StartOn, StopOn}
 use Rattle.up_model.specs.Clock.{all_overdue, kill, killing}
+use Rattle.up_model.specs.Commands.{Refused, Done, Target, Nobody, Concerns, refusal, target_of, start_at, start, holders_of, outcome_by, outcome_of, entries_of}
 use Rattle.up_model.specs.Configuration.{Configuration, job_named}
-use Rattle.up_model.specs.Due.{due, end_of, telling, told_of, turn_event, turn_of, effect}
+use Rattle.up_model.specs.Due.{due, end_of, telling, told_of, finishing, turn_event, turn_of, effect}
 use Rattle.up_model.specs.Environments.{env_of_job, instance_name}
 use Rattle.up_model.specs.Events.{events_at, events_env, with_instance, stopped_by}
+use Rattle.up_model.specs.Held.{is_spoilt}
 use Rattle.up_model.specs.Instances.{Instance, instances_of, instance_named}
 use Rattle.up_model.specs.Judgement.{end_itself, keep_failure, fail, carry_out, judged}
 use Rattle.up_model.specs.Life.{next_state, wait_in, entering}
-use Rattle.up_model.specs.Moves.{has_process, emitting, ordering, releasing, enter, enter_whole, is_over, may_leave, next_of, who_of, move, move_of, move_in, move_first}
-use Rattle.up_model.specs.Offers.{is_open, stop_by, stop_offer, stop_offer_in, max_instances, start_of, who_called, start_who, start_by, start_offer, offer_in, offer_first, offering, offer_next}
+use Rattle.up_model.specs.Moves.{has_process, emitting, ordering, enter, enter_whole, is_over, may_leave, next_of, who_of, move, move_of, move_in, move_first}
+use Rattle.up_model.specs.Offers.{is_open, stop_of, stop_by, stop_offer, stop_offer_in, max_instances, start_of, who_called, start_who, start_by, start_offer, offer_in, offer_first, offering, offer_next}
 use Rattle.up_model.specs.Queue.{Live, queue}
 use Rattle.up_model.specs.Readings.{goal, state_of, failure, holders, made_at, speaks_of, awaited, pid_of, lives}
-use Rattle.up_model.specs.Requests.{not_supported}
+use Rattle.up_model.specs.Replies.{releasing, waiter, answering_waiter, unanswered, answering_last}
+use Rattle.up_model.specs.Requests.{RequestValue}
 use Rattle.up_model.specs.Seen.{seen, holds, taken, was_offered}
 use Rattle.up_model.specs.Tests.{same_process, same_who, is_start, entries_if, or_else}
 use Rattle.up_model.specs.Values.{Bytes, Bindings}
@@ -44,6 +49,7 @@ use Rattle.up_model.specs.Work.{work, settle}
 use Rattle.up_model.proofs.BlockLaws.{five, and-left}
 use Rattle.up_model.proofs.NameLaws.{called, made-named, AreSingle, Singles, entered-singles, entered-named, made-singles, made-found}
 use Rattle.up_model.proofs.Places.{bytes_same}
+use Rattle.up_model.proofs.ReplyLaws.{Allows, releasing-all, answering_waiter-all, answering_hurried-all, start_of-all, stop_of-all, stop-all, restart-all, status-all, emit-all}
 use Rattle.up_model.proofs.Sparing.{all-append, all-if}
 
 -- the states in which main may live
@@ -82,6 +88,19 @@ IsStill (Made job name) = ⊥
 IsStill (Entered instance entered) = ⊥
 IsStill (Ordered instance process) = ⊥
 IsStill entry = Unit {0}
+
+still-allows : Allows IsStill
+still-allows = record {
+  replied = λ request answer. tt;
+  released = λ instance failed. tt;
+  aimed = λ instance aim environment its. tt;
+  restarted = λ instance its. tt;
+  queued = λ given event. tt;
+}
+
+-- a release is still
+releasing-still : (p : ℕ) (failed : Bool) (c : Chronicle) → AllByRecursion IsStill (releasing p failed c)
+releasing-still p failed c = releasing-all IsStill (λ request answer. tt) p failed tt c
 
 -- it leaves the rules kept
 still-keeps : (config : Configuration) (e : Entry) (c : Chronicle) → IsStill e → Keeps config c → Keeps config (e ∷ c)
@@ -375,7 +394,7 @@ enter-keeps : (config : Configuration) (job : JobDef) (who : Who) (p : ℕ) (to 
     → Keeps config (ordering job p entry.orders ++ Entered p to ∷ c) → Keeps config (enter_whole job who p to entry c ++ c)
 enter-keeps config job who p to entry c keeps =
     subst (Keeps config) (sym (five releases signals emits orders (Entered p to ∷ []) c))
-    (stills-keep config releases (signals ++ (emits ++ (orders ++ Entered p to ∷ c))) (all-if IsStill entry.releases (releasing p false (enter job who p to entry c ++ c)) (tt, tt))
+    (stills-keep config releases (signals ++ (emits ++ (orders ++ Entered p to ∷ c))) (all-if IsStill entry.releases (releasing p false (enter job who p to entry c ++ c)) (releasing-still p false (enter job who p to entry c ++ c)))
     (stills-keep config signals (emits ++ (orders ++ Entered p to ∷ c)) (all-if IsStill (entry.kills && lives p process.Main c) (Signalled p job.kill_signal false ∷ []) (tt, tt))
     (stills-keep config emits (orders ++ Entered p to ∷ c) (emitting-still job who p to entry.emits ((orders ++ Entered p to ∷ []) ++ c)) keeps)))
   where
@@ -444,7 +463,8 @@ move_first-keeps config (job ∷ jobs) c found keeps =
 
 -- an offer to an instance's `stop on` is still
 stop_by-still : (p : ℕ) (events : List ℕ) (c : Chronicle) → AllByRecursion IsStill (stop_by p events c)
-stop_by-still p events c = all-if IsStill (is_start (goal p c)) (Aimed p Stop (stopped_by (events_at events c)) events ∷ Released p false ∷ []) (tt, (tt, tt))
+stop_by-still p events c =
+    all-if IsStill (is_start (goal p c)) (stop_of p (stopped_by (events_at events c)) events c) (stop_of-all IsStill still-allows p (stopped_by (events_at events c)) events c)
 
 stop_offer-still : (config : Configuration) (job : JobDef) (p event : ℕ) (c : Chronicle) → AllByRecursion IsStill (stop_offer config job p event c)
 stop_offer-still config job p event c =
@@ -479,8 +499,7 @@ start_of-keeps config who environment its None c none keeps =
     if-keeps config (nat_lt (length (instances_of who.job c)) max_instances) (Aimed (length c) Start environment its ∷ Made who.job who.instance ∷ []) c
     (still-keeps config (Aimed (length c) Start environment its) (Made who.job who.instance ∷ c) tt (made-keeps config who.job who.instance c none keeps)) keeps
 start_of-keeps config who environment its (Some p) c found keeps =
-    if-keeps config (not (is_start (goal p c))) (Aimed p Start environment its ∷ Released p false ∷ []) c
-    (stills-keep config (Aimed p Start environment its ∷ Released p false ∷ []) c (tt, (tt, tt)) keeps) keeps
+    stills-keep config (start_of who environment its (Some p) c) c (start_of-all IsStill still-allows who environment its p c) keeps
 
 start_who-keeps : (config : Configuration) (environment : Bindings) (its : List ℕ) (o : Option Who) (c : Chronicle) → Keeps config c → Keeps config (start_who environment its o c ++ c)
 start_who-keeps config environment its None c keeps = keeps
@@ -533,7 +552,9 @@ offer_next-keeps config (Some event) c keeps = offer_first-keeps config config.j
 due-keeps : (config : Configuration) (c : Chronicle) → AreFound config.jobs → Keeps config c → Keeps config (due config c ++ c)
 unfolding due
 due-keeps config c found keeps =
-    or_else-keeps config (move_first config.jobs c) (offer_next config (offering c) c) c (move_first-keeps config config.jobs c found keeps) (offer_next-keeps config (offering c) c keeps)
+    or_else-keeps config (move_first config.jobs c) (or_else (offer_next config (offering c) c) (answering_last c)) c (move_first-keeps config config.jobs c found keeps)
+    (or_else-keeps config (offer_next config (offering c) c) (answering_last c) c (offer_next-keeps config (offering c) c keeps)
+    (stills-keep config (answering_last c) c (answering_hurried-all IsStill (λ request answer. tt) (unanswered c) c) keeps))
 
 settle-keeps : (n : ℕ) (config : Configuration) (c : Chronicle) → AreFound config.jobs → Keeps config c → Keeps config (settle n config c)
 unfolding settle
@@ -547,7 +568,7 @@ end_itself-still p c = all-if IsStill (is_start (goal p c)) (Aimed p Stop [] (ho
 fail-still : (p : ℕ) (its : Failure) (c : Chronicle) → AllByRecursion IsStill (fail p its c)
 fail-still p its c =
     all-append IsStill (entries_if (not (is_some (failure p c))) (keep_failure p its (end_itself p c ++ c))) (end_itself p c)
-    (all-if IsStill (not (is_some (failure p c))) (keep_failure p its (end_itself p c ++ c)) (tt, (tt, tt))) (end_itself-still p c)
+    (all-if IsStill (not (is_some (failure p c))) (keep_failure p its (end_itself p c ++ c)) (all-append IsStill (releasing p true (Failed p its ∷ end_itself p c ++ c)) (Failed p its ∷ []) (releasing-still p true (Failed p its ∷ end_itself p c ++ c)) (tt, tt))) (end_itself-still p c)
 
 carry_out-still : (p : ℕ) (its : Verdict) (c : Chronicle) → AllByRecursion IsStill (carry_out p its c)
 carry_out-still p verdict.Note c = tt
@@ -569,18 +590,63 @@ telling-still : (spoilt : ℕ) (told : Option Event) → AllByRecursion IsStill 
 telling-still spoilt None = tt
 telling-still spoilt (Some told) = (tt, tt)
 
+finishing-still : (event : ℕ) (c : Chronicle) → AllByRecursion IsStill (finishing event c)
+finishing-still event c =
+    all-append IsStill (telling event (told_of event c)) (answering_waiter (waiter event c) (is_spoilt event c) ++ Finished event ∷ []) (telling-still event (told_of event c))
+    (all-append IsStill (answering_waiter (waiter event c) (is_spoilt event c)) (Finished event ∷ [])
+    (answering_waiter-all IsStill (λ request answer. tt) (waiter event c) (is_spoilt event c)) (tt, tt))
+
 turn-still : (found : Option Live) (c : Chronicle) → AllByRecursion IsStill (turn_of found c)
 turn-still None c = tt
 turn-still (Some live) c = by_case live.handled
   where
-    by_case : (b : Bool) → AllByRecursion IsStill (if b then telling live.place (told_of live.place c) ++ Finished live.place ∷ [] else Handled live.place ∷ [])
-    by_case true = all-append IsStill (telling live.place (told_of live.place c)) (Finished live.place ∷ []) (telling-still live.place (told_of live.place c)) (tt, tt)
+    by_case : (b : Bool) → AllByRecursion IsStill (if b then finishing live.place c else Handled live.place ∷ [])
+    by_case true = finishing-still live.place c
     by_case false = (tt, tt)
 
 -- still entries in front of an input
 given-keeps : (config : Configuration) (es : List Entry) (given : Input) (c : Chronicle) → AllByRecursion IsStill es → Keeps config (Given given ∷ c)
     → Keeps config ((es ++ Given given ∷ []) ++ c)
 given-keeps config es given c still keeps = rw append_assoc (stills-keep config es (Given given ∷ c) still keeps)
+
+-- a start leaves the rules kept
+start-keeps : (config : Configuration) (given : ℕ) (its : List ℕ) (target : Target) (c : Chronicle) → Keeps config c
+    → Keeps config (entries_of given (start its target c) ++ c)
+start-keeps config given its (Nobody text) c keeps = still-keeps config (Replied given _) c tt keeps
+start-keeps config given its (Concerns job who environment) c keeps = by_case (instance_named who c) refl
+  where
+    told : Bindings
+    told = with_instance who environment
+
+    by_room : (b : Bool) → instance_named who c ≡ None
+        → Keeps config (entries_of given (if b then Done (start_of who told its None c) else Refused (codes "Too many instances: " ++ who.job)) ++ c)
+    by_room true none = start_of-keeps config who told its None c none keeps
+    by_room false none = still-keeps config (Replied given _) c tt keeps
+
+    by_goal : (p : ℕ) (b : Bool) → instance_named who c ≡ Some p
+        → Keeps config (entries_of given (if b then refusal (codes "Job is already running: ") who else Done (start_of who told its (Some p) c)) ++ c)
+    by_goal p true found = still-keeps config (Replied given _) c tt keeps
+    by_goal p false found = start_of-keeps config who told its (Some p) c found keeps
+
+    by_case : (o : Option ℕ) → instance_named who c ≡ o → Keeps config (entries_of given (start_at its who told o c) ++ c)
+    by_case None none = by_room (nat_lt (length (instances_of who.job c)) max_instances) none
+    by_case (Some p) found = by_goal p (is_start (goal p c)) found
+
+-- so does any request
+request-keeps : (config : Configuration) (given : ℕ) (request : RequestValue) (c : Chronicle) → Keeps config c
+    → Keeps config (entries_of given (outcome_of config given request c) ++ c)
+request-keeps config given request c keeps = by_case request.command
+  where
+    by_case : (asked : Command) → Keeps config (entries_of given (outcome_by asked config given request c) ++ c)
+    by_case command.Start = start-keeps config given (holders_of given request.wait) (target_of config request.name request.vars) c keeps
+    by_case command.Stop = stills-keep config _ c (stop-all IsStill still-allows given (holders_of given request.wait) request.vars (target_of config request.name request.vars) c) keeps
+    by_case command.Restart = stills-keep config _ c (restart-all IsStill still-allows given (holders_of given request.wait) (target_of config request.name request.vars) c) keeps
+    by_case command.Status = stills-keep config _ c (status-all IsStill still-allows given (target_of config request.name request.vars) c) keeps
+    by_case command.List = still-keeps config (Replied given _) c tt keeps
+    by_case command.Emit = stills-keep config _ c (emit-all IsStill still-allows given request c) keeps
+    by_case command.Version = still-keeps config (Replied given _) c tt keeps
+    by_case command.Reload = still-keeps config (Replied given _) c tt keeps
+    by_case command.ReloadConfiguration = still-keeps config (Replied given _) c tt keeps
 
 -- an answer that is expected is awaited
 expected_spawned : (who : Who) (its : Process) (pid : ℕ) (c : Chronicle) → is_expected (input.Spawned who its pid) c ≡ true → awaits (instance_named who c) its c ≡ true
@@ -591,19 +657,23 @@ expected_spawned who its pid c expected = expected
 effect-keeps : (config : Configuration) (given : Input) (c : Chronicle) → is_expected given c ≡ true → Keeps config c → Keeps config (effect config given c ++ c)
 unfolding effect
 effect-keeps config (input.Emit event) c expected keeps = stills-keep config (Queued (Outside (length c)) event ∷ Given (input.Emit event) ∷ []) c (tt, (tt, tt)) keeps
-effect-keeps config (input.Request id request) c expected keeps = stills-keep config (Replied (length c) (not_supported request.command) ∷ Given (input.Request id request) ∷ []) c (tt, (tt, tt)) keeps
+effect-keeps config (input.Request id request) c expected keeps =
+    rw append_assoc (request-keeps config (length c) request (Given (input.Request id request) ∷ c) (still-keeps config (Given (input.Request id request)) c tt keeps))
 effect-keeps config (input.Spawned who its pid) c expected keeps = spawned-keeps config who its pid c (expected_spawned who its pid c expected) keeps
 effect-keeps config (input.Refused who its) c expected keeps =
-    given-keeps config (end_of (job_named who.job config.jobs) (instance_named who c) its end.Refused c) (input.Refused who its) c
-    (end_of-still (job_named who.job config.jobs) (instance_named who c) its end.Refused c) (refused-keeps config who its c keeps)
+    let d : Chronicle = Given (input.Refused who its) ∷ c in
+    given-keeps config (end_of (job_named who.job config.jobs) (instance_named who c) its end.Refused d) (input.Refused who its) c
+    (end_of-still (job_named who.job config.jobs) (instance_named who c) its end.Refused d) (refused-keeps config who its c keeps)
 effect-keeps config (input.Ended who its how) c expected keeps =
-    given-keeps config (end_of (job_named who.job config.jobs) (instance_named who c) its (end.Ended how) c) (input.Ended who its how) c
-    (end_of-still (job_named who.job config.jobs) (instance_named who c) its (end.Ended how) c) (ended-keeps config who its how c keeps)
+    let d : Chronicle = Given (input.Ended who its how) ∷ c in
+    given-keeps config (end_of (job_named who.job config.jobs) (instance_named who c) its (end.Ended how) d) (input.Ended who its how) c
+    (end_of-still (job_named who.job config.jobs) (instance_named who c) its (end.Ended how) d) (ended-keeps config who its how c keeps)
 effect-keeps config (input.Clock reading) c expected keeps =
     given-keeps config (killing (all_overdue config.jobs (Given (input.Clock reading) ∷ c))) (input.Clock reading) c
     (killing-still (all_overdue config.jobs (Given (input.Clock reading) ∷ c))) (still-keeps config (Given (input.Clock reading)) c tt keeps)
 effect-keeps config input.Turn c expected keeps =
-    given-keeps config (turn_of (turn_event config (queue c) c) c) input.Turn c (turn-still (turn_event config (queue c) c) c) (still-keeps config (Given input.Turn) c tt keeps)
+    given-keeps config (turn_of (turn_event config (queue c) c) (Given input.Turn ∷ c)) input.Turn c
+    (turn-still (turn_event config (queue c) c) (Given input.Turn ∷ c)) (still-keeps config (Given input.Turn) c tt keeps)
 
 -- so do inputs, one after another
 after-keeps : (config : Configuration) (c : Chronicle) (given : Input) → AreFound config.jobs → is_expected given c ≡ true → Keeps config c → Keeps config (after config c given)

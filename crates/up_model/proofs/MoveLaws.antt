@@ -11,17 +11,19 @@ use Rattle.up_model.specs.declared.state.Goal.TheVariants.{Start, Stop}
 use Rattle.up_model.specs.declared.state.State.{State}
 use Rattle.up_model.specs.declared.state.State.TheVariants.{Waiting, Starting, PostStart, Running, PreStop, Stopping}
 use Rattle.up_model.specs.declared.who.Who.{Who}
-use Rattle.up_model.specs.Chronicle.{Chronicle, Entry, Given, Queued, Offered, Made, Aimed, Released, Entered, Ordered, Signalled, Entering, Expression, StartOn, StopOn}
+use Rattle.up_model.specs.Chronicle.{Chronicle, Entry, Given, Queued, Offered, Made, Aimed, Released, Entered, Ordered, Signalled, Replied, Entering, Expression, StartOn, StopOn}
 use Rattle.up_model.specs.Instances.{Instance, without_instance, instances_of, existing}
 use Rattle.up_model.specs.Life.{next_state, wait_in, entering}
-use Rattle.up_model.specs.Moves.{has_process, emitting, ordering, releasing, enter, enter_whole, is_over, may_leave, next_of, who_of, move}
+use Rattle.up_model.specs.Moves.{has_process, emitting, ordering, enter, enter_whole, is_over, may_leave, next_of, who_of, move}
 use Rattle.up_model.specs.Offers.{is_newborn, is_open}
 use Rattle.up_model.specs.Readings.{goal, state_of, is_blocking, blocker, lives}
+use Rattle.up_model.specs.Replies.{releasing}
 use Rattle.up_model.specs.Seen.{was_offered}
 use Rattle.up_model.specs.Tests.{is_start, entries_if}
 use Rattle.up_model.specs.Values.{Bytes}
 use Rattle.up_model.specs.Work.{moves, moves_at, offer_work, instance_work, work_in, start_work}
 use Rattle.up_model.proofs.Places.{count, existing-older, instances-exist}
+use Rattle.up_model.proofs.ReplyLaws.{releasing-all}
 use Rattle.up_model.proofs.Sparing.{same-append, all-append, all-if, all-weaker, IsOf, spared-works}
 use Rattle.up_model.proofs.Sums.{IsSpared, sum-less, gone-less}
 
@@ -82,6 +84,7 @@ IsBeside p (Queued (Entering instance entered) event) = instance ≡ p
 IsBeside p (Released instance failed) = Unit {0}
 IsBeside p (Ordered instance process) = Unit {0}
 IsBeside p (Signalled instance signal by_timer) = Unit {0}
+IsBeside p (Replied request answer) = Unit {0}
 IsBeside p entry = ⊥
 
 -- an entry of a move of an instance
@@ -96,6 +99,7 @@ move-is_of job p (Released instance failed) is = is
 move-is_of job p (Entered instance entered) is = is
 move-is_of job p (Ordered instance process) is = is
 move-is_of job p (Signalled instance signal by_timer) is = is
+move-is_of job p (Replied request answer) is = is
 move-is_of job p e is = absurd is
 
 beside-is_move : (p : ℕ) (e : Entry) → IsBeside p e → IsMove p e
@@ -103,6 +107,7 @@ beside-is_move p (Queued (Entering instance entered) event) is = is
 beside-is_move p (Released instance failed) is = is
 beside-is_move p (Ordered instance process) is = is
 beside-is_move p (Signalled instance signal by_timer) is = is
+beside-is_move p (Replied request answer) is = is
 beside-is_move p e is = absurd is
 
 -- it leaves goals alone
@@ -154,7 +159,7 @@ beside job who p to entry c =
 beside-all : (job : JobDef) (who : Who) (p : ℕ) (to : State) (entry : table.Entry) (c : Chronicle) → AllByRecursion (IsBeside p) (beside job who p to entry c)
 beside-all job who p to entry c =
     all-append (IsBeside p) (entries_if entry.releases (releasing p false (enter job who p to entry c ++ c))) _
-    (all-if (IsBeside p) entry.releases (releasing p false (enter job who p to entry c ++ c)) (tt, tt))
+    (all-if (IsBeside p) entry.releases (releasing p false (enter job who p to entry c ++ c)) (releasing-all (IsBeside p) (λ request answer. tt) p false tt (enter job who p to entry c ++ c)))
     (all-append (IsBeside p) (entries_if (entry.kills && lives p Main c) (Signalled p job.kill_signal false ∷ [])) _
     (all-if (IsBeside p) (entry.kills && lives p Main c) (Signalled p job.kill_signal false ∷ []) (tt, tt))
     (all-append (IsBeside p) (emitted job who p to entry c) (ordering job p entry.orders) (emitting-beside job who p to entry.emits ((ordering job p entry.orders ++ Entered p to ∷ []) ++ c)) (ordering-beside job p entry.orders)))

@@ -1,24 +1,26 @@
 -- An offer leaves one expression fewer to be offered, which counts for more than the moves that it can bring.
-use Rattle.std.proofs.Common.{◌≡◌, ℕ, suc, nat_lt, ◌+◌, ◌<◌, ◌≤◌, Bool, true, false, ◌||◌, not, List, [], ◌∷◌, ◌++◌, length, Option, None, Some, is_some, bytes_eq, refl, ◌∙◌, ap, subst, arith, eq-eqb}
+use Rattle.std.proofs.Common.{◌≡◌, ℕ, suc, nat_lt, ◌+◌, ◌<◌, ◌≤◌, Bool, true, false, ◌||◌, not, List, [], ◌∷◌, ◌++◌, length, Option, None, Some, is_some, bytes_eq, refl, ◌∙◌, ap, subst, arith, eq-eqb, append_assoc}
 use Rattle.std.proofs.Math.Bool.{or-true}
 use Rattle.std.specs.List.{AllByRecursion}
 use Rattle.up_expr.specs.Truth.{Sight}
 use Rattle.up_conf.specs.declared.job.JobDef.{JobDef}
-use Rattle.up_model.specs.declared.state.Goal.TheVariants.{Start, Stop}
+use Rattle.up_model.specs.declared.state.Goal.TheVariants.{Start}
 use Rattle.up_model.specs.declared.who.Who.{Who}
-use Rattle.up_model.specs.Chronicle.{Chronicle, Entry, Given, Offered, Fired, Made, Aimed, Released, Entered, StartOn, StopOn}
+use Rattle.up_model.specs.Chronicle.{Chronicle, Entry, Given, Offered, Fired, Made, Aimed, Released, Entered, Replied, Expression, StartOn, StopOn}
 use Rattle.up_model.specs.Configuration.{Configuration}
 use Rattle.up_model.specs.Environments.{env_of_job, instance_name}
 use Rattle.up_model.specs.Events.{events_at, events_env, with_instance, stopped_by}
 use Rattle.up_model.specs.Instances.{instances_of, existing, instance_named}
-use Rattle.up_model.specs.Offers.{is_newborn, is_open, stop_by, stop_offer, max_instances, start_of, who_called, start_who, start_by, start_offer}
+use Rattle.up_model.specs.Offers.{is_newborn, is_open, stop_of, stop_by, stop_offer, max_instances, start_of, who_called, start_who, start_by, start_offer}
 use Rattle.up_model.specs.Readings.{goal, state_of, blocker}
+use Rattle.up_model.specs.Replies.{releasing}
 use Rattle.up_model.specs.Seen.{seen, holds, taken, was_offered}
 use Rattle.up_model.specs.Tests.{is_start, entries_if}
 use Rattle.up_model.specs.Values.{Bytes, Bindings}
 use Rattle.up_model.specs.Work.{offer_work, instance_work, work_in, start_work}
 use Rattle.up_model.proofs.MoveLaws.{moves-few, Lessens}
 use Rattle.up_model.proofs.Places.{bytes_same, bytes_refl, count, count-older, existing-older, existing-once, instances-exist}
+use Rattle.up_model.proofs.ReplyLaws.{releasing-all}
 use Rattle.up_model.proofs.Sparing.{same-append, all-append, all-if, all-weaker, either, IsOf, spared-works, spared-starts}
 use Rattle.up_model.proofs.Sums.{IsSpared, sum-same, sum-less, sum-more}
 
@@ -28,6 +30,7 @@ IsStop p (Offered (StopOn instance) event) = instance ≡ p
 IsStop p (Fired expression taken) = Unit {0}
 IsStop p (Aimed instance aim environment its) = instance ≡ p
 IsStop p (Released instance failed) = Unit {0}
+IsStop p (Replied request answer) = Unit {0}
 IsStop p entry = ⊥
 
 stop-is_of : (job : Bytes) (p : ℕ) (e : Entry) → IsStop p e → IsOf job p e
@@ -35,6 +38,7 @@ stop-is_of job p (Offered (StopOn instance) event) is = is
 stop-is_of job p (Fired expression taken) is = is
 stop-is_of job p (Aimed instance aim environment its) is = is
 stop-is_of job p (Released instance failed) is = is
+stop-is_of job p (Replied request answer) is = is
 stop-is_of job p e is = absurd is
 
 -- it leaves the instances alone
@@ -50,8 +54,24 @@ stop-start p k (Offered (StopOn i) event) c is = refl
 stop-start p k (Offered (StartOn i) event) c is = absurd is
 stop-start p k e c is = refl
 
+-- an entry by which nothing is offered
+abbrev IsUnoffered : Entry → Type 0
+IsUnoffered (Given input) = ⊥
+IsUnoffered (Offered expression event) = ⊥
+IsUnoffered entry = Unit {0}
+
+unoffered-same : (expression : Expression) (e : Entry) (c : Chronicle) → IsUnoffered e → was_offered expression (e ∷ c) ≡ was_offered expression c
+unoffered-same expression (Given input) c is = absurd is
+unoffered-same expression (Offered other event) c is = absurd is
+unoffered-same expression e c is = refl
+
+three : (xs c : Chronicle) (e f : Entry) → ((xs ++ e ∷ []) ++ f ∷ []) ++ c ≡ xs ++ e ∷ f ∷ c
+three xs c e f = append_assoc (xs ++ e ∷ []) (f ∷ []) c ∙ append_assoc xs (e ∷ []) (f ∷ c)
+
 stop_by-all : (p : ℕ) (events : List ℕ) (c : Chronicle) → AllByRecursion (IsStop p) (stop_by p events c)
-stop_by-all p events c = all-if (IsStop p) (is_start (goal p c)) (Aimed p Stop (stopped_by (events_at events c)) events ∷ Released p false ∷ []) (refl, (tt, tt))
+stop_by-all p events c =
+    all-if (IsStop p) (is_start (goal p c)) (stop_of p (stopped_by (events_at events c)) events c)
+    (refl, releasing-all (IsStop p) (λ request answer. tt) p false tt c)
 
 -- an offer to an instance's `stop on` leaves its job less to do
 pub stop_offer-lessens : (config : Configuration) (job : JobDef) (p event : ℕ) (c : Chronicle) → 0 < count p (instances_of job.name c)
@@ -69,8 +89,11 @@ stop_offer-lessens config job p event c there left = record {
     events : List ℕ
     events = taken job.stop_on sights
 
+    fired : Chronicle
+    fired = Fired (StopOn p) events ∷ Offered (StopOn p) event ∷ c
+
     fires : List Entry
-    fires = stop_by p events (Fired (StopOn p) events ∷ Offered (StopOn p) event ∷ c) ++ Fired (StopOn p) events ∷ []
+    fires = stop_by p events fired ++ Fired (StopOn p) events ∷ []
 
     es : List Entry
     es = stop_offer config job p event c
@@ -92,8 +115,11 @@ stop_offer-lessens config job p event c there left = record {
     offered : was_offered (StopOn p) d ≡ true
     offered =
         either (λ xs. was_offered (StopOn p) (xs ++ c) ≡ true) (holds job.stop_on sights) fires (Offered (StopOn p) event ∷ [])
-        (either (λ xs. was_offered (StopOn p) ((xs ++ Offered (StopOn p) event ∷ []) ++ c) ≡ true) (is_start (goal p c)) (Aimed p Stop (stopped_by (events_at events (Fired (StopOn p) events ∷ Offered (StopOn p) event ∷ c))) events ∷ Released p false ∷ []) (Fired (StopOn p) events ∷ [])
-        (rw (eq-eqb p p refl) refl) (rw (eq-eqb p p refl) refl))
+        (ap (was_offered (StopOn p)) (three (stop_by p events fired) c (Fired (StopOn p) events) (Offered (StopOn p) event))
+        ∙ same-append (was_offered (StopOn p)) IsUnoffered (unoffered-same (StopOn p)) (stop_by p events fired) fired
+        (all-if IsUnoffered (is_start (goal p fired)) (stop_of p (stopped_by (events_at events fired)) events fired)
+        (tt, releasing-all IsUnoffered (λ request answer. tt) p false tt fired))
+        ∙ rw (eq-eqb p p refl) refl)
         (rw (eq-eqb p p refl) refl)
 
     shut : is_open p d ≡ false
@@ -118,6 +144,7 @@ IsStart job p (Offered (StartOn other) event) = other ≡ job
 IsStart job p (Fired expression taken) = Unit {0}
 IsStart job p (Aimed instance aim environment its) = instance ≡ p
 IsStart job p (Released instance failed) = Unit {0}
+IsStart job p (Replied request answer) = Unit {0}
 IsStart job p entry = ⊥
 
 start-is_of : (job : Bytes) (p : ℕ) (e : Entry) → IsStart job p e → IsOf job p e
@@ -125,6 +152,7 @@ start-is_of job p (Offered (StartOn other) event) is = is
 start-is_of job p (Fired expression taken) is = is
 start-is_of job p (Aimed instance aim environment its) is = is
 start-is_of job p (Released instance failed) is = is
+start-is_of job p (Replied request answer) is = is
 start-is_of job p e is = absurd is
 
 -- it leaves the instances alone
@@ -205,22 +233,39 @@ start-vain : (name : Bytes) (event : ℕ) (events : List ℕ) (c : Chronicle) �
 start-vain name event events c left =
     start-idle name (Fired (StartOn name) events ∷ Offered (StartOn name) event ∷ []) c (tt, (refl, tt)) refl (rw (bytes_refl name) refl) left
 
--- one that starts an instance which the job has
+-- one that starts an instance which the job has, and answers what it held
 start-aims : (name : Bytes) (event p : ℕ) (events : List ℕ) (environment : Bindings) (c : Chronicle) → was_offered (StartOn name) c ≡ false
-    → Lessens true name c (Aimed p Start environment events ∷ Released p false ∷ Fired (StartOn name) events ∷ Offered (StartOn name) event ∷ [])
-start-aims name event p events environment c left = starts-lessens name p es c of (rw (bytes_refl name) refl) left few
+    → Lessens true name c
+    (((Aimed p Start environment events ∷ releasing p false (Fired (StartOn name) events ∷ Offered (StartOn name) event ∷ c)) ++ Fired (StartOn name) events ∷ []) ++ Offered (StartOn name) event ∷ [])
+start-aims name event p events environment c left = starts-lessens name p es c of offered left few
   where
+    fired : Chronicle
+    fired = Fired (StartOn name) events ∷ Offered (StartOn name) event ∷ c
+
+    front : List Entry
+    front = Aimed p Start environment events ∷ releasing p false fired
+
     es : List Entry
-    es = Aimed p Start environment events ∷ Released p false ∷ Fired (StartOn name) events ∷ Offered (StartOn name) event ∷ []
+    es = (front ++ Fired (StartOn name) events ∷ []) ++ Offered (StartOn name) event ∷ []
 
     d : Chronicle
     d = es ++ c
 
     all : AllByRecursion (IsStart name p) es
-    all = (refl, (tt, (tt, (refl, tt))))
+    all =
+        all-append (IsStart name p) (front ++ Fired (StartOn name) events ∷ []) (Offered (StartOn name) event ∷ [])
+        (all-append (IsStart name p) front (Fired (StartOn name) events ∷ [])
+        (refl, releasing-all (IsStart name p) (λ request answer. tt) p false tt fired) (tt, tt))
+        (refl, tt)
 
     of : AllByRecursion (IsOf name p) es
     of = all-weaker (IsStart name p) (IsOf name p) (start-is_of name p) es all
+
+    offered : was_offered (StartOn name) d ≡ true
+    offered =
+        ap (was_offered (StartOn name)) (three front c (Fired (StartOn name) events) (Offered (StartOn name) event))
+        ∙ same-append (was_offered (StartOn name)) IsUnoffered (unoffered-same (StartOn name)) front fired (tt, releasing-all IsUnoffered (λ request answer. tt) p false tt fired)
+        ∙ rw (bytes_refl name) refl
 
     same : is_open p d ≡ is_open p c
     same =
@@ -283,7 +328,7 @@ start-lessens name event events environment c (Some its) true left = by_case (in
     by_room false = start-vain name event events c left
 
     by_goal : (p : ℕ) (b : Bool)
-        → Lessens true name c ((entries_if b (Aimed p Start told events ∷ Released p false ∷ []) ++ Fired (StartOn name) events ∷ []) ++ Offered (StartOn name) event ∷ [])
+        → Lessens true name c ((entries_if b (Aimed p Start told events ∷ releasing p false fired) ++ Fired (StartOn name) events ∷ []) ++ Offered (StartOn name) event ∷ [])
     by_goal p true = start-aims name event p events told c left
     by_goal p false = start-vain name event events c left
 

@@ -2,7 +2,7 @@
 use Rattle.std.proofs.Common.{◌≡◌, ℕ, ◌<◌, ◌==◌, Bool, true, false, List, [], ◌∷◌, ◌++◌, length, bytes_eq, refl, sym, ◌∙◌, arith, ne_eqb}
 use Rattle.std.proofs.lemmas.Bool.{eqb-false}
 use Rattle.std.specs.List.{AllByRecursion}
-use Rattle.up_model.specs.Chronicle.{Chronicle, Entry, Given, Queued, Handled, Offered, Fired, Finished, Made, Aimed, Released, Entered, Ordered, Signalled, Entering, StartOn, StopOn}
+use Rattle.up_model.specs.Chronicle.{Chronicle, Entry, Given, Queued, Handled, Offered, Fired, Finished, Made, Aimed, Released, Entered, Ordered, Signalled, Replied, Entering, StartOn, StopOn}
 use Rattle.up_model.specs.Offers.{is_newborn, offering}
 use Rattle.up_model.specs.Readings.{goal, state_of, blocker}
 use Rattle.up_model.specs.Seen.{was_offered}
@@ -49,6 +49,7 @@ IsOf job p (Released instance failed) = Unit {0}
 IsOf job p (Entered instance entered) = instance ≡ p
 IsOf job p (Ordered instance process) = Unit {0}
 IsOf job p (Signalled instance signal by_timer) = Unit {0}
+IsOf job p (Replied request answer) = Unit {0}
 IsOf job p entry = ⊥
 
 -- two places are apart both ways

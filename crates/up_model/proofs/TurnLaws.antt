@@ -13,24 +13,25 @@ use Rattle.up_stanza.specs.declared.process.Process.{Process}
 use Rattle.up_model.specs.declared.input.Input.{Input}
 use Rattle.up_model.specs.declared.input.Input.TheVariants as input
 use Rattle.up_model.specs.Configuration.{Configuration, job_named}
-use Rattle.up_model.specs.Chronicle.{Entry, Given, Aimed, Signalled, Replied, Queued, Handled, Finished, Outside}
+use Rattle.up_model.specs.Chronicle.{Entry, Given, Aimed, Failed, Signalled, Queued, Handled, Finished, Outside}
 use Rattle.up_model.specs.Clock.{all_overdue, kill, killing}
 use Rattle.up_model.specs.Readings.{goal, failure, holders}
 use Rattle.up_model.specs.Queue.{Live, with_handled, without_event, queue}
-use Rattle.up_model.specs.Held.{is_held}
+use Rattle.up_model.specs.Held.{is_held, is_spoilt}
 use Rattle.up_model.specs.Instances.{instance_named}
 use Rattle.up_model.specs.Judgement.{end_itself, keep_failure, fail, carry_out, judged}
-use Rattle.up_model.specs.Offers.{offering}
-use Rattle.up_model.specs.Requests.{not_supported}
+use Rattle.up_model.specs.Commands.{outcome_of, entries_of}
+use Rattle.up_model.specs.Replies.{releasing, waiter, answering_waiter}
 use Rattle.up_model.specs.Tests.{is_start, entries_if}
-use Rattle.up_model.specs.Due.{due, end_of, telling, told_of, turn_event, turn_of, effect}
+use Rattle.up_model.specs.Due.{due, end_of, telling, told_of, finishing, turn_event, turn_of, effect}
 use Rattle.up_model.specs.Values.{Bytes}
 use Rattle.up_model.specs.Work.{work, settle}
 use Rattle.up_model.specs.Answers.{after, next, is_expected, after_all}
 use Rattle.up_model.specs.Laws.{handled_times, finished_times, IsOrderly}
 use Rattle.up_model.proofs.HeldLaws.{held-given}
 use Rattle.up_model.proofs.Sparing.{all-append, all-weaker, all-if, IsOf}
-use Rattle.up_model.proofs.WorkLaws.{Lowers, due-lowers}
+use Rattle.up_model.proofs.ReplyLaws.{Allows, releasing-all, answering_waiter-all, outcome-all}
+use Rattle.up_model.proofs.WorkLaws.{IsAbout, due-about}
 use Rattle.up_model.proofs.QueueLaws.{queue_by_age, status, status-older, first_status, status-append, status-with_handled, status-with_handled_other, status-without_event, status-without_event_other, turn_event-status, turn_event-held}
 
 -- how often an event was handled and finished, by what the queue says of it
@@ -134,23 +135,30 @@ telling-quiet spoilt (Some told) = (tt, tt)
 
 -- so a turn leaves the counts fitting
 turn-keeps : (config : Configuration) (c : List Entry) (found : Option Live) → turn_event config (queue c) c ≡ found → Keeps config (Given input.Turn ∷ c)
-    → Keeps config (turn_of found c ++ Given input.Turn ∷ c)
+    → Keeps config (turn_of found (Given input.Turn ∷ c) ++ Given input.Turn ∷ c)
 turn-keeps config c None found keeps = keeps
 turn-keeps config c (Some live) found keeps = by_case live.handled refl
   where
     here : status live.place (queue c) ≡ Some live.handled
     here = turn_event-status (length c) config (queue c) c live (queue_by_age c) found
 
+    d : List Entry
+    d = Given input.Turn ∷ c
+
     told : List Entry
-    told = telling live.place (told_of live.place c)
+    told = telling live.place (told_of live.place d)
+
+    answers : List Entry
+    answers = answering_waiter (waiter live.place d) (is_spoilt live.place d)
 
     by_case : (b : Bool) → live.handled ≡ b
-        → Keeps config ((if b then told ++ Finished live.place ∷ [] else Handled live.place ∷ []) ++ Given input.Turn ∷ c)
+        → Keeps config ((if b then finishing live.place d else Handled live.place ∷ []) ++ d)
     by_case true handled =
-        rw append_assoc
-        (quiets-keep config told (Finished live.place ∷ Given input.Turn ∷ c) (telling-quiet live.place (told_of live.place c))
-        (finished-keeps config live.place (Given input.Turn ∷ c) (here ∙ ap (λ b. Some b) handled)
-        (held-given config live.place input.Turn c ∙ turn_event-held config (queue c) c live found handled) keeps))
+        subst (Keeps config) (sym (append_assoc told (answers ++ Finished live.place ∷ []) d ∙ ap (λ rest. told ++ rest) (append_assoc answers (Finished live.place ∷ []) d)))
+        (quiets-keep config told (answers ++ Finished live.place ∷ d) (telling-quiet live.place (told_of live.place d))
+        (quiets-keep config answers (Finished live.place ∷ d) (answering_waiter-all IsQuiet (λ request answer. tt) (waiter live.place d) (is_spoilt live.place d))
+        (finished-keeps config live.place d (here ∙ ap (λ b. Some b) handled)
+        (held-given config live.place input.Turn c ∙ turn_event-held config (queue c) c live found handled) keeps)))
     by_case false handled = handled-keeps config live.place (Given input.Turn ∷ c) (here ∙ ap (λ b. Some b) handled) keeps
 
 -- what is due neither handles nor finishes an event
@@ -161,17 +169,26 @@ of-quiet job p e of = tt
 
 -- so all that is due is quiet
 pub due-quiet : (config : Configuration) (c : List Entry) → AllByRecursion IsQuiet (due config c)
-due-quiet config c = by_case (due config c) (due-lowers config c)
+due-quiet config c = by_case (due config c) (due-about config c)
   where
-    by_case : (es : List Entry) → (es ≡ []) ⊎ Lowers (is_some (offering c)) config.jobs c es → AllByRecursion IsQuiet es
+    by_case : (es : List Entry) → (es ≡ []) ⊎ IsAbout es → AllByRecursion IsQuiet es
     by_case es (inl none) = subst (AllByRecursion IsQuiet) (sym none) tt
-    by_case es (inr lowers) = all-weaker (IsOf lowers.whose lowers.place) IsQuiet (of-quiet lowers.whose lowers.place) es lowers.of
+    by_case es (inr about) = all-weaker (IsOf about.whose about.place) IsQuiet (of-quiet about.whose about.place) es about.of
 
 -- doing what is due leaves the counts fitting
 pub settle-keeps : (n : ℕ) (config : Configuration) (c : List Entry) → Keeps config c → Keeps config (settle n config c)
 unfolding settle
 settle-keeps zero config c keeps = keeps
 settle-keeps (suc n) config c keeps = settle-keeps n config (due config c ++ c) (quiets-keep config (due config c) c (due-quiet config c) keeps)
+
+quiet-allows : Allows IsQuiet
+quiet-allows = record {
+  replied = λ request answer. tt;
+  released = λ instance failed. tt;
+  aimed = λ instance aim environment its. tt;
+  restarted = λ instance its. tt;
+  queued = λ given event. tt;
+}
 
 -- that an instance ends itself is quiet
 end_itself-quiet : (instance : ℕ) (c : List Entry) → AllByRecursion IsQuiet (end_itself instance c)
@@ -180,8 +197,9 @@ end_itself-quiet instance c = all-if IsQuiet (is_start (goal instance c)) (Aimed
 -- so is that it fails
 fail-quiet : (instance : ℕ) (its : Failure) (c : List Entry) → AllByRecursion IsQuiet (fail instance its c)
 fail-quiet instance its c =
+    let d : List Entry = Failed instance its ∷ end_itself instance c ++ c in
     all-append IsQuiet (entries_if (not (is_some (failure instance c))) (keep_failure instance its (end_itself instance c ++ c))) (end_itself instance c)
-    (all-if IsQuiet (not (is_some (failure instance c))) (keep_failure instance its (end_itself instance c ++ c)) (tt, (tt, tt))) (end_itself-quiet instance c)
+    (all-if IsQuiet (not (is_some (failure instance c))) (keep_failure instance its (end_itself instance c ++ c)) (all-append IsQuiet (releasing instance true d) (Failed instance its ∷ []) (releasing-all IsQuiet (λ request answer. tt) instance true tt d) (tt, tt))) (end_itself-quiet instance c)
 
 -- so is what a verdict does
 carry_out-quiet : (instance : ℕ) (its : Verdict) (c : List Entry) → AllByRecursion IsQuiet (carry_out instance its c)
@@ -205,14 +223,19 @@ killing-quiet (instance ∷ instances) = all-append IsQuiet (killing instances) 
 pub effect-keeps : (config : Configuration) (given : Input) (c : List Entry) → Keeps config c → Keeps config (effect config given c ++ c)
 unfolding effect
 effect-keeps config (input.Emit event) c keeps = quiets-keep config (Queued (Outside (length c)) event ∷ Given (input.Emit event) ∷ []) c (tt, (tt, tt)) keeps
-effect-keeps config (input.Request id request) c keeps = quiets-keep config (Replied (length c) (not_supported request.command) ∷ Given (input.Request id request) ∷ []) c (tt, (tt, tt)) keeps
+effect-keeps config (input.Request id request) c keeps =
+    let d : List Entry = Given (input.Request id request) ∷ c in
+    rw append_assoc (quiets-keep config (entries_of (length c) (outcome_of config (length c) request d)) d
+    (outcome-all IsQuiet quiet-allows (λ job name. tt) config (length c) request d) (quiet-keeps config (Given (input.Request id request)) c tt keeps))
 effect-keeps config (input.Spawned who process pid) c keeps = quiet-keeps config (Given (input.Spawned who process pid)) c tt keeps
 effect-keeps config (input.Refused who process) c keeps =
-    let its : List Entry = end_of (job_named who.job config.jobs) (instance_named who c) process end.Refused c in
-    rw append_assoc (quiets-keep config its (Given (input.Refused who process) ∷ c) (end_of-quiet (job_named who.job config.jobs) (instance_named who c) process end.Refused c) (quiet-keeps config (Given (input.Refused who process)) c tt keeps))
+    let d : List Entry = Given (input.Refused who process) ∷ c in
+    let its : List Entry = end_of (job_named who.job config.jobs) (instance_named who c) process end.Refused d in
+    rw append_assoc (quiets-keep config its d (end_of-quiet (job_named who.job config.jobs) (instance_named who c) process end.Refused d) (quiet-keeps config (Given (input.Refused who process)) c tt keeps))
 effect-keeps config (input.Ended who process how) c keeps =
-    let its : List Entry = end_of (job_named who.job config.jobs) (instance_named who c) process (end.Ended how) c in
-    rw append_assoc (quiets-keep config its (Given (input.Ended who process how) ∷ c) (end_of-quiet (job_named who.job config.jobs) (instance_named who c) process (end.Ended how) c) (quiet-keeps config (Given (input.Ended who process how)) c tt keeps))
+    let d : List Entry = Given (input.Ended who process how) ∷ c in
+    let its : List Entry = end_of (job_named who.job config.jobs) (instance_named who c) process (end.Ended how) d in
+    rw append_assoc (quiets-keep config its d (end_of-quiet (job_named who.job config.jobs) (instance_named who c) process (end.Ended how) d) (quiet-keeps config (Given (input.Ended who process how)) c tt keeps))
 effect-keeps config (input.Clock reading) c keeps =
     let d : List Entry = Given (input.Clock reading) ∷ c in
     rw append_assoc (quiets-keep config (killing (all_overdue config.jobs d)) d (killing-quiet (all_overdue config.jobs d)) (quiet-keeps config (Given (input.Clock reading)) c tt keeps))

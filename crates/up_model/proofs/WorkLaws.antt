@@ -1,18 +1,20 @@
 -- What is due leaves less work.
-use Rattle.std.proofs.Common.{◌≡◌, ℕ, ◌+◌, ◌*◌, ◌<◌, ◌≤◌, ◌⊎◌, inl, inr, Bool, true, false, not, List, [], ◌∷◌, ◌++◌, length, Option, None, Some, is_some, refl, sym, subst, arith}
+use Rattle.std.proofs.Common.{◌≡◌, ℕ, ◌+◌, ◌*◌, ◌<◌, ◌≤◌, ◌==◌, ◌⊎◌, inl, inr, Bool, true, false, not, List, [], ◌∷◌, ◌++◌, length, Option, None, Some, is_some, if◌then◌else◌, refl, ap, arith, eq-eqb, ◌∙◌}
 use Rattle.std.specs.List.{AllByRecursion}
 use Rattle.up_conf.specs.declared.job.JobDef.{JobDef}
-use Rattle.up_model.specs.Chronicle.{Chronicle, Entry, StartOn}
+use Rattle.up_model.specs.Chronicle.{Chronicle, Entry, Given, Replied, StartOn}
 use Rattle.up_model.specs.Configuration.{Configuration}
 use Rattle.up_model.specs.Due.{due}
 use Rattle.up_model.specs.Instances.{Instance, instances_of, existing}
 use Rattle.up_model.specs.Moves.{may_leave, move, move_of, move_in, move_first}
 use Rattle.up_model.specs.Offers.{is_open, stop_offer, stop_offer_in, start_offer, offer_in, offer_first, offering, offer_next}
-use Rattle.up_model.specs.Readings.{goal, state_of, blocker}
+use Rattle.up_model.specs.Readings.{goal, state_of, blocker, without}
+use Rattle.up_model.specs.Replies.{unanswered, acted_on, status_if, answering_hurried, answering_last}
+use Rattle.up_model.specs.declared.request.Answer.{Answer}
 use Rattle.up_model.specs.Seen.{was_offered}
 use Rattle.up_model.specs.Tests.{entries_if, or_else}
 use Rattle.up_model.specs.Values.{Bytes}
-use Rattle.up_model.specs.Work.{offer_work, instance_work, work_in, start_work, starts_work, work}
+use Rattle.up_model.specs.Work.{offer_work, instance_work, work_in, start_work, starts_work, answer_work, work}
 use Rattle.up_model.proofs.MoveLaws.{moves-few, Lessens, move-lessens}
 use Rattle.up_model.proofs.OfferLaws.{stop_offer-lessens, start_offer-lessens}
 use Rattle.up_model.proofs.Places.{count, all-counted}
@@ -119,27 +121,102 @@ offer_next-lowers : (config : Configuration) (event : Option ℕ) (c : Chronicle
 offer_next-lowers config None c = inl refl
 offer_next-lowers config (Some event) c = offer_first-lowers config config.jobs event c
 
--- so what is due lowers the work
-pub due-lowers : (config : Configuration) (c : Chronicle) → (due config c ≡ []) ⊎ Lowers (is_some (offering c)) config.jobs c (due config c)
-unfolding due
-due-lowers config c =
-    or_else-either (Lowers (is_some (offering c)) config.jobs c) (move_first config.jobs c) (offer_next config (offering c) c)
-    (move_first-lowers (is_some (offering c)) config.jobs c)
-    (offer_next-lowers config (offering c) c)
+-- an answer lessens what is to be answered, or leaves it
+without-less : (place : ℕ) (o : Option ℕ) → answer_work (without place o) ≤ answer_work o
+without-less place None = omega arith
+without-less place (Some other) = by_case (other == place)
+  where
+    by_case : (b : Bool) → answer_work (if b then None else Some other) ≤ 1
+    by_case true = omega arith
+    by_case false = omega arith
 
--- either nothing is due, or doing it leaves less work
-pub falls : (config : Configuration) (c : Chronicle) → (due config c ≡ []) ⊎ (work config (due config c ++ c) < work config c)
+-- an entry that is due brings no request
+spared-answer : (job : Bytes) (p : ℕ) (e : Entry) (c : Chronicle) → IsOf job p e → answer_work (unanswered (e ∷ c)) ≤ answer_work (unanswered c)
+spared-answer job p (Given input) c of = absurd of
+spared-answer job p (Replied request answer) c of = without-less request (unanswered c)
+spared-answer job p e c of = omega arith
+
+spared-answers : (job : Bytes) (p : ℕ) (es c : List Entry) → AllByRecursion (IsOf job p) es → answer_work (unanswered (es ++ c)) ≤ answer_work (unanswered c)
+spared-answers job p [] c of = omega arith
+spared-answers job p (e ∷ es) c of = let rest = spared-answers job p es c of.1 in omega (arith, spared-answer job p e (es ++ c) of.0, rest)
+
+-- entries about a job and an instance of it
+pub record IsAbout (es : List Entry) : Type 0 where
+  pub whose : Bytes
+  pub place : ℕ
+  pub of : AllByRecursion (IsOf whose place) es
+
+-- such entries leave less work
+abbrev Falls : Configuration → Chronicle → List Entry → Type 0
+Falls config c es = IsAbout es × (work config (es ++ c) < work config c)
+
+-- so moves and offers do
+lowers-falls : (config : Configuration) (c es : List Entry) → Lowers (is_some (offering c)) config.jobs c es → Falls config c es
 unfolding work
-falls config c = less (due config c) (due-lowers config c)
+lowers-falls config c es lowers = (record { whose = lowers.whose; place = lowers.place; of = lowers.of }, omega (arith, same, lowers.less, answers))
   where
     total : Bool → Chronicle → ℕ
     total offers d = work_in offers (existing d) d + starts_work offers config.jobs d
 
-    less : (es : List Entry) → (es ≡ []) ⊎ Lowers (is_some (offering c)) config.jobs c es
-        → (es ≡ []) ⊎ (total (is_some (offering (es ++ c))) (es ++ c) < total (is_some (offering c)) c)
-    less es (inl none) = inl none
-    less es (inr lowers) =
-        inr (subst (λ event. total (is_some event) (es ++ c) < total (is_some (offering c)) c) (sym (spared-offerings lowers.whose lowers.place es c lowers.of)) lowers.less)
+    same : total (is_some (offering (es ++ c))) (es ++ c) ≡ total (is_some (offering c)) (es ++ c)
+    same = ap (λ event. total (is_some event) (es ++ c)) (spared-offerings lowers.whose lowers.place es c lowers.of)
+
+    answers : answer_work (unanswered (es ++ c)) ≤ answer_work (unanswered c)
+    answers = spared-answers lowers.whose lowers.place es c lowers.of
+
+-- an answer leaves moves and offers as they were
+works-replied : (offers : Bool) (xs : List Instance) (request : ℕ) (answer : Answer) (c : Chronicle) → work_in offers xs (Replied request answer ∷ c) ≡ work_in offers xs c
+works-replied offers [] request answer c = refl
+works-replied offers (x ∷ xs) request answer c = ap (λ rest. instance_work offers x.place c + rest) (works-replied offers xs request answer c)
+
+starts-replied : (offers : Bool) (jobs : List JobDef) (request : ℕ) (answer : Answer) (c : Chronicle) → starts_work offers jobs (Replied request answer ∷ c) ≡ starts_work offers jobs c
+starts-replied offers [] request answer c = refl
+starts-replied offers (job ∷ jobs) request answer c = ap (λ rest. start_work offers job.name c + rest) (starts-replied offers jobs request answer c)
+
+-- the answer to this step's client leaves none to be answered
+last-falls : (config : Configuration) (c : Chronicle) → (answering_last c ≡ []) ⊎ Falls config c (answering_last c)
+unfolding work
+last-falls config c = by_case (unanswered c) refl
+  where
+    by_case : (o : Option ℕ) → unanswered c ≡ o → (answering_hurried o c ≡ []) ⊎ Falls config c (answering_hurried o c)
+    by_case None none = inl refl
+    by_case (Some request) some = inr (record { whose = []; place = 0; of = (tt, tt) }, omega (arith, works, starts, one, gone))
+      where
+        answer : Answer
+        answer = record { ok = true; text = status_if (acted_on c) c }
+
+        offers : Bool
+        offers = is_some (offering c)
+
+        works : work_in offers (existing c) (Replied request answer ∷ c) ≡ work_in offers (existing c) c
+        works = works-replied offers (existing c) request answer c
+
+        starts : starts_work offers config.jobs (Replied request answer ∷ c) ≡ starts_work offers config.jobs c
+        starts = starts-replied offers config.jobs request answer c
+
+        one : answer_work (unanswered c) ≡ 1
+        one = ap answer_work some
+
+        gone : answer_work (without request (unanswered c)) ≡ 0
+        gone = ap (λ o. answer_work (without request o)) some ∙ rw (eq-eqb request request refl) refl
+
+-- so what is due leaves less work
+due-falls : (config : Configuration) (c : Chronicle) → (due config c ≡ []) ⊎ Falls config c (due config c)
+unfolding due
+due-falls config c =
+    or_else-either (Falls config c) (move_first config.jobs c) (or_else (offer_next config (offering c) c) (answering_last c))
+    (weaker (lowers-falls config c (move_first config.jobs c)) (move_first-lowers (is_some (offering c)) config.jobs c))
+    (or_else-either (Falls config c) (offer_next config (offering c) c) (answering_last c)
+    (weaker (lowers-falls config c (offer_next config (offering c) c)) (offer_next-lowers config (offering c) c))
+    (last-falls config c))
+
+-- what is due is about one job and an instance of it
+pub due-about : (config : Configuration) (c : Chronicle) → (due config c ≡ []) ⊎ IsAbout (due config c)
+due-about config c = weaker (λ falls. falls.0) (due-falls config c)
+
+-- either nothing is due, or doing it leaves less work
+pub falls : (config : Configuration) (c : Chronicle) → (due config c ≡ []) ⊎ (work config (due config c ++ c) < work config c)
+falls config c = weaker (λ falls. falls.1) (due-falls config c)
 
 -- the work of an offer and of an instance is bounded
 offer-bounded : (offers left : Bool) → offer_work offers left ≤ 6
@@ -160,8 +237,12 @@ starts-bounded : (offers : Bool) (jobs : List JobDef) (c : Chronicle) → starts
 starts-bounded offers [] c = omega arith
 starts-bounded offers (job ∷ jobs) c = omega (arith, offer-bounded offers (not (was_offered (StartOn job.name) c)), starts-bounded offers jobs c)
 
+answer-bounded : (o : Option ℕ) → answer_work o ≤ 1
+answer-bounded None = omega arith
+answer-bounded (Some request) = omega arith
+
 -- so is all that can be due
-pub work-bounded : (config : Configuration) (c : Chronicle) → work config c ≤ 11 * length (existing c) + 6 * length config.jobs
+pub work-bounded : (config : Configuration) (c : Chronicle) → work config c ≤ 11 * length (existing c) + 6 * length config.jobs + 1
 unfolding work
 work-bounded config c =
-    omega (arith, instances-bounded (is_some (offering c)) (existing c) c, starts-bounded (is_some (offering c)) config.jobs c)
+    omega (arith, instances-bounded (is_some (offering c)) (existing c) c, starts-bounded (is_some (offering c)) config.jobs c, answer-bounded (unanswered c))

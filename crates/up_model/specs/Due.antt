@@ -8,8 +8,9 @@ use Rattle.up_model.specs.declared.failure.End.TheVariants as end
 use Rattle.up_model.specs.declared.event.Event.{Event}
 use Rattle.up_model.specs.declared.input.Input.{Input}
 use Rattle.up_model.specs.declared.input.Input.TheVariants as input
-use Rattle.up_model.specs.Chronicle.{Chronicle, Entry, Given, Queued, Handled, Finished, Replied, Outside, Spoilt}
+use Rattle.up_model.specs.Chronicle.{Chronicle, Entry, Given, Queued, Handled, Finished, Outside, Spoilt}
 use Rattle.up_model.specs.Clock.{all_overdue, killing}
+use Rattle.up_model.specs.Commands.{outcome_of, entries_of}
 use Rattle.up_model.specs.Configuration.{Configuration, job_named}
 use Rattle.up_model.specs.Events.{failure_of_event}
 use Rattle.up_model.specs.Held.{is_held, is_spoilt}
@@ -19,12 +20,13 @@ use Rattle.up_model.specs.Moves.{move_first}
 use Rattle.up_model.specs.Offers.{offering, offer_next}
 use Rattle.up_model.specs.Queue.{Live, queue}
 use Rattle.up_model.specs.Readings.{event_at}
-use Rattle.up_model.specs.Requests.{not_supported}
+use Rattle.up_model.specs.Replies.{waiter, answering_waiter, answering_last}
 use Rattle.up_model.specs.Tests.{or_else}
 
--- what is due: the first instance that may leave its state moves; else the event of this step is offered to the next expression
+-- what is due: the first instance that may leave its state moves; else the event of this step is offered to the next expression; else
+-- the client is answered that asked for this step and doesn't wait
 unfoldable pub due : Configuration → Chronicle → List Entry
-due config c = or_else (move_first config.jobs c) (offer_next config (offering c) c)
+due config c = or_else (move_first config.jobs c) (or_else (offer_next config (offering c) c) (answering_last c))
 
 -- what the end or the refusal of a process does, if its job is there and its instance exists
 abbrev pub end_of : Option JobDef → Option ℕ → Process → End → Chronicle → List Entry
@@ -47,18 +49,27 @@ telling spoilt (Some told) = Queued (Spoilt spoilt) told ∷ []
 abbrev pub told_of : ℕ → Chronicle → Option Event
 told_of event c = if is_spoilt event c then failure_of_event (event_at event c) else None
 
--- a turn handles an unhandled event, and finishes a handled one; if that was spoilt, another event tells so
+-- an event leaves the queue; the client that waits for it is answered, and if it was spoilt, another event tells so
+abbrev pub finishing : (event : ℕ) → Chronicle → List Entry
+finishing event c =
+    telling event (told_of event c) ++ (answering_waiter (waiter event c) (is_spoilt event c) ++ Finished event ∷ [])
+
+-- a turn handles an unhandled event, and finishes a handled one
 abbrev pub turn_of : Option Live → Chronicle → List Entry
 turn_of None c = []
-turn_of (Some live) c =
-    if live.handled then telling live.place (told_of live.place c) ++ Finished live.place ∷ [] else Handled live.place ∷ []
+turn_of (Some live) c = if live.handled then finishing live.place c else Handled live.place ∷ []
 
 -- the effect of an input, in front of the input itself
 unfoldable pub effect : Configuration → Input → Chronicle → List Entry
 effect config (input.Emit event) c = Queued (Outside (length c)) event ∷ Given (input.Emit event) ∷ []
-effect config (input.Request id request) c = Replied (length c) (not_supported request.command) ∷ Given (input.Request id request) ∷ []
+effect config (input.Request id request) c =
+    let d = Given (input.Request id request) ∷ c in entries_of (length c) (outcome_of config (length c) request d) ++ Given (input.Request id request) ∷ []
 effect config (input.Spawned who process pid) c = Given (input.Spawned who process pid) ∷ []
-effect config (input.Refused who process) c = end_of (job_named who.job config.jobs) (instance_named who c) process end.Refused c ++ Given (input.Refused who process) ∷ []
-effect config (input.Ended who process how) c = end_of (job_named who.job config.jobs) (instance_named who c) process (end.Ended how) c ++ Given (input.Ended who process how) ∷ []
+effect config (input.Refused who process) c =
+    let d = Given (input.Refused who process) ∷ c in
+    end_of (job_named who.job config.jobs) (instance_named who c) process end.Refused d ++ Given (input.Refused who process) ∷ []
+effect config (input.Ended who process how) c =
+    let d = Given (input.Ended who process how) ∷ c in
+    end_of (job_named who.job config.jobs) (instance_named who c) process (end.Ended how) d ++ Given (input.Ended who process how) ∷ []
 effect config (input.Clock reading) c = killing (all_overdue config.jobs (Given (input.Clock reading) ∷ c)) ++ Given (input.Clock reading) ∷ []
-effect config input.Turn c = turn_of (turn_event config (queue c) c) c ++ Given input.Turn ∷ []
+effect config input.Turn c = turn_of (turn_event config (queue c) c) (Given input.Turn ∷ c) ++ Given input.Turn ∷ []

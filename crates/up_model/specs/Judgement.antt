@@ -22,8 +22,8 @@ use Rattle.up_model.specs.declared.state.State.{State}
 use Rattle.up_model.specs.declared.state.State.TheVariants as state
 use Rattle.up_model.specs.Chronicle.{Chronicle, Entry, Aimed, Respawned, Failed}
 use Rattle.up_model.specs.Clock.{now, may_respawn}
-use Rattle.up_model.specs.Moves.{releasing}
 use Rattle.up_model.specs.Readings as read
+use Rattle.up_model.specs.Replies.{releasing}
 use Rattle.up_model.specs.Tests.{is_start, entries_if}
 
 -- the failure of a process

@@ -14,9 +14,11 @@ pub mod Life
 pub mod Events
 pub mod Requests
 pub mod Status
+pub mod Replies
 pub mod Moves
 pub mod Judgement
 pub mod Offers
+pub mod Commands
 pub mod Due
 pub mod Work
 pub mod Outputs

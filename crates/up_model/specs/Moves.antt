@@ -10,11 +10,12 @@ use Rattle.up_model.specs.declared.life.Entry as table
 use Rattle.up_model.specs.declared.life.JobEvent.{JobEvent}
 use Rattle.up_model.specs.declared.state.State.{State}
 use Rattle.up_model.specs.declared.who.Who.{Who}
-use Rattle.up_model.specs.Chronicle.{Chronicle, Entry, Queued, Released, Entered, Ordered, Signalled, Entering}
+use Rattle.up_model.specs.Chronicle.{Chronicle, Entry, Queued, Entered, Ordered, Signalled, Entering}
 use Rattle.up_model.specs.Events.{life_event, exporting}
 use Rattle.up_model.specs.Instances.{Instance, instances_of}
 use Rattle.up_model.specs.Life.{Wait, ForStart, ForEvent, ForAnswer, ForProcess, ForChange, ForMain, wait_in, next_state, entering}
-use Rattle.up_model.specs.Readings.{goal, state_of, env, failure, blocker, awaited, lives}
+use Rattle.up_model.specs.Readings.{goal, state_of, was_restarted, env, failure, blocker, awaited, lives}
+use Rattle.up_model.specs.Replies.{releasing}
 use Rattle.up_model.specs.Tests.{is_start, entries_if, or_else}
 
 -- what a process of a job runs
@@ -31,10 +32,6 @@ has_process job its = is_some (action_of job its)
 -- an instance as it is known outside
 abbrev pub who_of : JobDef → Instance → Who
 who_of job instance = record { job = job.name; instance = instance.name }
-
--- an instance lets its holders go
-abbrev pub releasing : ℕ → (failed : Bool) → Chronicle → List Entry
-releasing instance failed c = Released instance failed ∷ []
 
 -- an event of an instance's life, with the keys that its job exports (starting(7), started(7), stopping(7), stopped(7))
 abbrev pub job_event : JobDef → Who → ℕ → JobEvent → Chronicle → Event
@@ -69,7 +66,8 @@ is_over job instance ForStart c = is_start (goal instance c)
 is_over job instance ForEvent c = not (is_some (blocker instance c))
 is_over job instance (ForAnswer its) c = not (has_process job its) || not (awaited instance its c)
 is_over job instance (ForProcess its) c = not (has_process job its) || not (awaited instance its c || lives instance its c)
-is_over job instance ForChange c = not (is_start (goal instance c)) || (has_process job process.Main && not (lives instance process.Main c))
+is_over job instance ForChange c =
+    not (is_start (goal instance c)) || was_restarted instance c || (has_process job process.Main && not (lives instance process.Main c))
 is_over job instance ForMain c = not (lives instance process.Main c)
 
 abbrev pub may_leave : JobDef → ℕ → Chronicle → Bool

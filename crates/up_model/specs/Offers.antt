@@ -9,8 +9,8 @@ use Rattle.up_model.specs.Configuration.{Configuration}
 use Rattle.up_model.specs.Environments.{env_of_job, instance_name}
 use Rattle.up_model.specs.Events.{events_at, events_env, with_instance, stopped_by}
 use Rattle.up_model.specs.Instances.{Instance, instances_of, instance_named}
-use Rattle.up_model.specs.Moves.{releasing}
 use Rattle.up_model.specs.Readings.{goal}
+use Rattle.up_model.specs.Replies.{releasing}
 use Rattle.up_model.specs.Seen.{seen, holds, taken, was_offered}
 use Rattle.up_model.specs.Tests.{is_start, entries_if, or_else}
 use Rattle.up_model.specs.Values.{Bytes, Bindings}
@@ -22,9 +22,13 @@ is_newborn instance (Given input ∷ c) = false
 is_newborn instance (Made job name ∷ c) = if length c == instance then true else is_newborn instance c
 is_newborn instance (entry ∷ c) = is_newborn instance c
 
--- the goal becomes stop, by events that its expression took, if it is start: what the instance held is released before
+-- the goal becomes stop, with this environment and these holders: what the instance held is released before
+abbrev pub stop_of : ℕ → Bindings → (holders : List ℕ) → Chronicle → List Entry
+stop_of instance environment holders c = Aimed instance Stop environment holders ∷ releasing instance false c
+
+-- the goal becomes stop, by events that its expression took, if it is start
 abbrev pub stop_by : ℕ → List ℕ → Chronicle → List Entry
-stop_by instance events c = entries_if (is_start (goal instance c)) (Aimed instance Stop (stopped_by (events_at events c)) events ∷ releasing instance false c)
+stop_by instance events c = entries_if (is_start (goal instance c)) (stop_of instance (stopped_by (events_at events c)) events c)
 
 -- an instance's `stop on` is offered the event, and fires if it is true then
 abbrev pub stop_offer : Configuration → JobDef → ℕ → (event : ℕ) → Chronicle → List Entry

@@ -56,6 +56,13 @@ state_of instance [] = state.Waiting
 state_of instance (Entered other entered ∷ c) = if other == instance then entered else state_of instance c
 state_of instance (entry ∷ c) = state_of instance c
 
+-- whether a restart of an instance was taken since it entered its state
+abbrev pub was_restarted : ℕ → Chronicle → Bool
+was_restarted instance [] = false
+was_restarted instance (Restarted other its ∷ c) = if other == instance then true else was_restarted instance c
+was_restarted instance (Entered other entered ∷ c) = if other == instance then false else was_restarted instance c
+was_restarted instance (entry ∷ c) = was_restarted instance c
+
 -- the environment that goes with the last start
 abbrev pub pending_env : ℕ → Chronicle → Bindings
 pending_env instance [] = []

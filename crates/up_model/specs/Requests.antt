@@ -2,7 +2,6 @@ use Rattle.std.specs.Prelude.{ℕ, Bool, true, false, ◌&&◌, ◌||◌, List, 
 use Rattle.up_text.specs.Names.{is_name}
 use Rattle.up_model.specs.declared.request.Command.{Command}
 use Rattle.up_model.specs.declared.request.Command.TheVariants as command
-use Rattle.up_model.specs.declared.request.Answer.{Answer}
 
 -- a command as a client writes it (initctl(8))
 abbrev pub command_name : Command → List ℕ
@@ -31,9 +30,9 @@ is_alone command.ReloadConfiguration = true
 is_alone command.Version = true
 is_alone other = false
 
--- the answer to a command that nothing carries out
-abbrev pub not_supported : Command → Answer
-not_supported command = record { ok = false; text = codes "Not supported: " ++ command_name command }
+-- what is told of a command that nothing carries out
+abbrev pub not_supported : Command → List ℕ
+not_supported command = codes "Not supported: " ++ command_name command
 
 -- what a request says, without where it lies in memory
 pub record RequestValue : Type 0 where

@@ -1,5 +1,5 @@
 -- How often something can still be due, and doing it so often.
-use Rattle.std.specs.Prelude.{ℕ, zero, suc, ◌+◌, Bool, true, false, not, List, [], ◌∷◌, ◌++◌, if◌then◌else◌, is_some}
+use Rattle.std.specs.Prelude.{ℕ, zero, suc, ◌+◌, Bool, true, false, not, List, [], ◌∷◌, ◌++◌, if◌then◌else◌, Option, None, Some, is_some}
 use Rattle.up_conf.specs.declared.job.JobDef.{JobDef}
 use Rattle.up_model.specs.declared.state.Goal.{Goal}
 use Rattle.up_model.specs.declared.state.Goal.TheVariants.{Start, Stop}
@@ -11,6 +11,7 @@ use Rattle.up_model.specs.Due.{due}
 use Rattle.up_model.specs.Instances.{Instance, existing}
 use Rattle.up_model.specs.Offers.{is_open, offering}
 use Rattle.up_model.specs.Readings.{goal, state_of, blocker}
+use Rattle.up_model.specs.Replies.{unanswered}
 use Rattle.up_model.specs.Seen.{was_offered}
 use Rattle.up_model.specs.Values.{Bytes}
 
@@ -62,9 +63,14 @@ abbrev pub starts_work : Bool → List JobDef → Chronicle → ℕ
 starts_work offers [] c = 0
 starts_work offers (job ∷ jobs) c = start_work offers job.name c + starts_work offers jobs c
 
+-- the answer to a client that doesn't wait
+abbrev pub answer_work : Option ℕ → ℕ
+answer_work None = 0
+answer_work (Some request) = 1
+
 -- how many things can be due one after another, at most
 unfoldable pub work : Configuration → Chronicle → ℕ
-work config c = work_in (is_some (offering c)) (existing c) c + starts_work (is_some (offering c)) config.jobs c
+work config c = work_in (is_some (offering c)) (existing c) c + starts_work (is_some (offering c)) config.jobs c + answer_work (unanswered c)
 
 -- what is due is done, so many times
 unfoldable pub settle : ℕ → Configuration → Chronicle → Chronicle

@@ -26,7 +26,7 @@ pub use output::{Order, Output};
 pub use process::{How, process_name};
 pub use request::{Answer, Command, Request};
 pub use state::{Goal, State};
-pub use status::status_text;
+pub use status::{push_who, status_text};
 pub use step::Step;
 pub use up_conf::{JobDef, Process};
 pub use who::Who;

@@ -19,8 +19,9 @@ fn push_instance(text: &mut String, instance: &Text) -> Result<(), AllocError>
     text.push_str(")")
 }
 
+/// Adds an instance as clients read of it: its job's name, and its own in parentheses if it has one.
 #[tactic(auto, unfolding(crate::specs::Status::who_name))]
-fn push_who(text: &mut String, who: &Who) -> Result<(), AllocError>
+pub fn push_who(text: &mut String, who: &Who) -> Result<(), AllocError>
     ensures { OnOk result (string_bytes text.new ≡ string_bytes text.old ++ who_name who.now) }
 {
     text.push_str(who.job.as_str())?;
