@@ -1,12 +1,7 @@
 -- Lists of entries.
 use Rattle.std.proofs.Common.{◌≡◌, ℕ, false, true, Bool, List, [], ◌∷◌, ◌++◌, Option, None, Some, is_some, option_map, map, refl, sym, ◌∙◌, ap, append_assoc}
 use Rattle.up_engine.specs.Keys.{instance_at}
-use Rattle.up_model.specs.declared.failure.Verdict.{Verdict}
-use Rattle.up_model.specs.declared.failure.Verdict.TheVariants as verdict
-use Rattle.up_model.specs.declared.input.Input.{Input}
-use Rattle.up_model.specs.Chronicle.{Chronicle, Entry, Given, Respawned, Offered, Fired, StartOn, StopOn}
-use Rattle.up_model.specs.Clock.{now}
-use Rattle.up_model.specs.Judgement.{carry_out}
+use Rattle.up_model.specs.Chronicle.{Chronicle, Entry, Offered, Fired, StartOn, StopOn}
 use Rattle.up_model.specs.Tests.{or_else}
 use Rattle.up_model.specs.Values.{Bytes}
 use Rattle.up_text.specs.Scripts.{is_filled}
@@ -38,6 +33,10 @@ filled_five xs ys zs ws last =
 -- entries before entries before one, all before a chronicle
 pub one_last : (xs : List Entry) (x : Entry) (c : List Entry) → (xs ++ x ∷ []) ++ c ≡ xs ++ x ∷ c
 one_last xs x c = append_assoc xs (x ∷ []) c
+
+-- the entries with which an event finishes
+pub finishing_last : (xs ys : List Entry) (x : Entry) (c : List Entry) → (xs ++ (ys ++ x ∷ [])) ++ c ≡ xs ++ (ys ++ x ∷ c)
+finishing_last xs ys x c = append_assoc xs (ys ++ x ∷ []) c ∙ ap (λ rest. xs ++ rest) (append_assoc ys (x ∷ []) c)
 
 pub two_last : (xs : List Entry) (x y : Entry) (c : List Entry) → ((xs ++ x ∷ []) ++ y ∷ []) ++ c ≡ xs ++ x ∷ y ∷ c
 two_last xs x y c = simp append_assoc
@@ -71,10 +70,3 @@ same_start p q = cc
 
 pub same_instance : {i j : ℕ} {name other : Bytes} → i ≡ j → name ≡ other → instance_at i name ≡ instance_at j other
 same_instance p q = cc
-
--- a verdict is carried out after an input as before it, if that is no reading of the clock
-pub carry_out-given : (i : ℕ) (its : Verdict) (given : Input) (c : Chronicle) → now (Given given ∷ c) ≡ now c → carry_out i its (Given given ∷ c) ≡ carry_out i its c
-carry_out-given i verdict.Note given c quiet = refl
-carry_out-given i verdict.Respawn given c quiet = ap (λ moment. Respawned i moment ∷ []) quiet
-carry_out-given i verdict.Stop given c quiet = refl
-carry_out-given i (verdict.Fail failure) given c quiet = refl

@@ -1,6 +1,7 @@
 pub mod Entries
 pub mod Slots
 pub mod Chronicles
+pub mod AnswerLemmas
 pub mod EventLemmas
 pub mod ClockLemmas
 pub mod GroupLemmas

@@ -12,9 +12,10 @@ use Rattle.up_model.specs.declared.who.Who.{Who}
 use Rattle.up_stanza.specs.declared.process.Process.TheVariants.{Main}
 use Rattle.up_model.specs.Chronicle.{Chronicle, Entry, Entered, Signalled}
 use Rattle.up_model.specs.Instances.{Instance, instances_of}
-use Rattle.up_model.specs.Moves.{may_leave, move, move_of, move_in, move_first, enter, who_of, next_of, releasing, emitting, ordering}
+use Rattle.up_model.specs.Moves.{may_leave, move, move_of, move_in, move_first, enter, who_of, next_of, emitting, ordering}
 use Rattle.up_model.specs.Life.{entering}
 use Rattle.up_model.specs.Readings.{state_of, lives}
+use Rattle.up_model.specs.Replies.{releasing}
 use Rattle.up_model.specs.Tests.{entries_if, or_else}
 use Rattle.up_text.specs.Scripts.{is_filled}
 

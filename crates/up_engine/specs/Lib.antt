@@ -1,6 +1,7 @@
 pub mod Faults
 pub mod Keys
 pub mod Records
+pub mod Requests
 pub mod Groups
 pub mod Queues
 pub mod Verdicts

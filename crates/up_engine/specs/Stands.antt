@@ -65,3 +65,10 @@ RunMeans (Ok run) engine config c inputs = StepsMean run.down run.steps engine c
 RunMeans (Err Memory) engine config c inputs = Stands engine config c
 RunMeans (Err Down) engine config c inputs = ⊥
 RunMeans (Err NotExpected) engine config c inputs = ⊥
+
+-- What is told of an engine that isn't down: this, or that memory ran out.
+abbrev pub TellsOf : {A : Type 0} → Result A StepError → A → Type 0
+TellsOf (Ok told) means = told ≡ means
+TellsOf (Err Memory) means = Unit {0}
+TellsOf (Err Down) means = ⊥
+TellsOf (Err NotExpected) means = ⊥

@@ -19,14 +19,16 @@ ghost use Rattle.up_model.specs.Offers as offer;
 ghost use Rattle.up_model.specs.Outputs.{outputs_of};
 ghost use Rattle.up_model.specs.Queue as queue;
 ghost use Rattle.up_model.specs.Readings as read;
+ghost use Rattle.up_model.specs.Replies as replies;
 ghost use Rattle.up_model.specs.Seen as seen;
+ghost use Rattle.up_text.specs.Scripts.{is_filled};
 
 use crate::keys::{EventKey, InstanceKey, Live, Slot};
 use crate::setup::Setup;
 use std::alloc::{AllocError, Global};
 use up_conf::Limit;
 use up_model::{Answer, Event, Failure, Goal, Input, JobDef, Output, Process, State};
-use up_text::{Env, Items, Name};
+use up_text::{Env, Items, Name, Text};
 
 /// What an engine keeps of the past: what it must still know, and what a step asks for. An engine takes an input in by `given`, then
 /// tells what comes of it, entry by entry, and ends the step by `rest`.
@@ -50,6 +52,16 @@ pub trait Book: Drop {
     fn state_of(&self, key: InstanceKey) -> State
         ensures { (mode : Mode) (config : Configuration) (c : Chronicle) (i : ℕ) → stands self.now mode config c
             → instance_place self.now c key ≡ Some i → result ≡ read.state_of i c };
+
+    /// Whether a restart of an instance was taken since it entered its state.
+    fn was_restarted(&self, key: InstanceKey) -> bool
+        ensures { (mode : Mode) (config : Configuration) (c : Chronicle) (i : ℕ) → stands self.now mode config c
+            → instance_place self.now c key ≡ Some i → result ≡ read.was_restarted i c };
+
+    /// What clients read of an instance.
+    fn status_of(&self, key: InstanceKey) -> Result<Text, AllocError>
+        ensures { IfOk result (λ text. (mode : Mode) (config : Configuration) (c : Chronicle) (i : ℕ) → stands self.now mode config c
+            → instance_place self.now c key ≡ Some i → text ≡ replies.status_of i c) };
 
     /// What the clock reads.
     fn now(&self) -> u64
@@ -137,8 +149,10 @@ pub trait Book: Drop {
         ensures { (config : Configuration) (c : Chronicle) → stands self.now Resting config c
             → option_map (live_at (event_place self.now c)) result ≡ option_map Some (turn_event config (queue.queue c) c) };
 
-    /// A step begins with an input.
-    fn given(&mut self, input: Input) -> Result<(), AllocError>
+    /// A step begins with an input; returns the key by which a request may hold an instance.
+    fn given(&mut self, input: Input) -> Result<EventKey, AllocError>
+        ensures key { IfOk result (λ key. (config : Configuration) (c : Chronicle) → stands self.old Resting config c
+            → event_place self.new (entry.Given input ∷ c) key ≡ Some (length c)) }
         ensures after { OnOk result ((config : Configuration) (c : Chronicle) → stands self.old Resting config c
             → stands self.new Stepping config (entry.Given input ∷ c)) }
         ensures instances { OnOk result ((config : Configuration) (c : Chronicle) (k : InstanceKeyValue) (j : ℕ) → stands self.old Resting config c
@@ -161,10 +175,11 @@ pub trait Book: Drop {
         ensures { OnOk result ((config : Configuration) (c : Chronicle) (e : ℕ) → stands self.old Stepping config c
             → event_place self.old c key ≡ Some e → stands self.new Stepping config (entry.Handled e ∷ c)) };
 
-    /// An event leaves the queue; an event that tells that it was spoilt goes to the end, if there is one.
+    /// An event leaves the queue, and the client that waits for it is answered; an event that tells that it was spoilt goes to the end,
+    /// if there is one.
     fn finish(&mut self, key: EventKey, told: Option<Event>) -> Result<(), AllocError>
         ensures { OnOk result ((config : Configuration) (c : Chronicle) (e : ℕ) → stands self.old Stepping config c
-            → event_place self.old c key ≡ Some e → stands self.new Stepping config (telling e told ++ entry.Finished e ∷ c)) };
+            → event_place self.old c key ≡ Some e → stands self.new Stepping config (telling e told ++ (replies.answering_waiter (replies.waiter e c) (held.is_spoilt e c) ++ entry.Finished e ∷ c))) };
 
     /// An instance enters a state other than waiting.
     fn enter(&mut self, key: InstanceKey, state: State) -> Result<(), AllocError>
@@ -173,11 +188,12 @@ pub trait Book: Drop {
         ensures instances { OnOk result ((config : Configuration) (c : Chronicle) (i : ℕ) → stands self.old Stepping config c
             → instance_place self.old c key ≡ Some i → is_waiting state ≡ false → instance_place self.new (entry.Entered i state ∷ c) key ≡ Some i) };
 
-    /// An instance enters waiting, with its last event, and is gone.
+    /// An instance enters waiting, with its last event, lets its holders go, and is gone.
     fn leave(&mut self, key: InstanceKey, event: Event) -> Result<(), AllocError>
         ensures { OnOk result ((config : Configuration) (c : Chronicle) (i : ℕ) → stands self.old Stepping config c
             → instance_place self.old c key ≡ Some i
-            → stands self.new Stepping config (entry.Released i false ∷ entry.Queued (entry.Entering i entered.Waiting) event ∷ entry.Entered i entered.Waiting ∷ c)) };
+            → stands self.new Stepping config (replies.releasing i false (entry.Queued (entry.Entering i entered.Waiting) event ∷ entry.Entered i entered.Waiting ∷ c)
+            ++ entry.Queued (entry.Entering i entered.Waiting) event ∷ entry.Entered i entered.Waiting ∷ c)) };
 
     /// A process of an instance is to be started.
     fn order(&mut self, setup: &Setup, key: InstanceKey, process: Process) -> Result<(), AllocError>
@@ -213,15 +229,15 @@ pub trait Book: Drop {
         ensures { OnOk result ((config : Configuration) (c : Chronicle) (i : ℕ) → stands self.old Stepping config c
             → instance_place self.old c key ≡ Some i → stands self.new Stepping config (entry.Respawned i (clock.now c) ∷ c)) };
 
-    /// An instance lets its holders go.
+    /// An instance lets its holders go; clients among them are answered.
     fn release(&mut self, key: InstanceKey) -> Result<(), AllocError>
         ensures after { OnOk result ((config : Configuration) (c : Chronicle) (i : ℕ) → stands self.old Stepping config c
-            → instance_place self.old c key ≡ Some i → stands self.new Stepping config (entry.Released i false ∷ c)) }
+            → instance_place self.old c key ≡ Some i → stands self.new Stepping config (replies.releasing i false c ++ c)) }
         ensures instances { OnOk result ((config : Configuration) (c : Chronicle) (i : ℕ) → stands self.old Stepping config c
-            → instance_place self.old c key ≡ Some i → instance_place self.new (entry.Released i false ∷ c) key ≡ Some i) }
+            → instance_place self.old c key ≡ Some i → instance_place self.new (replies.releasing i false c ++ c) key ≡ Some i) }
         ensures events { OnOk result ((config : Configuration) (c : Chronicle) (i : ℕ) (ks : List EventKeyValue) (js : List ℕ)
             → stands self.old Stepping config c → instance_place self.old c key ≡ Some i → map (event_place self.old c) ks ≡ map Some js
-            → map (event_place self.new (entry.Released i false ∷ c)) ks ≡ map Some js) };
+            → map (event_place self.new (replies.releasing i false c ++ c)) ks ≡ map Some js) };
 
     /// An instance's goal changes, with the environment and the holders that go with it.
     fn aim(
@@ -235,6 +251,12 @@ pub trait Book: Drop {
             → instance_place self.old c key ≡ Some i → map (event_place self.old c) holders ≡ map Some events
             → stands self.new Stepping config (entry.Aimed i goal environment events ∷ c)) };
 
+    /// A restart of an instance is taken, with these holders.
+    fn restart(&mut self, key: InstanceKey, holders: Items<EventKey>) -> Result<(), AllocError>
+        ensures { OnOk result ((config : Configuration) (c : Chronicle) (i : ℕ) (places : List ℕ) → stands self.old Stepping config c
+            → instance_place self.old c key ≡ Some i → map (event_place self.old c) holders ≡ map Some places
+            → stands self.new Stepping config (entry.Restarted i places ∷ c)) };
+
     /// An instance's goal becomes stop by itself; its holders stay.
     fn end_itself(&mut self, key: InstanceKey) -> Result<(), AllocError>
         ensures after { OnOk result ((config : Configuration) (c : Chronicle) (i : ℕ) → stands self.old Stepping config c
@@ -242,10 +264,10 @@ pub trait Book: Drop {
         ensures instances { OnOk result ((config : Configuration) (c : Chronicle) (i : ℕ) → stands self.old Stepping config c
             → instance_place self.old c key ≡ Some i → instance_place self.new (entry.Aimed i goal_stop [] (read.holders i c) ∷ c) key ≡ Some i) };
 
-    /// An instance fails: that is kept, and it lets its holders go as failed.
+    /// An instance fails: that is kept, and it lets its holders go as failed; clients among them are answered.
     fn fail(&mut self, key: InstanceKey, failure: Failure) -> Result<(), AllocError>
         ensures { OnOk result ((config : Configuration) (c : Chronicle) (i : ℕ) → stands self.old Stepping config c
-            → instance_place self.old c key ≡ Some i → stands self.new Stepping config (entry.Released i true ∷ entry.Failed i failure ∷ c)) };
+            → instance_place self.old c key ≡ Some i → stands self.new Stepping config (replies.releasing i true (entry.Failed i failure ∷ c) ++ entry.Failed i failure ∷ c)) };
 
     /// A job gets an instance of this name.
     fn make(&mut self, job: &Name, name: &str) -> Result<InstanceKey, AllocError>
@@ -314,6 +336,13 @@ pub trait Book: Drop {
         ensures taken { IfOk result (λ taken. (c : Chronicle) → stands self.old Stepping setup.now c
             → map (event_place self.new (entry.Fired (entry.StartOn job.now.name) (seen.taken job.now.start_on (seen.seen setup.now (entry.StartOn job.now.name) c)) ∷ c)) taken
             ≡ map Some (seen.taken job.now.start_on (seen.seen setup.now (entry.StartOn job.now.name) c))) };
+
+    /// This step's client is answered, if it doesn't wait and wasn't answered yet; returns whether it was.
+    fn reply_last(&mut self) -> Result<bool, AllocError>
+        ensures after { OnOk result ((config : Configuration) (c : Chronicle) → stands self.old Stepping config c
+            → stands self.new Stepping config (replies.answering_last c ++ c)) }
+        ensures any { IfOk result (λ replied. (config : Configuration) (c : Chronicle) → stands self.old Stepping config c
+            → replied ≡ is_filled (replies.answering_last c)) };
 
     /// The step is over; returns what it asks for, in order.
     fn rest(&mut self, setup: &Setup) -> Result<Vec<Output>, AllocError>

@@ -9,7 +9,6 @@ ghost use Rattle.up_model.specs.Configuration.{Configuration};
 ghost use Rattle.up_model.specs.Due as model;
 ghost use Rattle.up_model.specs.Instances.{instance_named};
 ghost use Rattle.up_model.specs.Queue as queue;
-ghost use Rattle.up_model.specs.Requests as request;
 ghost use Rattle.up_text.specs.Scripts.{is_filled};
 
 use crate::book::Book;
@@ -18,11 +17,11 @@ use crate::judgement::{conclude, verdict_on};
 use crate::keys::{EventKey, Live};
 use crate::moves::move_first;
 use crate::offers::{instance_named, offer_next};
+use crate::requests::take_request;
 use crate::setup::Setup;
 use crate::time::kill_overdue;
 use std::alloc::{AllocError, Global};
-use up_model::{Answer, Command, End, Event, How, Input, Process, Request, Who};
-use up_text::Text;
+use up_model::{End, Event, How, Input, Process, Who};
 
 /// Does the first thing that is due; returns whether anything was.
 #[tactic(auto, unfolding(up_model::specs::Due::due))]
@@ -39,7 +38,10 @@ pub(crate) fn do_next<B: Book>(
     if move_first(alloc, setup, book, setup.jobs())? {
         return Ok(true);
     }
-    offer_next(alloc, setup, book, setup.jobs())
+    if offer_next(alloc, setup, book, setup.jobs())? {
+        return Ok(true);
+    }
+    book.reply_last()
 }
 
 fn awaits<B: Book>(book: &B, who: &Who, process: Process) -> bool
@@ -76,16 +78,6 @@ pub(crate) fn is_expected<B: Book>(book: &B, input: &Input) -> bool
     }
 }
 
-// The answer to a command that nothing carries out.
-fn not_supported(alloc: Global, command: Command) -> Result<Answer, AllocError>
-    ensures { IfOk result (λ answer. answer ≡ request.not_supported command) }
-{
-    let mut text = String::from_str(alloc, "Not supported: ")?;
-    text.push_str(command.name())?;
-    let text = Text::new(text);
-    Ok(Answer { ok: false, text })
-}
-
 #[tactic(auto, unfolding(up_model::specs::Due::effect))]
 fn take_event<B: Book>(book: &mut B, event: Event) -> Result<(), AllocError>
     ensures { OnOk result ((config : Configuration) (c : Chronicle) → B.stands book.old Resting config c
@@ -94,22 +86,6 @@ fn take_event<B: Book>(book: &mut B, event: Event) -> Result<(), AllocError>
     let copy = event.copy()?;
     book.given(Input::Emit(event))?;
     book.emit(copy)?;
-    Ok(())
-}
-
-#[tactic(auto, unfolding(up_model::specs::Due::effect))]
-fn take_request<B: Book>(
-    alloc: Global,
-    book: &mut B,
-    id: u64,
-    request: Request,
-) -> Result<(), AllocError>
-    ensures { OnOk result ((config : Configuration) (c : Chronicle) → B.stands book.old Resting config c
-        → B.stands book.new Stepping config (model.effect config (given_as.Request id request) c ++ c)) }
-{
-    let answer = not_supported(alloc, request.command)?;
-    book.given(Input::Request { id, request })?;
-    book.reply(answer)?;
     Ok(())
 }
 
@@ -123,8 +99,10 @@ fn take_refusal<B: Book>(
     ensures { OnOk result ((c : Chronicle) → B.stands book.old Resting setup.now c
         → B.stands book.new Stepping setup.now (model.effect setup.now (given_as.Refused who process) c ++ c)) }
 {
-    let judged = verdict_on(setup, book, &who, process, End::Refused);
-    conclude(book, Input::Refused { who, process }, judged)?;
+    let its = who.copy()?;
+    book.given(Input::Refused { who, process })?;
+    let judged = verdict_on(setup, book, &its, process, End::Refused);
+    conclude(book, judged)?;
     Ok(())
 }
 
@@ -139,8 +117,10 @@ fn take_end<B: Book>(
     ensures { OnOk result ((c : Chronicle) → B.stands book.old Resting setup.now c
         → B.stands book.new Stepping setup.now (model.effect setup.now (given_as.Ended who process how) c ++ c)) }
 {
-    let judged = verdict_on(setup, book, &who, process, End::Ended(how));
-    conclude(book, Input::Ended { who, process, how }, judged)?;
+    let its = who.copy()?;
+    book.given(Input::Ended { who, process, how })?;
+    let judged = verdict_on(setup, book, &its, process, End::Ended(how));
+    conclude(book, judged)?;
     Ok(())
 }
 
@@ -156,13 +136,14 @@ fn told_of<B: Book>(alloc: Global, book: &B, key: EventKey) -> Result<Option<Eve
     Ok(told)
 }
 
+#[tactic(auto, using(crate::proofs::Entries::finishing_last))]
 fn finish<B: Book>(alloc: Global, book: &mut B, key: EventKey) -> Result<(), AllocError>
     ensures { OnOk result ((config : Configuration) (c : Chronicle) (e : ℕ) → B.stands book.old Resting config c
         → B.event_place book.old c key ≡ Some e
-        → B.stands book.new Stepping config (model.telling e (model.told_of e c) ++ entry.Finished e ∷ entry.Given given_as.Turn ∷ c)) }
+        → B.stands book.new Stepping config (model.finishing e (entry.Given given_as.Turn ∷ c) ++ entry.Given given_as.Turn ∷ c)) }
 {
-    let told = told_of(alloc, book, key)?;
     book.given(Input::Turn)?;
+    let told = told_of(alloc, book, key)?;
     book.finish(key, told)?;
     Ok(())
 }
@@ -181,7 +162,7 @@ fn handle<B: Book>(book: &mut B, key: EventKey) -> Result<(), AllocError>
 fn turn_by<B: Book>(alloc: Global, book: &mut B, live: Live) -> Result<(), AllocError>
     ensures { OnOk result ((config : Configuration) (c : Chronicle) (e : ℕ) → B.stands book.old Resting config c
         → B.event_place book.old c live.key ≡ Some e
-        → B.stands book.new Stepping config (model.turn_of (Some (queue.live_at e live.handled)) c ++ entry.Given given_as.Turn ∷ c)) }
+        → B.stands book.new Stepping config (model.turn_of (Some (queue.live_at e live.handled)) (entry.Given given_as.Turn ∷ c) ++ entry.Given given_as.Turn ∷ c)) }
 {
     if live.handled {
         finish(alloc, book, live.key)?;
@@ -198,7 +179,9 @@ fn take_turn<B: Book>(alloc: Global, book: &mut B) -> Result<(), AllocError>
 {
     match book.turn() {
         Some(live) => turn_by(alloc, book, live)?,
-        None => book.given(Input::Turn)?,
+        None => {
+            book.given(Input::Turn)?;
+        }
     }
     Ok(())
 }
@@ -231,8 +214,10 @@ pub(crate) fn act<B: Book>(
 {
     match input {
         Input::Emit(event) => take_event(book, event)?,
-        Input::Request { id, request } => take_request(alloc, book, id, request)?,
-        Input::Spawned { who, process, pid } => book.given(Input::Spawned { who, process, pid })?,
+        Input::Request { id, request } => take_request(alloc, setup, book, id, request)?,
+        Input::Spawned { who, process, pid } => {
+            book.given(Input::Spawned { who, process, pid })?;
+        }
         Input::Refused { who, process } => take_refusal(setup, book, who, process)?,
         Input::Ended { who, process, how } => take_end(setup, book, who, process, how)?,
         Input::Clock(reading) => take_reading(alloc, setup, book, reading)?,

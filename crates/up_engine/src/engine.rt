@@ -14,11 +14,13 @@ use crate::fault::StepError;
 use crate::run::Run;
 use crate::settle::run_step;
 use crate::setup::Setup;
+use crate::status::{list, status};
 use crate::stored::StoringBook;
+use crate::target::target_of;
 use std::alloc::{AllocError, Global};
 use up_image::Table;
-use up_model::{Input, Output, Step};
-use up_text::{Env, Items};
+use up_model::{Answer, Input, Output, Step};
+use up_text::{Env, Items, Text};
 
 /// What runs the jobs of a table: it takes one input a step, and answers what is to be done.
 ///
@@ -52,7 +54,9 @@ fn step_book<B: Book>(
 }
 
 impl Engine {
-    ghost use Rattle.up_engine.specs.Stands.{result_map, Stands, DownAt, IsDown, StepMeans, AnswerMeans, RunMeans};
+    ghost use Rattle.up_engine.specs.Requests.{answer_of};
+    ghost use Rattle.up_engine.specs.Stands.{result_map, Stands, DownAt, IsDown, StepMeans, AnswerMeans, RunMeans, TellsOf};
+    ghost use Rattle.up_model.specs.Commands as commands;
 
     /// An engine to which nothing has happened. Each process gets its environment on top of `base`, of which each job gets a copy.
     pub fn new(alloc: Global, table: Table, base: Env) -> Result<Self, AllocError>
@@ -89,6 +93,34 @@ impl Engine {
             return self.turns;
         }
         self.book.turn().is_some()
+    }
+
+    /// What clients read of the instance of a job that these variables name: the text of a request `status`, or why it is refused
+    /// (initctl(8)). Refused with `Memory`, which changes nothing, and with `Down` if the engine is.
+    pub fn status(&self, job: &str, vars: &Env) -> Result<Answer, StepError>
+        ensures meaning { (config : Configuration) (c : Chronicle) → Stands self.now config c
+            → TellsOf result (answer_of (commands.status (commands.target_of config job.now vars.now) c)) }
+        ensures down { IsDown self.now → result ≡ Err StepError.Down }
+    {
+        if self.down {
+            return Err(StepError::Down);
+        }
+        let target = target_of(self.alloc, &self.setup, job, vars)?;
+        let answer = status(self.alloc, &self.book, target)?;
+        Ok(answer)
+    }
+
+    /// What clients read of all instances, and of the jobs without any: the text of a request `list` (initctl(8)). Refused with `Memory`,
+    /// which changes nothing, and with `Down` if the engine is.
+    pub fn list(&self) -> Result<Text, StepError>
+        ensures meaning { (config : Configuration) (c : Chronicle) → Stands self.now config c → TellsOf result (commands.listing config c) }
+        ensures down { IsDown self.now → result ≡ Err StepError.Down }
+    {
+        if self.down {
+            return Err(StepError::Down);
+        }
+        let text = list(self.alloc, &self.setup, &self.book)?;
+        Ok(text)
     }
 
     /// Takes one input, and answers what it asks for, in order. Refused with `NotExpected` for the answer or the end of a process

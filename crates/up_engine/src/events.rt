@@ -100,7 +100,8 @@ fn about_with_result(
     Ok(vars)
 }
 
-fn event_of(alloc: Global, name: &str, vars: Env) -> Result<Event, AllocError>
+/// An event of this name, which is one.
+pub(crate) fn event_of(alloc: Global, name: &str, vars: Env) -> Result<Event, AllocError>
     ensures { IfOk result (λ event. event ≡ record { name = name.now; vars = vars }) }
 {
     match Name::new(alloc, name) {

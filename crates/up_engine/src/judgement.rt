@@ -1,10 +1,8 @@
 //! What the end or the refusal of a process does to its instance.
-ghost use Rattle.std.specs.Prelude.{◌≡◌, ℕ, List, ◌∷◌, ◌++◌, map, Option, None, Some, IfOk, OnOk};
-ghost use Rattle.up_engine.specs.Keys.{Mode, Resting, Stepping, Judges};
+ghost use Rattle.std.specs.Prelude.{◌≡◌, ℕ, List, ◌++◌, map, Option, None, Some, IfOk, OnOk};
+ghost use Rattle.up_engine.specs.Keys.{Mode, Stepping, Judges};
 ghost use Rattle.std.specs.List.{list_any};
 ghost use Rattle.up_conf.specs.Jobs.{same_exit};
-ghost use Rattle.up_model.specs.Clock.{now};
-ghost use Rattle.up_model.specs.Chronicle as entry;
 ghost use Rattle.up_model.specs.Chronicle.{Chronicle, Entry as EntryValue};
 ghost use Rattle.up_model.specs.Configuration.{Configuration, job_named};
 ghost use Rattle.up_model.specs.Due.{end_of};
@@ -20,7 +18,7 @@ use crate::setup::Setup;
 use std::alloc::AllocError;
 use up_conf::Exit;
 use up_job::judge_end;
-use up_model::{End, Failure, How, Input, JobDef, Process, Verdict, Who};
+use up_model::{End, Failure, How, JobDef, Process, Verdict, Who};
 
 // The goal of an instance becomes stop by itself, if it is start.
 fn end_itself<B: Book>(book: &mut B, key: InstanceKey) -> Result<(), AllocError>
@@ -143,21 +141,17 @@ pub(crate) fn verdict_on<B: Book>(
     }
 }
 
-/// Takes the end of a process in, and carries out what was judged of it.
+/// Carries out what was judged of the end of a process.
 pub(crate) fn conclude<B: Book>(
     book: &mut B,
-    input: Input,
     judged: Option<(InstanceKey, Verdict)>,
 ) -> Result<(), AllocError>
-    ensures { OnOk result ((config : Configuration) (c : Chronicle) (entries : List EntryValue) → B.stands book.old Resting config c
-        → Judges (B.instance_place book.old c) judged entries c → now (entry.Given input ∷ c) ≡ now c → B.stands book.new Stepping config (entries ++ entry.Given input ∷ c)) }
+    ensures { OnOk result ((config : Configuration) (c : Chronicle) (entries : List EntryValue) → B.stands book.old Stepping config c
+        → Judges (B.instance_place book.old c) judged entries c → B.stands book.new Stepping config (entries ++ c)) }
 {
     match judged {
-        Some((key, verdict)) => {
-            book.given(input)?;
-            carry_out(book, key, verdict)?;
-        }
-        None => book.given(input)?,
+        Some((key, verdict)) => carry_out(book, key, verdict)?,
+        None => {}
     }
     Ok(())
 }

@@ -4,7 +4,7 @@ ghost use Rattle.std.specs.Prelude.{◌≡◌, IfOk};
 use std::alloc::AllocError;
 use up_text::Text;
 
-/// An event that hasn't finished.
+/// An event that hasn't finished, or a request: what may hold an instance.
 #[derive(Clone, Copy, Debug)]
 pub struct EventKey {
     pub place: usize,

@@ -17,10 +17,14 @@ mod outputs;
 mod queue;
 mod reading;
 mod record;
+mod requests;
 mod run;
 mod settle;
 mod setup;
+mod status;
 mod stored;
+mod target;
+mod texts;
 mod time;
 mod truth;
 

@@ -2,6 +2,7 @@
 ghost use Rattle.std.specs.Prelude.{◌≡◌};
 ghost use Rattle.std.specs.Option.{option_copied};
 ghost use Rattle.up_engine.specs.Keys.{is_waiting};
+ghost use Rattle.up_model.specs.Commands as commands;
 ghost use Rattle.up_model.specs.Moves as model;
 ghost use Rattle.up_model.specs.Tests as test;
 
@@ -14,6 +15,23 @@ pub(crate) fn is_start(goal: Goal) -> bool
     match goal {
         Goal::Start => true,
         Goal::Stop => false,
+    }
+}
+
+pub(crate) fn is_running(state: State) -> bool
+    ensures { result ≡ commands.is_running state }
+{
+    match state {
+        State::Running => true,
+        State::Waiting
+        | State::Starting
+        | State::PreStart
+        | State::Spawned
+        | State::PostStart
+        | State::PreStop
+        | State::Stopping
+        | State::Killed
+        | State::PostStop => false,
     }
 }
 

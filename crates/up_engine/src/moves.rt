@@ -11,6 +11,7 @@ ghost use Rattle.up_model.specs.Instances as model_instances;
 ghost use Rattle.up_model.specs.Life as life;
 ghost use Rattle.up_model.specs.Moves as model;
 ghost use Rattle.up_model.specs.Readings as read;
+ghost use Rattle.up_model.specs.Replies as replies;
 ghost use Rattle.up_model.specs.Tests.{entries_if};
 ghost use Rattle.up_stanza.specs.declared.process.Process.TheVariants as process;
 ghost use Rattle.up_text.specs.Scripts.{is_filled};
@@ -59,7 +60,7 @@ fn is_changed<B: Book>(book: &B, job: &JobDef, key: InstanceKey) -> bool
     ensures { (mode : Mode) (config : Configuration) (c : Chronicle) (i : ℕ) → B.stands book.now mode config c
         → B.instance_place book.now c key ≡ Some i → result ≡ model.is_over job.now i life.ForChange c }
 {
-    !is_start(book.goal(key)) || is_main_gone(book, job, key)
+    !is_start(book.goal(key)) || book.was_restarted(key) || is_main_gone(book, job, key)
 }
 
 // Whether what an instance waits for in a state has come.
@@ -177,7 +178,7 @@ fn kill<B: Book>(book: &mut B, key: InstanceKey, signal: u8, kills: bool) -> Res
 
 fn release<B: Book>(book: &mut B, key: InstanceKey, releases: bool) -> Result<(), AllocError>
     ensures { OnOk result ((config : Configuration) (c : Chronicle) (i : ℕ) → B.stands book.old Stepping config c
-        → B.instance_place book.old c key ≡ Some i → B.stands book.new Stepping config (entries_if releases (model.releasing i false c) ++ c)) }
+        → B.instance_place book.old c key ≡ Some i → B.stands book.new Stepping config (entries_if releases (replies.releasing i false c) ++ c)) }
 {
     if releases {
         book.release(key)?;

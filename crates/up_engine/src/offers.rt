@@ -25,6 +25,22 @@ use up_text::{Env, Expanded, Items, Name, Text, TextFault, expand};
 /// The most instances of one job.
 const MAX_INSTANCES: usize = 1_024;
 
+/// The goal becomes stop, with this environment and these holders.
+pub(crate) fn stop_of<B: Book>(
+    book: &mut B,
+    key: InstanceKey,
+    environment: Env,
+    holders: Items<EventKey>,
+) -> Result<(), AllocError>
+    ensures { OnOk result ((config : Configuration) (c : Chronicle) (i : ℕ) (places : List ℕ) → B.stands book.old Stepping config c
+        → B.instance_place book.old c key ≡ Some i → map (B.event_place book.old c) holders ≡ map Some places
+        → B.stands book.new Stepping config (model.stop_of i environment places c ++ c)) }
+{
+    book.release(key)?;
+    book.aim(key, Goal::Stop, environment, holders)?;
+    Ok(())
+}
+
 // The goal becomes stop by these events, if it is start.
 fn stop_by<B: Book>(
     alloc: Global,
@@ -38,8 +54,7 @@ fn stop_by<B: Book>(
 {
     if is_start(book.goal(key)) {
         let environment = stop_env(alloc, book, holders.as_slice())?;
-        book.release(key)?;
-        book.aim(key, Goal::Stop, environment, holders)?;
+        stop_of(book, key, environment, holders)?;
     }
     Ok(())
 }
@@ -131,9 +146,9 @@ fn start_old<B: Book>(
     Ok(())
 }
 
-// Whether a job may have an instance more.
+/// Whether a job may have an instance more.
 #[tactic(auto, using(crate::proofs::Slots::slots_length))]
-fn has_room<B: Book>(book: &B, job: &Name) -> bool
+pub(crate) fn has_room<B: Book>(book: &B, job: &Name) -> bool
     ensures { (mode : Mode) (config : Configuration) (c : Chronicle) → B.stands book.now mode config c
         → result ≡ nat_lt (length (model_instances.instances_of job.now c)) model.max_instances }
 {
@@ -200,8 +215,8 @@ fn start_of<B: Book>(
     Ok(())
 }
 
-// The same, with what the environment says of the instance.
-fn start_called<B: Book>(
+/// The goal of an instance becomes start with this environment, and what that says of the instance.
+pub(crate) fn start_called<B: Book>(
     book: &mut B,
     job: &Name,
     name: &str,

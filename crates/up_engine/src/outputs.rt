@@ -33,7 +33,8 @@ pub(crate) fn job_named<'a>(jobs: &'a [JobDef], name: &Name) -> Option<&'a JobDe
     None
 }
 
-fn who(alloc: Global, job: &Name, name: &str) -> Result<Who, AllocError>
+/// An instance as it is known outside.
+pub(crate) fn who(alloc: Global, job: &Name, name: &str) -> Result<Who, AllocError>
     ensures { IfOk result (λ who. who ≡ record { job = job.now; instance = name.now }) }
 {
     let job = job.copy()?;

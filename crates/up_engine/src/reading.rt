@@ -1,5 +1,6 @@
 //! Readings of the stored chronicle: one pass over the records for each, without memory.
 
+pub mod answers;
 pub mod clock;
 pub mod environment;
 pub mod life;
@@ -7,3 +8,4 @@ pub mod place;
 pub mod process;
 pub mod seen;
 pub mod spoilt;
+pub mod status;

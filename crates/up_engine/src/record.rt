@@ -54,6 +54,10 @@ pub enum Record {
         environment: Env,
         holders: Items<EventKey>,
     },
+    Restarted {
+        instance: usize,
+        holders: Items<EventKey>,
+    },
     Released {
         instance: usize,
         failed: bool,

@@ -15,7 +15,7 @@ use up_model::Input;
 fn most_due<B: Book>(setup: &Setup, book: &B) -> u128
     ensures { (c : Chronicle) → B.stands book.now Stepping setup.now c → model.work setup.now c ≤ result }
 {
-    11 * (book.most_instances() as u128) + 6 * (setup.jobs().len() as u128)
+    11 * (book.most_instances() as u128) + 6 * (setup.jobs().len() as u128) + 1
 }
 
 fn settle<B: Book>(alloc: Global, setup: &Setup, book: &mut B) -> Result<(), AllocError>

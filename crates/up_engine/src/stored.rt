@@ -1,5 +1,5 @@
 //! A book that stores all that happened: the plain program of the model, with which a cleverer one can be compared.
-ghost use Rattle.std.specs.Prelude.{◌≡◌, ℕ, List, ◌∷◌, [], map, length, OnOk, OnErr, IfOk, Some};
+ghost use Rattle.std.specs.Prelude.{◌≡◌, ℕ, true, List, ◌∷◌, [], map, length, OnOk, OnErr, IfOk, Some};
 ghost use Rattle.std.specs.Option.{option_copied};
 ghost use Rattle.up_engine.specs.Groups.{listed};
 ghost use Rattle.up_engine.specs.Keys.{Resting, Stepping};
@@ -14,6 +14,7 @@ ghost use Rattle.up_model.specs.Configuration.{Configuration};
 ghost use Rattle.up_model.specs.Instances.{instances_of};
 ghost use Rattle.up_model.specs.Queue as model;
 ghost use Rattle.up_model.specs.Readings as read;
+ghost use Rattle.up_model.specs.Replies as replies;
 ghost use Rattle.up_model.specs.Values.{Bytes};
 
 use crate::book::Book;
@@ -22,7 +23,7 @@ use crate::held::turn_event;
 use crate::keys::{EventKey, InstanceKey, Live, Slot};
 use crate::outputs::outputs;
 use crate::queue::{mark_handled, remove};
-use crate::reading::{clock, environment, life, place, process, seen, spoilt};
+use crate::reading::{answers, clock, environment, life, place, process, seen, spoilt, status};
 use crate::record::{Expression, Origin, Record, Wanted};
 use crate::setup::Setup;
 use crate::truth::{Verdict, verdict_of};
@@ -295,6 +296,69 @@ impl StoringBook {
         Ok(keys)
     }
 
+    // These records more, oldest first.
+    fn write_all(&mut self, records: Vec<Record>) -> Result<(), AllocError>
+        ensures { OnOk result ((config : Configuration) (c : Chronicle) → Stored self.old Stepping config c → Stored self.new Stepping config (chronicle records.items ++ c)) }
+    {
+        for next in records {
+            self.write(next)?;
+        }
+        Ok(())
+    }
+
+    // The answers to the clients among an instance's holders, if it let them go now.
+    fn answers(&self, instance: usize, failed: bool) -> Result<Vec<Record>, AllocError>
+        ensures { IfOk result (λ answers. (config : Configuration) (c : Chronicle) → Stored self.now Stepping config c
+            → chronicle answers.items ≡ replies.answering (read.holders instance c) failed (replies.status_of instance c) c) }
+    {
+        let records = self.records.as_slice();
+        let told = status::status_of(self.alloc, records, instance)?;
+        let answers = status::answering(
+            self.alloc,
+            records,
+            life::holders(records, instance),
+            failed,
+            &told,
+        )?;
+        Ok(answers)
+    }
+
+    // An instance lets its holders go.
+    fn let_go(&mut self, instance: usize, failed: bool) -> Result<(), AllocError>
+        ensures { OnOk result ((config : Configuration) (c : Chronicle) → Stored self.old Stepping config c
+            → Stored self.new Stepping config (replies.releasing instance failed c ++ c)) }
+    {
+        let answers = self.answers(instance, failed)?;
+        self.write(released(instance, failed))?;
+        self.write_all(answers)?;
+        Ok(())
+    }
+
+    // The client that waits for an event is answered.
+    fn answer_waiter(&mut self, waiter: Option<usize>, spoilt: bool) -> Result<(), AllocError>
+        ensures { OnOk result ((config : Configuration) (c : Chronicle) → Stored self.old Stepping config c
+            → Stored self.new Stepping config (replies.answering_waiter waiter spoilt ++ c)) }
+    {
+        match waiter {
+            Some(request) => {
+                let answer = status::event_answer(self.alloc, spoilt)?;
+                self.write(Record::Replied { request, answer })?;
+            }
+            None => {}
+        }
+        Ok(())
+    }
+
+    // The answer to this step's client, at its end.
+    fn last_answer(&self) -> Result<Answer, AllocError>
+        ensures { IfOk result (λ answer. (config : Configuration) (c : Chronicle) → Stored self.now Stepping config c
+            → answer ≡ record { ok = true; text = replies.status_if (replies.acted_on c) c }) }
+    {
+        let records = self.records.as_slice();
+        let text = status::status_if(self.alloc, records, answers::acted_on(records))?;
+        Ok(Answer { ok: true, text })
+    }
+
     // An event that tells that another was spoilt goes to the end of the queue, if there is one.
     fn tell(&mut self, spoilt: usize, told: Option<Event>) -> Result<(), AllocError>
         ensures { OnOk result ((config : Configuration) (c : Chronicle) → Stored self.old Stepping config c
@@ -350,6 +414,15 @@ impl Book for StoringBook {
 
     fn state_of(&self, key: InstanceKey) -> State {
         life::state_of(self.records.as_slice(), key.place)
+    }
+
+    fn was_restarted(&self, key: InstanceKey) -> bool {
+        life::was_restarted(self.records.as_slice(), key.place)
+    }
+
+    fn status_of(&self, key: InstanceKey) -> Result<Text, AllocError> {
+        let text = status::status_of(self.alloc, self.records.as_slice(), key.place)?;
+        Ok(text)
     }
 
     fn now(&self) -> u64 {
@@ -427,9 +500,10 @@ impl Book for StoringBook {
         self.turn
     }
 
-    fn given(&mut self, input: Input) -> Result<(), AllocError> {
+    fn given(&mut self, input: Input) -> Result<EventKey, AllocError> {
+        let place = count(&self.records);
         self.begin(input)?;
-        Ok(())
+        Ok(EventKey { place })
     }
 
     fn emit(&mut self, event: Event) -> Result<(), AllocError> {
@@ -450,7 +524,10 @@ impl Book for StoringBook {
     }
 
     fn finish(&mut self, key: EventKey, told: Option<Event>) -> Result<(), AllocError> {
+        let waiter = place::waiter(self.records.as_slice(), key.place);
+        let spoilt = spoilt::is_spoilt(self.records.as_slice(), key.place);
         self.write(Record::Finished(key.place))?;
+        self.answer_waiter(waiter, spoilt)?;
         self.tell(key.place, told)?;
         Ok(())
     }
@@ -469,7 +546,7 @@ impl Book for StoringBook {
         let origin = Origin::Entering { instance, state };
         self.write(Record::Entered { instance, state })?;
         self.write(Record::Queued { origin, event })?;
-        self.write(released(instance, false))?;
+        self.let_go(instance, false)?;
         Ok(())
     }
 
@@ -518,7 +595,7 @@ impl Book for StoringBook {
     }
 
     fn release(&mut self, key: InstanceKey) -> Result<(), AllocError> {
-        self.write(released(key.place, false))?;
+        self.let_go(key.place, false)?;
         Ok(())
     }
 
@@ -538,6 +615,14 @@ impl Book for StoringBook {
         Ok(())
     }
 
+    fn restart(&mut self, key: InstanceKey, holders: Items<EventKey>) -> Result<(), AllocError> {
+        self.write(Record::Restarted {
+            instance: key.place,
+            holders,
+        })?;
+        Ok(())
+    }
+
     fn end_itself(&mut self, key: InstanceKey) -> Result<(), AllocError> {
         let ended = ended_record(self.alloc, self.records.as_slice(), key.place)?;
         self.write(ended)?;
@@ -547,7 +632,7 @@ impl Book for StoringBook {
     fn fail(&mut self, key: InstanceKey, failure: Failure) -> Result<(), AllocError> {
         let instance = key.place;
         self.write(Record::Failed { instance, failure })?;
-        self.write(released(instance, true))?;
+        self.let_go(instance, true)?;
         Ok(())
     }
 
@@ -601,6 +686,17 @@ impl Book for StoringBook {
         let name = job.name.copy()?;
         let keys = self.fire(Expression::StartOn(name), taken)?;
         Ok(keys)
+    }
+
+    fn reply_last(&mut self) -> Result<bool, AllocError> {
+        match answers::unanswered(self.records.as_slice()) {
+            Some(request) => {
+                let answer = self.last_answer()?;
+                self.write(Record::Replied { request, answer })?;
+                Ok(true)
+            }
+            None => Ok(false),
+        }
     }
 
     fn rest(&mut self, setup: &Setup) -> Result<Vec<Output>, AllocError> {

@@ -8,8 +8,8 @@ use Rattle.up_model.specs.Due.{due}
 use Rattle.up_model.specs.Instances.{Instance, instances_of, existing}
 use Rattle.up_model.specs.Moves.{may_leave, move, move_of, move_in, move_first}
 use Rattle.up_model.specs.Offers.{is_open, stop_offer, stop_offer_in, start_offer, offer_in, offer_first, offering, offer_next}
-use Rattle.up_model.specs.Readings.{goal, state_of, blocker, without}
-use Rattle.up_model.specs.Replies.{unanswered, acted_on, status_if, answering_hurried, answering_last}
+use Rattle.up_model.specs.Readings.{goal, state_of, blocker}
+use Rattle.up_model.specs.Replies.{asked, was_answered, unless_answered, unanswered, acted_on, status_if, answering_hurried, answering_last}
 use Rattle.up_model.specs.declared.request.Answer.{Answer}
 use Rattle.up_model.specs.Seen.{was_offered}
 use Rattle.up_model.specs.Tests.{entries_if, or_else}
@@ -121,20 +121,25 @@ offer_next-lowers : (config : Configuration) (event : Option ℕ) (c : Chronicle
 offer_next-lowers config None c = inl refl
 offer_next-lowers config (Some event) c = offer_first-lowers config config.jobs event c
 
--- an answer lessens what is to be answered, or leaves it
-without-less : (place : ℕ) (o : Option ℕ) → answer_work (without place o) ≤ answer_work o
-without-less place None = omega arith
-without-less place (Some other) = by_case (other == place)
+-- an answer leaves no more to be answered
+less-answered : (o : Option ℕ) (request : ℕ) (answer : Answer) (c : Chronicle) → answer_work (unless_answered o (Replied request answer ∷ c)) ≤ answer_work (unless_answered o c)
+less-answered None request answer c = omega arith
+less-answered (Some asking) request answer c = by_case (request == asking) (was_answered asking c)
   where
-    by_case : (b : Bool) → answer_work (if b then None else Some other) ≤ 1
-    by_case true = omega arith
-    by_case false = omega arith
+    by_case : (b answered : Bool) → answer_work (if (if b then true else answered) then None else Some asking) ≤ answer_work (if answered then None else Some asking)
+    by_case true answered = omega arith
+    by_case false answered = omega arith
+
+same-answered : (o : Option ℕ) (e : Entry) (c : Chronicle) → ((request : ℕ) → was_answered request (e ∷ c) ≡ was_answered request c)
+    → answer_work (unless_answered o (e ∷ c)) ≤ answer_work (unless_answered o c)
+same-answered None e c same = omega arith
+same-answered (Some asking) e c same = let answered = ap (λ b. answer_work (if b then None else Some asking)) (same asking) in omega (arith, answered)
 
 -- an entry that is due brings no request
 spared-answer : (job : Bytes) (p : ℕ) (e : Entry) (c : Chronicle) → IsOf job p e → answer_work (unanswered (e ∷ c)) ≤ answer_work (unanswered c)
 spared-answer job p (Given input) c of = absurd of
-spared-answer job p (Replied request answer) c of = without-less request (unanswered c)
-spared-answer job p e c of = omega arith
+spared-answer job p (Replied request answer) c of = less-answered (asked c) request answer c
+spared-answer job p e c of = same-answered (asked c) e c (λ request. refl)
 
 spared-answers : (job : Bytes) (p : ℕ) (es c : List Entry) → AllByRecursion (IsOf job p) es → answer_work (unanswered (es ++ c)) ≤ answer_work (unanswered c)
 spared-answers job p [] c of = omega arith
@@ -176,17 +181,18 @@ starts-replied offers (job ∷ jobs) request answer c = ap (λ rest. start_work 
 -- the answer to this step's client leaves none to be answered
 last-falls : (config : Configuration) (c : Chronicle) → (answering_last c ≡ []) ⊎ Falls config c (answering_last c)
 unfolding work
-last-falls config c = by_case (unanswered c) refl
+last-falls config c = by_request (asked c) refl
   where
-    by_case : (o : Option ℕ) → unanswered c ≡ o → (answering_hurried o c ≡ []) ⊎ Falls config c (answering_hurried o c)
-    by_case None none = inl refl
-    by_case (Some request) some = inr (record { whose = []; place = 0; of = (tt, tt) }, omega (arith, works, starts, one, gone))
+    offers : Bool
+    offers = is_some (offering c)
+
+    by_answer : (request : ℕ) (b : Bool) → asked c ≡ Some request → was_answered request c ≡ b
+        → (answering_hurried (if b then None else Some request) c ≡ []) ⊎ Falls config c (answering_hurried (if b then None else Some request) c)
+    by_answer request true some answered = inl refl
+    by_answer request false some unsaid = inr (record { whose = []; place = 0; of = (tt, tt) }, omega (arith, works, starts, one, gone))
       where
         answer : Answer
         answer = record { ok = true; text = status_if (acted_on c) c }
-
-        offers : Bool
-        offers = is_some (offering c)
 
         works : work_in offers (existing c) (Replied request answer ∷ c) ≡ work_in offers (existing c) c
         works = works-replied offers (existing c) request answer c
@@ -195,10 +201,15 @@ last-falls config c = by_case (unanswered c) refl
         starts = starts-replied offers config.jobs request answer c
 
         one : answer_work (unanswered c) ≡ 1
-        one = ap answer_work some
+        one = ap (λ o. answer_work (unless_answered o c)) some ∙ ap (λ b. answer_work (if b then None else Some request)) unsaid
 
-        gone : answer_work (without request (unanswered c)) ≡ 0
-        gone = ap (λ o. answer_work (without request o)) some ∙ rw (eq-eqb request request refl) refl
+        gone : answer_work (unanswered (Replied request answer ∷ c)) ≡ 0
+        gone = ap (λ o. answer_work (unless_answered o (Replied request answer ∷ c))) some ∙ rw (eq-eqb request request refl) refl
+
+    by_request : (o : Option ℕ) → asked c ≡ o
+        → (answering_hurried (unless_answered o c) c ≡ []) ⊎ Falls config c (answering_hurried (unless_answered o c) c)
+    by_request None none = inl refl
+    by_request (Some request) some = by_answer request (was_answered request c) some refl
 
 -- so what is due leaves less work
 due-falls : (config : Configuration) (c : Chronicle) → (due config c ≡ []) ⊎ Falls config c (due config c)

@@ -1,6 +1,6 @@
 -- What clients are told of instances and events: the status text, and the answers to those that wait (initctl(8), status(8)).
 -- Each list of entries is to be put in front of the chronicle, newest first.
-use Rattle.std.specs.Prelude.{ℕ, Bool, true, false, List, [], ◌∷◌, ◌++◌, Option, None, Some, codes, if◌then◌else◌, length}
+use Rattle.std.specs.Prelude.{ℕ, Bool, true, false, ◌==◌, List, [], ◌∷◌, ◌++◌, Option, None, Some, codes, if◌then◌else◌, length}
 use Rattle.up_stanza.specs.declared.process.Process.{Process}
 use Rattle.up_stanza.specs.declared.process.Process.TheVariants as process
 use Rattle.up_model.specs.declared.input.Input.{Input}
@@ -12,7 +12,7 @@ use Rattle.up_model.specs.declared.state.State.{State}
 use Rattle.up_model.specs.declared.state.State.TheVariants as state
 use Rattle.up_model.specs.declared.who.Who.{Who}
 use Rattle.up_model.specs.Chronicle.{Chronicle, Entry, Given, Queued, Aimed, Restarted, Released, Replied, Outside}
-use Rattle.up_model.specs.Readings.{entry_at, made_at, goal, state_of, holders, pid_of, without}
+use Rattle.up_model.specs.Readings.{entry_at, made_at, goal, state_of, holders, pid_of}
 use Rattle.up_model.specs.Requests.{RequestValue}
 use Rattle.up_model.specs.Status.{status_text}
 use Rattle.up_model.specs.Values.{Bytes}
@@ -94,12 +94,26 @@ abbrev pub if_hurried : ℕ → Input → Option ℕ
 if_hurried place (input.Request id request) = if request.wait then None else Some place
 if_hurried place other = None
 
+-- this step's request, if it doesn't wait
+abbrev pub asked : Chronicle → Option ℕ
+asked [] = None
+asked (Given given ∷ c) = if_hurried (length c) given
+asked (entry ∷ c) = asked c
+
+-- whether a request was answered in this step
+abbrev pub was_answered : ℕ → Chronicle → Bool
+was_answered request [] = false
+was_answered request (Given given ∷ c) = false
+was_answered request (Replied other answer ∷ c) = if other == request then true else was_answered request c
+was_answered request (entry ∷ c) = was_answered request c
+
+abbrev pub unless_answered : Option ℕ → Chronicle → Option ℕ
+unless_answered None c = None
+unless_answered (Some request) c = if was_answered request c then None else Some request
+
 -- this step's request, if it doesn't wait and isn't answered yet
 abbrev pub unanswered : Chronicle → Option ℕ
-unanswered [] = None
-unanswered (Given given ∷ c) = if_hurried (length c) given
-unanswered (Replied request answer ∷ c) = without request (unanswered c)
-unanswered (entry ∷ c) = unanswered c
+unanswered c = unless_answered (asked c) c
 
 -- the instance that this step's request acted on
 abbrev pub acted_on : Chronicle → Option ℕ

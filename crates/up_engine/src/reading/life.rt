@@ -55,6 +55,34 @@ pub(crate) fn state_of(records: &[Record], instance: usize) -> State
     found
 }
 
+fn restarted_after(next: &Record, instance: usize, before: bool) -> bool
+    ensures { (c : Chronicle) → reading.was_restarted instance c ≡ before → result ≡ reading.was_restarted instance (entry_of next.now ∷ c) }
+{
+    match next {
+        Record::Restarted {
+            instance: other,
+            ..
+        } if *other == instance => true,
+        Record::Entered {
+            instance: other,
+            ..
+        } if *other == instance => false,
+        _ => before,
+    }
+}
+
+/// Whether a restart of an instance was taken since it entered its state.
+#[tactic(auto, using(crate::proofs::Chronicles::chronicle_more))]
+pub(crate) fn was_restarted(records: &[Record], instance: usize) -> bool
+    ensures { result ≡ reading.was_restarted instance (chronicle records.now) }
+{
+    let mut found = false;
+    for next in records {
+        found = restarted_after(next, instance, found);
+    }
+    found
+}
+
 fn holders_after<'a>(next: &'a Record, instance: usize, before: &'a [EventKey]) -> &'a [EventKey]
     ensures { (c : Chronicle) → reading.holders instance c ≡ map place_of before.now → map place_of result.now ≡ reading.holders instance (entry_of next.now ∷ c) }
 {
@@ -63,6 +91,10 @@ fn holders_after<'a>(next: &'a Record, instance: usize, before: &'a [EventKey]) 
             instance: other,
             holders,
             ..
+        } if *other == instance => holders.as_slice(),
+        Record::Restarted {
+            instance: other,
+            holders,
         } if *other == instance => holders.as_slice(),
         Record::Released {
             instance: other,

@@ -2,10 +2,11 @@
 ghost use Rattle.std.specs.Prelude.{◌≡◌, Some, option_map};
 ghost use Rattle.std.specs.Option.{option_copied};
 ghost use Rattle.up_model.specs.Readings as reading;
+ghost use Rattle.up_model.specs.Replies as replies;
 ghost use Rattle.up_engine.specs.Records.{entry_of, chronicle};
 
-use crate::record::Record;
-use up_model::{Event, Input};
+use crate::record::{Origin, Record};
+use up_model::{Event, Input, Request};
 use up_text::Name;
 
 fn record_at(records: &[Record], place: usize) -> Option<&Record>
@@ -70,6 +71,56 @@ pub(crate) fn id_at(records: &[Record], place: usize) -> Option<u64>
 {
     match record_at(records, place) {
         Some(found) => id_of(found),
+        None => None,
+    }
+}
+
+fn request_in(found: &Record) -> Option<&Request>
+    ensures { option_copied result ≡ replies.request_in (Some (entry_of found.now)) }
+{
+    match found {
+        Record::Given(Input::Request { request, .. }) => Some(request),
+        _ => None,
+    }
+}
+
+/// The request that was given at a place.
+pub(crate) fn request_at(records: &[Record], place: usize) -> Option<&Request>
+    ensures { option_copied result ≡ replies.request_at place (chronicle records.now) }
+{
+    match record_at(records, place) {
+        Some(found) => request_in(found),
+        None => None,
+    }
+}
+
+fn if_waits(place: usize, request: Option<&Request>) -> Option<usize>
+    ensures { result ≡ replies.if_waits place (option_copied request.entry) }
+{
+    match request {
+        Some(request) if request.wait => Some(place),
+        _ => None,
+    }
+}
+
+fn waiter_in(records: &[Record], found: &Record) -> Option<usize>
+    ensures { result ≡ replies.waiter_in (Some (entry_of found.now)) (chronicle records.now) }
+{
+    match found {
+        Record::Queued {
+            origin: Origin::Outside(given),
+            ..
+        } => if_waits(*given, request_at(records, *given)),
+        _ => None,
+    }
+}
+
+/// The request that waits for the event that was queued at a place.
+pub(crate) fn waiter(records: &[Record], event: usize) -> Option<usize>
+    ensures { result ≡ replies.waiter event (chronicle records.now) }
+{
+    match record_at(records, event) {
+        Some(found) => waiter_in(records, found),
         None => None,
     }
 }

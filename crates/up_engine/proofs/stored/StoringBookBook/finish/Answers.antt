@@ -1,10 +1,17 @@
-use Rattle.std.proofs.Common.{◌≡◌, ◌∷◌, ◌++◌, refl}
+use Rattle.std.proofs.Common.{◌≡◌, ◌∷◌, ◌++◌, ◌∙◌, sym, ap, refl}
+use Rattle.up_engine.specs.Records.{chronicle}
 use Rattle.up_engine.proofs.Entries.{some_same}
 use Rattle.up_model.specs.Chronicle.{Finished}
-use Rattle.up_model.specs.Due.{telling}
+use Rattle.up_model.specs.Held.{is_spoilt}
+use Rattle.up_model.specs.Replies.{waiter, answering_waiter}
 use Rattle.up_engine.proofs.stored.StoringBookBook.finish.Goals as goal
 
 pub returns : goal.returns
 returns c config c' e s known =
-    let finished = Finished c.args.key.place ∷ c' in
-    rw (← some_same known) (c.in_ok-tell.ensures config finished (c.in_ok-write.ensures config c' (Finished c.args.key.place) s refl))
+    let p = c.args.key.place in
+    let waits : c.waiter.result ≡ waiter p c' = c.waiter.ensures ∙ ap (λ rs. waiter p (chronicle rs)) c.as_slice.ensures.value ∙ ap (waiter p) s.entries in
+    let spoilt : c.is_spoilt-spoilt.result ≡ is_spoilt p c' = c.is_spoilt-spoilt.ensures ∙ ap (λ rs. is_spoilt p (chronicle rs)) c.as_slice-2.ensures.value ∙ ap (is_spoilt p) s.entries in
+    let finished = Finished p ∷ c' in
+    let one = c.in_ok-write.ensures config c' (Finished p) s refl in
+    let two = c.in_ok-answer_waiter.ensures config finished one in
+    rw (← some_same known, ← waits, ← spoilt) (c.in_ok-tell.ensures config _ two)

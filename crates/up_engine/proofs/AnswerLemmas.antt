@@ -1,0 +1,56 @@
+-- The answers of a release, one after another.
+use Rattle.std.proofs.Common.{◌≡◌, ℕ, ◌+◌, ◌<◌, Bool, true, false, List, [], ◌∷◌, ◌++◌, Option, None, Some, codes, if◌then◌else◌, length, drop, get_or, map, refl, sym, ◌∙◌, ap, add-one, drop-cons, append_assoc}
+use Rattle.up_engine.specs.declared.keys.EventKey.{EventKey}
+use Rattle.up_engine.specs.declared.record.Record.{Record}
+use Rattle.up_engine.specs.Records.{place_of, chronicle, entry_of}
+use Rattle.up_conf.specs.declared.job.JobDef.{JobDef}
+use Rattle.up_engine.specs.Requests.{answer_of}
+use Rattle.up_model.specs.Chronicle.{Chronicle, Entry, Replied}
+use Rattle.up_model.specs.Commands.{Told, Target, Nobody, Concerns, refusal, stopped_text, status_at, status, job_lines, list_lines, entries_of}
+use Rattle.up_model.specs.Instances.{instances_of, instance_named}
+use Rattle.up_model.specs.Replies.{request_at, answering_one, answering}
+use Rattle.up_model.specs.Values.{Bytes}
+use Rattle.up_text.specs.Scripts.{is_filled}
+
+-- the answers from one holder on
+pub answers_left : (keys : List EventKey) (i : ℕ) (d : EventKey) (failed : Bool) (told : Bytes) (c : Chronicle) (rest : List Entry) → i < length keys
+    → answering (map place_of (drop i keys)) failed told c ++ rest
+    ≡ answering (map place_of (drop (i + 1) keys)) failed told c ++ (answering_one (get_or keys i d).place (request_at (get_or keys i d).place c) failed told ++ rest)
+answers_left keys i d failed told c rest within =
+    let one : drop i keys ≡ get_or keys i d ∷ drop (i + 1) keys = rw add-one (drop-cons keys i d within) in
+    ap (λ left. answering (map place_of left) failed told c ++ rest) one
+    ∙ append_assoc (answering (map place_of (drop (i + 1) keys)) failed told c) (answering_one (get_or keys i d).place (request_at (get_or keys i d).place c) failed told) rest
+
+-- records after records
+pub chronicle_append : (xs ys : List Record) → chronicle (xs ++ ys) ≡ chronicle ys ++ chronicle xs
+chronicle_append [] ys = nothing (chronicle ys)
+  where
+    nothing : (c : Chronicle) → c ≡ c ++ []
+    nothing [] = refl
+    nothing (e ∷ c) = ap (λ d. e ∷ d) (nothing c)
+chronicle_append (x ∷ xs) ys = ap (λ c. c ++ entry_of x ∷ []) (chronicle_append xs ys) ∙ append_assoc (chronicle ys) (chronicle xs) (entry_of x ∷ [])
+
+-- the lines from one on
+pub lines_left : (lines : List Bytes) (i : ℕ) (d : Bytes) → i < length lines → drop i lines ≡ get_or lines i d ∷ drop (i + 1) lines
+lines_left lines i d within = rw add-one (drop-cons lines i d within)
+
+-- the status texts, and the lines, of what is left
+pub list_left : (jobs : List JobDef) (i : ℕ) (job : JobDef) (c : Chronicle) → i < length jobs → job ≡ get_or jobs i job
+    → list_lines (drop i jobs) c ≡ job_lines job.name (instances_of job.name c) c ++ list_lines (drop (i + 1) jobs) c
+list_left jobs i job c within here =
+    let one : drop i jobs ≡ get_or jobs i job ∷ drop (i + 1) jobs = rw add-one (drop-cons jobs i job within) in
+    ap (λ left. list_lines left c) one ∙ ap (λ j. job_lines j.name (instances_of j.name c) c ++ list_lines (drop (i + 1) jobs) c) (sym here)
+
+-- the answer to a request `status` is told at once
+pub status_told : (given : ℕ) (target : Target) (c : Chronicle) → Replied given (answer_of (status target c)) ∷ [] ≡ entries_of given (status target c)
+status_told given (Nobody text) c = refl
+status_told given (Concerns job who environment) c = by_case (instance_named who c)
+  where
+    by_filled : (b : Bool) → Replied given (answer_of (if b then refusal (codes "Unknown instance: ") who else Told (stopped_text job.name))) ∷ []
+        ≡ entries_of given (if b then refusal (codes "Unknown instance: ") who else Told (stopped_text job.name))
+    by_filled true = refl
+    by_filled false = refl
+
+    by_case : (o : Option ℕ) → Replied given (answer_of (status_at job who o c)) ∷ [] ≡ entries_of given (status_at job who o c)
+    by_case None = by_filled (is_filled job.instance)
+    by_case (Some i) = refl

@@ -1,0 +1,12 @@
+use Rattle.std.proofs.Common.{◌≡◌, ◌++◌, drop}
+use Rattle.up_engine.specs.Keys.{Mode}
+use Rattle.up_model.specs.Chronicle.{Chronicle}
+use Rattle.up_model.specs.Commands.{list_lines}
+use Rattle.up_model.specs.Configuration.{Configuration}
+use Rattle.up_engine.proofs.status.lines_of.Given as goal
+
+-- the lines so far, and those that are left, are the whole
+abbrev pub invariant-loop-job : goal.invariant-loop-job
+invariant-loop-job g l =
+    (mode : Mode) (config : Configuration) (c : Chronicle) → g.B.Book.stands l.book mode config c
+    → l.lines.items ++ list_lines (drop l.job-index l.jobs) c ≡ list_lines l.jobs c

@@ -1,0 +1,23 @@
+-- What the code of requests hands on.
+use Rattle.std.specs.Prelude.{true, false, [], Option, None, Some}
+use Rattle.up_engine.specs.declared.target.Target.{Target}
+use Rattle.up_engine.specs.declared.target.Target.TheVariants as target
+use Rattle.up_model.specs.declared.request.Answer.{Answer}
+use Rattle.up_model.specs.Commands as model
+use Rattle.up_model.specs.Values.{Bytes}
+
+-- whom a request names, as the model says it
+abbrev pub target_of : Target → model.Target
+target_of (target.Nobody text) = model.Nobody text
+target_of (target.Concerns job who environment) = model.Concerns job.now who environment
+
+-- an outcome, unless it is refused with a text
+abbrev pub unless : Option Bytes → model.Outcome → model.Outcome
+unless None outcome = outcome
+unless (Some text) outcome = model.Refused text
+
+-- the answer that an outcome is told at once
+abbrev pub answer_of : model.Outcome → Answer
+answer_of (model.Refused text) = record { ok = false; text = text }
+answer_of (model.Told text) = record { ok = true; text = text }
+answer_of (model.Done entries) = record { ok = true; text = [] }

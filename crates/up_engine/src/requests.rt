@@ -1,0 +1,395 @@
+//! What the requests of clients do (initctl(8)).
+ghost use Rattle.std.specs.Prelude.{◌≡◌, ℕ, true, false, List, length, ◌∷◌, [], ◌++◌, map, Option, Some, IfOk, OnOk};
+ghost use Rattle.up_engine.specs.declared.keys.EventKey.{EventKey as EventKeyValue};
+ghost use Rattle.up_engine.specs.Keys.{Mode, Resting, Stepping};
+ghost use Rattle.up_engine.specs.Requests.{target_of as said_of, answer_of, unless};
+ghost use Rattle.up_model.specs.declared.input.Input.{Input as InputValue};
+ghost use Rattle.up_model.specs.declared.input.Input.TheVariants as given_as;
+ghost use Rattle.up_model.specs.Chronicle.{Chronicle};
+ghost use Rattle.up_model.specs.Chronicle as entry;
+ghost use Rattle.up_model.specs.Commands as model;
+ghost use Rattle.up_model.specs.Configuration.{Configuration};
+ghost use Rattle.up_model.specs.Due.{effect};
+ghost use Rattle.up_model.specs.Events.{with_instance};
+ghost use Rattle.up_model.specs.Instances as model_instances;
+ghost use Rattle.up_model.specs.Offers as offer;
+ghost use Rattle.up_model.specs.Requests.{RequestValue};
+ghost use Rattle.up_model.specs.Values.{Bindings};
+
+use crate::book::Book;
+use crate::events::event_of;
+use crate::keys::{EventKey, InstanceKey};
+use crate::life::{is_running, is_start};
+use crate::offers::{has_room, instance_named, start_called, stop_of};
+use crate::setup::Setup;
+use crate::status::{list, status};
+use crate::target::{Target, target_of};
+use crate::texts::{
+    already_running, already_stopped, not_running, not_supported, too_many_events,
+    too_many_instances, unknown_instance, version,
+};
+use std::alloc::{AllocError, Global};
+use up_model::{Answer, Command, Input, Request, Who};
+use up_text::{Env, Items, Text};
+
+/// How many events may be in the queue before one more is refused to a client.
+const MAX_EVENTS: usize = 32_768;
+
+// A request is refused.
+fn refuse<B: Book>(book: &mut B, text: Text) -> Result<(), AllocError>
+    ensures { OnOk result ((config : Configuration) (c : Chronicle) (input : InputValue) → B.stands book.old Stepping config (entry.Given input ∷ c)
+        → B.stands book.new Stepping config (entry.Replied (length c) (record { ok = false; text = text }) ∷ entry.Given input ∷ c)) }
+{
+    book.reply(Answer { ok: false, text })?;
+    Ok(())
+}
+
+// A request is told a text at once.
+fn tell<B: Book>(book: &mut B, text: Text) -> Result<(), AllocError>
+    ensures { OnOk result ((config : Configuration) (c : Chronicle) (input : InputValue) → B.stands book.old Stepping config (entry.Given input ∷ c)
+        → B.stands book.new Stepping config (entry.Replied (length c) (record { ok = true; text = text }) ∷ entry.Given input ∷ c)) }
+{
+    book.reply(Answer { ok: true, text })?;
+    Ok(())
+}
+
+// A client that waits holds the instance that it acts on.
+fn holders_of(alloc: Global, key: EventKey, wait: bool) -> Result<Items<EventKey>, AllocError>
+    ensures { IfOk result (λ holders. (places : EventKeyValue → Option ℕ) (given : ℕ) → places key ≡ Some given
+        → map places holders ≡ map Some (model.holders_of given wait)) }
+{
+    let mut holders = Vec::new(alloc);
+    if wait {
+        holders.push(key)?;
+    }
+    Ok(Items::new(holders))
+}
+
+// Why a start is refused, if it is.
+fn start_refusal<B: Book>(alloc: Global, book: &B, who: &Who) -> Result<Option<Text>, AllocError>
+    ensures { IfOk result (λ text. (mode : Mode) (config : Configuration) (c : Chronicle) (places : List ℕ) (environment : Bindings)
+        → B.stands book.now mode config c
+        → model.start_at places who.now environment (model_instances.instance_named who.now c) c
+        ≡ unless text (model.Done (offer.start_of who.now environment places (model_instances.instance_named who.now c) c))) }
+{
+    match instance_named(book, &who.job, who.instance.as_str()) {
+        Some(key) => {
+            if is_start(book.goal(key)) {
+                let text = already_running(alloc, who)?;
+                return Ok(Some(text));
+            }
+        }
+        None => {
+            if !has_room(book, &who.job) {
+                let text = too_many_instances(alloc, who.job.as_str())?;
+                return Ok(Some(text));
+            }
+        }
+    }
+    Ok(None)
+}
+
+fn start_who<B: Book>(
+    alloc: Global,
+    book: &mut B,
+    holders: Items<EventKey>,
+    who: Who,
+    environment: Env,
+) -> Result<(), AllocError>
+    ensures { OnOk result ((config : Configuration) (c : Chronicle) (input : InputValue) (places : List ℕ) → B.stands book.old Stepping config (entry.Given input ∷ c)
+        → map (B.event_place book.old (entry.Given input ∷ c)) holders ≡ map Some places
+        → B.stands book.new Stepping config
+        (model.entries_of (length c) (model.start_at places who (with_instance who environment) (model_instances.instance_named who (entry.Given input ∷ c)) (entry.Given input ∷ c))
+        ++ entry.Given input ∷ c)) }
+{
+    match start_refusal(alloc, book, &who)? {
+        Some(text) => {
+            drop(holders);
+            drop(environment);
+            refuse(book, text)?;
+        }
+        None => start_called(
+            book,
+            &who.job,
+            who.instance.as_str(),
+            environment,
+            holders,
+        )?,
+    }
+    Ok(())
+}
+
+fn start<B: Book>(
+    alloc: Global,
+    book: &mut B,
+    holders: Items<EventKey>,
+    target: Target,
+) -> Result<(), AllocError>
+    ensures { OnOk result ((config : Configuration) (c : Chronicle) (input : InputValue) (places : List ℕ) → B.stands book.old Stepping config (entry.Given input ∷ c)
+        → map (B.event_place book.old (entry.Given input ∷ c)) holders ≡ map Some places
+        → B.stands book.new Stepping config
+        (model.entries_of (length c) (model.start places (said_of target.entry) (entry.Given input ∷ c)) ++ entry.Given input ∷ c)) }
+{
+    match target {
+        Target::Nobody(text) => {
+            drop(holders);
+            refuse(book, text)?;
+        }
+        Target::Concerns {
+            job: _,
+            who,
+            environment,
+        } => start_who(alloc, book, holders, who, environment)?,
+    }
+    Ok(())
+}
+
+// An instance that exists is stopped, if its goal is start.
+fn stop_found<B: Book>(
+    alloc: Global,
+    book: &mut B,
+    holders: Items<EventKey>,
+    vars: Env,
+    who: &Who,
+    key: InstanceKey,
+) -> Result<(), AllocError>
+    ensures { OnOk result ((config : Configuration) (c : Chronicle) (input : InputValue) (places : List ℕ) (i : ℕ) → B.stands book.old Stepping config (entry.Given input ∷ c)
+        → B.instance_place book.old (entry.Given input ∷ c) key ≡ Some i
+        → map (B.event_place book.old (entry.Given input ∷ c)) holders ≡ map Some places
+        → B.stands book.new Stepping config
+        (model.entries_of (length c) (model.stop_at places vars who.now (Some i) (entry.Given input ∷ c)) ++ entry.Given input ∷ c)) }
+{
+    if is_start(book.goal(key)) {
+        stop_of(book, key, vars, holders)?;
+    } else {
+        drop(holders);
+        drop(vars);
+        let text = already_stopped(alloc, who)?;
+        refuse(book, text)?;
+    }
+    Ok(())
+}
+
+fn stop_who<B: Book>(
+    alloc: Global,
+    book: &mut B,
+    holders: Items<EventKey>,
+    vars: Env,
+    who: &Who,
+) -> Result<(), AllocError>
+    ensures { OnOk result ((config : Configuration) (c : Chronicle) (input : InputValue) (places : List ℕ) → B.stands book.old Stepping config (entry.Given input ∷ c)
+        → map (B.event_place book.old (entry.Given input ∷ c)) holders ≡ map Some places
+        → B.stands book.new Stepping config
+        (model.entries_of (length c) (model.stop_at places vars who.now (model_instances.instance_named who.now (entry.Given input ∷ c)) (entry.Given input ∷ c))
+        ++ entry.Given input ∷ c)) }
+{
+    match instance_named(book, &who.job, who.instance.as_str()) {
+        Some(key) => stop_found(alloc, book, holders, vars, who, key)?,
+        None => {
+            drop(holders);
+            drop(vars);
+            let text = unknown_instance(alloc, who)?;
+            refuse(book, text)?;
+        }
+    }
+    Ok(())
+}
+
+fn stop<B: Book>(
+    alloc: Global,
+    book: &mut B,
+    holders: Items<EventKey>,
+    vars: Env,
+    target: Target,
+) -> Result<(), AllocError>
+    ensures { OnOk result ((config : Configuration) (c : Chronicle) (input : InputValue) (places : List ℕ) → B.stands book.old Stepping config (entry.Given input ∷ c)
+        → map (B.event_place book.old (entry.Given input ∷ c)) holders ≡ map Some places
+        → B.stands book.new Stepping config
+        (model.entries_of (length c) (model.stop places vars (said_of target.entry) (entry.Given input ∷ c)) ++ entry.Given input ∷ c)) }
+{
+    match target {
+        Target::Nobody(text) => {
+            drop(holders);
+            drop(vars);
+            refuse(book, text)?;
+        }
+        Target::Concerns {
+            job: _,
+            who,
+            environment,
+        } => {
+            drop(environment);
+            stop_who(alloc, book, holders, vars, &who)?;
+        }
+    }
+    Ok(())
+}
+
+// An instance that exists is restarted, if it runs.
+fn restart_found<B: Book>(
+    alloc: Global,
+    book: &mut B,
+    holders: Items<EventKey>,
+    who: &Who,
+    key: InstanceKey,
+) -> Result<(), AllocError>
+    ensures { OnOk result ((config : Configuration) (c : Chronicle) (input : InputValue) (places : List ℕ) (i : ℕ) → B.stands book.old Stepping config (entry.Given input ∷ c)
+        → B.instance_place book.old (entry.Given input ∷ c) key ≡ Some i
+        → map (B.event_place book.old (entry.Given input ∷ c)) holders ≡ map Some places
+        → B.stands book.new Stepping config
+        (model.entries_of (length c) (model.restart_at places who.now (Some i) (entry.Given input ∷ c)) ++ entry.Given input ∷ c)) }
+{
+    if is_running(book.state_of(key)) {
+        book.release(key)?;
+        book.restart(key, holders)?;
+    } else {
+        drop(holders);
+        let text = not_running(alloc, who)?;
+        refuse(book, text)?;
+    }
+    Ok(())
+}
+
+fn restart_who<B: Book>(
+    alloc: Global,
+    book: &mut B,
+    holders: Items<EventKey>,
+    who: &Who,
+) -> Result<(), AllocError>
+    ensures { OnOk result ((config : Configuration) (c : Chronicle) (input : InputValue) (places : List ℕ) → B.stands book.old Stepping config (entry.Given input ∷ c)
+        → map (B.event_place book.old (entry.Given input ∷ c)) holders ≡ map Some places
+        → B.stands book.new Stepping config
+        (model.entries_of (length c) (model.restart_at places who.now (model_instances.instance_named who.now (entry.Given input ∷ c)) (entry.Given input ∷ c))
+        ++ entry.Given input ∷ c)) }
+{
+    match instance_named(book, &who.job, who.instance.as_str()) {
+        Some(key) => restart_found(alloc, book, holders, who, key)?,
+        None => {
+            drop(holders);
+            let text = unknown_instance(alloc, who)?;
+            refuse(book, text)?;
+        }
+    }
+    Ok(())
+}
+
+fn restart<B: Book>(
+    alloc: Global,
+    book: &mut B,
+    holders: Items<EventKey>,
+    target: Target,
+) -> Result<(), AllocError>
+    ensures { OnOk result ((config : Configuration) (c : Chronicle) (input : InputValue) (places : List ℕ) → B.stands book.old Stepping config (entry.Given input ∷ c)
+        → map (B.event_place book.old (entry.Given input ∷ c)) holders ≡ map Some places
+        → B.stands book.new Stepping config
+        (model.entries_of (length c) (model.restart places (said_of target.entry) (entry.Given input ∷ c)) ++ entry.Given input ∷ c)) }
+{
+    match target {
+        Target::Nobody(text) => {
+            drop(holders);
+            refuse(book, text)?;
+        }
+        Target::Concerns {
+            job: _,
+            who,
+            environment,
+        } => {
+            drop(environment);
+            restart_who(alloc, book, holders, &who)?;
+        }
+    }
+    Ok(())
+}
+
+// The name of an `emit` is one of an event.
+fn emit<B: Book>(alloc: Global, book: &mut B, name: &str, vars: Env) -> Result<(), AllocError>
+    ensures { OnOk result ((config : Configuration) (c : Chronicle) (input : InputValue) (request : RequestValue) → B.stands book.old Stepping config (entry.Given input ∷ c)
+        → request.name ≡ name.now → request.vars ≡ vars
+        → B.stands book.new Stepping config
+        (model.entries_of (length c) (model.emit (length c) request (entry.Given input ∷ c)) ++ entry.Given input ∷ c)) }
+{
+    if book.live_events() < MAX_EVENTS {
+        let event = event_of(alloc, name, vars)?;
+        book.emit(event)?;
+    } else {
+        drop(vars);
+        let text = too_many_events(alloc)?;
+        refuse(book, text)?;
+    }
+    Ok(())
+}
+
+// `start`, `stop` and `restart` of the instance that a request names.
+fn change<B: Book>(
+    alloc: Global,
+    setup: &Setup,
+    book: &mut B,
+    key: EventKey,
+    request: Request,
+) -> Result<(), AllocError>
+    ensures { OnOk result ((c : Chronicle) (input : InputValue) → B.stands book.old Stepping setup.now (entry.Given input ∷ c)
+        → B.event_place book.old (entry.Given input ∷ c) key ≡ Some (length c)
+        → B.stands book.new Stepping setup.now
+        (model.entries_of (length c) (model.outcome_of setup.now (length c) request (entry.Given input ∷ c)) ++ entry.Given input ∷ c)) }
+{
+    let Request {
+        command,
+        wait,
+        name,
+        vars,
+    } = request;
+    match command {
+        Command::Start => {
+            let target = target_of(alloc, setup, name.as_str(), &vars)?;
+            let holders = holders_of(alloc, key, wait)?;
+            start(alloc, book, holders, target)?;
+        }
+        Command::Stop => {
+            let target = target_of(alloc, setup, name.as_str(), &vars)?;
+            let holders = holders_of(alloc, key, wait)?;
+            stop(alloc, book, holders, vars, target)?;
+        }
+        Command::Restart => {
+            let target = target_of(alloc, setup, name.as_str(), &vars)?;
+            let holders = holders_of(alloc, key, wait)?;
+            restart(alloc, book, holders, target)?;
+        }
+        Command::Status => {
+            let target = target_of(alloc, setup, name.as_str(), &vars)?;
+            let answer = status(alloc, book, target)?;
+            book.reply(answer)?;
+        }
+        Command::List => {
+            let text = list(alloc, setup, book)?;
+            tell(book, text)?;
+        }
+        Command::Emit => emit(alloc, book, name.as_str(), vars)?,
+        Command::Version => {
+            let text = version(alloc)?;
+            tell(book, text)?;
+        }
+        Command::Reload | Command::ReloadConfiguration => {
+            let text = not_supported(alloc, command)?;
+            refuse(book, text)?;
+        }
+    }
+    Ok(())
+}
+
+/// Takes a request in, with what it does.
+#[tactic(auto, unfolding(up_model::specs::Due::effect), using(crate::proofs::Entries::one_last))]
+pub(crate) fn take_request<B: Book>(
+    alloc: Global,
+    setup: &Setup,
+    book: &mut B,
+    id: u64,
+    request: Request,
+) -> Result<(), AllocError>
+    ensures { OnOk result ((c : Chronicle) → B.stands book.old Resting setup.now c
+        → B.stands book.new Stepping setup.now (effect setup.now (given_as.Request id request) c ++ c)) }
+{
+    let asked = request.copy()?;
+    let key = book.given(Input::Request { id, request })?;
+    change(alloc, setup, book, key, asked)?;
+    Ok(())
+}

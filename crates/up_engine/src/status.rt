@@ -1,0 +1,178 @@
+//! What clients are told of instances: `status` and `list`.
+ghost use Rattle.std.specs.Prelude.{◌≡◌, ℕ, List, ◌∷◌, [], ◌++◌, map, Some, IfOk, OnOk, string_bytes, if◌then◌else◌};
+ghost use Rattle.up_engine.specs.Keys.{Mode, slot_at};
+ghost use Rattle.up_engine.specs.Requests.{target_of as said_of, answer_of};
+ghost use Rattle.up_model.specs.Chronicle.{Chronicle};
+ghost use Rattle.up_model.specs.Commands as model;
+ghost use Rattle.up_model.specs.Configuration.{Configuration};
+ghost use Rattle.up_model.specs.Instances as model_instances;
+ghost use Rattle.up_model.specs.Replies.{status_of};
+ghost use Rattle.up_model.specs.Values.{Bytes};
+
+use crate::book::Book;
+use crate::keys::{InstanceKey, Slot};
+use crate::offers::instance_named;
+use crate::setup::Setup;
+use crate::target::Target;
+use crate::texts::{stopped, unknown_instance};
+use std::alloc::{AllocError, Global};
+use up_model::{Answer, JobDef, Who};
+use up_text::Text;
+
+// The status of an instance that doesn't exist.
+fn absent(alloc: Global, job: &JobDef, who: &Who) -> Result<Answer, AllocError>
+    ensures { IfOk result (λ answer. (c : Chronicle) → answer ≡ answer_of (model.status_at job.now who.now None c)) }
+{
+    if job.instance.is("") {
+        let text = stopped(alloc, job.name.as_str())?;
+        return Ok(Answer { ok: true, text });
+    }
+    let text = unknown_instance(alloc, who)?;
+    Ok(Answer { ok: false, text })
+}
+
+fn status_at<B: Book>(
+    alloc: Global,
+    book: &B,
+    job: &JobDef,
+    who: &Who,
+) -> Result<Answer, AllocError>
+    ensures { IfOk result (λ answer. (mode : Mode) (config : Configuration) (c : Chronicle) → B.stands book.now mode config c
+        → answer ≡ answer_of (model.status_at job.now who.now (model_instances.instance_named who.now c) c)) }
+{
+    match instance_named(book, &who.job, who.instance.as_str()) {
+        Some(key) => {
+            let text = book.status_of(key)?;
+            Ok(Answer { ok: true, text })
+        }
+        None => {
+            let answer = absent(alloc, job, who)?;
+            Ok(answer)
+        }
+    }
+}
+
+/// The status of the instance that a request names.
+pub(crate) fn status<B: Book>(
+    alloc: Global,
+    book: &B,
+    target: Target,
+) -> Result<Answer, AllocError>
+    ensures { IfOk result (λ answer. (mode : Mode) (config : Configuration) (c : Chronicle) → B.stands book.now mode config c
+        → answer ≡ answer_of (model.status (said_of target.entry) c)) }
+{
+    match target {
+        Target::Nobody(text) => Ok(Answer { ok: false, text }),
+        Target::Concerns {
+            job,
+            who,
+            environment,
+        } => {
+            drop(environment);
+            let answer = status_at(alloc, book, job, &who)?;
+            Ok(answer)
+        }
+    }
+}
+
+fn push_status<B: Book>(
+    book: &B,
+    key: InstanceKey,
+    lines: &mut Vec<Text>,
+) -> Result<(), AllocError>
+    ensures { OnOk result ((mode : Mode) (config : Configuration) (c : Chronicle) (i : ℕ) → B.stands book.now mode config c
+        → B.instance_place book.now c key ≡ Some i → lines.new.items ≡ lines.old.items ++ status_of i c ∷ []) }
+{
+    let text = book.status_of(key)?;
+    lines.push(text)?;
+    Ok(())
+}
+
+fn add_statuses<B: Book>(
+    book: &B,
+    slots: &[Slot],
+    lines: &mut Vec<Text>,
+) -> Result<(), AllocError>
+    ensures { OnOk result ((mode : Mode) (config : Configuration) (c : Chronicle) (its : List model_instances.Instance) → B.stands book.now mode config c
+        → map (slot_at (B.instance_place book.now c)) slots.now ≡ map Some its
+        → lines.new.items ≡ lines.old.items ++ model.statuses its c) }
+{
+    for slot in slots {
+        push_status(book, slot.key, lines)?;
+    }
+    Ok(())
+}
+
+fn push_stopped(alloc: Global, job: &JobDef, lines: &mut Vec<Text>) -> Result<(), AllocError>
+    ensures { OnOk result (lines.new.items ≡ lines.old.items ++ model.stopped_text job.now.name ∷ []) }
+{
+    let text = stopped(alloc, job.name.as_str())?;
+    lines.push(text)?;
+    Ok(())
+}
+
+// Adds a line for each of these instances of a job, or one for a job without any.
+fn add_slots<B: Book>(
+    alloc: Global,
+    book: &B,
+    job: &JobDef,
+    slots: &[Slot],
+    lines: &mut Vec<Text>,
+) -> Result<(), AllocError>
+    ensures { OnOk result ((mode : Mode) (config : Configuration) (c : Chronicle) (its : List model_instances.Instance) → B.stands book.now mode config c
+        → map (slot_at (B.instance_place book.now c)) slots.now ≡ map Some its
+        → lines.new.items ≡ lines.old.items ++ model.job_lines job.now.name its c) }
+{
+    if slots.is_empty() {
+        push_stopped(alloc, job, lines)?;
+    } else {
+        add_statuses(book, slots, lines)?;
+    }
+    Ok(())
+}
+
+// The lines about these jobs.
+fn lines_of<B: Book>(alloc: Global, book: &B, jobs: &[JobDef]) -> Result<Vec<Text>, AllocError>
+    ensures { IfOk result (λ lines. (mode : Mode) (config : Configuration) (c : Chronicle) → B.stands book.now mode config c
+        → lines.items ≡ model.list_lines jobs.now c) }
+{
+    let mut lines = Vec::new(alloc);
+    for job in jobs {
+        add_slots(alloc, book, job, book.instances(&job.name), &mut lines)?;
+    }
+    Ok(lines)
+}
+
+// Adds a line, after a line end if it isn't the first.
+fn push_line(text: &mut String, is_first: bool, line: &Text) -> Result<(), AllocError>
+    ensures { OnOk result ((lines : List Bytes) → string_bytes text.new ++ model.more_lines lines
+        ≡ string_bytes text.old ++ (if is_first then model.joined_lines (line.now ∷ lines) else model.more_lines (line.now ∷ lines))) }
+{
+    if !is_first {
+        text.push_str("\n")?;
+    }
+    text.push_str(line.as_str())?;
+    Ok(())
+}
+
+#[tactic(auto, using(crate::proofs::AnswerLemmas::lines_left))]
+fn joined(alloc: Global, lines: &[Text]) -> Result<String, AllocError>
+    ensures { IfOk result (λ text. string_bytes text ≡ model.joined_lines lines.now) }
+{
+    let mut text = String::new(alloc);
+    let mut is_first = true;
+    for line in lines {
+        push_line(&mut text, is_first, line)?;
+        is_first = false;
+    }
+    Ok(text)
+}
+
+/// The status texts of all instances, and of the jobs without any.
+pub(crate) fn list<B: Book>(alloc: Global, setup: &Setup, book: &B) -> Result<Text, AllocError>
+    ensures { IfOk result (λ text. (mode : Mode) (c : Chronicle) → B.stands book.now mode setup.now c → text ≡ model.listing setup.now c) }
+{
+    let lines = lines_of(alloc, book, setup.jobs())?;
+    let text = joined(alloc, lines.as_slice())?;
+    Ok(Text::new(text))
+}

@@ -1,0 +1,97 @@
+//! Whom a request names.
+ghost use Rattle.std.specs.Prelude.{◌≡◌, IfOk};
+ghost use Rattle.std.specs.Option.{option_copied};
+ghost use Rattle.up_engine.specs.Requests.{target_of as said_of};
+ghost use Rattle.up_model.specs.Commands as model;
+ghost use Rattle.up_model.specs.Configuration.{job_named};
+ghost use Rattle.up_text.specs.Expansion.{expand as expansion};
+
+use crate::setup::Setup;
+use crate::texts::{unknown_job, unknown_parameter};
+use std::alloc::{AllocError, Global};
+use up_model::{JobDef, Who};
+use up_text::{Env, Expanded, Text, TextFault, expand};
+
+/// Whom a request names.
+#[derive(Drop)]
+pub(crate) enum Target<'a> {
+    /// Nobody, which this text says.
+    Nobody(Text),
+    /// An instance of a job that there may be, and the environment that a start would give it.
+    Concerns {
+        job: &'a JobDef,
+        who: Who,
+        environment: Env,
+    },
+}
+
+#[tactic(auto, using(crate::proofs::OutputLemmas::jobs_left))]
+fn job_called<'a>(jobs: &'a [JobDef], name: &str) -> Option<&'a JobDef>
+    ensures { option_copied result ≡ job_named name.now jobs.now }
+{
+    for job in jobs {
+        if job.name.as_str() == name {
+            return Some(job);
+        }
+    }
+    None
+}
+
+fn request_env(setup: &Setup, job: &JobDef, vars: &Env) -> Result<Env, AllocError>
+    ensures { IfOk result (λ environment. environment ≡ model.request_env setup.now job.now vars.now) }
+{
+    let mut environment = setup.environment(&job.name).copy()?;
+    environment.append(vars)?;
+    Ok(environment)
+}
+
+fn who_of(job: &JobDef, instance: Text) -> Result<Who, AllocError>
+    ensures { IfOk result (λ who. who ≡ record { job = job.now.name; instance = instance }) }
+{
+    let job = job.name.copy()?;
+    Ok(Who { job, instance })
+}
+
+// The instance whose name this environment gives.
+fn target_in<'a>(
+    alloc: Global,
+    job: &'a JobDef,
+    environment: Env,
+) -> Result<Target<'a>, AllocError>
+    ensures { IfOk result (λ target. said_of target ≡ model.target_as job.now environment (expansion job.now.instance environment)) }
+{
+    match expand(alloc, job.instance.as_str(), &environment) {
+        Ok(Expanded::Text(name)) => {
+            let who = who_of(job, name)?;
+            Ok(Target::Concerns {
+                job,
+                who,
+                environment,
+            })
+        }
+        Ok(Expanded::Unset(key)) => Ok(Target::Nobody(unknown_parameter(alloc, key.as_str())?)),
+        Err(TextFault::BadExpansion) => {
+            Ok(Target::Nobody(unknown_parameter(alloc, job.instance.as_str())?))
+        }
+        Err(_) => Err(AllocError),
+    }
+}
+
+/// The job of this name, and the instance whose name these variables give.
+pub(crate) fn target_of<'a>(
+    alloc: Global,
+    setup: &'a Setup,
+    name: &str,
+    vars: &Env,
+) -> Result<Target<'a>, AllocError>
+    ensures { IfOk result (λ target. said_of target ≡ model.target_of setup.now name.now vars.now) }
+{
+    match job_called(setup.jobs(), name) {
+        Some(job) => {
+            let environment = request_env(setup, job, vars)?;
+            let target = target_in(alloc, job, environment)?;
+            Ok(target)
+        }
+        None => Ok(Target::Nobody(unknown_job(alloc, name)?)),
+    }
+}
