@@ -1,13 +1,13 @@
 -- The answers of a release, one after another.
-use Rattle.std.proofs.Common.{◌≡◌, ℕ, ◌+◌, ◌<◌, Bool, true, false, List, [], ◌∷◌, ◌++◌, Option, None, Some, codes, if◌then◌else◌, length, drop, get_or, map, refl, sym, ◌∙◌, ap, add-one, drop-cons, append_assoc}
+use Rattle.std.proofs.Common.{◌≡◌, ℕ, ◌+◌, ◌<◌, Bool, true, false, List, [], ◌∷◌, ◌++◌, Option, None, Some, codes, if◌then◌else◌, length, drop, get_or, map, refl, sym, ◌∙◌, ap, add-one, drop-cons, append_assoc, ◌==◌, eq-eqb}
 use Rattle.up_engine.specs.declared.keys.EventKey.{EventKey}
 use Rattle.up_engine.specs.declared.record.Record.{Record}
 use Rattle.up_engine.specs.Records.{place_of, chronicle, entry_of}
 use Rattle.up_conf.specs.declared.job.JobDef.{JobDef}
 use Rattle.up_engine.specs.Requests.{answer_of}
 use Rattle.up_model.specs.Chronicle.{Chronicle, Entry, Replied}
-use Rattle.up_model.specs.Commands.{Told, Target, Nobody, Concerns, refusal, stopped_text, status_at, status, job_lines, list_lines, entries_of}
-use Rattle.up_model.specs.Instances.{instances_of, instance_named}
+use Rattle.up_model.specs.Commands.{Told, Target, Nobody, Concerns, refusal, stopped_text, status_at, status, statuses, job_lines, list_lines, entries_of}
+use Rattle.up_model.specs.Instances.{Instance, instances_of, instance_named}
 use Rattle.up_model.specs.Replies.{request_at, answering_one, answering}
 use Rattle.up_model.specs.Values.{Bytes}
 use Rattle.up_text.specs.Scripts.{is_filled}
@@ -54,3 +54,8 @@ status_told given (Concerns job who environment) c = by_case (instance_named who
     by_case : (o : Option ℕ) → Replied given (answer_of (status_at job who o c)) ∷ [] ≡ entries_of given (status_at job who o c)
     by_case None = by_filled (is_filled job.instance)
     by_case (Some i) = refl
+
+-- a job with instances has a line for each
+pub lines_filled : (job : Bytes) (its : List Instance) (n : ℕ) (c : Chronicle) → n ≡ length its → (n == 0) ≡ false → statuses its c ≡ job_lines job its c
+lines_filled job [] n c same some = let none : (n == 0) ≡ true = eq-eqb n 0 same in absurd (cc)
+lines_filled job (x ∷ xs) n c same some = refl

@@ -1,8 +1,10 @@
 //! The engine: one step for one input, and a run over a list of them.
 ghost use Rattle.std.specs.Prelude.{◌≡◌, List, ℕ, Ok, Err, [], length, is_some, IfOk, OnOk};
 ghost use Rattle.up_engine.specs.Keys.{Resting};
+ghost use Rattle.up_engine.specs.Requests.{answer_of};
 ghost use Rattle.up_model.specs.Answers as answer;
 ghost use Rattle.up_model.specs.Chronicle.{Chronicle};
+ghost use Rattle.up_model.specs.Commands as commands;
 ghost use Rattle.up_model.specs.Configuration.{Configuration};
 ghost use Rattle.up_model.specs.Due as due;
 ghost use Rattle.up_model.specs.Outputs.{outputs_of};
@@ -53,10 +55,24 @@ fn step_book<B: Book>(
     Ok(outputs)
 }
 
+// What clients read of the instance of a job that these variables name.
+fn status_of<B: Book>(
+    alloc: Global,
+    setup: &Setup,
+    book: &B,
+    job: &str,
+    vars: &Env,
+) -> Result<Answer, AllocError>
+    ensures { IfOk result (λ answer. (c : Chronicle) → B.stands book.now Resting setup.now c
+        → answer ≡ answer_of (commands.status (commands.target_of setup.now job.now vars.now) c)) }
+{
+    let target = target_of(alloc, setup, job, vars)?;
+    let answer = status(alloc, book, target)?;
+    Ok(answer)
+}
+
 impl Engine {
-    ghost use Rattle.up_engine.specs.Requests.{answer_of};
     ghost use Rattle.up_engine.specs.Stands.{result_map, Stands, DownAt, IsDown, StepMeans, AnswerMeans, RunMeans, TellsOf};
-    ghost use Rattle.up_model.specs.Commands as commands;
 
     /// An engine to which nothing has happened. Each process gets its environment on top of `base`, of which each job gets a copy.
     pub fn new(alloc: Global, table: Table, base: Env) -> Result<Self, AllocError>
@@ -105,9 +121,10 @@ impl Engine {
         if self.down {
             return Err(StepError::Down);
         }
-        let target = target_of(self.alloc, &self.setup, job, vars)?;
-        let answer = status(self.alloc, &self.book, target)?;
-        Ok(answer)
+        match status_of(self.alloc, &self.setup, &self.book, job, vars) {
+            Ok(answer) => Ok(answer),
+            Err(_) => Err(StepError::Memory),
+        }
     }
 
     /// What clients read of all instances, and of the jobs without any: the text of a request `list` (initctl(8)). Refused with `Memory`,
@@ -119,8 +136,10 @@ impl Engine {
         if self.down {
             return Err(StepError::Down);
         }
-        let text = list(self.alloc, &self.setup, &self.book)?;
-        Ok(text)
+        match list(self.alloc, &self.setup, &self.book) {
+            Ok(text) => Ok(text),
+            Err(_) => Err(StepError::Memory),
+        }
     }
 
     /// Takes one input, and answers what it asks for, in order. Refused with `NotExpected` for the answer or the end of a process

@@ -93,16 +93,16 @@ fn start_who<B: Book>(
     alloc: Global,
     book: &mut B,
     holders: Items<EventKey>,
-    who: Who,
+    who: &Who,
     environment: Env,
 ) -> Result<(), AllocError>
     ensures { OnOk result ((config : Configuration) (c : Chronicle) (input : InputValue) (places : List ℕ) → B.stands book.old Stepping config (entry.Given input ∷ c)
         → map (B.event_place book.old (entry.Given input ∷ c)) holders ≡ map Some places
         → B.stands book.new Stepping config
-        (model.entries_of (length c) (model.start_at places who (with_instance who environment) (model_instances.instance_named who (entry.Given input ∷ c)) (entry.Given input ∷ c))
+        (model.entries_of (length c) (model.start_at places who.now (with_instance who.now environment) (model_instances.instance_named who.now (entry.Given input ∷ c)) (entry.Given input ∷ c))
         ++ entry.Given input ∷ c)) }
 {
-    match start_refusal(alloc, book, &who)? {
+    match start_refusal(alloc, book, who)? {
         Some(text) => {
             drop(holders);
             drop(environment);
@@ -139,7 +139,7 @@ fn start<B: Book>(
             job: _,
             who,
             environment,
-        } => start_who(alloc, book, holders, who, environment)?,
+        } => start_who(alloc, book, holders, &who, environment)?,
     }
     Ok(())
 }

@@ -29,5 +29,6 @@ pub returns : goal.returns
 returns c config c' s =
     let before = c.loop-next.invariant in
     let none = no_items (into_iter_items c.loop-next.next-iterator) (sym before.left ∙ c.in-None.ensures.steps.0) in
-    let whole = before.rest ∙ rw none (append-nil c.loop-next.yielded) in
+    let nothing : c.loop-next.yielded ++ into_iter_items c.loop-next.next-iterator ≡ c.loop-next.yielded = rw none (append-nil c.loop-next.yielded) in
+    let whole : c.args.records.items ≡ c.loop-next.yielded = before.rest ∙ nothing in
     rw whole (before.written config c' s)

@@ -1,4 +1,4 @@
-use Rattle.std.proofs.Common.{◌≡◌, ◌++◌, ap, false, subst}
+use Rattle.std.proofs.Common.{◌≡◌, ◌++◌, false, subst}
 use Rattle.up_engine.proofs.Entries.{some_same}
 use Rattle.up_engine.specs.Keys.{Stepping}
 use Rattle.up_engine.specs.Stored.{Stored}
@@ -7,4 +7,4 @@ use Rattle.up_engine.proofs.stored.StoringBookBook.release.Goals as goal
 
 pub returns-clause-after : goal.returns-clause-after
 returns-clause-after c config c' i s known =
-    rw (← some_same known) (c.in_ok-let_go.ensures config c' s)
+    subst (λ p. Stored c.let_go.new.self Stepping config (releasing p false c' ++ c')) (some_same known) (c.in_ok-let_go.ensures config c' s)
