@@ -108,13 +108,7 @@ fn start_who<B: Book>(
             drop(environment);
             refuse(book, text)?;
         }
-        None => start_called(
-            book,
-            &who.job,
-            who.instance.as_str(),
-            environment,
-            holders,
-        )?,
+        None => start_called(book, &who.job, who.instance.as_str(), environment, holders)?,
     }
     Ok(())
 }

@@ -53,11 +53,7 @@ fn status_at<B: Book>(
 }
 
 /// The status of the instance that a request names.
-pub(crate) fn status<B: Book>(
-    alloc: Global,
-    book: &B,
-    target: Target,
-) -> Result<Answer, AllocError>
+pub(crate) fn status<B: Book>(alloc: Global, book: &B, target: Target) -> Result<Answer, AllocError>
     ensures { IfOk result (λ answer. (mode : Mode) (config : Configuration) (c : Chronicle) → B.stands book.now mode config c
         → answer ≡ answer_of (model.status (said_of target.entry) c)) }
 {
@@ -75,11 +71,7 @@ pub(crate) fn status<B: Book>(
     }
 }
 
-fn push_status<B: Book>(
-    book: &B,
-    key: InstanceKey,
-    lines: &mut Vec<Text>,
-) -> Result<(), AllocError>
+fn push_status<B: Book>(book: &B, key: InstanceKey, lines: &mut Vec<Text>) -> Result<(), AllocError>
     ensures { OnOk result ((mode : Mode) (config : Configuration) (c : Chronicle) (i : ℕ) → B.stands book.now mode config c
         → B.instance_place book.now c key ≡ Some i → lines.new.items ≡ lines.old.items ++ status_of i c ∷ []) }
 {
@@ -88,11 +80,7 @@ fn push_status<B: Book>(
     Ok(())
 }
 
-fn add_statuses<B: Book>(
-    book: &B,
-    slots: &[Slot],
-    lines: &mut Vec<Text>,
-) -> Result<(), AllocError>
+fn add_statuses<B: Book>(book: &B, slots: &[Slot], lines: &mut Vec<Text>) -> Result<(), AllocError>
     ensures { OnOk result ((mode : Mode) (config : Configuration) (c : Chronicle) (its : List model_instances.Instance) → B.stands book.now mode config c
         → map (slot_at (B.instance_place book.now c)) slots.now ≡ map Some its
         → lines.new.items ≡ lines.old.items ++ model.statuses its c) }

@@ -81,7 +81,9 @@ fn acted_on_by(next: &Record) -> Option<Option<usize>>
 {
     match next {
         Record::Given(_) => Some(None),
-        Record::Aimed { instance, .. } | Record::Restarted { instance, .. } => Some(Some(*instance)),
+        Record::Aimed { instance, .. } | Record::Restarted { instance, .. } => Some(Some(
+            *instance,
+        )),
         _ => None,
     }
 }

@@ -15,4 +15,4 @@ returns c config c' i s known =
     let two = c.in_ok-write-2.ensures config (Entered p Waiting ∷ c') (Queued (Entering p Waiting) event) one refl in
     let three = c.in_ok-let_go.ensures config (Queued (Entering p Waiting) event ∷ Entered p Waiting ∷ c') two in
     subst (λ q. Stored c.let_go.new.self Stepping config
-        (releasing q false (Queued (Entering q Waiting) event ∷ Entered q Waiting ∷ c') ++ Queued (Entering q Waiting) event ∷ Entered q Waiting ∷ c')) (some_same known) three
+    (releasing q false (Queued (Entering q Waiting) event ∷ Entered q Waiting ∷ c') ++ Queued (Entering q Waiting) event ∷ Entered q Waiting ∷ c')) (some_same known) three
