@@ -5,6 +5,7 @@ mod clock;
 mod expressions;
 mod instances;
 mod processes;
+mod requests;
 mod restarts;
 mod tasks;
 
@@ -52,6 +53,7 @@ pub(crate) enum Given {
     RefusedAs(Process),
     EndedAs(Process, How),
     SpawnedIn(&'static str, u32),
+    /// A start of the job `zz`, which isn't there.
     Start(u64),
     Clock(u64),
 }
@@ -134,7 +136,7 @@ const STRANGER: [Row; 9] = [
 const REQUESTS: [Row; 14] = [
     (
         Given::Start(7),
-        "reply 7 ok=false Not supported: start; ",
+        "reply 7 ok=false Unknown job: zz; ",
         0,
         false,
     ),
@@ -214,7 +216,7 @@ fn var(alloc: Global, key: &str, value: &str) -> Result<Env, Untried> {
 }
 
 fn start(alloc: Global, id: u64) -> Result<Input, Untried> {
-    let name = Text::from_str(alloc, "a")?;
+    let name = Text::from_str(alloc, "zz")?;
     match Request::new(Command::Start, true, name, Env::new(alloc)) {
         Some(request) => Ok(Input::Request { id, request }),
         None => Err(Untried),

@@ -3,6 +3,7 @@ mod distribution;
 mod expressions;
 mod lines;
 mod reader;
+mod requests;
 mod rows;
 mod script;
 mod streams;
@@ -74,7 +75,7 @@ static BUNDLES: [Case; 19] = [
     },
     Case {
         bundle: b"%file  b.conf\n\nnonsense\n%script\nrequest 1 version\n",
-        printed: " b.conf:1: 12 BadName\nreply 1 failed \"Not supported: version\"\n",
+        printed: " b.conf:1: 12 BadName\nreply 1 ok \"init (upstart profile 1)\"\n",
         status: 1,
     },
     Case {
@@ -99,7 +100,7 @@ static BUNDLES: [Case; 19] = [
     },
     Case {
         bundle: b"%script\n # \"'\\ \nrequest 1 list#\"\n",
-        printed: "reply 1 failed \"Not supported: list\"\n",
+        printed: "reply 1 ok \"\"\n",
         status: 0,
     },
     Case {
@@ -169,50 +170,38 @@ static STEPS: [(&[u8], &str); 33] = [
     (b"\t emit  go A=1\tA=2 _b3== # x", ""),
     (b"clock 0", ""),
     (b"clock 18446744073709551615", ""),
-    (
-        b"request 0 start a",
-        "reply 0 failed \"Not supported: start\"\n",
-    ),
+    (b"request 0 start a", "reply 0 failed \"Unknown job: a\"\n"),
     (
         b"request 007 start --no-wait a K=V",
-        "reply 7 failed \"Not supported: start\"\n",
+        "reply 7 failed \"Unknown job: a\"\n",
     ),
     (
         b"request 18446744073709551615 stop a",
-        "reply 18446744073709551615 failed \"Not supported: stop\"\n",
+        "reply 18446744073709551615 failed \"Unknown job: a\"\n",
     ),
     (
         b"request 1 stop --no-wait a",
-        "reply 1 failed \"Not supported: stop\"\n",
+        "reply 1 failed \"Unknown job: a\"\n",
     ),
     (
         b"request 1 restart a",
-        "reply 1 failed \"Not supported: restart\"\n",
+        "reply 1 failed \"Unknown job: a\"\n",
     ),
     (
         b"request 1 restart --no-wait a",
-        "reply 1 failed \"Not supported: restart\"\n",
+        "reply 1 failed \"Unknown job: a\"\n",
     ),
     (
         b"request 1 status a K=V",
-        "reply 1 failed \"Not supported: status\"\n",
+        "reply 1 failed \"Unknown job: a\"\n",
     ),
     (
         b"request 1 status --no-wait",
-        "reply 1 failed \"Not supported: status\"\n",
+        "reply 1 failed \"Unknown job: --no-wait\"\n",
     ),
-    (
-        b"request 1 list",
-        "reply 1 failed \"Not supported: list\"\n",
-    ),
-    (
-        b"request 1 emit go",
-        "reply 1 failed \"Not supported: emit\"\n",
-    ),
-    (
-        b"request 1 emit --no-wait go K=",
-        "reply 1 failed \"Not supported: emit\"\n",
-    ),
+    (b"request 1 list", "reply 1 ok \"\"\n"),
+    (b"request 1 emit go", ""),
+    (b"request 1 emit --no-wait go K=", "reply 1 ok \"\"\n"),
     (
         b"request 1 reload a",
         "reply 1 failed \"Not supported: reload\"\n",
@@ -223,7 +212,7 @@ static STEPS: [(&[u8], &str); 33] = [
     ),
     (
         b"request 1 version",
-        "reply 1 failed \"Not supported: version\"\n",
+        "reply 1 ok \"init (upstart profile 1)\"\n",
     ),
     (b"spawned a \"\" main 0", "refused 40 NotExpected\n"),
     (

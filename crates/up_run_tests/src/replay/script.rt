@@ -52,7 +52,7 @@ const JOINED: [Case; 6] = [
     },
     Case {
         bundle: b"%script\nrequest 1 version\\\n",
-        printed: "reply 1 failed \"Not supported: version\"\n",
+        printed: "reply 1 ok \"init (upstart profile 1)\"\n",
         status: 0,
     },
     Case {
@@ -62,7 +62,7 @@ const JOINED: [Case; 6] = [
     },
     Case {
         bundle: b"%script\nturn # a \\\nrequest 1 version\n",
-        printed: "reply 1 failed \"Not supported: version\"\n",
+        printed: "reply 1 ok \"init (upstart profile 1)\"\n",
         status: 0,
     },
 ];
@@ -155,7 +155,7 @@ const NO_TEXT: [Case; 8] = [
     },
     Case {
         bundle: b"%script\nrequest 1 version # \xc3\xa9\n",
-        printed: "reply 1 failed \"Not supported: version\"\n",
+        printed: "reply 1 ok \"init (upstart profile 1)\"\n",
         status: 0,
     },
 ];
@@ -164,7 +164,7 @@ const NO_TEXT: [Case; 8] = [
 const COMMENTS: [Case; 11] = [
     Case {
         bundle: b"%script\n# \xff\x00 \"\nrequest 1 version#\xff",
-        printed: "reply 1 failed \"Not supported: version\"\n",
+        printed: "reply 1 ok \"init (upstart profile 1)\"\n",
         status: 0,
     },
     Case {
