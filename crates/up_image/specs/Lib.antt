@@ -1,2 +1,5 @@
 pub mod Compiling
+pub mod Image
+pub mod Index
 pub mod Refusals
+pub mod Texts

@@ -4,6 +4,9 @@
 pub mod compiling;
 pub mod refusal;
 pub mod table;
+mod bytes;
+mod index;
+mod put_lists;
 mod twice;
 
 pub use compiling::compile;
