@@ -1,3 +1,4 @@
 pub mod Appending
 pub mod Paths
+pub mod Places
 pub mod Repeats

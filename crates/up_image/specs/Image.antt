@@ -63,10 +63,14 @@ abbrev pub flags : JobDef → ℕ
 flags job = bit 1 job.task + bit 2 job.respawn + bit 4 job.silent
 
 -- a job's own fields, its lists, its processes and its expressions
+abbrev pub text_parts : JobDef → List ℕ
+text_parts job = text_part job.name ++ (flags job ∷ []) ++ text_part job.instance ++ text_part job.dir
+
+abbrev pub number_parts : JobDef → List ℕ
+number_parts job = big_bytes 4 job.limit.count ++ big_bytes 4 job.limit.interval ++ (job.kill_signal ∷ []) ++ big_bytes 4 job.kill_timeout
+
 abbrev pub field_part : JobDef → List ℕ
-field_part job =
-    text_part job.name ++ (flags job ∷ []) ++ text_part job.instance ++ text_part job.dir
-    ++ big_bytes 4 job.limit.count ++ big_bytes 4 job.limit.interval ++ (job.kill_signal ∷ []) ++ big_bytes 4 job.kill_timeout
+field_part job = text_parts job ++ number_parts job
 
 abbrev pub set_part : JobDef → List ℕ
 set_part job = list_part setting_part job.env ++ list_part text_part job.export ++ list_part exit_part job.normal
@@ -78,7 +82,7 @@ process_part job =
 abbrev pub event_part : JobDef → List ℕ
 event_part job = list_part node_part (nodes_in job.start_on) ++ list_part node_part (nodes_in job.stop_on)
 
-abbrev pub job_part : JobDef → List ℕ
+unfoldable pub job_part : JobDef → List ℕ
 job_part job = field_part job ++ set_part job ++ process_part job ++ event_part job
 
 -- whether the numbers of its items fit: 65,535 in a list, and 4,095 nodes in an expression
@@ -95,8 +99,12 @@ fits_node (node.Leaf leaf) = is_countable leaf.values
 fits_node (node.And left right) = true
 fits_node (node.Or left right) = true
 
-abbrev pub fits_nodes : List Node → Bool
-fits_nodes nodes = nat_le (length nodes) 4095 && list_all fits_node nodes
+abbrev pub is_short : Option Tree → Bool
+is_short None = true
+is_short (Some tree) = nat_le (size tree) 4095
+
+abbrev pub fits_condition : Option Tree → Bool
+fits_condition condition = is_short condition && list_all fits_node (nodes_in condition)
 
 abbrev pub fits_lists : JobDef → Bool
 fits_lists job = is_countable job.env && is_countable job.export && is_countable job.normal
@@ -106,9 +114,9 @@ fits_processes job =
     fits_action job.main && fits_action job.pre_start && fits_action job.post_start && fits_action job.pre_stop && fits_action job.post_stop
 
 abbrev pub fits_events : JobDef → Bool
-fits_events job = fits_nodes (nodes_in job.start_on) && fits_nodes (nodes_in job.stop_on)
+fits_events job = fits_condition job.start_on && fits_condition job.stop_on
 
-abbrev pub fits : JobDef → Bool
+unfoldable pub fits : JobDef → Bool
 fits job = fits_lists job && fits_processes job && fits_events job
 
 -- the jobs, and behind them the index of the events

@@ -1,5 +1,6 @@
 pub mod Compiling
 pub mod Image
+pub mod ImageErrors
 pub mod Index
 pub mod Refusals
 pub mod Texts

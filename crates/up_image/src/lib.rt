@@ -5,10 +5,16 @@ pub mod compiling;
 pub mod refusal;
 pub mod table;
 mod bytes;
+mod fits;
+mod image;
+pub mod image_error;
 mod index;
+mod put_job;
 mod put_lists;
+mod put_nodes;
 mod twice;
 
 pub use compiling::compile;
+pub use image_error::ImageError;
 pub use refusal::CompileError;
 pub use table::Table;
