@@ -67,13 +67,13 @@ first_run first (next ∷ places) n is = by_case (bytes_eq next.event first.even
     by_case : (b : Bool) → bytes_eq next.event first.event ≡ b → let m = prefix_len (λ place. bytes_eq place.event next.event) places in
         onto_runs next (runs_of places) ≡ (next ∷ take m places) ∷ runs_of (drop m places)
         → onto_runs first (onto_runs next (runs_of places)) ≡ take (suc n) (first ∷ next ∷ places) ∷ runs_of (drop (suc n) (first ∷ next ∷ places))
-    by_case true yes after =
+    by_case true match after =
         let m = prefix_len (λ place. bytes_eq place.event next.event) places in
-        let same : next.event ≡ first.event = (bytes_eq-Decides next.event first.event).0 yes in
+        let same : next.event ≡ first.event = (bytes_eq-Decides next.event first.event).0 match in
         let known : prefix_len (λ place. bytes_eq place.event first.event) places ≡ m = ap (λ e. prefix_len (λ place. bytes_eq place.event e) places) (sym same) in
-        let counted : n ≡ 1 + prefix_len (λ place. bytes_eq place.event first.event) places = rw yes at is in
+        let counted : n ≡ 1 + prefix_len (λ place. bytes_eq place.event first.event) places = rw match at is in
         let long : n ≡ suc m = omega (arith, counted, known) in
-        ap (onto_runs first) after ∙ rw (yes, long) refl
+        ap (onto_runs first) after ∙ rw (match, long) refl
     by_case false other after =
         let counted : n ≡ 0 = rw other at is in
         ap (onto_runs first) after ∙ rw (other, counted) (ap (λ runs. (first ∷ []) ∷ runs) (sym after))

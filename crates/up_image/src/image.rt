@@ -1,5 +1,5 @@
 //! Writes a table as bytes.
-ghost use Rattle.std.specs.Prelude.{◌≡◌, ◌++◌, ◌≤◌, true, IfErr, IfOk, List, OnOk, length, ℕ};
+ghost use Rattle.std.specs.Prelude.{◌≡◌, ◌+◌, ◌++◌, ◌≤◌, true, IfErr, IfOk, List, OnOk, length, ℕ};
 ghost use Rattle.std.specs.List.{list_all};
 ghost use Rattle.up_image.specs.declared.image_error.ImageError.TheVariants.{ImageTooLarge};
 ghost use Rattle.up_image.specs.Image.{IsImage, body_of, fits, head_of};

@@ -116,7 +116,8 @@ fn sort_places(places: &mut Vec<Place>) -> Result<(), AllocError>
 
 // How many places from the first one on have this event.
 fn same_len(event: &Name, places: &[Place]) -> usize
-    ensures { result ≡ prefix_len (λ place. bytes_eq place.event event.now) places.now }
+    ensures counted { result ≡ prefix_len (λ place. bytes_eq place.event event.now) places.now }
+    ensures within { result ≤ length places.now }
 {
     places.iter().take_while(|place| place.event.is(event)).count()
 }
@@ -127,7 +128,10 @@ fn split_run(places: &[Place]) -> Option<(&[Place], &[Place])>
 {
     match places.split_first() {
         None => None,
-        Some((first, others)) => Some(places.split_at(1 + same_len(&first.event, others))),
+        Some((first, others)) => {
+            let len = same_len(&first.event, others);
+            Some(places.split_at(1 + len))
+        }
     }
 }
 
