@@ -1,0 +1,93 @@
+//! Reads what a job sets and runs.
+
+use crate::take::{push, take_byte, take_text, take_texts, take_two};
+use crate::unread::Unread;
+use std::alloc::Global;
+use up_stanza::{Action, Exit, Setting, Signal, signal_name};
+use up_text::{Items, Text};
+
+fn take_value(alloc: Global, bytes: &[u8]) -> Result<(Option<Text>, &[u8]), Unread> {
+    let (kind, rest) = take_byte(bytes)?;
+    match kind {
+        0 => Ok((None, rest)),
+        1 => {
+            let (value, rest) = take_text(alloc, rest)?;
+            Ok((Some(value), rest))
+        }
+        _ => Err(Unread::BadTable),
+    }
+}
+
+fn take_setting(alloc: Global, bytes: &[u8]) -> Result<(Setting, &[u8]), Unread> {
+    let (key, rest) = take_text(alloc, bytes)?;
+    let (value, rest) = take_value(alloc, rest)?;
+    Ok((Setting { key, value }, rest))
+}
+
+pub(crate) fn take_settings(alloc: Global, bytes: &[u8]) -> Result<(Items<Setting>, &[u8]), Unread> {
+    let (count, mut rest) = take_two(bytes)?;
+    let mut settings = Vec::new(alloc);
+    'settings: for _ in 0..count {
+        let (setting, behind) = take_setting(alloc, rest)?;
+        push(&mut settings, setting)?;
+        rest = behind;
+    }
+    Ok((Items::new(settings), rest))
+}
+
+// The signal of this number.
+fn signal_of(number: u8) -> Result<Signal, Unread> {
+    match signal_name(number) {
+        Some(name) => match Signal::read(name) {
+            Some(signal) => Ok(signal),
+            None => Err(Unread::BadTable),
+        },
+        None => Err(Unread::BadTable),
+    }
+}
+
+pub(crate) fn take_signal(bytes: &[u8]) -> Result<(Signal, &[u8]), Unread> {
+    let (number, rest) = take_byte(bytes)?;
+    let signal = signal_of(number)?;
+    Ok((signal, rest))
+}
+
+fn take_exit(bytes: &[u8]) -> Result<(Exit, &[u8]), Unread> {
+    let (kind, rest) = take_byte(bytes)?;
+    let (number, rest) = take_byte(rest)?;
+    match kind {
+        0 => Ok((Exit::Status(number), rest)),
+        1 => {
+            let signal = signal_of(number)?;
+            Ok((Exit::Signal(signal), rest))
+        }
+        _ => Err(Unread::BadTable),
+    }
+}
+
+pub(crate) fn take_exits(alloc: Global, bytes: &[u8]) -> Result<(Items<Exit>, &[u8]), Unread> {
+    let (count, mut rest) = take_two(bytes)?;
+    let mut exits = Vec::new(alloc);
+    'exits: for _ in 0..count {
+        let (exit, behind) = take_exit(rest)?;
+        push(&mut exits, exit)?;
+        rest = behind;
+    }
+    Ok((Items::new(exits), rest))
+}
+
+pub(crate) fn take_action(alloc: Global, bytes: &[u8]) -> Result<(Option<Action>, &[u8]), Unread> {
+    let (kind, rest) = take_byte(bytes)?;
+    match kind {
+        0 => Ok((None, rest)),
+        1 => {
+            let (words, rest) = take_texts(alloc, rest)?;
+            Ok((Some(Action::Words(words)), rest))
+        }
+        2 => {
+            let (text, rest) = take_text(alloc, rest)?;
+            Ok((Some(Action::Shell(text)), rest))
+        }
+        _ => Err(Unread::BadTable),
+    }
+}
