@@ -31,7 +31,7 @@ leaves_more job start old all next nodes i d below so_far one =
     one ∙ ap (λ xs. xs ++ leaf_places job start i (get_or nodes i d ∷ [])) so_far
     ∙ append_assoc old (leaf_places job start 0 (take i nodes)) (leaf_places job start i (get_or nodes i d ∷ []))
     ∙ ap (λ xs. old ++ xs) (ap (λ n. leaf_places job start 0 (take i nodes) ++ leaf_places job start n (get_or nodes i d ∷ [])) (sym long)
-        ∙ sym (leaves-append job start 0 (take i nodes) (get_or nodes i d ∷ [])) ∙ ap (λ ns. leaf_places job start 0 ns) (sym (take_more nodes i d below)))
+    ∙ sym (leaves-append job start 0 (take i nodes) (get_or nodes i d ∷ [])) ∙ ap (λ ns. leaf_places job start 0 ns) (sym (take_more nodes i d below)))
   where
     length_front : (ns : List Node) (n : ℕ) → n < length ns → length (take n ns) ≡ n
     length_front ns n less = length-take-le n ns (omega arith)

@@ -53,7 +53,12 @@ fn add_leaf(
     match node {
         Node::Leaf(leaf) => {
             let event = leaf.event.copy()?;
-            places.push(Place { event, job, start, node: at })?;
+            places.push(Place {
+                event,
+                job,
+                start,
+                node: at,
+            })?;
         }
         Node::And(_, _) | Node::Or(_, _) => {}
     }
@@ -119,7 +124,10 @@ fn same_len(event: &Name, places: &[Place]) -> usize
     ensures counted { result ≡ prefix_len (λ place. bytes_eq place.event event.now) places.now }
     ensures within { result ≤ length places.now }
 {
-    places.iter().take_while(|place| place.event.is(event)).count()
+    places
+        .iter()
+        .take_while(|place| place.event.is(event))
+        .count()
 }
 
 // The first run of one event, and the places behind it.

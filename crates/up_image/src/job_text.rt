@@ -58,11 +58,7 @@ fn setting_line(alloc: Global, setting: &Setting) -> Result<String, AllocError> 
 }
 
 // Settings keep their order: once one goes into the override, all later ones do.
-fn add_settings(
-    alloc: Global,
-    draft: &mut Draft,
-    settings: &[Setting],
-) -> Result<(), AllocError> {
+fn add_settings(alloc: Global, draft: &mut Draft, settings: &[Setting]) -> Result<(), AllocError> {
     let mut over = false;
     for (place, setting) in settings.iter().enumerate() {
         let line = setting_line(alloc, setting)?;
@@ -178,7 +174,9 @@ fn add_numbers(alloc: Global, draft: &mut Draft, job: &JobDef) -> Result<(), All
     let interval = job.limit.interval;
     let signal = job.kill_signal.number();
     let timeout = job.kill_timeout;
-    let lines = format!(in alloc; "respawn limit {count} {interval}\nkill signal {signal}\nkill timeout {timeout}\n")?;
+    let lines = format!(in alloc;
+        "respawn limit {count} {interval}\nkill signal {signal}\nkill timeout {timeout}\n"
+    )?;
     draft.add(lines.as_str(), false)?;
     Ok(())
 }

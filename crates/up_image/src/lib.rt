@@ -1,10 +1,8 @@
 //! How the jobs of a folder are kept: their table.
 #![tactic(auto)]
 
-pub mod compiling;
-pub mod refusal;
-pub mod table;
 mod bytes;
+pub mod compiling;
 mod fits;
 mod image;
 pub mod image_error;
@@ -13,13 +11,16 @@ mod job_text;
 mod put_job;
 mod put_lists;
 mod put_nodes;
+mod read_image;
+pub mod refusal;
 mod stanza_text;
+pub mod table;
 mod take;
 mod take_job;
 mod take_lists;
 mod take_nodes;
-mod unread;
 mod twice;
+mod unread;
 
 pub use compiling::compile;
 pub use image_error::ImageError;

@@ -87,7 +87,11 @@ fn put_shell(out: &mut String, text: &str) -> Result<(), AllocError> {
 }
 
 /// Appends the `exec` or `script` of a process, behind the process's name.
-pub(crate) fn put_action(out: &mut String, process: &str, action: &Action) -> Result<(), AllocError> {
+pub(crate) fn put_action(
+    out: &mut String,
+    process: &str,
+    action: &Action,
+) -> Result<(), AllocError> {
     out.push_str(process)?;
     match action {
         Action::Words(words) => put_words(out, words.as_slice())?,

@@ -1,7 +1,7 @@
 //! Reads jobs.
 
 use crate::take::{push, take_byte, take_four, take_name, take_text, take_texts};
-use crate::take_lists::{take_action, take_exits, take_settings, take_signal};
+use crate::take_lists::{signal_of, take_action, take_exits, take_settings};
 use crate::take_nodes::take_condition;
 use crate::unread::Unread;
 use std::alloc::Global;
@@ -46,7 +46,8 @@ fn take_job(alloc: Global, bytes: &[u8]) -> Result<(JobDef, &[u8]), Unread> {
     let (instance, rest) = take_text(alloc, rest)?;
     let (dir, rest) = take_text(alloc, rest)?;
     let (limit, rest) = take_limit(rest)?;
-    let (kill_signal, rest) = take_signal(rest)?;
+    let (number, rest) = take_byte(rest)?;
+    let kill_signal = signal_of(number)?;
     let (kill_timeout, rest) = take_four(rest)?;
     let (env, rest) = take_settings(alloc, rest)?;
     let (export, rest) = take_texts(alloc, rest)?;

@@ -2,7 +2,7 @@
 
 use crate::take::{push, take_byte, take_text, take_texts, take_two};
 use crate::unread::Unread;
-use std::alloc::Global;
+use std::alloc::{AllocError, Global};
 use up_stanza::{Action, Exit, Setting, Signal, signal_name};
 use up_text::{Items, Text};
 
@@ -24,7 +24,10 @@ fn take_setting(alloc: Global, bytes: &[u8]) -> Result<(Setting, &[u8]), Unread>
     Ok((Setting { key, value }, rest))
 }
 
-pub(crate) fn take_settings(alloc: Global, bytes: &[u8]) -> Result<(Items<Setting>, &[u8]), Unread> {
+pub(crate) fn take_settings(
+    alloc: Global,
+    bytes: &[u8],
+) -> Result<(Items<Setting>, &[u8]), Unread> {
     let (count, mut rest) = take_two(bytes)?;
     let mut settings = Vec::new(alloc);
     'settings: for _ in 0..count {
@@ -36,7 +39,7 @@ pub(crate) fn take_settings(alloc: Global, bytes: &[u8]) -> Result<(Items<Settin
 }
 
 // The signal of this number.
-fn signal_of(number: u8) -> Result<Signal, Unread> {
+pub(crate) fn signal_of(number: u8) -> Result<Signal, Unread> {
     match signal_name(number) {
         Some(name) => match Signal::read(name) {
             Some(signal) => Ok(signal),
@@ -46,32 +49,37 @@ fn signal_of(number: u8) -> Result<Signal, Unread> {
     }
 }
 
-pub(crate) fn take_signal(bytes: &[u8]) -> Result<(Signal, &[u8]), Unread> {
-    let (number, rest) = take_byte(bytes)?;
-    let signal = signal_of(number)?;
-    Ok((signal, rest))
-}
-
-fn take_exit(bytes: &[u8]) -> Result<(Exit, &[u8]), Unread> {
-    let (kind, rest) = take_byte(bytes)?;
-    let (number, rest) = take_byte(rest)?;
+// The exit of this kind and number.
+fn exit_of(kind: u8, number: u8) -> Result<Exit, Unread> {
     match kind {
-        0 => Ok((Exit::Status(number), rest)),
+        0 => Ok(Exit::Status(number)),
         1 => {
             let signal = signal_of(number)?;
-            Ok((Exit::Signal(signal), rest))
+            Ok(Exit::Signal(signal))
         }
         _ => Err(Unread::BadTable),
     }
+}
+
+fn push_exit(exits: &mut Vec<Exit>, exit: Exit) -> Result<(), AllocError> {
+    exits.push(exit)?;
+    Ok(())
+}
+
+// Reads an exit and appends it, and returns the bytes after it.
+fn add_exit<'a>(exits: &mut Vec<Exit>, bytes: &'a [u8]) -> Result<&'a [u8], Unread> {
+    let (kind, rest) = take_byte(bytes)?;
+    let (number, rest) = take_byte(rest)?;
+    let exit = exit_of(kind, number)?;
+    push_exit(exits, exit)?;
+    Ok(rest)
 }
 
 pub(crate) fn take_exits(alloc: Global, bytes: &[u8]) -> Result<(Items<Exit>, &[u8]), Unread> {
     let (count, mut rest) = take_two(bytes)?;
     let mut exits = Vec::new(alloc);
     'exits: for _ in 0..count {
-        let (exit, behind) = take_exit(rest)?;
-        push(&mut exits, exit)?;
-        rest = behind;
+        rest = add_exit(&mut exits, rest)?;
     }
     Ok((Items::new(exits), rest))
 }
