@@ -1,4 +1,4 @@
-//! How the jobs of a folder are kept: their table.
+//! How the jobs of a folder are kept: their table, and its image in bytes.
 #![tactic(auto)]
 
 mod bytes;
@@ -8,6 +8,7 @@ mod image;
 pub mod image_error;
 mod index;
 mod job_text;
+pub mod laws;
 mod put_job;
 mod put_lists;
 mod put_nodes;
