@@ -1,4 +1,5 @@
 pub mod Fault
+pub mod Flat
 pub mod Matching
 pub mod Parsing
 pub mod Parts

@@ -37,7 +37,7 @@ fn copy_tests(alloc: Global, tests: &[Test]) -> Result<Items<Test>, AllocError>
     Ok(Items::new(copied))
 }
 
-fn copy_leaf(alloc: Global, leaf: &Leaf) -> Result<Leaf, AllocError>
+pub(crate) fn copy_leaf(alloc: Global, leaf: &Leaf) -> Result<Leaf, AllocError>
     ensures { IfOk result (λ copied. copied ≡ leaf.now) }
 {
     let event = leaf.event.copy()?;

@@ -1,11 +1,29 @@
-//! How the jobs of a folder are kept: their table.
+//! How the jobs of a folder are kept: their table, and its image in bytes.
 #![tactic(auto)]
 
+mod bytes;
 pub mod compiling;
+mod fits;
+mod image;
+pub mod image_error;
+mod index;
+mod job_text;
+pub mod laws;
+mod put_job;
+mod put_lists;
+mod put_nodes;
+mod read_image;
 pub mod refusal;
+mod stanza_text;
 pub mod table;
+mod take;
+mod take_job;
+mod take_lists;
+mod take_nodes;
 mod twice;
+mod unread;
 
 pub use compiling::compile;
+pub use image_error::ImageError;
 pub use refusal::CompileError;
 pub use table::Table;

@@ -1,6 +1,13 @@
 //! The jobs of a folder.
-ghost use Rattle.std.specs.Prelude.{◌≡◌, ◌<◌, Some, length, slice_get};
+ghost use Rattle.std.specs.Prelude.{◌≡◌, ◌<◌, IfErr, IfOk, List, Some, length, slice_get, ℕ};
+ghost use Rattle.up_image.specs.declared.image_error.ImageError.TheVariants.{ImageTooLarge};
+ghost use Rattle.up_image.specs.Image.{IsImage};
+ghost use Rattle.up_image.specs.Reading.{ReadsImage, head_error};
 
+use crate::image::write_image;
+use crate::image_error::ImageError;
+use crate::read_image::read_image;
+use std::alloc::Global;
 use std::marker::Model;
 use up_conf::JobDef;
 use up_text::Items;
@@ -51,5 +58,20 @@ impl Table {
         ensures { result.now ≡ self.now }
     {
         self.jobs.as_slice()
+    }
+
+    /// The table's image. Refused with `ImageTooLarge` only where it has none, else with `Memory`.
+    pub fn to_bytes(&self, alloc: Global) -> Result<Vec<u8>, ImageError>
+        ensures image { IfOk result (λ bytes. IsImage bytes.items self.now) }
+        ensures refused { IfErr result (λ error. error ≡ ImageTooLarge → (bytes : List ℕ) → IsImage bytes self.now → ⊥) }
+    {
+        write_image(alloc, self.as_slice())
+    }
+
+    /// The table whose image these bytes are. Takes no more memory than in proportion to the bytes, whatever lengths they claim.
+    pub fn from_bytes(alloc: Global, bytes: &[u8]) -> Result<Table, ImageError>
+        ensures { ReadsImage bytes.now (head_error bytes.now) result }
+    {
+        read_image(alloc, bytes)
     }
 }

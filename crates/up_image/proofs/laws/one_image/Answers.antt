@@ -1,0 +1,7 @@
+use Rattle.std.proofs.Common.{length}
+use Rattle.up_image.specs.Image.{body_of}
+use Rattle.up_image.proofs.Images.{same_image}
+use Rattle.up_image.proofs.laws.one_image.Goals as goal
+
+pub returns : goal.returns
+returns c = λ bytes other jobs image also. same_image (length jobs) bytes other (body_of jobs) image.written also.written

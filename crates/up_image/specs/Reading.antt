@@ -1,0 +1,35 @@
+-- When bytes are read as a table, and why they are refused.
+use Rattle.std.specs.Prelude.{◌≡◌, ◌⊎◌, ℕ, ◌==◌, nat_lt, not, if◌then◌else◌, List, take, drop, length, Option, None, Some, Result, Ok, Err, codes}
+use Rattle.std.specs.Str.{bytes_eq}
+use Rattle.byteorder.specs.Endian.{big_number}
+use Rattle.up_conf.specs.declared.folder.File.{File}
+use Rattle.up_conf.specs.declared.job.JobDef.{JobDef}
+use Rattle.up_conf.specs.declared.report.Fault.{Fault}
+use Rattle.up_image.specs.declared.image_error.ImageError.{ImageError}
+use Rattle.up_image.specs.declared.image_error.ImageError.TheVariants.{BadMagic, BadVersion, Truncated, Trailing, BadTable, Memory}
+use Rattle.up_image.specs.Compiling.{Compiles}
+use Rattle.up_image.specs.Image.{IsImage}
+
+-- how long an image says that it is
+abbrev pub claimed : List ℕ → ℕ
+claimed bytes = big_number 4 (drop 8 bytes)
+
+-- what is wrong with the head of an image: its mark, as far as there are bytes; its version; or its length
+unfoldable pub head_error : List ℕ → Option ImageError
+head_error bytes =
+    if not (bytes_eq (take 4 bytes) (take (length bytes) (codes "UPTB"))) then Some BadMagic
+    else (if nat_lt (length bytes) 12 then Some Truncated
+    else (if not (big_number 2 (drop 4 bytes) == 1) then Some BadVersion
+    else (if nat_lt (length bytes) (claimed bytes) then Some Truncated
+    else (if nat_lt (claimed bytes) (length bytes) then Some Trailing
+    else None))))
+
+-- a table that some folder of job files is compiled to
+abbrev pub IsGiven : List JobDef → Type 0
+IsGiven jobs = (files : List File) × ((report : List Fault) × Compiles files jobs report)
+
+-- what reading bytes may answer, by what is wrong with their head
+abbrev pub ReadsImage : List ℕ → Option ImageError → Result (List JobDef) ImageError → Type 0
+ReadsImage bytes (Some error) result = result ≡ Err error
+ReadsImage bytes None (Ok jobs) = IsImage bytes jobs × IsGiven jobs
+ReadsImage bytes None (Err error) = (error ≡ BadTable) ⊎ (error ≡ Memory)

@@ -1,0 +1,97 @@
+//! Tells whether an image can say how long a table's lists are.
+ghost use Rattle.std.specs.Prelude.{◌≡◌, true, IfOk};
+ghost use Rattle.std.specs.List.{list_all};
+ghost use Rattle.up_image.specs.Image as image;
+
+use std::alloc::{AllocError, Global};
+use up_conf::JobDef;
+use up_expr::{Condition, FlatFault, Node, flatten};
+use up_stanza::Action;
+
+/// The most items that a list has.
+const MAX_ITEMS: usize = 65_535;
+
+fn fits_action(action: &Option<Action>) -> bool
+    ensures { result ≡ image.fits_action action.now }
+{
+    match action {
+        None => true,
+        Some(Action::Words(words)) => words.as_slice().len() <= MAX_ITEMS,
+        Some(Action::Shell(_)) => true,
+    }
+}
+
+fn fits_node(node: &Node) -> bool
+    ensures { result ≡ image.fits_node node.now }
+{
+    match node {
+        Node::Leaf(leaf) => leaf.values.as_slice().len() <= MAX_ITEMS,
+        Node::And(_, _) => true,
+        Node::Or(_, _) => true,
+    }
+}
+
+fn fit_nodes(nodes: &[Node]) -> bool
+    ensures { result ≡ list_all image.fits_node nodes.now }
+{
+    nodes.iter().all(|node| fits_node(node))
+}
+
+fn fits_condition(alloc: Global, condition: &Option<Condition>) -> Result<bool, AllocError>
+    ensures { IfOk result (λ fits. fits ≡ image.fits_condition condition.now) }
+{
+    match condition {
+        None => Ok(true),
+        Some(condition) => match flatten(alloc, condition.expr()) {
+            Ok(nodes) => Ok(fit_nodes(nodes.as_slice())),
+            Err(FlatFault::ImageTooLarge) => Ok(false),
+            Err(FlatFault::Memory) => Err(AllocError),
+        },
+    }
+}
+
+fn fits_lists(job: &JobDef) -> bool
+    ensures { result ≡ image.fits_lists job.now }
+{
+    job.env.as_slice().len() <= MAX_ITEMS
+        && job.export.as_slice().len() <= MAX_ITEMS
+        && job.normal.as_slice().len() <= MAX_ITEMS
+}
+
+fn fits_processes(job: &JobDef) -> bool
+    ensures { result ≡ image.fits_processes job.now }
+{
+    fits_action(&job.main)
+        && fits_action(&job.pre_start)
+        && fits_action(&job.post_start)
+        && fits_action(&job.pre_stop)
+        && fits_action(&job.post_stop)
+}
+
+fn fits_events(alloc: Global, job: &JobDef) -> Result<bool, AllocError>
+    ensures { IfOk result (λ fits. fits ≡ image.fits_events job.now) }
+{
+    let start = fits_condition(alloc, &job.start_on)?;
+    let stop = fits_condition(alloc, &job.stop_on)?;
+    Ok(start && stop)
+}
+
+#[tactic(auto, unfolding(crate::specs::Image::fits))]
+fn fits(alloc: Global, job: &JobDef) -> Result<bool, AllocError>
+    ensures { IfOk result (λ fits. fits ≡ image.fits job.now) }
+{
+    let events = fits_events(alloc, job)?;
+    Ok(fits_lists(job) && fits_processes(job) && events)
+}
+
+/// Whether all lists of the jobs are as short as an image can say.
+pub(crate) fn all_fit(alloc: Global, jobs: &[JobDef]) -> Result<bool, AllocError>
+    ensures { IfOk result (λ fit. fit ≡ list_all image.fits jobs.now) }
+{
+    for job in jobs {
+        if !fits(alloc, job)? {
+            return Ok(false);
+        }
+    }
+    Ok(true)
+}

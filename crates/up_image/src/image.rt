@@ -1,0 +1,76 @@
+//! Writes a table as bytes.
+ghost use Rattle.std.specs.Prelude.{◌≡◌, ◌+◌, ◌++◌, ◌≤◌, true, IfErr, IfOk, List, OnOk, length, ℕ};
+ghost use Rattle.std.specs.List.{list_all};
+ghost use Rattle.up_image.specs.declared.image_error.ImageError.TheVariants.{ImageTooLarge};
+ghost use Rattle.up_image.specs.Image.{IsImage, body_of, fits, head_of};
+
+use crate::bytes::{put_four, put_two};
+use crate::compiling::MAX_JOBS;
+use crate::fits::all_fit;
+use crate::image_error::ImageError;
+use crate::index::put_index;
+use crate::put_job::put_jobs;
+use std::alloc::{AllocError, Global};
+use up_conf::JobDef;
+
+/// The most bytes that an image has: 16 MiB.
+pub(crate) const MAX_IMAGE: usize = 16_777_216;
+
+/// How many bytes stand before an image's jobs.
+pub(crate) const HEAD: usize = 12;
+
+/// The version of the format.
+pub(crate) const VERSION: u16 = 1;
+
+// The jobs and the index.
+fn body_of(alloc: Global, jobs: &[JobDef]) -> Result<Vec<u8>, AllocError>
+    requires few { length jobs.now ≤ 1024 }
+    requires short { list_all fits jobs.now ≡ true }
+    ensures { IfOk result (λ body. body.items ≡ body_of jobs.now) }
+{
+    let mut body = Vec::new(alloc);
+    put_jobs(alloc, &mut body, jobs)?;
+    put_index(alloc, &mut body, jobs)?;
+    Ok(body)
+}
+
+// Appends the head of an image with so many jobs and bytes.
+fn put_head(out: &mut Vec<u8>, jobs: usize, bytes: usize) -> Result<(), AllocError>
+    ensures { OnOk result (out.new.items ≡ out.old.items ++ head_of jobs bytes) }
+{
+    out.extend_from_slice(b"UPTB")?;
+    put_two(out, u64::from(VERSION))?;
+    put_two(out, jobs as u64)?;
+    put_four(out, bytes as u64)?;
+    Ok(())
+}
+
+// The image with this body.
+fn with_head(alloc: Global, jobs: usize, body: &[u8]) -> Result<Vec<u8>, AllocError>
+    requires { length body.now ≤ 16777204 }
+    ensures { IfOk result (λ bytes. bytes.items ≡ head_of jobs (12 + length body.now) ++ body.now) }
+{
+    let mut bytes = Vec::new(alloc);
+    put_head(&mut bytes, jobs, HEAD + body.len())?;
+    bytes.extend_from_slice(body)?;
+    Ok(bytes)
+}
+
+/// The image of jobs. Refused with `ImageTooLarge` only where they have none.
+pub(crate) fn write_image(alloc: Global, jobs: &[JobDef]) -> Result<Vec<u8>, ImageError>
+    ensures image { IfOk result (λ bytes. IsImage bytes.items jobs.now) }
+    ensures refused { IfErr result (λ error. error ≡ ImageTooLarge → (bytes : List ℕ) → IsImage bytes jobs.now → ⊥) }
+{
+    if jobs.len() > MAX_JOBS {
+        return Err(ImageError::ImageTooLarge);
+    }
+    if !all_fit(alloc, jobs)? {
+        return Err(ImageError::ImageTooLarge);
+    }
+    let body = body_of(alloc, jobs)?;
+    if body.len() > MAX_IMAGE - HEAD {
+        return Err(ImageError::ImageTooLarge);
+    }
+    let bytes = with_head(alloc, jobs.len(), body.as_slice())?;
+    Ok(bytes)
+}

@@ -1,0 +1,225 @@
+//! The index of a table's events.
+ghost use Rattle.std.specs.Prelude.{◌≡◌, ◌+◌, ◌++◌, ◌∷◌, [], ◌<◌, ◌≤◌, true, false, IfOk, OnOk, MatchOption, length, map};
+ghost use Rattle.std.specs.List.{flat_map, list_all, prefix_len};
+ghost use Rattle.std.specs.Str.{bytes_eq};
+ghost use Rattle.up_conf.specs.Order.{in_order};
+ghost use Rattle.up_image.specs.Image.{fits, is_short};
+ghost use Rattle.up_image.specs.Index.{entries_of, entry_part, event_of, index_part, leaf_places, place_part, places_in, places_of, runs_of};
+
+use crate::bytes::{put_byte, put_four, put_text, put_two};
+use crate::put_nodes::nodes_of;
+use std::alloc::{AllocError, Global};
+use up_conf::JobDef;
+use up_expr::{Condition, Node};
+use up_text::Name;
+
+/// A leaf of a job's expression: its event, the job's place in the table, whether it starts the job, and the leaf's place among the nodes.
+#[derive(Debug, Drop)]
+pub(crate) struct Place {
+    pub event: Name,
+    pub job: u16,
+    pub start: bool,
+    pub node: u16,
+}
+
+// Appends the leaves among nodes.
+fn add_leaves(
+    places: &mut Vec<Place>,
+    job: u16,
+    start: bool,
+    nodes: &[Node],
+) -> Result<(), AllocError>
+    requires { length nodes.now ≤ 4095 }
+    ensures { OnOk result (places.new.items ≡ places.old.items ++ leaf_places job start 0 nodes.now) }
+{
+    let mut at = 0;
+    for node in nodes {
+        add_leaf(places, job, start, at, node)?;
+        at += 1;
+    }
+    Ok(())
+}
+
+// Appends the place of a node, if it is a leaf.
+fn add_leaf(
+    places: &mut Vec<Place>,
+    job: u16,
+    start: bool,
+    at: u16,
+    node: &Node,
+) -> Result<(), AllocError>
+    ensures { OnOk result (places.new.items ≡ places.old.items ++ leaf_places job start at (node.now ∷ [])) }
+{
+    match node {
+        Node::Leaf(leaf) => {
+            let event = leaf.event.copy()?;
+            places.push(Place {
+                event,
+                job,
+                start,
+                node: at,
+            })?;
+        }
+        Node::And(_, _) | Node::Or(_, _) => {}
+    }
+    Ok(())
+}
+
+// Appends the leaves of a condition, if there is one.
+fn add_condition(
+    alloc: Global,
+    places: &mut Vec<Place>,
+    job: u16,
+    start: bool,
+    condition: &Option<Condition>,
+) -> Result<(), AllocError>
+    requires { is_short condition.now ≡ true }
+    ensures { OnOk result (places.new.items ≡ places.old.items ++ places_in job start condition.now) }
+{
+    match condition {
+        None => {}
+        Some(condition) => {
+            let nodes = nodes_of(alloc, condition)?;
+            add_leaves(places, job, start, nodes.as_slice())?;
+        }
+    }
+    Ok(())
+}
+
+// Appends the leaves of a job.
+#[tactic(auto, unfolding(crate::specs::Image::fits))]
+fn add_job(alloc: Global, places: &mut Vec<Place>, at: u16, job: &JobDef) -> Result<(), AllocError>
+    requires { fits job.now ≡ true }
+    ensures { OnOk result (places.new.items ≡ places.old.items ++ (places_in at false job.now.stop_on ++ places_in at true job.now.start_on)) }
+{
+    add_condition(alloc, places, at, false, &job.stop_on)?;
+    add_condition(alloc, places, at, true, &job.start_on)?;
+    Ok(())
+}
+
+// The leaves of all jobs, in order.
+fn places_of(alloc: Global, jobs: &[JobDef]) -> Result<Vec<Place>, AllocError>
+    requires few { length jobs.now ≤ 1024 }
+    requires short { list_all fits jobs.now ≡ true }
+    ensures { IfOk result (λ places. places.items ≡ places_of 0 jobs.now) }
+{
+    let mut places = Vec::new(alloc);
+    let mut at = 0;
+    for job in jobs {
+        add_job(alloc, &mut places, at, job)?;
+        at += 1;
+    }
+    Ok(places)
+}
+
+// Sorts places by the byte order of their events.
+fn sort_places(places: &mut Vec<Place>) -> Result<(), AllocError>
+    ensures { OnOk result (places.new.items ≡ in_order (λ place. place.event) places.old.items) }
+{
+    places.sort_by(|place, other| place.event.as_str().cmp(other.event.as_str()))
+}
+
+// How many places from the first one on have this event.
+fn same_len(event: &Name, places: &[Place]) -> usize
+    ensures counted { result ≡ prefix_len (λ place. bytes_eq place.event event.now) places.now }
+    ensures within { result ≤ length places.now }
+{
+    places
+        .iter()
+        .take_while(|place| place.event.is(event))
+        .count()
+}
+
+// The first run of one event, and the places behind it.
+fn split_run(places: &[Place]) -> Option<(&[Place], &[Place])>
+    ensures { MatchOption result (places.now ≡ []) (λ found. (runs_of places.now ≡ found.0.now ∷ runs_of found.1.now) × (length found.1.now < length places.now)) }
+{
+    match places.split_first() {
+        None => None,
+        Some((first, others)) => {
+            let len = same_len(&first.event, others);
+            Some(places.split_at(1 + len))
+        }
+    }
+}
+
+// The runs of one event.
+fn runs_of(alloc: Global, places: &[Place]) -> Result<Vec<&[Place]>, AllocError>
+    ensures { IfOk result (λ runs. map (λ run. run.now) runs.items ≡ runs_of places.now) }
+{
+    let mut runs: Vec<&[Place]> = Vec::new(alloc);
+    let mut rest = places;
+    'runs: while let Some((run, behind)) = split_run(rest) {
+        runs.push(run)?;
+        rest = behind;
+    }
+    Ok(runs)
+}
+
+fn put_place(out: &mut Vec<u8>, place: &Place) -> Result<(), AllocError>
+    ensures { OnOk result (out.new.items ≡ out.old.items ++ place_part place.now) }
+{
+    put_two(out, u64::from(place.job))?;
+    put_byte(out, if place.start { 1 } else { 0 })?;
+    put_two(out, u64::from(place.node))?;
+    Ok(())
+}
+
+fn put_each_place(out: &mut Vec<u8>, places: &[Place]) -> Result<(), AllocError>
+    ensures { OnOk result (out.new.items ≡ out.old.items ++ flat_map place_part places.now) }
+{
+    for place in places {
+        put_place(out, place)?;
+    }
+    Ok(())
+}
+
+// The event of a run's places.
+fn event_of(places: &[Place]) -> &str
+    ensures { result.now ≡ event_of places.now }
+{
+    match places.first() {
+        Some(place) => place.event.as_str(),
+        None => "",
+    }
+}
+
+fn put_entry(out: &mut Vec<u8>, places: &[Place]) -> Result<(), AllocError>
+    ensures { OnOk result (out.new.items ≡ out.old.items ++ entry_part places.now) }
+{
+    put_text(out, event_of(places))?;
+    put_four(out, places.len() as u64)?;
+    put_each_place(out, places)?;
+    Ok(())
+}
+
+fn put_each_entry(out: &mut Vec<u8>, runs: &[&[Place]]) -> Result<(), AllocError>
+    ensures { OnOk result (out.new.items ≡ out.old.items ++ flat_map entry_part (map (λ run. run.now) runs.now)) }
+{
+    for run in runs {
+        put_entry(out, run)?;
+    }
+    Ok(())
+}
+
+fn put_entries(out: &mut Vec<u8>, runs: &[&[Place]]) -> Result<(), AllocError>
+    ensures { OnOk result (out.new.items ≡ out.old.items ++ index_part (map (λ run. run.now) runs.now)) }
+{
+    put_four(out, runs.len() as u64)?;
+    put_each_entry(out, runs)?;
+    Ok(())
+}
+
+/// Appends the index of jobs whose expressions aren't too long.
+#[tactic(auto, unfolding(crate::specs::Index::entries_of))]
+pub(crate) fn put_index(alloc: Global, out: &mut Vec<u8>, jobs: &[JobDef]) -> Result<(), AllocError>
+    requires few { length jobs.now ≤ 1024 }
+    requires short { list_all fits jobs.now ≡ true }
+    ensures { OnOk result (out.new.items ≡ out.old.items ++ index_part (entries_of jobs.now)) }
+{
+    let mut places = places_of(alloc, jobs)?;
+    sort_places(&mut places)?;
+    let runs = runs_of(alloc, places.as_slice())?;
+    put_entries(out, runs.as_slice())?;
+    Ok(())
+}

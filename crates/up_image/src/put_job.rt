@@ -1,0 +1,103 @@
+//! Writes jobs.
+ghost use Rattle.std.specs.Prelude.{◌≡◌, ◌++◌, ◌≤◌, true, OnOk};
+ghost use Rattle.std.specs.List.{flat_map, list_all};
+ghost use Rattle.up_image.specs.Image.{bit, event_part, field_part, fits, fits_events, flags, job_part, number_parts, process_part, set_part, text_parts};
+
+use crate::bytes::{put_byte, put_four, put_text};
+use crate::put_lists::{put_action, put_exits, put_settings, put_texts};
+use crate::put_nodes::put_condition;
+use std::alloc::{AllocError, Global};
+use up_conf::JobDef;
+
+fn bit(number: u8, set: bool) -> u8
+    ensures value { result ≡ bit number set }
+    ensures small { result ≤ number }
+{
+    if set { number } else { 0 }
+}
+
+fn flags(job: &JobDef) -> u8
+    ensures { result ≡ flags job.now }
+{
+    bit(1, job.task) + bit(2, job.respawn) + bit(4, job.silent)
+}
+
+fn put_texts_of(out: &mut Vec<u8>, job: &JobDef) -> Result<(), AllocError>
+    ensures { OnOk result (out.new.items ≡ out.old.items ++ text_parts job.now) }
+{
+    put_text(out, job.name.as_str())?;
+    put_byte(out, flags(job))?;
+    put_text(out, job.instance.as_str())?;
+    put_text(out, job.dir.as_str())?;
+    Ok(())
+}
+
+fn put_numbers(out: &mut Vec<u8>, job: &JobDef) -> Result<(), AllocError>
+    ensures { OnOk result (out.new.items ≡ out.old.items ++ number_parts job.now) }
+{
+    put_four(out, u64::from(job.limit.count))?;
+    put_four(out, u64::from(job.limit.interval))?;
+    put_byte(out, job.kill_signal.number())?;
+    put_four(out, u64::from(job.kill_timeout))?;
+    Ok(())
+}
+
+fn put_fields(out: &mut Vec<u8>, job: &JobDef) -> Result<(), AllocError>
+    ensures { OnOk result (out.new.items ≡ out.old.items ++ field_part job.now) }
+{
+    put_texts_of(out, job)?;
+    put_numbers(out, job)?;
+    Ok(())
+}
+
+fn put_sets(out: &mut Vec<u8>, job: &JobDef) -> Result<(), AllocError>
+    ensures { OnOk result (out.new.items ≡ out.old.items ++ set_part job.now) }
+{
+    put_settings(out, job.env.as_slice())?;
+    put_texts(out, job.export.as_slice())?;
+    put_exits(out, job.normal.as_slice())?;
+    Ok(())
+}
+
+fn put_processes(out: &mut Vec<u8>, job: &JobDef) -> Result<(), AllocError>
+    ensures { OnOk result (out.new.items ≡ out.old.items ++ process_part job.now) }
+{
+    put_action(out, &job.main)?;
+    put_action(out, &job.pre_start)?;
+    put_action(out, &job.post_start)?;
+    put_action(out, &job.pre_stop)?;
+    put_action(out, &job.post_stop)?;
+    Ok(())
+}
+
+fn put_events(alloc: Global, out: &mut Vec<u8>, job: &JobDef) -> Result<(), AllocError>
+    requires { fits_events job.now ≡ true }
+    ensures { OnOk result (out.new.items ≡ out.old.items ++ event_part job.now) }
+{
+    put_condition(alloc, out, &job.start_on)?;
+    put_condition(alloc, out, &job.stop_on)?;
+    Ok(())
+}
+
+#[tactic(auto, unfolding(crate::specs::Image::job_part, crate::specs::Image::fits))]
+fn put_job(alloc: Global, out: &mut Vec<u8>, job: &JobDef) -> Result<(), AllocError>
+    requires { fits job.now ≡ true }
+    ensures { OnOk result (out.new.items ≡ out.old.items ++ job_part job.now) }
+{
+    put_fields(out, job)?;
+    put_sets(out, job)?;
+    put_processes(out, job)?;
+    put_events(alloc, out, job)?;
+    Ok(())
+}
+
+/// Appends jobs whose lists aren't too long.
+pub(crate) fn put_jobs(alloc: Global, out: &mut Vec<u8>, jobs: &[JobDef]) -> Result<(), AllocError>
+    requires { list_all fits jobs.now ≡ true }
+    ensures { OnOk result (out.new.items ≡ out.old.items ++ flat_map job_part jobs.now) }
+{
+    for job in jobs {
+        put_job(alloc, out, job)?;
+    }
+    Ok(())
+}

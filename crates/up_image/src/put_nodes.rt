@@ -1,0 +1,141 @@
+//! Writes the nodes of expressions.
+ghost use Rattle.std.specs.Prelude.{◌≡◌, ◌++◌, ◌≤◌, true, IfOk, OnOk, length};
+ghost use Rattle.std.specs.List.{flat_map};
+ghost use Rattle.byteorder.specs.Endian.{big_bytes};
+ghost use Rattle.up_expr.specs.Flat.{nodes_of, size};
+ghost use Rattle.up_image.specs.Image.{is_short, list_part, node_part, nodes_in, test_part};
+ghost use Rattle.up_image.specs.Texts.{text_part};
+
+use crate::bytes::{put_byte, put_text, put_two};
+use std::alloc::{AllocError, Global};
+use up_expr::{Condition, FlatFault, Leaf, Node, Nodes, Test, flatten};
+
+fn put_pair(out: &mut Vec<u8>, key: &str, value: &str) -> Result<(), AllocError>
+    ensures { OnOk result (out.new.items ≡ out.old.items ++ (text_part key.now ++ text_part value.now)) }
+{
+    put_text(out, key)?;
+    put_text(out, value)?;
+    Ok(())
+}
+
+fn put_test(out: &mut Vec<u8>, test: &Test) -> Result<(), AllocError>
+    ensures { OnOk result (out.new.items ≡ out.old.items ++ test_part test.now) }
+{
+    match test {
+        Test::Place(value) => {
+            put_byte(out, 0)?;
+            put_text(out, value.as_str())?;
+        }
+        Test::Same(key, value) => {
+            put_byte(out, 1)?;
+            put_pair(out, key.as_str(), value.as_str())?;
+        }
+        Test::Differs(key, value) => {
+            put_byte(out, 2)?;
+            put_pair(out, key.as_str(), value.as_str())?;
+        }
+    }
+    Ok(())
+}
+
+fn put_each_test(out: &mut Vec<u8>, tests: &[Test]) -> Result<(), AllocError>
+    ensures { OnOk result (out.new.items ≡ out.old.items ++ flat_map test_part tests.now) }
+{
+    for test in tests {
+        put_test(out, test)?;
+    }
+    Ok(())
+}
+
+fn put_tests(out: &mut Vec<u8>, tests: &[Test]) -> Result<(), AllocError>
+    ensures { OnOk result (out.new.items ≡ out.old.items ++ list_part test_part tests.now) }
+{
+    put_two(out, tests.len() as u64)?;
+    put_each_test(out, tests)?;
+    Ok(())
+}
+
+fn put_leaf(out: &mut Vec<u8>, leaf: &Leaf) -> Result<(), AllocError>
+    ensures { OnOk result (out.new.items ≡ out.old.items ++ (text_part leaf.now.event ++ list_part test_part leaf.now.values)) }
+{
+    put_text(out, leaf.event.as_str())?;
+    put_tests(out, leaf.values.as_slice())?;
+    Ok(())
+}
+
+fn put_sides(out: &mut Vec<u8>, left: u16, right: u16) -> Result<(), AllocError>
+    ensures { OnOk result (out.new.items ≡ out.old.items ++ (big_bytes 2 left ++ big_bytes 2 right)) }
+{
+    put_two(out, u64::from(left))?;
+    put_two(out, u64::from(right))?;
+    Ok(())
+}
+
+fn put_node(out: &mut Vec<u8>, node: &Node) -> Result<(), AllocError>
+    ensures { OnOk result (out.new.items ≡ out.old.items ++ node_part node.now) }
+{
+    match node {
+        Node::Leaf(leaf) => {
+            put_byte(out, 0)?;
+            put_leaf(out, leaf)?;
+        }
+        Node::And(left, right) => {
+            put_byte(out, 1)?;
+            put_sides(out, *left, *right)?;
+        }
+        Node::Or(left, right) => {
+            put_byte(out, 2)?;
+            put_sides(out, *left, *right)?;
+        }
+    }
+    Ok(())
+}
+
+fn put_each_node(out: &mut Vec<u8>, nodes: &[Node]) -> Result<(), AllocError>
+    ensures { OnOk result (out.new.items ≡ out.old.items ++ flat_map node_part nodes.now) }
+{
+    for node in nodes {
+        put_node(out, node)?;
+    }
+    Ok(())
+}
+
+fn put_nodes(out: &mut Vec<u8>, nodes: &[Node]) -> Result<(), AllocError>
+    ensures { OnOk result (out.new.items ≡ out.old.items ++ list_part node_part nodes.now) }
+{
+    put_two(out, nodes.len() as u64)?;
+    put_each_node(out, nodes)?;
+    Ok(())
+}
+
+/// The nodes of a condition, which must have at most 4,095.
+pub(crate) fn nodes_of(alloc: Global, condition: &Condition) -> Result<Nodes, AllocError>
+    requires { size condition.now ≤ 4095 }
+    ensures laid { IfOk result (λ nodes. nodes ≡ nodes_of 0 condition.now) }
+    ensures few { IfOk result (λ nodes. length nodes ≤ 4095) }
+{
+    match flatten(alloc, condition.expr()) {
+        Ok(nodes) => Ok(nodes),
+        Err(FlatFault::Memory) => Err(AllocError),
+        Err(FlatFault::ImageTooLarge) => unreachable!(),
+    }
+}
+
+/// Appends the nodes of a condition, which must have at most 4,095; none without one.
+pub(crate) fn put_condition(
+    alloc: Global,
+    out: &mut Vec<u8>,
+    condition: &Option<Condition>,
+) -> Result<(), AllocError>
+    requires { is_short condition.now ≡ true }
+    ensures { OnOk result (out.new.items ≡ out.old.items ++ list_part node_part (nodes_in condition.now)) }
+{
+    match condition {
+        None => put_two(out, 0)?,
+        Some(condition) => {
+            let nodes = nodes_of(alloc, condition)?;
+            put_nodes(out, nodes.as_slice())?;
+        }
+    }
+    Ok(())
+}

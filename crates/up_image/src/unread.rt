@@ -1,0 +1,18 @@
+//! Why what stands in an image isn't read.
+
+use std::alloc::AllocError;
+
+/// Why what stands in an image isn't read.
+#[derive(Clone, Copy, Debug)]
+pub(crate) enum Unread {
+    /// It is nothing that an image has there.
+    BadTable,
+    /// Memory was refused.
+    Memory,
+}
+
+impl From<AllocError> for Unread {
+    fn from(_: AllocError) -> Unread {
+        Unread::Memory
+    }
+}

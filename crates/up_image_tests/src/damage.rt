@@ -1,0 +1,146 @@
+//! Images that were damaged.
+use crate::folders::{BOTH, MANY, STARTUP_IMAGE, again, image_of, refusal};
+use std::alloc::Global;
+use std::test::Fail;
+use up_image::ImageError;
+
+// The first length to which an image is cut without being refused for it.
+fn first_whole(alloc: Global, image: &[u8]) -> usize {
+    for len in 0..image.len() {
+        if refusal(alloc, &image[..len]) != Some(ImageError::Truncated) {
+            return len;
+        }
+    }
+    image.len()
+}
+
+// Why an image is refused with another byte at a place.
+fn with_byte(
+    alloc: Global,
+    image: &[u8],
+    place: usize,
+    byte: u8,
+) -> Result<Option<ImageError>, Fail> {
+    let mut bytes = Vec::from_slice(alloc, image)?;
+    if place < bytes.len() {
+        bytes[place] = byte;
+    }
+    Ok(refusal(alloc, bytes.as_slice()))
+}
+
+#[test]
+fn damaged_images(rt: HostRuntime) -> Result<(), Fail> {
+    let alloc = rt.alloc();
+    assert_eq!(rt; first_whole(alloc, STARTUP_IMAGE), 112);
+    let mut longer = Vec::from_slice(alloc, STARTUP_IMAGE)?;
+    longer.push(0)?;
+    assert_eq!(rt;
+        refusal(alloc, longer.as_slice()),
+        Some(ImageError::Trailing)
+    );
+    assert_eq!(rt;
+        with_byte(alloc, STARTUP_IMAGE, 0, 0x56)?,
+        Some(ImageError::BadMagic)
+    );
+    assert_eq!(rt;
+        with_byte(alloc, STARTUP_IMAGE, 5, 2)?,
+        Some(ImageError::BadVersion)
+    );
+    Ok(())
+}
+
+// The image with its last so many bytes after the so many before them.
+fn with_ends_exchanged(alloc: Global, image: &[u8], len: usize) -> Result<Vec<u8>, Fail> {
+    let half = len.min(image.len() / 2);
+    let (front, ends) = image.split_at(image.len() - 2 * half);
+    let (first, second) = ends.split_at(half);
+    let mut bytes = Vec::from_slice(alloc, front)?;
+    bytes.extend_from_slice(second)?;
+    bytes.extend_from_slice(first)?;
+    Ok(bytes)
+}
+
+// An entry for a name of one letter has 14 bytes.
+#[test]
+fn an_index_out_of_order_is_refused(rt: HostRuntime) -> Result<(), Fail> {
+    let image = image_of(rt.alloc(), BOTH)?;
+    assert_eq!(rt; refusal(rt.alloc(), image.as_slice()), None);
+    let exchanged = with_ends_exchanged(rt.alloc(), image.as_slice(), 14)?;
+    assert_eq!(rt;
+        refusal(rt.alloc(), exchanged.as_slice()),
+        Some(ImageError::BadTable)
+    );
+    Ok(())
+}
+
+// Behind the last node there are the number of nodes of `stop on`, the number of entries and two entries: 34 bytes, before which the
+// node names its sides in four.
+#[test]
+fn a_node_names_no_later_one(rt: HostRuntime) -> Result<(), Fail> {
+    let image = image_of(rt.alloc(), BOTH)?;
+    let len = image.len();
+    assert!(rt; len > 38);
+    assert_eq!(rt; image[len - 35], 1);
+    assert_eq!(rt;
+        with_byte(rt.alloc(), image.as_slice(), len - 37, 2)?,
+        Some(ImageError::BadTable)
+    );
+    assert_eq!(rt;
+        with_byte(rt.alloc(), image.as_slice(), len - 35, 3)?,
+        Some(ImageError::BadTable)
+    );
+    Ok(())
+}
+
+// The lengths and numbers of the first job's name, its processes and the index.
+const LENGTHS: &'static [usize] = &[
+    12, 18, 22, 39, 41, 43, 46, 48, 61, 70, 73, 84, 86, 88, 92, 103,
+];
+
+#[test]
+fn a_length_that_wraps_is_refused(rt: HostRuntime) -> Result<(), Fail> {
+    for place in LENGTHS {
+        assert_eq!(rt;
+            with_byte(rt.alloc(), STARTUP_IMAGE, *place, 0xff)?,
+            Some(ImageError::BadTable)
+        );
+    }
+    Ok(())
+}
+
+// Whether bytes are refused, or read as a table whose image they are.
+fn is_exact(alloc: Global, bytes: &[u8]) -> bool {
+    match again(alloc, bytes) {
+        Ok(image) => image.as_slice() == bytes,
+        Err(_) => true,
+    }
+}
+
+// The first place at which another byte is taken for what it isn't.
+fn first_inexact(alloc: Global, image: &mut [u8]) -> Option<usize> {
+    for place in 0..image.len() {
+        let kept = image[place];
+        for step in 1..256u16 {
+            image[place] = ((u16::from(kept) + step) % 256) as u8;
+            if !is_exact(alloc, image) {
+                return Some(place);
+            }
+        }
+        image[place] = kept;
+    }
+    None
+}
+
+#[test]
+fn each_byte_altered(rt: HostRuntime) -> Result<(), Fail> {
+    let mut image = Vec::from_slice(rt.alloc(), STARTUP_IMAGE)?;
+    assert_eq!(rt; first_inexact(rt.alloc(), image.as_mut_slice()), None);
+    Ok(())
+}
+
+#[test]
+fn a_cut_image_of_many_jobs_is_refused(rt: HostRuntime) -> Result<(), Fail> {
+    let image = image_of(rt.alloc(), MANY)?;
+    assert_eq!(rt; first_whole(rt.alloc(), image.as_slice()), image.len());
+    Ok(())
+}

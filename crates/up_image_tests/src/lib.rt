@@ -1,0 +1,11 @@
+//! The tests of the images of `up_image` and of the flat nodes of `up_expr`, over their public interfaces.
+#![tactic(auto)]
+
+#[cfg(test)]
+mod damage;
+#[cfg(test)]
+mod folders;
+#[cfg(test)]
+mod images;
+#[cfg(test)]
+mod nodes;
