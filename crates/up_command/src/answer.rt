@@ -24,7 +24,10 @@ fn replay_input(rt: &(impl Input + Print + AllocGlobal)) -> io::Result<u8> {
 }
 
 // Prints on standard output, and gives the status.
-pub(crate) fn print(rt: &(impl Print + AllocGlobal), made: Result<Printed, AllocError>) -> io::Result<u8>
+pub(crate) fn print(
+    rt: &(impl Print + AllocGlobal),
+    made: Result<Printed, AllocError>,
+) -> io::Result<u8>
     ensures { IfOk result (EndsWith (λ found. made ≡ Ok found)) }
 {
     match made {

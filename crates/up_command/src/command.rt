@@ -15,9 +15,14 @@ pub enum Asked<'a> {
     /// To replay the bundle on standard input.
     Bundle,
     /// To report the faults of a folder.
-    Check { dir: &'a str },
+    Check {
+        dir: &'a str,
+    },
     /// To replay a script over a folder.
-    Replay { dir: &'a str, script: &'a str },
+    Replay {
+        dir: &'a str,
+        script: &'a str,
+    },
     /// To run the jobs of a folder, with a socket for clients.
     Run {
         dir: &'a str,
@@ -51,7 +56,9 @@ fn rounds_arg<'a>(alloc: Global) -> Arg<'a> {
     Arg::new(alloc, "rounds")
         .long("rounds")
         .value_name("N")
-        .help("Ends after so many rounds, from 1 to 4294967295, which is also what it does if this is left out")
+        .help(
+            "Ends after so many rounds, from 1 to 4294967295, which is also what it does if this is left out",
+        )
         .value_parser(value_parser!(u32).range(1..))
         .action(ArgAction::Set)
 }
@@ -60,7 +67,9 @@ fn pause_arg<'a>(alloc: Global) -> Arg<'a> {
     Arg::new(alloc, "pause")
         .long("pause")
         .value_name("MS")
-        .help("The longest pause after a round that did nothing, in milliseconds: 10 if left out. The end of a process is noticed up to so much later; with 0 there is no pause, and a processor is busy all the time")
+        .help(
+            "The longest pause after a round that did nothing, in milliseconds: 10 if left out. The end of a process is noticed up to so much later; with 0 there is no pause, and a processor is busy all the time",
+        )
         .value_parser(value_parser!(u64).range(0..=60000))
         .action(ArgAction::Set)
 }

@@ -1,10 +1,12 @@
 -- What is said and answered at one client.
-use Rattle.std.specs.Prelude.{◌≡◌, ◌≢◌, ◌++◌, ◌∷◌, ◌&&◌, ℕ, Bool, true, false, nat_lt, vec_len, List, Option, None, Some, is_none}
+use Rattle.std.specs.Prelude.{◌≡◌, ◌≢◌, ◌++◌, ◌∷◌, ◌&&◌, ◌⊎◌, ℕ, Bool, true, false, nat_lt, vec_len, List, [], take, drop, Option, None, Some, is_none}
 use Rattle.up_model.specs.Requests.{RequestValue}
 use Rattle.up_model.specs.declared.request.Answer.{Answer}
 use Rattle.up_wire.specs.Answers.{answer_frames}
 use Rattle.up_wire.specs.Frames.{Bytes, Frames}
 use Rattle.up_daemon.specs.declared.clients.client.Client.{Client}
+use Rattle.up_daemon.specs.declared.passed.Passed.{Passed}
+use Rattle.up_daemon.specs.declared.passed.Passed.TheVariants.{Read, Wrote}
 
 -- the client keeps its number, and whether it is closed
 pub record IsSame (old new : Client) : Type 0 where
@@ -46,3 +48,26 @@ IsAnswered id answer true old new =
     IsSame old new × (old.unanswered ≡ Some id) × (new.unanswered ≡ None)
     × (new.answers.items ≡ old.answers.items ++ answer_frames answer) × (new.waiting ≡ old.waiting) × (new.feed ≡ old.feed)
 IsAnswered id answer false old new = (new ≡ old) × (old.unanswered ≢ Some id)
+
+-- what a read found is taken: nothing yet, the end, which is no bytes, or bytes
+abbrev pub IsTaken : Bool → Option Bytes → Client → Client → Type 0
+IsTaken stays None old new = (stays ≡ true) × (new ≡ old)
+IsTaken stays (Some []) old new = (stays ≡ false) × (new ≡ old)
+IsTaken stays (Some (byte ∷ piece)) old new = Hears stays (byte ∷ piece) old new
+
+-- one read by the door: it failed, or its entry tells what was found
+abbrev pub IsReadOnce : Bool → Client → Client → List Passed → List Passed → Type 0
+IsReadOnce stays old new before after =
+    ((after ≡ before) × (stays ≡ false) × (new ≡ old))
+    ⊎ ((found : Option Bytes) × (after ≡ before ++ Read old.number found ∷ []) × IsTaken stays found old new)
+
+-- nothing was done for the client, who stays
+abbrev pub IsPassedOver : Bool → Client → Client → List Passed → List Passed → Type 0
+IsPassedOver stays old new before after = (after ≡ before) × (stays ≡ true) × (new ≡ old)
+
+-- one write by the door of all the bytes that wait: it failed, or those that it took wait no longer
+abbrev pub IsWrittenOnce : Bool → Client → Client → List Passed → List Passed → Type 0
+IsWrittenOnce stays old new before after =
+    ((after ≡ before) × (stays ≡ false) × (new ≡ old))
+    ⊎ ((count : ℕ) × (after ≡ before ++ Wrote old.number (take count old.answers.items) ∷ []) × (stays ≡ true)
+    × (new.answers.items ≡ drop count old.answers.items) × (new.waiting ≡ old.waiting) × (new.unanswered ≡ old.unanswered) × (new.feed ≡ old.feed) × IsSame old new)

@@ -9,3 +9,4 @@ pub mod Answering
 pub mod Dealing
 pub mod Working
 pub mod Daemons
+pub mod Visits

@@ -1,5 +1,6 @@
 //! The clients of the daemon, in the order in which they came.
-ghost use Rattle.std.specs.Prelude.{◌≡◌, [], IfOk, OnOk};
+ghost use Rattle.std.specs.Prelude.{◌≡◌, ◌≤◌, ◌<◌, [], IfOk, OnOk, vec_len};
+ghost use Rattle.up_daemon.specs.Visits.{most_clients, LetsIn};
 
 mod client;
 
@@ -30,7 +31,10 @@ impl Clients {
     }
 
     // Lets one client in. False if nobody waits, the door failed, or as many are connected as may be.
-    fn let_one_in<D: Door>(&mut self, door: &mut D) -> Result<bool, AllocError> {
+    fn let_one_in<D: Door>(&mut self, door: &mut D) -> Result<bool, AllocError>
+        ensures full { OnOk result (most_clients ≤ vec_len self.old.list → (self.new.list.items ≡ self.old.list.items) × (D.entries door.new ≡ D.entries door.old)) }
+        ensures accepts { IfOk result (λ came. vec_len self.old.list < most_clients → LetsIn came self.old.list.items self.new.list.items (D.entries door.old) (D.entries door.new)) }
+    {
         if self.list.len() >= MOST_CLIENTS {
             return Ok(false);
         }
@@ -40,7 +44,8 @@ impl Clients {
                 self.list.push(Client::new(self.alloc, number))?;
                 Ok(true)
             }
-            Ok(None) | Err(_) => Ok(false),
+            Ok(None) => Ok(false),
+            Err(_) => Ok(false),
         }
     }
 

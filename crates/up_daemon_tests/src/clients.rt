@@ -108,7 +108,12 @@ fn half_a_frame_waits_for_the_rest(rt: HostRuntime) -> Result<(), Fail> {
         Said::Nothing,
         Said::Bytes(&RELOAD[5..]),
     ];
-    check(rt.alloc(), &says, &[], &[(1, 0, 0), (0, 0, 0), (0, ANSWERED, 0)])
+    check(
+        rt.alloc(),
+        &says,
+        &[],
+        &[(1, 0, 0), (0, 0, 0), (0, ANSWERED, 0)],
+    )
 }
 
 #[test]

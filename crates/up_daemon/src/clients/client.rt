@@ -1,6 +1,6 @@
 //! A client of the daemon: what it said that has not entered the engine, and what waits to be written to it.
-ghost use Rattle.std.specs.Prelude.{◌≡◌, [], None, IfOk, false, nat_lt, is_none, ◌&&◌, not, vec_len};
-ghost use Rattle.up_daemon.specs.Hearing.{Hears, Enters, IsAnswered, is_ready, most_waiting};
+ghost use Rattle.std.specs.Prelude.{◌≡◌, ◌≤◌, ◌<◌, [], None, IfOk, IfSome, false, vec_len, length, take, option_map};
+ghost use Rattle.up_daemon.specs.Hearing.{Hears, Enters, IsAnswered, IsTaken, IsPassedOver, IsReadOnce, IsWrittenOnce, is_ready, most_waiting};
 
 use crate::door::Door;
 use std::alloc::{AllocError, Global};
@@ -47,13 +47,6 @@ impl Client {
             answers: Vec::new(alloc),
             is_closed: false,
         }
-    }
-
-    /// Whether it may be read: its requests are below the limit.
-    pub(crate) fn is_readable(&self) -> bool
-        ensures { result ≡ nat_lt (vec_len self.now.waiting) most_waiting }
-    {
-        self.waiting.len() < MOST_WAITING
     }
 
     /// Whether its next request may enter: it has one, and none before that is unanswered.
@@ -104,22 +97,47 @@ impl Client {
         }
     }
 
+    // Takes what a read found at the buffer's beginning. False if that is the end, or breaks a frame.
+    fn take(&mut self, buffer: &[u8], found: Option<usize>) -> Result<bool, AllocError>
+        requires { IfSome found (λ count. count ≤ length buffer.now) }
+        ensures { IfOk result (λ stays. IsTaken stays (option_map (λ count. take count buffer.now) found) self.old self.new) }
+    {
+        match found {
+            Some(count) => {
+                if count == 0 {
+                    return Ok(false);
+                }
+                let stays = self.hear(&buffer[..count])?;
+                Ok(stays)
+            }
+            None => Ok(true),
+        }
+    }
+
     /// Reads it once, if it may be read. False if it is to be closed: the read failed, it sends no more, or it broke a frame.
-    pub(crate) fn read<D: Door>(&mut self, door: &mut D) -> Result<bool, AllocError> {
-        if !self.is_readable() {
+    pub(crate) fn read<D: Door>(&mut self, door: &mut D) -> Result<bool, AllocError>
+        ensures limit { IfOk result (λ stays. most_waiting ≤ vec_len self.old.waiting → IsPassedOver stays self.old self.new (D.entries door.old) (D.entries door.new)) }
+        ensures once { IfOk result (λ stays. vec_len self.old.waiting < most_waiting → IsReadOnce stays self.old self.new (D.entries door.old) (D.entries door.new)) }
+    {
+        if self.waiting.len() >= MOST_WAITING {
             return Ok(true);
         }
         let mut piece = [0u8; MOST_READ];
         match door.read(self.number, &mut piece) {
-            Ok(Some(0)) | Err(_) => Ok(false),
-            Ok(Some(count)) => self.hear(&piece[..count]),
-            Ok(None) => Ok(true),
+            Ok(found) => {
+                let stays = self.take(&piece, found)?;
+                Ok(stays)
+            }
+            Err(_) => Ok(false),
         }
     }
 
     /// Writes what waits, in one call, if anything does. False if the write failed.
-    pub(crate) fn write<D: Door>(&mut self, door: &mut D) -> Result<bool, AllocError> {
-        if self.answers.is_empty() {
+    pub(crate) fn write<D: Door>(&mut self, door: &mut D) -> Result<bool, AllocError>
+        ensures none { IfOk result (λ stays. vec_len self.old.answers ≡ 0 → IsPassedOver stays self.old self.new (D.entries door.old) (D.entries door.new)) }
+        ensures once { IfOk result (λ stays. 0 < vec_len self.old.answers → IsWrittenOnce stays self.old self.new (D.entries door.old) (D.entries door.new)) }
+    {
+        if self.answers.len() == 0 {
             return Ok(true);
         }
         match door.write(self.number, &self.answers) {
