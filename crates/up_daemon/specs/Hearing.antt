@@ -1,5 +1,6 @@
 -- What is said and answered at one client.
 use Rattle.std.specs.Prelude.{◌≡◌, ◌≢◌, ◌++◌, ◌∷◌, ◌&&◌, ◌⊎◌, ℕ, Bool, true, false, nat_lt, vec_len, List, [], take, drop, Option, None, Some, is_none}
+use Rattle.up_host.specs.Telling.{with_fault}
 use Rattle.up_model.specs.Requests.{RequestValue}
 use Rattle.up_model.specs.declared.request.Answer.{Answer}
 use Rattle.up_wire.specs.Answers.{answer_frames}
@@ -55,19 +56,19 @@ IsTaken stays None old new = (stays ≡ true) × (new ≡ old)
 IsTaken stays (Some []) old new = (stays ≡ false) × (new ≡ old)
 IsTaken stays (Some (byte ∷ piece)) old new = Hears stays (byte ∷ piece) old new
 
--- one read by the door: it failed, or its entry tells what was found
-abbrev pub IsReadOnce : Bool → Client → Client → List Passed → List Passed → Type 0
-IsReadOnce stays old new before after =
-    ((after ≡ before) × (stays ≡ false) × (new ≡ old))
-    ⊎ ((found : Option Bytes) × (after ≡ before ++ Read old.number found ∷ []) × IsTaken stays found old new)
+-- one read by the door: it failed and was counted, or its entry tells what was found
+abbrev pub IsReadOnce : Bool → Client → Client → (before after : List Passed) → (faults faults_after : ℕ) → Type 0
+IsReadOnce stays old new before after faults faults_after =
+    ((after ≡ before) × (faults_after ≡ with_fault faults) × (stays ≡ false) × (new ≡ old))
+    ⊎ ((found : Option Bytes) × (after ≡ before ++ Read old.number found ∷ []) × (faults_after ≡ faults) × IsTaken stays found old new)
 
--- nothing was done for the client, who stays
-abbrev pub IsPassedOver : Bool → Client → Client → List Passed → List Passed → Type 0
-IsPassedOver stays old new before after = (after ≡ before) × (stays ≡ true) × (new ≡ old)
+-- no call was made for the client, who stays
+abbrev pub IsPassedOver : Bool → Client → Client → (before after : List Passed) → (faults faults_after : ℕ) → Type 0
+IsPassedOver stays old new before after faults faults_after = (after ≡ before) × (faults_after ≡ faults) × (stays ≡ true) × (new ≡ old)
 
--- one write by the door of all the bytes that wait: it failed, or those that it took wait no longer
-abbrev pub IsWrittenOnce : Bool → Client → Client → List Passed → List Passed → Type 0
-IsWrittenOnce stays old new before after =
-    ((after ≡ before) × (stays ≡ false) × (new ≡ old))
-    ⊎ ((count : ℕ) × (after ≡ before ++ Wrote old.number (take count old.answers.items) ∷ []) × (stays ≡ true)
+-- one write by the door of all the bytes that wait: it failed and was counted, or those that it took wait no longer
+abbrev pub IsWrittenOnce : Bool → Client → Client → (before after : List Passed) → (faults faults_after : ℕ) → Type 0
+IsWrittenOnce stays old new before after faults faults_after =
+    ((after ≡ before) × (faults_after ≡ with_fault faults) × (stays ≡ false) × (new ≡ old))
+    ⊎ ((count : ℕ) × (after ≡ before ++ Wrote old.number (take count old.answers.items) ∷ []) × (faults_after ≡ faults) × (stays ≡ true)
     × (new.answers.items ≡ drop count old.answers.items) × (new.waiting ≡ old.waiting) × (new.unanswered ≡ old.unanswered) × (new.feed ≡ old.feed) × IsSame old new)

@@ -32,8 +32,8 @@ impl Clients {
 
     // Lets one client in. False if nobody waits, the door failed, or as many are connected as may be.
     fn let_one_in<D: Door>(&mut self, door: &mut D) -> Result<bool, AllocError>
-        ensures full { OnOk result (most_clients ≤ vec_len self.old.list → (self.new.list.items ≡ self.old.list.items) × (D.entries door.new ≡ D.entries door.old)) }
-        ensures accepts { IfOk result (λ came. vec_len self.old.list < most_clients → LetsIn came self.old.list.items self.new.list.items (D.entries door.old) (D.entries door.new)) }
+        ensures full { OnOk result (most_clients ≤ vec_len self.old.list → (self.new.list.items ≡ self.old.list.items) × (D.entries door.new ≡ D.entries door.old) × (D.faults door.new ≡ D.faults door.old)) }
+        ensures accepts { IfOk result (λ came. vec_len self.old.list < most_clients → LetsIn came self.old.list.items self.new.list.items (D.entries door.old) (D.entries door.new) (D.faults door.old) (D.faults door.new)) }
     {
         if self.list.len() >= MOST_CLIENTS {
             return Ok(false);

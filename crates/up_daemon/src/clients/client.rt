@@ -116,8 +116,8 @@ impl Client {
 
     /// Reads it once, if it may be read. False if it is to be closed: the read failed, it sends no more, or it broke a frame.
     pub(crate) fn read<D: Door>(&mut self, door: &mut D) -> Result<bool, AllocError>
-        ensures limit { IfOk result (λ stays. most_waiting ≤ vec_len self.old.waiting → IsPassedOver stays self.old self.new (D.entries door.old) (D.entries door.new)) }
-        ensures once { IfOk result (λ stays. vec_len self.old.waiting < most_waiting → IsReadOnce stays self.old self.new (D.entries door.old) (D.entries door.new)) }
+        ensures limit { IfOk result (λ stays. most_waiting ≤ vec_len self.old.waiting → IsPassedOver stays self.old self.new (D.entries door.old) (D.entries door.new) (D.faults door.old) (D.faults door.new)) }
+        ensures once { IfOk result (λ stays. vec_len self.old.waiting < most_waiting → IsReadOnce stays self.old self.new (D.entries door.old) (D.entries door.new) (D.faults door.old) (D.faults door.new)) }
     {
         if self.waiting.len() >= MOST_WAITING {
             return Ok(true);
@@ -134,8 +134,8 @@ impl Client {
 
     /// Writes what waits, in one call, if anything does. False if the write failed.
     pub(crate) fn write<D: Door>(&mut self, door: &mut D) -> Result<bool, AllocError>
-        ensures none { IfOk result (λ stays. vec_len self.old.answers ≡ 0 → IsPassedOver stays self.old self.new (D.entries door.old) (D.entries door.new)) }
-        ensures once { IfOk result (λ stays. 0 < vec_len self.old.answers → IsWrittenOnce stays self.old self.new (D.entries door.old) (D.entries door.new)) }
+        ensures none { IfOk result (λ stays. vec_len self.old.answers ≡ 0 → IsPassedOver stays self.old self.new (D.entries door.old) (D.entries door.new) (D.faults door.old) (D.faults door.new)) }
+        ensures once { IfOk result (λ stays. 0 < vec_len self.old.answers → IsWrittenOnce stays self.old self.new (D.entries door.old) (D.entries door.new) (D.faults door.old) (D.faults door.new)) }
     {
         if self.answers.len() == 0 {
             return Ok(true);
