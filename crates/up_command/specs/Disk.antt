@@ -6,7 +6,7 @@ use Rattle.up_replay.specs.Folders.{Checks, prints, unusable}
 use Rattle.up_replay.specs.Replay.{Plays}
 use Rattle.up_replay.specs.Rows.{script_inputs}
 use Rattle.up_command.specs.declared.command.Asked.{Asked}
-use Rattle.up_command.specs.declared.command.Asked.TheVariants.{Bundle, Check, Replay}
+use Rattle.up_command.specs.declared.command.Asked.TheVariants.{Bundle, Check, Replay, Run}
 use Rattle.up_command.specs.declared.walk.WalkError.TheVariants.{Unusable}
 use Rattle.up_command.specs.Walk.{IsWalked, MayFail}
 
@@ -44,8 +44,9 @@ PlaysDir dir script made = PlaysFiles script made ⊎ (CannotWalk dir made ⊎ I
 abbrev pub EndsWith : (Printed → Type 0) → ℕ → Type 0
 EndsWith Says status = ((made : Printed) × Says made × (status ≡ made.status)) ⊎ ((status ≡ 3) ⊎ (status ≡ 4))
 
--- the status of what is asked for; that of a bundle rests on standard input
+-- the status of what is asked for; that of a bundle rests on standard input, and that of a run on its rounds
 abbrev pub Answers : Asked → ℕ → Type 0
 Answers Bundle status = Unit {0}
 Answers (Check dir) status = EndsWith (ChecksDir dir.now) status
 Answers (Replay dir script) status = EndsWith (PlaysDir dir.now script.now) status
+Answers (Run dir socket rounds) status = Unit {0}

@@ -4,10 +4,13 @@ ghost use Rattle.up_command.specs.Disk.{Answers, EndsWith};
 
 use crate::command::Asked;
 use crate::disk::{check_dir, replay_dir};
+use crate::run::run_dir;
 use std::alloc::AllocError;
 use std::io;
 use std::io::{BufWriter, Write};
-use std::rt::Files;
+use std::net::Net;
+use std::process::Processes;
+use std::rt::{Clock, Files};
 use up_replay::replay::replay;
 use up_replay::{Printed, write_printed};
 
@@ -21,7 +24,10 @@ fn replay_input(rt: &(impl Input + Print + AllocGlobal)) -> io::Result<u8> {
 }
 
 // Prints on standard output, and gives the status.
-fn print(rt: &(impl Print + AllocGlobal), made: Result<Printed, AllocError>) -> io::Result<u8>
+pub(crate) fn print(
+    rt: &(impl Print + AllocGlobal),
+    made: Result<Printed, AllocError>,
+) -> io::Result<u8>
     ensures { IfOk result (EndsWith (λ found. made ≡ Ok found)) }
 {
     match made {
@@ -37,7 +43,7 @@ fn print(rt: &(impl Print + AllocGlobal), made: Result<Printed, AllocError>) -> 
 
 /// Does what is asked for, prints on standard output, and gives the status: that of what is printed, 3 where it can't be written, 4 for
 /// want of memory. An error is that of the standard output, or want of memory for its buffer.
-pub fn answer<R: Files + Input + Print + AllocGlobal + Clone + Drop>(
+pub fn answer<R: Files + Net + Processes + Clock + Input + Print + AllocGlobal + Clone + Drop>(
     rt: &R,
     asked: Asked,
 ) -> io::Result<u8>
@@ -47,5 +53,10 @@ pub fn answer<R: Files + Input + Print + AllocGlobal + Clone + Drop>(
         Asked::Bundle => replay_input(rt),
         Asked::Check { dir } => print(rt, check_dir(rt, dir)),
         Asked::Replay { dir, script } => print(rt, replay_dir(rt, dir, script)),
+        Asked::Run {
+            dir,
+            socket,
+            rounds,
+        } => run_dir(rt, dir, socket, rounds),
     }
 }

@@ -2,8 +2,10 @@
 ghost use Rattle.std.specs.Prelude.{◌≡◌, ◌≢◌, ◌⊎◌};
 ghost use Rattle.clap.specs.Words.{kind_of};
 
+use crate::pace::MOST_PAUSE;
+use crate::run::Rounds;
 use clap::error::ErrorKind;
-use clap::{Arg, ArgAction, Command, Error};
+use clap::{Arg, ArgAction, ArgMatches, Command, Error, value_parser};
 use std::alloc::{AllocError, Global};
 use std::io::Eprint;
 
@@ -13,9 +15,20 @@ pub enum Asked<'a> {
     /// To replay the bundle on standard input.
     Bundle,
     /// To report the faults of a folder.
-    Check { dir: &'a str },
+    Check {
+        dir: &'a str,
+    },
     /// To replay a script over a folder.
-    Replay { dir: &'a str, script: &'a str },
+    Replay {
+        dir: &'a str,
+        script: &'a str,
+    },
+    /// To run the jobs of a folder, with a socket for clients.
+    Run {
+        dir: &'a str,
+        socket: &'a str,
+        rounds: Rounds,
+    },
 }
 
 fn dir_arg<'a>(alloc: Global) -> Arg<'a> {
@@ -32,6 +45,44 @@ fn script_arg<'a>(alloc: Global) -> Arg<'a> {
         .action(ArgAction::Set)
 }
 
+fn socket_arg<'a>(alloc: Global) -> Arg<'a> {
+    Arg::new(alloc, "SOCKET")
+        .help("The path of the socket at which clients ask; nothing may be there yet")
+        .required(true)
+        .action(ArgAction::Set)
+}
+
+fn rounds_arg<'a>(alloc: Global) -> Arg<'a> {
+    Arg::new(alloc, "rounds")
+        .long("rounds")
+        .value_name("N")
+        .help(
+            "Ends after so many rounds, from 1 to 4294967295, which is also what it does if this is left out",
+        )
+        .value_parser(value_parser!(u32).range(1..))
+        .action(ArgAction::Set)
+}
+
+fn pause_arg<'a>(alloc: Global) -> Arg<'a> {
+    Arg::new(alloc, "pause")
+        .long("pause")
+        .value_name("MS")
+        .help(
+            "The longest pause after a round that did nothing, in milliseconds: 10 if left out. The end of a process is noticed up to so much later; with 0 there is no pause, and a processor is busy all the time",
+        )
+        .value_parser(value_parser!(u64).range(0..=60000))
+        .action(ArgAction::Set)
+}
+
+fn run_command<'a>(alloc: Global) -> Result<Command<'a>, AllocError> {
+    Command::new(alloc, "run")
+        .about("Runs the jobs of a folder, and answers clients at a socket")
+        .arg(dir_arg(alloc))?
+        .arg(socket_arg(alloc))?
+        .arg(rounds_arg(alloc))?
+        .arg(pause_arg(alloc))
+}
+
 // The commands of the program. Without a word it reads a bundle from standard input.
 fn command<'a>(alloc: Global) -> Result<Command<'a>, AllocError> {
     let check = Command::new(alloc, "check")
@@ -43,9 +94,30 @@ fn command<'a>(alloc: Global) -> Result<Command<'a>, AllocError> {
         .arg(script_arg(alloc))?;
     Command::new(alloc, "initd")
         .version("0.1.0")
-        .about("Replays job files; without a command, a bundle on standard input")
+        .about("Runs and replays job files; without a command, replays a bundle on standard input")
         .subcommand(check)?
-        .subcommand(replay)
+        .subcommand(replay)?
+        .subcommand(run_command(alloc)?)
+}
+
+fn asked_replay<'a>(given: &ArgMatches<'a>) -> Option<Asked<'a>> {
+    let dir = given.get_str("DIR")?;
+    let script = given.get_str("SCRIPT")?;
+    Some(Asked::Replay { dir, script })
+}
+
+fn asked_run<'a>(given: &ArgMatches<'a>) -> Option<Asked<'a>> {
+    let dir = given.get_str("DIR")?;
+    let socket = given.get_str("SOCKET")?;
+    let rounds = Rounds {
+        count: given.get_one::<u32>("rounds").unwrap_or(u32::MAX),
+        most_pause: given.get_one::<u64>("pause").unwrap_or(MOST_PAUSE),
+    };
+    Some(Asked::Run {
+        dir,
+        socket,
+        rounds,
+    })
 }
 
 /// What the words of a command line, the program's name first, ask for. An error is also the text of `--help` and `--version`.
@@ -55,10 +127,8 @@ pub fn read_words<'a>(alloc: Global, words: &'a [String]) -> Result<Asked<'a>, E
     let asked = match matches.subcommand() {
         None => Some(Asked::Bundle),
         Some(("check", given)) => given.get_str("DIR").map(|dir| Asked::Check { dir }),
-        Some((_, given)) => match (given.get_str("DIR"), given.get_str("SCRIPT")) {
-            (Some(dir), Some(script)) => Some(Asked::Replay { dir, script }),
-            _ => None,
-        },
+        Some(("replay", given)) => asked_replay(given),
+        Some((_, given)) => asked_run(given),
     };
     match asked {
         Some(asked) => Ok(asked),

@@ -3,3 +3,10 @@ pub mod Closing
 pub mod Clients
 pub mod Sockets
 pub mod Speaking
+pub mod Refusals
+pub mod Hearing
+pub mod Answering
+pub mod Dealing
+pub mod Working
+pub mod Daemons
+pub mod Visits

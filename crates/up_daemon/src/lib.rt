@@ -1,16 +1,28 @@
-//! The daemon's edge to its clients: what a door promises, the door over a socket, and one that plays a script.
+//! The daemon: an engine in rounds between a host and a door.
+//!
+//! [`Door`] says what a door to clients promises, [`UnixDoor`] is one over a socket, and [`ScriptDoor`] plays a script.
 #![tactic(auto)]
 
 mod buffer;
+mod clients;
+mod copies;
+mod daemon;
 mod door;
+mod error;
 mod fault;
+mod log;
+mod parts;
 mod passed;
 mod script;
 mod socket;
 mod unix;
+mod work;
 
+pub use daemon::Daemon;
 pub use door::Door;
+pub use error::DaemonError;
 pub use fault::DoorFault;
+pub use log::Round;
 pub use passed::Passed;
 pub use script::{ScriptDoor, Visitor};
 pub use socket::SocketFault;

@@ -1,0 +1,20 @@
+use Rattle.std.proofs.Common.{◌∷◌, refl, reverse}
+use Rattle.up_model.specs.declared.output.Output.TheVariants as output
+use Rattle.up_daemon.specs.Dealing.{PassesEvent, PassesReply}
+use Rattle.up_daemon.specs.Working.{tape_of}
+use Rattle.up_daemon.proofs.Dealings.{deals_signal}
+use Rattle.up_daemon.proofs.work.Work.carry_one.Goals as goal
+
+pub returns-in-Signal-clause-deals : goal.returns-in-Signal-clause-deals
+returns-in-Signal-clause-deals g c begun phase deals =
+    deals_signal begun phase c.args.self.now (g.H.Host.entries c.args.host.now) (g.H.Host.entries c.send.new.host) (g.H.Host.faults c.args.host.now) (g.H.Host.faults c.send.new.host) c.in-Signal.who c.in-Signal.pid c.in-Signal.signal (reverse c.args.stack.now.items) c.send.ensures (rw c.in-Signal.is at deals)
+
+pub returns-in-Emitted-clause-deals : goal.returns-in-Emitted-clause-deals
+returns-in-Emitted-clause-deals g c begun phase deals =
+    let left = reverse c.args.stack.now.items in
+    PassesEvent phase c.in-Emitted.event left (tape_of c.args.self.now (g.H.Host.entries c.args.host.now) (g.H.Host.faults c.args.host.now) (output.Emitted c.in-Emitted.event ∷ left)) refl (rw c.in-Emitted.is at deals)
+
+pub returns-in_ok-answer-in-Reply-clause-deals : goal.returns-in_ok-answer-in-Reply-clause-deals
+returns-in_ok-answer-in-Reply-clause-deals g c begun phase deals =
+    let left = reverse c.args.stack.now.items in
+    PassesReply phase c.in-Reply.id c.in-Reply.answer left (tape_of c.args.self.now (g.H.Host.entries c.args.host.now) (g.H.Host.faults c.args.host.now) (output.Reply c.in-Reply.id c.in-Reply.answer ∷ left)) refl (rw c.in-Reply.is at deals)

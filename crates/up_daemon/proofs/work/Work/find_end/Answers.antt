@@ -1,0 +1,19 @@
+use Rattle.std.proofs.Common.{[], refl}
+use Rattle.up_daemon.specs.Dealing.{Polling, FindsEnd, FindsNone, PollFails}
+use Rattle.up_daemon.specs.Working.{tape_of}
+use Rattle.up_daemon.proofs.work.Work.find_end.Goals as goal
+
+pub returns-in_ok-take-in-Ok-Some-clause-deals : goal.returns-in_ok-take-in-Ok-Some-clause-deals
+returns-in_ok-take-in-Ok-Some-clause-deals g c begun deals =
+    let told = rw c.in-Ok-Some.field-0-is at c.in-Ok-Some.ensures.told in
+    let end = c.in-Ok-Some.end in
+    c.in_ok-take-in-Ok-Some.ensures.deals begun Polling (λ outputs. rw (told.0, told.1) (FindsEnd end.0 end.1 end.2 outputs (tape_of c.args.self.now (g.H.Host.entries c.args.host.now) (g.H.Host.faults c.args.host.now) []) refl deals))
+
+pub returns-in-Ok-None-clause-deals : goal.returns-in-Ok-None-clause-deals
+returns-in-Ok-None-clause-deals g c begun deals =
+    let told = rw c.in-Ok-None.field-0-is at c.in-Ok-None.ensures.told in
+    rw (told.0, told.1) (FindsNone (tape_of c.args.self.now (g.H.Host.entries c.args.host.now) (g.H.Host.faults c.args.host.now) []) refl deals)
+
+pub returns-in-Err-clause-deals : goal.returns-in-Err-clause-deals
+returns-in-Err-clause-deals g c begun deals =
+    rw (c.in-Err.ensures.told.0, c.in-Err.ensures.told.1) (PollFails (tape_of c.args.self.now (g.H.Host.entries c.args.host.now) (g.H.Host.faults c.args.host.now) []) refl deals)

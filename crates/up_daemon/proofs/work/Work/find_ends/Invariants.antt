@@ -1,0 +1,12 @@
+use Rattle.std.proofs.Common.{ℕ, []}
+use Rattle.up_daemon.specs.Dealing.{Polling, Deals}
+use Rattle.up_daemon.specs.Working.{KeepsAnswers, tape_of}
+use Rattle.up_daemon.proofs.work.Work.find_ends.Given as goal
+
+abbrev pub invariant-loop-turn : goal.invariant-loop-turn
+invariant-loop-turn g l = record {
+  answers : KeepsAnswers l.fn.self l.self;
+  deals : (begun : ℕ)
+      → Deals begun Polling (tape_of l.fn.self (g.H.Host.entries l.fn.host) (g.H.Host.faults l.fn.host) [])
+      → Deals begun Polling (tape_of l.self (g.H.Host.entries l.host) (g.H.Host.faults l.host) []);
+}

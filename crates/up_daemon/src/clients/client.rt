@@ -1,0 +1,151 @@
+//! A client of the daemon: what it said that has not entered the engine, and what waits to be written to it.
+ghost use Rattle.std.specs.Prelude.{◌≡◌, ◌≤◌, ◌<◌, [], None, IfOk, IfSome, false, vec_len, length, take, option_map};
+ghost use Rattle.up_daemon.specs.Hearing.{Hears, Enters, IsAnswered, IsTaken, IsPassedOver, IsReadOnce, IsWrittenOnce, is_ready, most_waiting};
+
+use crate::door::Door;
+use std::alloc::{AllocError, Global};
+use up_model::{Answer, Request};
+use up_wire::{Feed, WireFault, write_answer};
+
+/// The most bytes that one read takes.
+pub(crate) const MOST_READ: usize = 4096;
+
+/// A client with so many requests that have not entered the engine is not read.
+pub(crate) const MOST_WAITING: usize = 64;
+
+/// A client that is connected.
+#[derive(Drop)]
+pub(crate) struct Client {
+    pub(crate) number: u32,
+    // the bytes of a frame that is not whole yet
+    pub(crate) feed: Feed,
+    // the requests that have not entered the engine, oldest first
+    pub(crate) waiting: Vec<Request>,
+    // the number of the request that has entered and is not answered
+    pub(crate) unanswered: Option<u64>,
+    // the bytes that wait to be written
+    pub(crate) answers: Vec<u8>,
+    // whether it is to be let go of at the end of this part of the round
+    pub(crate) is_closed: bool,
+}
+
+impl Client {
+    /// A client that said nothing.
+    pub(crate) fn new(alloc: Global, number: u32) -> Self
+        ensures number { result.number ≡ number }
+        ensures feed { result.feed ≡ record { rest = []; fault = None } }
+        ensures waiting { result.waiting.items ≡ [] }
+        ensures unanswered { result.unanswered ≡ None }
+        ensures answers { result.answers.items ≡ [] }
+        ensures open { result.is_closed ≡ false }
+    {
+        Client {
+            number,
+            feed: Feed::new(alloc),
+            waiting: Vec::new(alloc),
+            unanswered: None,
+            answers: Vec::new(alloc),
+            is_closed: false,
+        }
+    }
+
+    /// Whether its next request may enter: it has one, and none before that is unanswered.
+    pub(crate) fn is_ready(&self) -> bool
+        ensures { result ≡ is_ready self.now }
+    {
+        self.unanswered.is_none() && self.waiting.len() > 0
+    }
+
+    /// Takes bytes that it sent. False if they break a frame, after which it can't be read on.
+    pub(crate) fn hear(&mut self, piece: &[u8]) -> Result<bool, AllocError>
+        ensures { IfOk result (λ whole. Hears whole piece.now self.old self.new) }
+    {
+        match self.feed.feed(piece) {
+            Ok(mut requests) => {
+                self.waiting.append(&mut requests)?;
+                Ok(true)
+            }
+            Err(WireFault::Memory) => Err(AllocError),
+            Err(_) => Ok(false),
+        }
+    }
+
+    /// Its next request, which enters under this number, if it may.
+    pub(crate) fn enter(&mut self, id: u64) -> Option<Request>
+        ensures { Enters id result self.old self.new }
+    {
+        if !self.is_ready() {
+            return None;
+        }
+        self.unanswered = Some(id);
+        Some(self.waiting.remove(0))
+    }
+
+    /// Queues the answer if it is that of the client's request.
+    pub(crate) fn answer(&mut self, id: u64, answer: &Answer) -> Result<bool, AllocError>
+        ensures { IfOk result (λ taken. IsAnswered id answer.now taken self.old self.new) }
+    {
+        if self.unanswered != Some(id) {
+            return Ok(false);
+        }
+        match write_answer(answer, &mut self.answers) {
+            Ok(()) => {
+                self.unanswered = None;
+                Ok(true)
+            }
+            Err(_) => Err(AllocError),
+        }
+    }
+
+    // Takes what a read found at the buffer's beginning. False if that is the end, or breaks a frame.
+    fn take(&mut self, buffer: &[u8], found: Option<usize>) -> Result<bool, AllocError>
+        requires { IfSome found (λ count. count ≤ length buffer.now) }
+        ensures { IfOk result (λ stays. IsTaken stays (option_map (λ count. take count buffer.now) found) self.old self.new) }
+    {
+        match found {
+            Some(count) => {
+                if count == 0 {
+                    return Ok(false);
+                }
+                let stays = self.hear(&buffer[..count])?;
+                Ok(stays)
+            }
+            None => Ok(true),
+        }
+    }
+
+    /// Reads it once, if it may be read. False if it is to be closed: the read failed, it sends no more, or it broke a frame.
+    pub(crate) fn read<D: Door>(&mut self, door: &mut D) -> Result<bool, AllocError>
+        ensures limit { IfOk result (λ stays. most_waiting ≤ vec_len self.old.waiting → IsPassedOver stays self.old self.new (D.entries door.old) (D.entries door.new) (D.faults door.old) (D.faults door.new)) }
+        ensures once { IfOk result (λ stays. vec_len self.old.waiting < most_waiting → IsReadOnce stays self.old self.new (D.entries door.old) (D.entries door.new) (D.faults door.old) (D.faults door.new)) }
+    {
+        if self.waiting.len() >= MOST_WAITING {
+            return Ok(true);
+        }
+        let mut piece = [0u8; MOST_READ];
+        match door.read(self.number, &mut piece) {
+            Ok(found) => {
+                let stays = self.take(&piece, found)?;
+                Ok(stays)
+            }
+            Err(_) => Ok(false),
+        }
+    }
+
+    /// Writes what waits, in one call, if anything does. False if the write failed.
+    pub(crate) fn write<D: Door>(&mut self, door: &mut D) -> Result<bool, AllocError>
+        ensures none { IfOk result (λ stays. vec_len self.old.answers ≡ 0 → IsPassedOver stays self.old self.new (D.entries door.old) (D.entries door.new) (D.faults door.old) (D.faults door.new)) }
+        ensures once { IfOk result (λ stays. 0 < vec_len self.old.answers → IsWrittenOnce stays self.old self.new (D.entries door.old) (D.entries door.new) (D.faults door.old) (D.faults door.new)) }
+    {
+        if self.answers.len() == 0 {
+            return Ok(true);
+        }
+        match door.write(self.number, &self.answers) {
+            Ok(count) => {
+                self.answers = self.answers.split_off(count)?;
+                Ok(true)
+            }
+            Err(_) => Ok(false),
+        }
+    }
+}

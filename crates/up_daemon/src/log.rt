@@ -1,0 +1,55 @@
+//! What a round fed to the engine, and what the engine answered.
+ghost use Rattle.std.specs.Prelude.{◌≡◌, ◌++◌, ◌∷◌, [], IfOk, OnOk};
+
+use std::alloc::{AllocError, Global};
+use up_model::{Input, Output};
+use up_text::Items;
+
+/// What a round did: the inputs that the engine was fed, and what it gave for each, nothing if the input wasn't expected.
+#[derive(Drop)]
+pub struct Round {
+    pub fed: Items<Input>,
+    pub gave: Items<Items<Output>>,
+}
+
+/// What a round did so far.
+#[derive(Drop)]
+pub(crate) struct Log {
+    pub(crate) fed: Vec<Input>,
+    pub(crate) gave: Vec<Items<Output>>,
+}
+
+impl Log {
+    /// Nothing was done.
+    pub(crate) fn new(alloc: Global) -> Self
+        ensures fed { result.fed.items ≡ [] }
+        ensures gave { result.gave.items ≡ [] }
+    {
+        Log {
+            fed: Vec::new(alloc),
+            gave: Vec::new(alloc),
+        }
+    }
+
+    /// Adds an input and its outputs.
+    pub(crate) fn add(&mut self, given: Input, outputs: Vec<Output>) -> Result<(), AllocError>
+        ensures fed { OnOk result (self.new.fed.items ≡ self.old.fed.items ++ given ∷ []) }
+        ensures gave { OnOk result (self.new.gave.items ≡ self.old.gave.items ++ outputs.items ∷ []) }
+    {
+        self.fed.push(given)?;
+        self.gave.push(Items::new(outputs))?;
+        Ok(())
+    }
+
+    /// The round that was done.
+    pub(crate) fn into_round(self) -> Round
+        ensures fed { result.fed ≡ self.fed.items }
+        ensures gave { result.gave ≡ self.gave.items }
+    {
+        let Log { fed, gave } = self;
+        Round {
+            fed: Items::new(fed),
+            gave: Items::new(gave),
+        }
+    }
+}

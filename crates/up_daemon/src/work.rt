@@ -1,0 +1,173 @@
+//! The work of a daemon: an input is fed to the engine, and its orders are carried out.
+ghost use Rattle.std.specs.Prelude.{◌≡◌, ◌∷◌, ℕ, [], List, reverse, IfOk, OnOk, MatchOption};
+ghost use Rattle.up_daemon.specs.Answering.{IsAnswered};
+ghost use Rattle.up_daemon.specs.Dealing.{Phase, Deals, with_input, ran, ran_not};
+ghost use Rattle.up_daemon.specs.Working.{IsStarted, IsSent};
+ghost use Rattle.up_model.specs.Chronicle.{Chronicle};
+ghost use Rattle.up_model.specs.Configuration.{Configuration};
+ghost use Rattle.up_model.specs.declared.output.Output.{Output};
+
+use crate::clients::Clients;
+use crate::copies::push_copies;
+use crate::log::Log;
+use std::alloc::{AllocError, Global};
+use up_engine::{Engine, StepError};
+use up_host::Host;
+use up_model::{Input, Order, Output, Who};
+
+/// What a daemon works with: its engine, its clients, and what the round did so far.
+#[derive(Drop)]
+pub(crate) struct Work {
+    pub(crate) alloc: Global,
+    pub(crate) engine: Engine,
+    pub(crate) clients: Clients,
+    // the number of the next request that enters
+    pub(crate) next: u64,
+    pub(crate) log: Log,
+}
+
+// What the engine gives for an input: nothing if the input isn't expected. An engine that is down is refused as one without memory.
+fn outputs_of(alloc: Global, engine: &mut Engine, given: Input) -> Result<Vec<Output>, AllocError>
+    ensures { IfOk result (λ outputs. (config : Configuration) (c : Chronicle) → IsAnswered engine.old engine.new config c given outputs.items) }
+{
+    match engine.step(given) {
+        Ok(outputs) => Ok(outputs),
+        Err(StepError::NotExpected) => Ok(Vec::new(alloc)),
+        Err(StepError::Down) | Err(StepError::Memory) => Err(AllocError),
+    }
+}
+
+// The answer of an order's process.
+fn answer_of(order: Order, pid: Option<u32>) -> Input
+    ensures { MatchOption pid (result ≡ ran_not order) (λ pid. result ≡ ran order pid) }
+{
+    let Order {
+        who,
+        process,
+        argv,
+        dir,
+        silent: _,
+        env,
+    } = order;
+    drop(argv);
+    drop(dir);
+    drop(env);
+    match pid {
+        Some(pid) => Input::Spawned { who, process, pid },
+        None => Input::Refused { who, process },
+    }
+}
+
+// The host starts the process once, and the input is its answer.
+fn start<H: Host>(host: &mut H, order: Order) -> Input
+    ensures { IsStarted order result (H.entries host.old) (H.entries host.new) (H.faults host.old) (H.faults host.new) }
+{
+    match host.spawn(&order) {
+        Ok(pid) => answer_of(order, Some(pid)),
+        Err(_) => answer_of(order, None),
+    }
+}
+
+// The host sends the signal once.
+fn send<H: Host>(host: &mut H, who: &Who, pid: u32, signal: u8)
+    ensures { IsSent who.now pid signal (H.entries host.old) (H.entries host.new) (H.faults host.old) (H.faults host.new) }
+{
+    match host.signal(who, pid, signal) {
+        Ok(()) => {}
+        Err(_) => {}
+    }
+}
+
+impl Work {
+    ghost use Rattle.up_daemon.specs.Working.{KeepsAnswers, IsFed, tape_of};
+
+    // Feeds one input, and puts what it gives on the stack of orders.
+    fn feed(&mut self, given: Input, stack: &mut Vec<Output>) -> Result<(), AllocError>
+        ensures answers { OnOk result (KeepsAnswers self.old self.new) }
+        ensures fed { OnOk result (IsFed given self.old self.new stack.old.items stack.new.items) }
+    {
+        let told = given.copy()?;
+        let outputs = outputs_of(self.alloc, &mut self.engine, given)?;
+        push_copies(self.alloc, &outputs, stack)?;
+        self.log.add(told, outputs)?;
+        Ok(())
+    }
+
+    // Starts a process, and feeds its answer.
+    fn carry_start<H: Host>(
+        &mut self,
+        host: &mut H,
+        order: Order,
+        stack: &mut Vec<Output>,
+    ) -> Result<(), AllocError>
+        ensures answers { OnOk result (KeepsAnswers self.old self.new) }
+        ensures deals { OnOk result ((begun : ℕ) (phase : Phase)
+            → Deals begun phase (tape_of self.old (H.entries host.old) (H.faults host.old) (Output.Spawn order ∷ reverse stack.old.items))
+            → Deals begun phase (tape_of self.new (H.entries host.new) (H.faults host.new) (reverse stack.new.items))) }
+    {
+        let given = start(host, order);
+        self.feed(given, stack)?;
+        Ok(())
+    }
+
+    // Carries one order out. A start is answered at once: its answer is the next input.
+    fn carry_one<H: Host>(
+        &mut self,
+        host: &mut H,
+        order: Output,
+        stack: &mut Vec<Output>,
+    ) -> Result<(), AllocError>
+        ensures answers { OnOk result (KeepsAnswers self.old self.new) }
+        ensures deals { OnOk result ((begun : ℕ) (phase : Phase)
+            → Deals begun phase (tape_of self.old (H.entries host.old) (H.faults host.old) (order ∷ reverse stack.old.items))
+            → Deals begun phase (tape_of self.new (H.entries host.new) (H.faults host.new) (reverse stack.new.items))) }
+    {
+        match order {
+            Output::Spawn(order) => {
+                self.carry_start(host, order, stack)?;
+                Ok(())
+            }
+            Output::Signal { who, pid, signal } => {
+                send(host, &who, pid, signal);
+                Ok(())
+            }
+            Output::Emitted(event) => {
+                drop(event);
+                Ok(())
+            }
+            Output::Reply { id, answer } => {
+                self.clients.answer(id, &answer)?;
+                Ok(())
+            }
+        }
+    }
+
+    // Carries orders out until none is left, the last first. (Memory runs out long before the loop does.)
+    fn carry<H: Host>(&mut self, host: &mut H, mut stack: Vec<Output>) -> Result<(), AllocError>
+        ensures answers { OnOk result (KeepsAnswers self.old self.new) }
+        ensures deals { OnOk result ((begun : ℕ) (phase : Phase)
+            → Deals begun phase (tape_of self.old (H.entries host.old) (H.faults host.old) (reverse stack.items))
+            → Deals begun phase (tape_of self.new (H.entries host.new) (H.faults host.new) [])) }
+    {
+        for turn in 0..u64::MAX {
+            let Some(order) = stack.pop() else {
+                return Ok(());
+            };
+            self.carry_one(host, order, &mut stack)?;
+        }
+        Err(AllocError)
+    }
+
+    /// Feeds one input, and carries out what comes of it.
+    pub(crate) fn take<H: Host>(&mut self, host: &mut H, given: Input) -> Result<(), AllocError>
+        ensures answers { OnOk result (KeepsAnswers self.old self.new) }
+        ensures deals { OnOk result ((begun : ℕ) (phase : Phase)
+            → ((outputs : List Output) → Deals begun phase (with_input given outputs (tape_of self.old (H.entries host.old) (H.faults host.old) [])))
+            → Deals begun phase (tape_of self.new (H.entries host.new) (H.faults host.new) [])) }
+    {
+        let mut stack: Vec<Output> = Vec::new(self.alloc);
+        self.feed(given, &mut stack)?;
+        self.carry(host, stack)?;
+        Ok(())
+    }
+}

@@ -1,0 +1,11 @@
+//! The tests of the daemon's rounds, over its public interface: hosts and doors that play scripts, and that fail.
+#![tactic(auto)]
+
+#[cfg(test)]
+mod clients;
+#[cfg(test)]
+mod doors;
+#[cfg(test)]
+mod hosts;
+#[cfg(test)]
+mod stage;
