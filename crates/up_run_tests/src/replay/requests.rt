@@ -1,5 +1,7 @@
 //! The worked rows on requests, as bundles.
-use crate::replay::{Case, Topic, check_topics};
+use crate::replay::{Case, Topic, check, check_topics};
+use std::alloc::{AllocError, Global};
+use std::test::Fail;
 
 const POST_START_OUTLIVES_MAIN: Case = Case {
     bundle: b"%file a.conf\nstart on go\nexec /bin/d\nrespawn\npost-start exec /bin/w\n%script\nemit go\nturn 3\nspawned a \"\" main 100\nspawned a \"\" post-start 101\nrequest 1 status a\nended a \"\" main exit 0\nended a \"\" post-start exit 0\n",
@@ -70,4 +72,24 @@ static TOPICS: [Topic; 9] = [
 #[test]
 fn requests(rt: HostRuntime) {
     check_topics(&rt, &TOPICS);
+}
+
+// A script that fills the queue of events, after which a client asks for one event more.
+fn full_queue(alloc: Global) -> Result<Vec<u8>, AllocError> {
+    let mut bundle = Vec::new(alloc);
+    bundle.extend_from_slice(b"%file a.conf\nstart on go\nexec /bin/d\n%script\n")?;
+    for _ in 0..32_768 {
+        bundle.extend_from_slice(b"emit X\n")?;
+    }
+    bundle.extend_from_slice(b"request 1 emit Y\nemit Y\n")?;
+    Ok(bundle)
+}
+
+#[test]
+fn limit_of_events(rt: HostRuntime) -> Result<(), Fail> {
+    let bundle = full_queue(rt.alloc())?;
+    let mut reader: &[u8] = bundle.as_slice();
+    let wanted = ("reply 1 failed \"Too many events\"\n", 0);
+    check(&rt, &mut reader, wanted, ("limit_of_events", 0));
+    Ok(())
 }
