@@ -4,7 +4,7 @@
 pub mod answer;
 pub mod command;
 pub mod disk;
-pub mod pace;
+mod pace;
 pub mod run;
 pub mod walk;
 

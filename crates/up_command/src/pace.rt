@@ -1,17 +1,17 @@
 //! How long a run pauses between rounds.
-ghost use Rattle.std.specs.Prelude.{◌≡◌, ◌≤◌, ◌<◌, ℕ, min};
+ghost use Rattle.std.specs.Prelude.{◌≡◌, ◌≤◌, ◌<◌, true, false};
 
 use up_daemon::{Passed, Round};
 
 /// The longest pause of a run that is not told another, in milliseconds.
-pub const MOST_PAUSE: u64 = 10;
+pub(crate) const MOST_PAUSE: u64 = 10;
 
 /// After so many quiet rounds the pause grows by a millisecond.
 const ROUNDS_PER_STEP: u64 = 16;
 
 /// How long a run pauses: a millisecond while something happened lately, and longer the longer nothing does.
 #[derive(Clone, Copy, Debug, PartialEq, Eq)]
-pub struct Pace {
+pub(crate) struct Pace {
     // how many rounds did nothing since one did something
     quiet: u64,
     // the longest pause, in milliseconds; 0 for none
@@ -20,15 +20,17 @@ pub struct Pace {
 
 impl Pace {
     /// A run that has just begun, with a longest pause in milliseconds; with 0 it never pauses.
-    pub fn new(most: u64) -> Self
+    pub(crate) fn new(most: u64) -> Self
         ensures { (result.quiet ≡ 0) × (result.most ≡ most) }
     {
         Pace { quiet: 0, most }
     }
 
     /// A round was over, and did nothing or something.
-    pub fn note(&mut self, idle: bool)
-        ensures { self.new.most ≡ self.old.most }
+    pub(crate) fn note(&mut self, idle: bool)
+        ensures most { self.new.most ≡ self.old.most }
+        ensures busy { idle ≡ false → self.new.quiet ≡ 0 }
+        ensures idle { idle ≡ true → 0 < self.new.quiet }
     {
         if idle {
             self.quiet = self.quiet.saturating_add(1);
@@ -38,9 +40,10 @@ impl Pace {
     }
 
     /// How many milliseconds to pause now; 0 for not at all.
-    pub fn pause(&self) -> u64
+    pub(crate) fn pause(&self) -> u64
         ensures most { result ≤ self.now.most }
         ensures busy { self.now.quiet ≡ 0 → result ≡ 0 }
+        ensures idle { 0 < self.now.quiet → 0 < self.now.most → 0 < result }
     {
         if self.quiet == 0 {
             return 0;
@@ -60,7 +63,7 @@ fn is_nothing(passed: &Passed) -> bool {
 }
 
 /// Whether a round did nothing: it was fed a reading of the clock alone, which asked for nothing, and no byte and no client came or went.
-pub fn is_idle(round: &Round, passed: &[Passed]) -> bool {
+pub(crate) fn is_idle(round: &Round, passed: &[Passed]) -> bool {
     round.fed.as_slice().len() <= 1
         && round
             .gave
