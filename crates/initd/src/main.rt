@@ -21,7 +21,7 @@ fn words_of(rt: &(impl Env + AllocGlobal)) -> io::Result<Vec<String>> {
 fn run(rt: &HostRuntime) -> io::Result<u8> {
     let words = words_of(rt)?;
     match read_words(rt.alloc(), words.as_slice()) {
-        Ok(asked) => answer(rt, asked),
+        Ok((asked, base)) => answer(rt, asked, base),
         Err(error) => Ok(print_refusal(rt, &error)),
     }
 }

@@ -2,11 +2,15 @@
 use Rattle.std.specs.Prelude.{◌≡◌, ◌⊎◌, ℕ, ◌≤◌, List, length}
 use Rattle.up_conf.specs.declared.folder.File.{File}
 use Rattle.up_replay.specs.declared.printed.Printed.{Printed}
-use Rattle.up_replay.specs.Folders.{Checks, prints, unusable}
+use Rattle.up_conf.specs.Folders.{jobs_of}
+use Rattle.up_image.specs.declared.image_error.ImageError.{ImageError}
+use Rattle.up_image.specs.Image.{IsImage}
+use Rattle.up_replay.specs.Bundle.{files_of, lines_of}
+use Rattle.up_replay.specs.Folders.{Checks, image_refusal_line, prints, unusable}
 use Rattle.up_replay.specs.Replay.{Plays}
 use Rattle.up_replay.specs.Rows.{script_inputs}
 use Rattle.up_command.specs.declared.command.Asked.{Asked}
-use Rattle.up_command.specs.declared.command.Asked.TheVariants.{Bundle, Check, Replay, Run}
+use Rattle.up_command.specs.declared.command.Asked.TheVariants.{Bundle, Check, Compile, Replay, Run, Show}
 use Rattle.up_command.specs.declared.walk.WalkError.TheVariants.{Unusable}
 use Rattle.up_command.specs.Walk.{IsWalked, MayFail}
 
@@ -29,24 +33,56 @@ pub record ChecksFiles (made : Printed) : Type 0 where
 abbrev pub ChecksDir : List ℕ → Printed → Type 0
 ChecksDir dir made = ChecksFiles made ⊎ CannotWalk dir made
 
--- a replay of a script, which has 64 MiB at most, over the files that the folder has
-pub record PlaysFiles (script : List ℕ) (made : Printed) : Type 0 where
+-- an image is refused, or a table has none
+pub record IsRefusedImage (made : Printed) : Type 0 where
+  pub error : ImageError
+  pub says : made ≡ prints (image_refusal_line error) 3
+
+-- what is printed once a table was stored, or why it was not
+abbrev pub StoresTable : List ℕ → Printed → Printed → Type 0
+StoresTable image printed made = (made ≡ printed) ⊎ (IsRefusedImage made ⊎ IsUnusable image made)
+
+-- a check of the files that the folder has, whose image was stored, or why it was not
+abbrev pub StoresFiles : List ℕ → Printed → Type 0
+StoresFiles image made = ChecksFiles made ⊎ (IsRefusedImage made ⊎ IsUnusable image made)
+
+abbrev pub CompilesDir : List ℕ → List ℕ → Printed → Type 0
+CompilesDir dir image made = StoresFiles image made ⊎ CannotWalk dir made
+
+-- the files of a bundle define a table with this image
+abbrev pub HasImage : List ℕ → List ℕ → Type 0
+HasImage image bundle = IsImage image (jobs_of (files_of (lines_of bundle)))
+
+-- what is printed is a bundle whose files define the table of this image
+abbrev pub ShowsImage : List ℕ → Printed → Type 0
+ShowsImage image made = HasImage image made.text × (made.status ≡ 0)
+
+-- what is printed for an image, or why nothing of it is
+abbrev pub ShowsFile : List ℕ → Printed → Type 0
+ShowsFile image made = ((bytes : List ℕ) × ShowsImage bytes made)
+    ⊎ (IsUnusable image made ⊎ IsRefusedImage made)
+
+-- a replay of a script, which has 64 MiB at most, over the files that the folder has, with a base environment
+pub record PlaysFiles (base : List (List ℕ × List ℕ)) (script : List ℕ) (made : Printed) : Type 0 where
   pub files : List File
   pub walked : IsWalked files
   pub bytes : List ℕ
   pub bounded : length bytes ≤ 67108864
-  pub plays : Plays files script (script_inputs 1 bytes) made
+  pub plays : Plays files base script (script_inputs 1 bytes) made
 
-abbrev pub PlaysDir : List ℕ → List ℕ → Printed → Type 0
-PlaysDir dir script made = PlaysFiles script made ⊎ (CannotWalk dir made ⊎ IsUnusable script made)
+abbrev pub PlaysDir : List ℕ → List (List ℕ × List ℕ) → List ℕ → Printed → Type 0
+PlaysDir dir base script made = PlaysFiles base script made ⊎ (CannotWalk dir made ⊎ IsUnusable script made)
 
 -- the status of something that may be printed, unless it can't be written or memory is refused
 abbrev pub EndsWith : (Printed → Type 0) → ℕ → Type 0
 EndsWith Says status = ((made : Printed) × Says made × (status ≡ made.status)) ⊎ ((status ≡ 3) ⊎ (status ≡ 4))
 
--- the status of what is asked for; that of a bundle rests on standard input, and that of a run on its rounds
-abbrev pub Answers : Asked → ℕ → Type 0
-Answers Bundle status = Unit {0}
-Answers (Check dir) status = EndsWith (ChecksDir dir.now) status
-Answers (Replay dir script) status = EndsWith (PlaysDir dir.now script.now) status
-Answers (Run dir socket rounds) status = Unit {0}
+-- the status of what is asked for, with the base environment of a replay; that of a bundle rests on standard input, and that of a run on
+-- its rounds
+abbrev pub Answers : List (List ℕ × List ℕ) → Asked → ℕ → Type 0
+Answers base Bundle status = Unit {0}
+Answers base (Check dir) status = EndsWith (ChecksDir dir.now) status
+Answers base (Compile dir image) status = EndsWith (CompilesDir dir.now image.now) status
+Answers base (Show image) status = EndsWith (ShowsFile image.now) status
+Answers base (Replay dir script) status = EndsWith (PlaysDir dir.now base script.now) status
+Answers base (Run source socket rounds telling) status = Unit {0}

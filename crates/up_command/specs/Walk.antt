@@ -21,9 +21,10 @@ pub record IsSource (file : File) : Type 0 where
 
 -- the same files, or one more, which has this path
 abbrev pub MayAdd : List ℕ → List File → List File → Type 0
-MayAdd path old new = (new ≡ old) ⊎ ((file : File) × IsSource file × (file.path ≡ path) × (new ≡ old ++ file ∷ []))
+MayAdd path old new = (new ≡ old) ⊎ ((file : File) × IsSource file × (file.path ≡ path)
+    × (new ≡ old ++ file ∷ []))
 
--- a folder that is still to be listed: its path, with a slash behind it, and how deep it lies
+-- a folder that is still to be listed: its path, with a slash after it, and how deep it lies
 abbrev pub level_of : Level → List ℕ × ℕ
 level_of level = (string_bytes level.path, level.depth)
 
@@ -31,9 +32,10 @@ level_of level = (string_bytes level.path, level.depth)
 abbrev pub below : List ℕ → ℕ → List ℕ × ℕ
 below path depth = (path ++ codes "/", depth + 1)
 
--- what has this path, in a folder that lies so deep, is taken: as a folder that is to be listed too, or else as a file where its path
+-- what has this path, in a folder that lies so deep, is taken: as a folder that is to be listed too, or else as a file if its path
 -- stands for one
-abbrev pub TakesPath : List ℕ → ℕ → (files new_files : List File) → (levels new_levels : List (List ℕ × ℕ)) → Type 0
+abbrev pub TakesPath : List ℕ → ℕ → (files new_files : List File) → (levels new_levels : List (List ℕ × ℕ))
+    → Type 0
 TakesPath path depth files new_files levels new_levels =
     ((new_files ≡ files) × (new_levels ≡ levels ++ below path depth ∷ []))
     ⊎ ((new_levels ≡ levels) × (length new_files ≡ length files + (if is_source path then 1 else 0)))
@@ -49,7 +51,7 @@ pub record IsWalked (files : List File) : Type 0 where
   pub few : length files ≤ 65536
   pub sources : All IsSource files
 
--- an error that names this path, if it isn't want of memory
+-- an error that names this path, if it isn't that memory ran out
 abbrev pub Names : List ℕ → WalkError → Type 0
 Names path (Unusable named) = named ≡ path
 Names path Memory = Unit {0}
@@ -59,12 +61,13 @@ abbrev pub NamesDeep : List ℕ → ℕ → WalkError → Type 0
 NamesDeep path depth (Unusable named) = (named ≡ path) × (64 ≤ depth)
 NamesDeep path depth Memory = Unit {0}
 
--- an error that names this whole path, which ends as a job's or an override's does, if it isn't want of memory
+-- an error that names this whole path, which ends as a job's or an override's does, if it isn't that memory ran out
 abbrev pub NamesSource : List ℕ → List ℕ → WalkError → Type 0
 NamesSource whole path (Unusable named) = (named ≡ whole) × (is_source path ≡ true)
 NamesSource whole path Memory = Unit {0}
 
 -- why a folder isn't read: it can't be used, or one of its files can't, or memory is refused
 abbrev pub MayFail : List ℕ → WalkError → Type 0
-MayFail dir (Unusable named) = (named ≡ dir) ⊎ ((path : List ℕ) × (named ≡ path_in dir path) × (is_source path ≡ true))
+MayFail dir (Unusable named) = (named ≡ dir) ⊎
+    ((path : List ℕ) × (named ≡ path_in dir path) × (is_source path ≡ true))
 MayFail dir Memory = Unit {0}

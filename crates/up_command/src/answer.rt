@@ -4,15 +4,17 @@ ghost use Rattle.up_command.specs.Disk.{Answers, EndsWith};
 
 use crate::command::Asked;
 use crate::disk::{check_dir, replay_dir};
-use crate::run::run_dir;
+use crate::image::{compile_dir, show_image};
+use crate::run::run_source;
 use std::alloc::AllocError;
 use std::io;
-use std::io::{BufWriter, Write};
+use std::io::{BufWriter, Eprint, Write};
 use std::net::Net;
 use std::process::Processes;
 use std::rt::{Clock, Files};
 use up_replay::replay::replay;
 use up_replay::{Printed, write_printed};
+use up_text::Env;
 
 // Replays standard input, and gives the status.
 fn replay_input(rt: &(impl Input + Print + AllocGlobal)) -> io::Result<u8> {
@@ -41,22 +43,24 @@ pub(crate) fn print(
     }
 }
 
-/// Does what is asked for, prints on standard output, and gives the status: that of what is printed, 3 where it can't be written, 4 for
-/// want of memory. An error is that of the standard output, or want of memory for its buffer.
-pub fn answer<R: Files + Net + Processes + Clock + Input + Print + AllocGlobal + Clone + Drop>(
-    rt: &R,
-    asked: Asked,
-) -> io::Result<u8>
-    ensures { IfOk result (Answers asked.entry) }
+/// Does what is asked for, with a base environment for a replay, prints on standard output, and gives the status: that of what is
+/// printed, 3 if it can't be written, 4 if memory ran out. An error is that of the standard output, or memory ran out for its buffer.
+pub fn answer<
+    R: Files + Net + Processes + Clock + Input + Print + Eprint + AllocGlobal + Clone + Drop,
+>(rt: &R, asked: Asked, base: Env) -> io::Result<u8>
+    ensures { IfOk result (Answers base asked.entry) }
 {
     match asked {
         Asked::Bundle => replay_input(rt),
         Asked::Check { dir } => print(rt, check_dir(rt, dir)),
-        Asked::Replay { dir, script } => print(rt, replay_dir(rt, dir, script)),
+        Asked::Compile { dir, image } => print(rt, compile_dir(rt, dir, image)),
+        Asked::Show { image } => print(rt, show_image(rt, image)),
+        Asked::Replay { dir, script } => print(rt, replay_dir(rt, dir, base, script)),
         Asked::Run {
-            dir,
+            source,
             socket,
             rounds,
-        } => run_dir(rt, dir, socket, rounds),
+            telling,
+        } => run_source(rt, source, socket, rounds, telling),
     }
 }

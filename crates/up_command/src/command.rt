@@ -4,10 +4,12 @@ ghost use Rattle.clap.specs.Words.{kind_of};
 
 use crate::pace::MOST_PAUSE;
 use crate::run::Rounds;
+use crate::teller::Telling;
 use clap::error::ErrorKind;
 use clap::{Arg, ArgAction, ArgMatches, Command, Error, value_parser};
 use std::alloc::{AllocError, Global};
 use std::io::Eprint;
+use up_text::{Env, TextFault};
 
 /// What the program is asked for.
 #[derive(Clone, Copy, Debug, PartialEq, Eq)]
@@ -18,22 +20,47 @@ pub enum Asked<'a> {
     Check {
         dir: &'a str,
     },
+    /// To store the image of a folder.
+    Compile {
+        dir: &'a str,
+        image: &'a str,
+    },
+    /// To print what an image says.
+    Show {
+        image: &'a str,
+    },
     /// To replay a script over a folder.
     Replay {
         dir: &'a str,
         script: &'a str,
     },
-    /// To run the jobs of a folder, with a socket for clients.
+    /// To run the jobs of a folder or of an image, with a socket for clients.
     Run {
-        dir: &'a str,
+        source: &'a str,
         socket: &'a str,
         rounds: Rounds,
+        telling: Telling<'a>,
     },
 }
 
 fn dir_arg<'a>(alloc: Global) -> Arg<'a> {
     Arg::new(alloc, "DIR")
         .help("The folder of job files")
+        .required(true)
+        .action(ArgAction::Set)
+}
+
+fn image_arg<'a>(alloc: Global) -> Arg<'a> {
+    Arg::new(alloc, "IMAGE")
+        .help("The file of the image")
+        .required(true)
+        .action(ArgAction::Set)
+}
+
+fn source_arg<'a>(alloc: Global) -> Arg<'a> {
+    Arg::new(alloc, "SOURCE")
+        .value_name("DIR|IMAGE")
+        .help("The folder of job files, or the file of an image")
         .required(true)
         .action(ArgAction::Set)
 }
@@ -74,13 +101,48 @@ fn pause_arg<'a>(alloc: Global) -> Arg<'a> {
         .action(ArgAction::Set)
 }
 
+fn env_arg<'a>(alloc: Global) -> Arg<'a> {
+    Arg::new(alloc, "env")
+        .long("env")
+        .value_name("KEY=VALUE")
+        .help(
+            "Sets a variable for each process, on top of which its job's are set; may be given again and again",
+        )
+        .action(ArgAction::Append)
+}
+
+fn verbose_arg<'a>(alloc: Global) -> Arg<'a> {
+    Arg::new(alloc, "verbose")
+        .long("verbose")
+        .help("Prints what the init does, in the lines of a replay")
+        .action(ArgAction::SetTrue)
+}
+
+fn log_arg<'a>(alloc: Global) -> Arg<'a> {
+    Arg::new(alloc, "record")
+        .long("record")
+        .value_name("FILE")
+        .help("Writes what happens to FILE as a script, whose replay prints what the init did")
+        .action(ArgAction::Set)
+}
+
+fn replay_command<'a>(alloc: Global) -> Result<Command<'a>, AllocError> {
+    Command::new(alloc, "replay")
+        .about("Prints what a script of events makes the jobs of a folder do")
+        .arg(dir_arg(alloc))?
+        .arg(script_arg(alloc))?
+        .arg(env_arg(alloc))
+}
+
 fn run_command<'a>(alloc: Global) -> Result<Command<'a>, AllocError> {
     Command::new(alloc, "run")
-        .about("Runs the jobs of a folder, and answers clients at a socket")
-        .arg(dir_arg(alloc))?
+        .about("Runs the jobs of a folder or of an image, and answers clients at a socket")
+        .arg(source_arg(alloc))?
         .arg(socket_arg(alloc))?
         .arg(rounds_arg(alloc))?
-        .arg(pause_arg(alloc))
+        .arg(pause_arg(alloc))?
+        .arg(verbose_arg(alloc))?
+        .arg(log_arg(alloc))
 }
 
 // The commands of the program. Without a word it reads a bundle from standard input.
@@ -88,16 +150,27 @@ fn command<'a>(alloc: Global) -> Result<Command<'a>, AllocError> {
     let check = Command::new(alloc, "check")
         .about("Prints the faults of a folder's job files")
         .arg(dir_arg(alloc))?;
-    let replay = Command::new(alloc, "replay")
-        .about("Prints what a script of events makes the jobs of a folder do")
+    let compile = Command::new(alloc, "compile")
+        .about("Writes the image of a folder's jobs, and prints the faults of its job files")
         .arg(dir_arg(alloc))?
-        .arg(script_arg(alloc))?;
+        .arg(image_arg(alloc))?;
+    let show = Command::new(alloc, "show")
+        .about("Prints the jobs of an image as job files")
+        .arg(image_arg(alloc))?;
     Command::new(alloc, "initd")
         .version("0.1.0")
         .about("Runs and replays job files; without a command, replays a bundle on standard input")
         .subcommand(check)?
-        .subcommand(replay)?
+        .subcommand(compile)?
+        .subcommand(show)?
+        .subcommand(replay_command(alloc)?)?
         .subcommand(run_command(alloc)?)
+}
+
+fn asked_compile<'a>(given: &ArgMatches<'a>) -> Option<Asked<'a>> {
+    let dir = given.get_str("DIR")?;
+    let image = given.get_str("IMAGE")?;
+    Some(Asked::Compile { dir, image })
 }
 
 fn asked_replay<'a>(given: &ArgMatches<'a>) -> Option<Asked<'a>> {
@@ -107,39 +180,82 @@ fn asked_replay<'a>(given: &ArgMatches<'a>) -> Option<Asked<'a>> {
 }
 
 fn asked_run<'a>(given: &ArgMatches<'a>) -> Option<Asked<'a>> {
-    let dir = given.get_str("DIR")?;
+    let source = given.get_str("SOURCE")?;
     let socket = given.get_str("SOCKET")?;
     let rounds = Rounds {
         count: given.get_one::<u32>("rounds").unwrap_or(u32::MAX),
         most_pause: given.get_one::<u64>("pause").unwrap_or(MOST_PAUSE),
     };
+    let telling = Telling {
+        verbose: given.get_one::<bool>("verbose").unwrap_or(false),
+        log: given.get_str("record"),
+    };
     Some(Asked::Run {
-        dir,
+        source,
         socket,
         rounds,
+        telling,
     })
 }
 
-/// What the words of a command line, the program's name first, ask for. An error is also the text of `--help` and `--version`.
-pub fn read_words<'a>(alloc: Global, words: &'a [String]) -> Result<Asked<'a>, Error> {
+fn asked_by<'a>(word: &str, given: &ArgMatches<'a>) -> Option<Asked<'a>> {
+    match word {
+        "check" => given.get_str("DIR").map(|dir| Asked::Check { dir }),
+        "compile" => asked_compile(given),
+        "show" => given.get_str("IMAGE").map(|image| Asked::Show { image }),
+        "replay" => asked_replay(given),
+        _ => asked_run(given),
+    }
+}
+
+// Sets the variable of a word KEY=VALUE.
+fn set_word(base: &mut Env, word: &str) -> Result<(), TextFault> {
+    match word.split_once('=') {
+        Some((key, value)) => base.set(key, value),
+        None => Err(TextFault::BadName),
+    }
+}
+
+// The variables of words KEY=VALUE; of a repeated key the later value counts.
+fn base_of(alloc: Global, words: &[&str]) -> Result<Env, TextFault> {
+    let mut base = Env::new(alloc);
+    for word in words {
+        set_word(&mut base, *word)?;
+    }
+    Ok(base)
+}
+
+// The base environment of a replay; that of anything else is empty.
+fn base_in(alloc: Global, word: &str, given: &ArgMatches) -> Result<Env, TextFault> {
+    if word != "replay" {
+        return Ok(Env::new(alloc));
+    }
+    base_of(alloc, given.get_strs("env").unwrap_or(&[]))
+}
+
+/// What the words of a command line, the program's name first, ask for, and the base environment that they set for a replay. An error is
+/// also the text of `--help` and `--version`.
+pub fn read_words<'a>(alloc: Global, words: &'a [String]) -> Result<(Asked<'a>, Env), Error> {
     let mut command = command(alloc)?;
     let matches = command.try_get_matches_from_mut(words)?;
-    let asked = match matches.subcommand() {
-        None => Some(Asked::Bundle),
-        Some(("check", given)) => given.get_str("DIR").map(|dir| Asked::Check { dir }),
-        Some(("replay", given)) => asked_replay(given),
-        Some((_, given)) => asked_run(given),
+    let Some((word, given)) = matches.subcommand() else {
+        return Ok((Asked::Bundle, Env::new(alloc)));
     };
-    match asked {
-        Some(asked) => Ok(asked),
-        None => Err(command.error(ErrorKind::MissingRequiredArgument, "a word is missing")?),
+    let Some(asked) = asked_by(word, given) else {
+        return Err(command.error(ErrorKind::MissingRequiredArgument, "a word is missing")?);
+    };
+    match base_in(alloc, word, given) {
+        Ok(base) => Ok((asked, base)),
+        Err(TextFault::Memory) => Err(Error::from(AllocError)),
+        Err(_) => Err(command.error(ErrorKind::InvalidValue, "--env takes KEY=VALUE")?),
     }
 }
 
 /// Prints why a command line is refused, or the help that it asks for, and gives the status.
 pub fn print_refusal<R: Print + Eprint>(rt: &R, error: &Error) -> u8
     ensures memory { kind_of error.now ≡ ErrorKind.OutOfMemory → result ≡ 4 }
-    ensures usage { kind_of error.now ≢ ErrorKind.OutOfMemory → kind_of error.now ≢ ErrorKind.DisplayHelp → kind_of error.now ≢ ErrorKind.DisplayVersion → result ≡ 2 }
+    ensures usage { kind_of error.now ≢ ErrorKind.OutOfMemory → kind_of error.now ≢ ErrorKind.DisplayHelp
+        → kind_of error.now ≢ ErrorKind.DisplayVersion → result ≡ 2 }
     ensures help { kind_of error.now ≡ ErrorKind.DisplayHelp → (result ≡ 0) ⊎ (result ≡ 3) }
     ensures version { kind_of error.now ≡ ErrorKind.DisplayVersion → (result ≡ 0) ⊎ (result ≡ 3) }
 {

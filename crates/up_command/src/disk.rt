@@ -9,7 +9,8 @@ use std::io::ErrorKind;
 use std::rt::Files;
 use up_conf::Folder;
 use up_replay::check::check;
-use up_replay::{Printed, cannot_use, print_folder, script_inputs};
+use up_replay::{Printed, cannot_use, render_folder, script_inputs};
+use up_text::Env;
 
 /// The most bytes that a script has: 64 MiB.
 const MAX_LEN: usize = 67_108_864;
@@ -28,7 +29,7 @@ pub fn check_dir<R: Files + AllocGlobal + Clone + Drop>(
     }
 }
 
-// The bytes of a script, where it can be read and isn't too long.
+// The bytes of a script, if it can be read and isn't too long.
 fn read_script<R: Files + AllocGlobal>(rt: &R, script: &str) -> Result<Option<Vec<u8>>, AllocError>
     ensures { IfOk result (λ read. IfSome read (λ bytes. length bytes.items ≤ 67108864)) }
 {
@@ -52,30 +53,33 @@ fn read_script<R: Files + AllocGlobal>(rt: &R, script: &str) -> Result<Option<Ve
 fn replay_folder<R: Files + AllocGlobal>(
     rt: &R,
     folder: &Folder,
+    base: Env,
     script: &str,
 ) -> Result<Printed, AllocError>
     requires { IsWalked folder.now }
-    ensures { IfOk result (λ made. PlaysFiles script.now made ⊎ IsUnusable script.now made) }
+    ensures { IfOk result (λ made. PlaysFiles base script.now made ⊎ IsUnusable script.now made) }
 {
     match read_script(rt, script)? {
         Some(bytes) => {
             let read = script_inputs(rt.alloc(), bytes.as_slice(), 1)?;
-            print_folder(rt.alloc(), folder, script, read)
+            render_folder(rt.alloc(), folder, base, script, read)
         }
         None => cannot_use(rt.alloc(), script),
     }
 }
 
-/// What a replay of a script over a folder on the disk prints. Both are read before anything is printed, the folder first.
+/// What a replay of a script over a folder on the disk prints, if each process gets the base environment. Both are read before anything
+/// is printed, the folder first.
 pub fn replay_dir<R: Files + AllocGlobal + Clone + Drop>(
     rt: &R,
     dir: &str,
+    base: Env,
     script: &str,
 ) -> Result<Printed, AllocError>
-    ensures { IfOk result (PlaysDir dir.now script.now) }
+    ensures { IfOk result (PlaysDir dir.now base script.now) }
 {
     match walk(rt, dir) {
-        Ok(folder) => replay_folder(rt, &folder, script),
+        Ok(folder) => replay_folder(rt, &folder, base, script),
         Err(WalkError::Unusable(path)) => cannot_use(rt.alloc(), path.as_str()),
         Err(WalkError::Memory) => Err(AllocError),
     }

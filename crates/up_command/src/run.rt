@@ -1,22 +1,24 @@
-//! Runs the jobs of a folder: their processes are real, and clients ask at a socket.
+//! Runs jobs: their processes are real, and clients ask at a socket.
 
 use crate::answer::print;
+use crate::jobs::read_jobs;
 use crate::pace::{Pace, is_idle};
-use crate::walk::{WalkError, walk};
+use crate::teller::{Teller, Telling, log_head};
 use std::alloc::{AllocError, Global};
+use std::fs::File;
 use std::io;
+use std::io::{Eprint, Write};
 use std::net::Net;
 use std::process::Processes;
 use std::rt::{Clock, Files};
 use std::time::Duration;
-use up_conf::Folder;
 use up_daemon::{Daemon, Door, SocketFault, UnixDoor};
 use up_engine::Engine;
 use up_host::{Host, RealHost};
-use up_image::{Table, compile};
+use up_image::Table;
 use up_model::{Event, Input};
-use up_replay::{Printed, cannot_use, print_folder};
-use up_text::{Env, Items, Name};
+use up_replay::cannot_use;
+use up_text::{Env, Name};
 
 /// The folders in which the programs of jobs are looked for.
 const SEARCHED: &str = "/usr/sbin:/usr/bin:/sbin:/bin";
@@ -39,49 +41,47 @@ fn base(alloc: Global) -> Result<Env, AllocError> {
     }
 }
 
-// The event with which a run begins (startup(7)).
-fn startup(alloc: Global) -> Result<Event, AllocError> {
-    match Name::new(alloc, "startup") {
-        Ok(name) => Ok(Event {
-            name,
-            vars: Env::new(alloc),
-        }),
-        Err(_) => Err(AllocError),
-    }
+// The inputs with which a run begins: one event (startup(7)).
+fn first_inputs(alloc: Global) -> Result<Vec<Input>, AllocError> {
+    let Ok(name) = Name::new(alloc, "startup") else {
+        return Err(AllocError);
+    };
+    let vars = Env::new(alloc);
+    let mut inputs: Vec<Input> = Vec::new(alloc);
+    inputs.push(Input::Emit(Event { name, vars }))?;
+    Ok(inputs)
 }
 
-// A daemon over these jobs, whose queue has the first event.
-fn started(alloc: Global, table: Table) -> Result<Daemon, AllocError> {
+// A daemon over these jobs, whose engine was fed these inputs.
+fn started(alloc: Global, table: Table, inputs: Vec<Input>) -> Result<Daemon, AllocError> {
     let mut engine = Engine::new(alloc, table, base(alloc)?)?;
-    match engine.step(Input::Emit(startup(alloc)?)) {
-        Ok(outputs) => {
-            drop(outputs);
+    match engine.run(inputs) {
+        Ok(run) => {
+            if run.down {
+                return Err(AllocError);
+            }
+            drop(run);
             Ok(Daemon::new(alloc, engine))
         }
         Err(_) => Err(AllocError),
     }
 }
 
-// The faults of a folder's files as they are printed, or why the folder is refused.
-fn faults(alloc: Global, folder: &Folder) -> Result<Printed, AllocError> {
-    print_folder(alloc, folder, "-", Ok(Items::new(Vec::new(alloc))))
-}
-
-// The jobs of a folder that is not refused.
-fn jobs(alloc: Global, folder: &Folder) -> Result<Table, AllocError> {
-    match compile(alloc, folder) {
-        Ok((table, _)) => Ok(table),
-        Err(_) => Err(AllocError),
-    }
-}
-
-// One round, and the pause after it if it did nothing. False if it was refused.
-fn round<H: Host>(daemon: &mut Daemon, host: &mut H, door: &mut UnixDoor, pace: &mut Pace) -> bool {
+// One round, what is told of it, and the pause after it if it did nothing. False if it was refused.
+fn round<R: Print + Eprint + AllocGlobal, H: Host, W: Write + Drop>(
+    rt: &R,
+    daemon: &mut Daemon,
+    (host, door): (&mut H, &mut UnixDoor),
+    pace: &mut Pace,
+    teller: &mut Teller<W>,
+) -> bool {
     let Ok(round) = daemon.round(host, door) else {
         return false;
     };
-    pace.note(is_idle(&round, door.happened()));
+    let idle = is_idle(&round, door.happened());
+    teller.tell(rt, rt.alloc(), &round, idle);
     drop(round);
+    pace.note(idle);
     let pause = pace.pause();
     if pause > 0 {
         let _ = door.pause(Duration::from_millis(pause));
@@ -90,15 +90,17 @@ fn round<H: Host>(daemon: &mut Daemon, host: &mut H, door: &mut UnixDoor, pace: 
 }
 
 // The rounds, until they are over or one is refused, and the status.
-fn all_rounds<H: Host>(
+fn all_rounds<R: Print + Eprint + AllocGlobal, H: Host, W: Write + Drop>(
+    rt: &R,
     daemon: &mut Daemon,
     host: &mut H,
     door: &mut UnixDoor,
     rounds: Rounds,
+    teller: &mut Teller<W>,
 ) -> u8 {
     let mut pace = Pace::new(rounds.most_pause);
     for _ in 0..rounds.count {
-        if !round(daemon, host, door, &mut pace) {
+        if !round(rt, daemon, (host, door), &mut pace, teller) {
             return 4;
         }
     }
@@ -110,55 +112,94 @@ fn unusable(rt: &(impl Print + AllocGlobal), path: &str) -> io::Result<u8> {
     print(rt, cannot_use(rt.alloc(), path))
 }
 
-// The rounds over a folder's jobs with the system's processes, and the status.
-fn serve<R: Processes + Clock + Print + AllocGlobal + Clone + Drop>(
+// The rounds over jobs with the system's processes, and the status.
+fn serve<R: Processes + Clock + Print + Eprint + AllocGlobal + Clone + Drop, W: Write + Drop>(
     rt: &R,
-    folder: &Folder,
+    table: Table,
     door: &mut UnixDoor,
     rounds: Rounds,
+    teller: &mut Teller<W>,
 ) -> io::Result<u8> {
-    let table = jobs(rt.alloc(), folder)?;
-    let mut daemon = started(rt.alloc(), table)?;
+    let inputs = first_inputs(rt.alloc())?;
+    teller.note(rt, rt.alloc(), inputs.as_slice(), false);
+    let mut daemon = started(rt.alloc(), table, inputs)?;
     let Ok(mut host) = RealHost::new(rt.alloc(), rt.clone()?) else {
         return unusable(rt, "the clock");
     };
-    let status = all_rounds(&mut daemon, &mut host, door, rounds);
+    let status = all_rounds(rt, &mut daemon, &mut host, door, rounds, teller);
+    teller.finish(rt);
     Ok(status)
 }
 
-// The rounds over a folder that was read: its faults are printed, and the socket is made before the first.
-fn run_folder<R: Files + Net + Processes + Clock + Print + AllocGlobal + Clone + Drop>(
+// The rounds over jobs, with a socket that is made before the first.
+fn run_table<R, W: Write + Drop>(
     rt: &R,
-    folder: &Folder,
+    table: Table,
     socket: &str,
     rounds: Rounds,
-) -> io::Result<u8> {
-    let found = print(rt, faults(rt.alloc(), folder))?;
-    if found > 1 {
-        return Ok(found);
-    }
+    teller: &mut Teller<W>,
+) -> io::Result<u8>
+where
+    R: Files + Net + Processes + Clock + Print + Eprint + AllocGlobal + Clone + Drop,
+{
     match UnixDoor::bind(rt, rt.alloc(), socket) {
-        Ok(mut door) => {
-            let status = serve(rt, folder, &mut door, rounds)?;
-            Ok(status.max(found))
-        }
+        Ok(mut door) => serve(rt, table, &mut door, rounds, teller),
         Err(SocketFault::Memory) => Ok(4),
         Err(_) => unusable(rt, socket),
     }
 }
 
-/// Reads the folder, prints its faults, makes the socket, and does the rounds. Gives the status: 0; 1 if faults were printed; 3 if the
-/// folder is refused or the folder, the socket or the output can't be used; 4 for want of memory. Neither the socket nor the processes
-/// are touched at the end.
-pub fn run_dir<R: Files + Net + Processes + Clock + Print + AllocGlobal + Clone + Drop>(
+// The file of a record, which is emptied; none if it can't be made.
+fn open_log<R: Files>(rt: &R, log: Option<&str>) -> Option<Option<R::File>> {
+    match log {
+        Some(path) => match File::create(rt, path) {
+            Ok(file) => Some(Some(file)),
+            Err(_) => None,
+        },
+        None => Some(None),
+    }
+}
+
+// The run over jobs, once the file of its record is there.
+fn run_jobs<R>(
     rt: &R,
-    dir: &str,
+    table: Table,
+    (source, socket): (&str, &str),
+    rounds: Rounds,
+    telling: Telling,
+) -> io::Result<u8>
+where
+    R: Files + Net + Processes + Clock + Print + Eprint + AllocGlobal + Clone + Drop,
+{
+    let path = telling.log.unwrap_or("-");
+    let Some(file) = open_log(rt, telling.log) else {
+        return unusable(rt, path);
+    };
+    let head = log_head(rt.alloc(), source, path, SEARCHED)?;
+    let mut teller = Teller::new(telling.verbose, file, head);
+    run_table(rt, table, socket, rounds, &mut teller)
+}
+
+/// Reads the jobs of a folder or of an image, prints the faults of a folder's files, makes the socket, and does the rounds. Gives the
+/// status: 0; 1 if faults were printed; 3 if the folder or the image is refused, or one of them, the record, the socket or the output
+/// can't be used; 4 if memory ran out. Neither the socket nor the processes are touched at the end.
+pub fn run_source<R: Files + Net + Processes + Clock + Print + Eprint + AllocGlobal + Clone + Drop>(
+    rt: &R,
+    source: &str,
     socket: &str,
     rounds: Rounds,
+    telling: Telling,
 ) -> io::Result<u8> {
-    match walk(rt, dir) {
-        Ok(folder) => run_folder(rt, &folder, socket, rounds),
-        Err(WalkError::Unusable(path)) => unusable(rt, path.as_str()),
-        Err(WalkError::Memory) => Ok(4),
+    let jobs = read_jobs(rt, source)?;
+    let found = print(rt, Ok(jobs.printed))?;
+    match jobs.table {
+        Some(table) => {
+            if found > 1 {
+                return Ok(found);
+            }
+            let status = run_jobs(rt, table, (source, socket), rounds, telling)?;
+            Ok(status.max(found))
+        }
+        None => Ok(found),
     }
 }

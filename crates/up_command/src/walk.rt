@@ -42,7 +42,7 @@ impl From<AllocError> for WalkError {
 // A folder that is still to be listed.
 #[derive(Drop)]
 struct Level {
-    // Its path below the first folder, with a slash behind it; nothing for the first folder.
+    // Its path below the first folder, with a slash after it; nothing for the first folder.
     path: String,
     depth: u32,
 }
@@ -86,7 +86,7 @@ fn is_source(path: &str) -> bool
 }
 
 // The path of what lies in a folder.
-fn joined(alloc: Global, dir: &str, path: &str) -> Result<String, AllocError>
+fn path_below(alloc: Global, dir: &str, path: &str) -> Result<String, AllocError>
     ensures { IfOk result (λ whole. string_bytes whole ≡ path_in dir.now path.now) }
 {
     let mut whole = String::from_str(alloc, dir)?;
@@ -115,7 +115,8 @@ fn read_source<R: Files + AllocGlobal>(
     path: &str,
     is_file: bool,
 ) -> Result<Option<Vec<u8>>, WalkError>
-    ensures read { IfOk result (λ read. IfSome read (λ bytes. (is_source path.now ≡ true) × (length bytes.items ≤ 1048577))) }
+    ensures read { IfOk result (λ read. IfSome read
+        (λ bytes. (is_source path.now ≡ true) × (length bytes.items ≤ 1048577))) }
     ensures all { IfOk result (λ read. is_some read ≡ is_source path.now) }
     ensures file { IfOk result (λ read. is_source path.now ≡ true → is_file ≡ true) }
     ensures refused { IfErr result (NamesSource whole.now path.now) }
@@ -145,7 +146,8 @@ impl Found {
         ensures added { OnOk result (MayAdd (string_bytes path) self.old.folder self.new.folder) }
         ensures levels { self.new.levels ≡ self.old.levels }
         ensures file { OnOk result (is_source (string_bytes path) ≡ true → is_file ≡ true) }
-        ensures taken { OnOk result (length self.new.folder ≡ length self.old.folder + (if is_source (string_bytes path) then 1 else 0)) }
+        ensures taken { OnOk result (length self.new.folder
+            ≡ length self.old.folder + (if is_source (string_bytes path) then 1 else 0)) }
         ensures entries { self.new.entries ≡ self.old.entries }
     {
         if let Some(bytes) = read_source(rt, whole, path.as_str(), is_file)? {
@@ -164,7 +166,8 @@ impl Found {
     ) -> Result<(), WalkError>
         ensures refused { IfErr result (NamesDeep dir.now depth) }
         ensures shallow { OnOk result (depth < 64) }
-        ensures later { OnOk result (map level_of self.new.levels.items ≡ map level_of self.old.levels.items ++ below (string_bytes path) depth ∷ []) }
+        ensures later { OnOk result (map level_of self.new.levels.items
+            ≡ map level_of self.old.levels.items ++ below (string_bytes path) depth ∷ []) }
         ensures folder { self.new.folder ≡ self.old.folder }
         ensures entries { self.new.entries ≡ self.old.entries }
     {
@@ -190,10 +193,11 @@ impl Found {
     ) -> Result<(), WalkError>
         ensures refused { IfErr result (MayFail dir.now) }
         ensures added { OnOk result (MayAdd (string_bytes path) self.old.folder self.new.folder) }
-        ensures taken { OnOk result (TakesPath (string_bytes path) depth self.old.folder self.new.folder (map level_of self.old.levels.items) (map level_of self.new.levels.items)) }
+        ensures taken { OnOk result (TakesPath (string_bytes path) depth self.old.folder self.new.folder
+            (map level_of self.old.levels.items) (map level_of self.new.levels.items)) }
         ensures entries { self.new.entries ≡ self.old.entries }
     {
-        let whole = joined(rt.alloc(), dir, path.as_str())?;
+        let whole = path_below(rt.alloc(), dir, path.as_str())?;
         match fs::metadata(rt, whole.as_str()) {
             Ok(found) if found.is_dir() => self.take_folder(rt.alloc(), dir, path, depth),
             Ok(found) => self.take_file(rt, whole.as_str(), path, found.is_file()),
@@ -217,8 +221,11 @@ impl Found {
         requires { Keeps self.old.folder self.old.entries }
         ensures refused { IfErr result (MayFail dir.now) }
         ensures kept { OnOk result (Keeps self.new.folder self.new.entries) }
-        ensures added { OnOk result (MayAdd (string_bytes level.now.path ++ name.now) self.old.folder self.new.folder) }
-        ensures taken { OnOk result (TakesPath (string_bytes level.now.path ++ name.now) level.now.depth self.old.folder self.new.folder (map level_of self.old.levels.items) (map level_of self.new.levels.items)) }
+        ensures added { OnOk result (MayAdd (string_bytes level.now.path
+            ++ name.now) self.old.folder self.new.folder) }
+        ensures taken { OnOk result (TakesPath
+            (string_bytes level.now.path ++ name.now) level.now.depth self.old.folder self.new.folder
+            (map level_of self.old.levels.items) (map level_of self.new.levels.items)) }
         ensures counted { OnOk result (self.new.entries ≡ self.old.entries + 1) }
     {
         if self.entries >= MAX_ENTRIES {
@@ -242,7 +249,7 @@ impl Found {
         ensures refused { IfErr result (MayFail dir.now) }
         ensures kept { OnOk result (Keeps self.new.folder self.new.entries) }
     {
-        let whole = joined(rt.alloc(), dir, level.path.as_str())?;
+        let whole = path_below(rt.alloc(), dir, level.path.as_str())?;
         let entries = match fs::read_dir(rt, whole.as_str()) {
             Ok(entries) => entries,
             Err(error) => return Err(refused(rt.alloc(), error, dir)),

@@ -68,7 +68,7 @@ not_less less o z y ys zs none e = by_case (less z y) refl
         let clash : z ∷ zs ≡ [] = sym e ∙ empty in
         absurd (cc)
 
--- both lists without their first items tie alike where they did with one in front
+-- both lists without their first items tie alike if they did with one in front
 tails : {X : Type 0} (less : X → X → Bool) (x y : X) (ys zs : List X) → filter (ties less x) (y ∷ ys) ≡ filter (ties less x) (y ∷ zs) → filter (ties less x) ys ≡ filter (ties less x) zs
 tails less x y ys zs e = by_case (ties less x y) e
   where
@@ -159,7 +159,7 @@ sorted_by-from_sort less o xs ys up stable =
     same_from_ties less o ys (sorted_by less xs) (ascending-from_far less ys (sorted_far less o ys up)) (ascending-sorted_by less o xs)
     (λ x. stable x ∙ sym (ties-sorted_by less o x xs))
 
--- what `sort_by` leaves, where its closure compares the keys
+-- what `sort_by` leaves, if its closure compares the keys
 pub in_order-from_sort_by : {X : Type 0} (key : X → List ℕ) {F : Type 0} (g : Mut F (Bor X × (Bor X × Unit {0})) Ordering) (f : F) (xs ys : List X)
     → ((h : F) (a : Bor X × (Bor X × Unit {0})) (r : Ordering) (h' : F) → Called g h a r h' → r ≡ slice_cmp nat_cmp (key a.0.now) (key a.1.0.now))
     → IsStableByClosure g f xs ys → IsSortedByClosure g f ys → ys ≡ in_order key xs

@@ -18,15 +18,6 @@ also_new path file old new bytes absent same is = ap (option_map (λ b. b.now)) 
     by_case false None e absent = rw e refl
     by_case false (Some other) e absent = refl
 
--- a path that is in the map keeps its bytes
-pub also_kept : (path : List ℕ) (file : File) (found : Option (List ℕ)) → (bytes_eq file.path path ≡ true → is_some found ≡ true) → found ≡ also path file found
-also_kept path file (Some bytes) present = refl
-also_kept path file None present = by_case (bytes_eq file.path path) refl
-  where
-    by_case : (b : Bool) → bytes_eq file.path path ≡ b → None ≡ cond b (Some file.bytes) None
-    by_case true e = absurd (cc (present e))
-    by_case false e = refl
-
 bytes_at-push : (path : List ℕ) (files : List File) (file : File) → bytes_at path (files ++ file ∷ []) ≡ also path file (bytes_at path files)
 bytes_at-push path [] file = last (bytes_eq file.path path)
   where

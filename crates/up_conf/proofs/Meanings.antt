@@ -15,6 +15,6 @@ pub job_of_both : (name : List ℕ) (xs ys : List Stanza)
 unfolding job_of
 job_of_both name xs ys = ap {A = JobDef} (λ job. record job { name = name; env = summed env_with [] (xs ++ ys); export = summed export_with [] (xs ++ ys) }) (others_after_both (plain_job []) xs ys)
 
--- no stanza behind those of a file
+-- no stanza after those of a file
 pub none_behind : (name : List ℕ) (xs : List Stanza) → job_of name (xs ++ []) ≡ job_of name xs
 none_behind name xs = ap (job_of name) (append-nil xs)

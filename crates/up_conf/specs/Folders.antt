@@ -13,7 +13,7 @@ use Rattle.up_stanza.specs.FaultCodes.{number_of}
 use Rattle.up_conf.specs.Jobs.{job_of}
 use Rattle.up_conf.specs.Order.{in_order}
 
--- a path without its ending, where it has this one
+-- a path without its ending, if it has this one
 abbrev pub without_ending : List ℕ → List ℕ → Option (List ℕ)
 without_ending ending path = if ends_with nat_eq path ending then Some (take (length path - length ending) path) else None
 
@@ -25,7 +25,7 @@ job_name path = without_ending (codes ".conf") path
 abbrev pub overridden_name : List ℕ → Option (List ℕ)
 overridden_name path = without_ending (codes ".override") path
 
--- the bytes of the file with this path; where several have it, of the first
+-- the bytes of the file with this path; if several have it, of the first
 abbrev pub bytes_at : List ℕ → List File → Option (List ℕ)
 bytes_at path files = option_map (λ file. file.bytes) (find (λ file. bytes_eq file.path path) files)
 
@@ -38,7 +38,7 @@ has_conf files (Some name) = is_some (bytes_at (name ++ codes ".conf") files)
 abbrev pub is_read : List File → List ℕ → Bool
 is_read files path = is_some (job_name path) || has_conf files (overridden_name path)
 
--- the stanzas of a job's override: none where it has none, or a faulty one
+-- the stanzas of a job's override: none if it has none, or a faulty one
 unfoldable pub override_of : List File → List ℕ → List Stanza
 override_of files name = unwrap_or (option_and_then (λ bytes. result_ok (conf_of bytes)) (bytes_at (name ++ codes ".override") files)) []
 

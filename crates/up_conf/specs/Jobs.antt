@@ -21,7 +21,7 @@ abbrev pub last_or : {X : Type 0} → X → (Stanza → Option X) → List Stanz
 last_or x says [] = x
 last_or x says (stanza ∷ stanzas) = last_or (unwrap_or (says stanza) x) says stanzas
 
--- all that stanzas say of something, behind this
+-- all that stanzas say of something, after this
 abbrev pub summed : {X : Type 0} → (X → Stanza → X) → X → List Stanza → X
 summed with x [] = x
 summed with x (stanza ∷ stanzas) = summed with (with x stanza) stanzas

@@ -3,7 +3,7 @@ ghost use Rattle.std.specs.Prelude.{◌≡◌, IfOk, Ok};
 
 use std::alloc::AllocError;
 
-/// Both values, or want of memory where one of them was refused. The other is dropped here, where the prover knows no more of it than its
+/// Both values, or that memory ran out if one of them was refused. The other is dropped here, where the prover knows no more of it than its
 /// type's name: in a function that makes nine values each way out would drop those made so far, field by field.
 pub(crate) fn both<A: Drop, B: Drop>(
     first: Result<A, AllocError>,

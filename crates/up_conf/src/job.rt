@@ -14,9 +14,9 @@ pub struct JobDef {
     pub respawn: bool,
     /// Whether its processes' output is dropped: `console none`.
     pub silent: bool,
-    /// The name of an instance, before it is expanded. Empty where the job has one instance alone.
+    /// The name of an instance, before it is expanded. Empty if the job has one instance alone.
     pub instance: Text,
-    /// The folder in which its processes run (`chdir`), as it is written; where that is empty, `/`.
+    /// The folder in which its processes run (`chdir`), as it is written; if that is empty, `/`.
     pub dir: Text,
     /// How often it is respawned.
     pub limit: Limit,

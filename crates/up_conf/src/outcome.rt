@@ -15,10 +15,10 @@ use std::alloc::{AllocError, Global};
 use up_stanza::{ConfFault, FaultCode, Stanzas, read_bytes};
 use up_text::{Items, Name, Text, TextFault};
 
-/// The greatest number of a fault that a file has; that of want of memory is greater.
+/// The greatest number of a fault that a file has; that of memory that ran out is greater.
 const MAX_NUMBER: u8 = 16;
 
-// The name with these bytes, where they are a name.
+// The name with these bytes, if they are a name.
 fn make_name(alloc: Global, text: &str) -> Result<Option<Name>, AllocError>
     ensures name { IfOk result (λ name. name ≡ (if is_name text.now then Some text.now else None)) }
     ensures memory { OnErr result (is_name text.now ≡ true) }

@@ -79,7 +79,7 @@ fn has_exit(exits: &[Exit], exit: &Exit) -> bool
     exits.iter().any(|other| same_exit(exit, other))
 }
 
-// Adds an exit, where it isn't there.
+// Adds an exit, if it isn't there.
 fn add_exit(exits: Items<Exit>, exit: &Exit) -> Result<Items<Exit>, AllocError>
     ensures { IfOk result (λ new. new ≡ added same_exit exits exit.now) }
 {
@@ -195,7 +195,7 @@ pub(crate) fn with_stanzas<'a>(
     Ok(job)
 }
 
-// A text of its own, empty where there is none.
+// A text of its own, empty if there is none.
 fn copy_text(alloc: Global, text: Option<&Text>) -> Result<Text, AllocError>
     ensures { IfOk result (λ copied. copied ≡ unwrap_or (option_copied text.entry) []) }
 {

@@ -28,7 +28,7 @@ impl<'a> Model for Paths<'a> {
     ghost invariant = { λ p. (path : List ℕ) → found_at path p.map ≡ bytes_at path p.files.now };
 }
 
-// Adds a file, where none has its path.
+// Adds a file, if none has its path.
 fn add<'a>(map: &mut BTreeMap<&'a str, &'a [u8]>, file: &'a File) -> Result<(), AllocError>
     ensures { OnOk result ((path : List ℕ) → found_at path map.new ≡ also path file.now (found_at path map.old)) }
 {

@@ -1,6 +1,5 @@
 -- One call of the host more.
-use Rattle.std.proofs.Common.{◌≡◌, ◌∙◌, ◌++◌, ◌∷◌, ◌⊎◌, [], ℕ, List, reverse, refl, inl, inr}
-use Rattle.up_host.specs.Telling.{with_fault}
+use Rattle.std.proofs.Common.{◌∷◌, ℕ, List, reverse, refl, inl, inr}
 use Rattle.up_host.specs.declared.happened.Happened.{Happened}
 use Rattle.up_model.specs.declared.input.Input.{Input}
 use Rattle.up_model.specs.declared.output.Order.{Order}
@@ -8,7 +7,7 @@ use Rattle.up_model.specs.declared.output.Output.{Output}
 use Rattle.up_model.specs.declared.output.Output.TheVariants as output
 use Rattle.up_model.specs.declared.who.Who.{Who}
 use Rattle.up_daemon.specs.declared.work.Work.{Work}
-use Rattle.up_daemon.specs.Dealing.{Phase, Tape, Deals, Starts, StartFails, Signals, SignalFails, with_input, with_entry, with_failure, with_left, ran, ran_not}
+use Rattle.up_daemon.specs.Dealing.{Phase, Deals, Starts, StartFails, Signals, SignalFails}
 use Rattle.up_daemon.specs.Working.{tape_of, IsFed, IsStarted, IsSent}
 
 -- a process is started, and its answer is fed

@@ -1,3 +1,8 @@
 pub mod Telling
 pub mod Dealings
 pub mod Stacks
+pub mod Attendings
+pub mod Seats
+pub mod Desks
+pub mod Numberings
+pub mod Wholes

@@ -1,9 +1,9 @@
 -- What was fed and given, one input more.
-use Rattle.std.proofs.Common.{◌≡◌, ◌∙◌, ◌++◌, ◌∷◌, [], List, ap, sym, map, refl}
+use Rattle.std.proofs.Common.{◌++◌, ◌∷◌, [], List, refl}
 use Rattle.std.proofs.lemmas.List.{map-append}
 use Rattle.up_model.specs.declared.input.Input.{Input}
 use Rattle.up_model.specs.declared.output.Output.{Output}
-use Rattle.up_model.specs.Answers.{answer, next, answers, after_all}
+use Rattle.up_model.specs.Answers.{answer, answers, after_all}
 use Rattle.up_model.specs.Chronicle.{Chronicle}
 use Rattle.up_model.specs.Configuration.{Configuration}
 use Rattle.up_engine.specs.declared.engine.Engine.{Engine}

@@ -6,4 +6,5 @@ use Rattle.up_daemon.specs.declared.passed.Passed.TheVariants.{Closed}
 
 -- the record gains its entry, or, without room for it, the count of faults one
 abbrev pub TellsClose : ℕ → List Passed → ℕ → List Passed → ℕ → Type 0
-TellsClose client before faults after count = ((after ≡ before ++ Closed client ∷ []) × (count ≡ faults)) ⊎ ((after ≡ before) × (count ≡ with_fault faults))
+TellsClose client before faults after count = ((after ≡ before ++ Closed client ∷ []) × (count ≡ faults))
+    ⊎ ((after ≡ before) × (count ≡ with_fault faults))

@@ -1,12 +1,34 @@
+-- Which clients are connected.
 pub mod Connected
+-- What a close tells.
 pub mod Closing
+-- Which clients a slab holds.
 pub mod Clients
+-- Which paths a socket may have (unix(7)), and why one is refused.
 pub mod Sockets
+-- What a read of a script may find.
 pub mod Speaking
+-- The refusals of a daemon.
 pub mod Refusals
+-- What a round knows of a client.
+pub mod Peers
+-- What is said and answered at one client.
 pub mod Hearing
-pub mod Answering
-pub mod Dealing
-pub mod Working
-pub mod Daemons
+-- Who is let in.
 pub mod Visits
+-- What a round does with its door and its clients, call by call.
+pub mod Attending
+-- How the parts of a round see what it did so far, from its door and its clients.
+pub mod Seating
+-- What a daemon's engine answered.
+pub mod Answering
+-- What a round does with its host, call by call.
+pub mod Dealing
+-- What the work of a daemon is seen as.
+pub mod Working
+-- What a contract sees of a daemon.
+pub mod Daemons
+-- How the requests of a round are numbered.
+pub mod Numbering
+-- Which clients a round reads on.
+pub mod Wholeness

@@ -20,6 +20,6 @@ IsOfSystem Exists = ⊤
 IsOfSystem Memory = ⊤
 IsOfSystem Unusable = ⊤
 
--- why a socket at this path is refused: by the path, and only where nothing is wrong with that by the system
+-- why a socket at this path is refused: by the path, and only if nothing is wrong with that by the system
 abbrev pub SaysWhy : List ℕ → SocketFault → Type 0
 SaysWhy path fault = MatchOption (path_refusal path) (IsOfSystem fault) (λ refusal. fault ≡ refusal)

@@ -1,5 +1,9 @@
 //! The clients of the daemon, in the order in which they came.
-ghost use Rattle.std.specs.Prelude.{◌≡◌, ◌≤◌, ◌<◌, [], IfOk, OnOk, vec_len};
+ghost use Rattle.std.specs.List.{AllByRecursion};
+ghost use Rattle.std.specs.Prelude.{◌≡◌, ◌≤◌, ◌<◌, ◌+◌, ◌∷◌, List, [], true, false, IfOk, OnOk, IfSome, IfNone, vec_len};
+ghost use Rattle.up_daemon.specs.Attending.{Standing, Desk, Attends, LettingIn, ReadingFrom, WritingTo, IsEntered, IsAtRest, IsQueued};
+ghost use Rattle.up_daemon.specs.Peers.{Peer, peer_of, peers_of};
+ghost use Rattle.up_daemon.specs.Seating.{seen, at_door, with_stayer};
 ghost use Rattle.up_daemon.specs.Visits.{most_clients, LetsIn};
 
 mod client;
@@ -7,6 +11,7 @@ mod client;
 use crate::door::Door;
 use client::Client;
 use std::alloc::{AllocError, Global};
+use std::mem;
 use up_model::{Answer, Request};
 
 /// The most clients that are connected.
@@ -17,6 +22,36 @@ const MOST_CLIENTS: usize = 64;
 pub(crate) struct Clients {
     alloc: Global,
     list: Vec<Client>,
+}
+
+// Reads the client once, if it may be read, and closes it if it can't be read on. False if it was closed.
+fn read_or_close<D: Door>(client: &mut Client, door: &mut D) -> Result<bool, AllocError>
+    ensures { IfOk result (λ stays. (start : Standing) (unread : List Peer) (desk : Desk)
+        → Attends start (ReadingFrom (peer_of client.old ∷ unread))
+        (at_door (D.entries door.old) (D.faults door.old) desk)
+        → Attends start (ReadingFrom unread) (at_door (D.entries door.new) (D.faults door.new)
+        (with_stayer stays client.new desk))) }
+{
+    if client.read(door)? {
+        return Ok(true);
+    }
+    door.close(client.number);
+    Ok(false)
+}
+
+// Writes once to the client, if bytes wait for it, and closes it if the write fails. False if it was closed.
+fn write_or_close<D: Door>(client: &mut Client, door: &mut D) -> Result<bool, AllocError>
+    ensures { IfOk result (λ stays. (start : Standing) (unwritten : List Peer) (desk : Desk)
+        → Attends start (WritingTo (peer_of client.old ∷ unwritten))
+        (at_door (D.entries door.old) (D.faults door.old) desk)
+        → Attends start (WritingTo unwritten)
+        (at_door (D.entries door.new) (D.faults door.new) (with_stayer stays client.new desk))) }
+{
+    if client.write(door)? {
+        return Ok(true);
+    }
+    door.close(client.number);
+    Ok(false)
 }
 
 impl Clients {
@@ -32,8 +67,15 @@ impl Clients {
 
     // Lets one client in. False if nobody waits, the door failed, or as many are connected as may be.
     fn let_one_in<D: Door>(&mut self, door: &mut D) -> Result<bool, AllocError>
-        ensures full { OnOk result (most_clients ≤ vec_len self.old.list → (self.new.list.items ≡ self.old.list.items) × (D.entries door.new ≡ D.entries door.old) × (D.faults door.new ≡ D.faults door.old)) }
-        ensures accepts { IfOk result (λ came. vec_len self.old.list < most_clients → LetsIn came self.old.list.items self.new.list.items (D.entries door.old) (D.entries door.new) (D.faults door.old) (D.faults door.new)) }
+        ensures full { OnOk result (most_clients ≤ vec_len self.old.list
+            → (self.new.list.items ≡ self.old.list.items) × (D.entries door.new ≡ D.entries door.old)
+            × (D.faults door.new ≡ D.faults door.old)) }
+        ensures accepts { IfOk result (λ came. vec_len self.old.list < most_clients
+            → LetsIn came self.old.list.items self.new.list.items (D.entries door.old) (D.entries door.new)
+            (D.faults door.old) (D.faults door.new)) }
+        ensures refuses { IfOk result (λ came. most_clients ≤ vec_len self.old.list → came ≡ false) }
+        ensures grows { IfOk result (λ came. came ≡ true
+            → vec_len self.new.list ≡ vec_len self.old.list + 1) }
     {
         if self.list.len() >= MOST_CLIENTS {
             return Ok(false);
@@ -50,8 +92,13 @@ impl Clients {
     }
 
     /// Lets in those who wait, while there is room for them.
-    pub(crate) fn let_in<D: Door>(&mut self, door: &mut D) -> Result<(), AllocError> {
-        for _ in 0..MOST_CLIENTS {
+    pub(crate) fn let_in<D: Door>(&mut self, door: &mut D) -> Result<(), AllocError>
+        ensures { OnOk result ((start : Standing) (desk : Desk)
+            → Attends start LettingIn (seen self.old.list.items (D.entries door.old) (D.faults door.old) desk)
+            → Attends start (ReadingFrom (peers_of self.new.list.items))
+            (seen [] (D.entries door.new) (D.faults door.new) desk)) }
+    {
+        for turn in 0..MOST_CLIENTS {
             if !self.let_one_in(door)? {
                 return Ok(());
             }
@@ -59,43 +106,53 @@ impl Clients {
         Ok(())
     }
 
-    // Closes the client at the door; it is dropped with the others that are closed.
-    fn close<D: Door>(client: &mut Client, door: &mut D) {
-        door.close(client.number);
-        client.is_closed = true;
-    }
-
-    // Lets go of the clients that are closed.
-    fn drop_closed(&mut self) {
-        self.list.retain(|client| !client.is_closed);
-    }
-
     /// Reads each client once that has few enough requests. One that can't be read on is closed.
-    pub(crate) fn read<D: Door>(&mut self, door: &mut D) -> Result<(), AllocError> {
-        for client in self.list.iter_mut() {
-            if !client.read(door)? {
-                Clients::close(client, door);
+    pub(crate) fn read<D: Door>(&mut self, door: &mut D) -> Result<(), AllocError>
+        ensures { OnOk result ((start : Standing) (desk : Desk)
+            → Attends start (ReadingFrom (peers_of self.old.list.items))
+            (seen [] (D.entries door.old) (D.faults door.old) desk)
+            → Attends start (ReadingFrom []) (seen self.new.list.items (D.entries door.new)
+            (D.faults door.new) desk)) }
+    {
+        let kept = Vec::with_capacity(self.alloc, self.list.len())?;
+        let unread = mem::replace(&mut self.list, kept);
+        for client in unread {
+            let mut client = client;
+            if read_or_close(&mut client, door)? {
+                self.list.push(client)?;
             }
         }
-        self.drop_closed();
         Ok(())
     }
 
     /// Writes once to each client for whom bytes wait. One that can't be written to is closed.
-    pub(crate) fn write<D: Door>(&mut self, door: &mut D) -> Result<(), AllocError> {
-        for client in self.list.iter_mut() {
-            if !client.write(door)? {
-                Clients::close(client, door);
+    pub(crate) fn write<D: Door>(&mut self, door: &mut D) -> Result<(), AllocError>
+        ensures { OnOk result ((start : Standing) (desk : Desk)
+            → Attends start (WritingTo (peers_of self.old.list.items))
+            (seen [] (D.entries door.old) (D.faults door.old) desk)
+            → Attends start (WritingTo []) (seen self.new.list.items (D.entries door.new)
+            (D.faults door.new) desk)) }
+    {
+        let kept = Vec::with_capacity(self.alloc, self.list.len())?;
+        let unwritten = mem::replace(&mut self.list, kept);
+        for client in unwritten {
+            let mut client = client;
+            if write_or_close(&mut client, door)? {
+                self.list.push(client)?;
             }
         }
-        self.drop_closed();
         Ok(())
     }
 
     /// The next request that may enter, under this number: that of the first client who has one and waits for no answer.
-    pub(crate) fn enter(&mut self, id: u64) -> Option<Request> {
-        for client in self.list.iter_mut() {
-            if let Some(request) = client.enter(id) {
+    pub(crate) fn enter(&mut self, id: u64) -> Option<Request>
+        ensures entered { IfSome result (λ request. IsEntered id request (peers_of self.old.list.items)
+            (peers_of self.new.list.items)) }
+        ensures rest { IfNone result ((self.new.list.items ≡ self.old.list.items)
+            × AllByRecursion IsAtRest (peers_of self.old.list.items)) }
+    {
+        for index in 0..self.list.len() {
+            if let Some(request) = self.list[index].enter(id) {
                 return Some(request);
             }
         }
@@ -103,9 +160,12 @@ impl Clients {
     }
 
     /// Queues the answer for the client whose request has this number, if it is still connected.
-    pub(crate) fn answer(&mut self, id: u64, answer: &Answer) -> Result<(), AllocError> {
-        for client in self.list.iter_mut() {
-            if client.answer(id, answer)? {
+    pub(crate) fn answer(&mut self, id: u64, answer: &Answer) -> Result<(), AllocError>
+        ensures { OnOk result (IsQueued id answer.now (peers_of self.old.list.items)
+            (peers_of self.new.list.items)) }
+    {
+        for index in 0..self.list.len() {
+            if self.list[index].answer(id, answer)? {
                 return Ok(());
             }
         }

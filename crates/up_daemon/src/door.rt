@@ -24,24 +24,28 @@ pub trait Door {
 
     /// The number of a client that waited to be let in, if there is one. The number is that of no client that is connected.
     fn accept(&mut self) -> Result<Option<u32>, DoorFault>
-        ensures told { Tells Accepted (entries self.old) (faults self.old) result (entries self.new) (faults self.new) }
+        ensures told { Tells Accepted (entries self.old) (faults self.old) result (entries self.new)
+            (faults self.new) }
         ensures connects { ConnectsOnAccept (connected self.old) result (connected self.new) };
 
     /// How many bytes of the client were put at the buffer's beginning; `None` if none is there yet, and 0 if it sends no more.
     fn read(&mut self, client: u32, buffer: &mut [u8]) -> Result<Option<usize>, DoorFault>
-        ensures told { Tells (λ found. Read client (option_map (λ count. take count buffer.new) found)) (entries self.old) (faults self.old) result (entries self.new) (faults self.new) }
+        ensures told { Tells (λ found. Read client (option_map (λ count. take count buffer.new) found))
+            (entries self.old) (faults self.old) result (entries self.new) (faults self.new) }
         ensures within { IfOk result (λ found. IfSome found (λ count. count ≤ length buffer.new)) }
         ensures connects { SameClients (connected self.old) (connected self.new) };
 
     /// How many of the bytes were taken for the client, from the first on; 0 if it takes none now.
     fn write(&mut self, client: u32, bytes: &[u8]) -> Result<usize, DoorFault>
-        ensures told { Tells (λ count. Wrote client (take count bytes.now)) (entries self.old) (faults self.old) result (entries self.new) (faults self.new) }
+        ensures told { Tells (λ count. Wrote client (take count bytes.now)) (entries self.old)
+            (faults self.old) result (entries self.new) (faults self.new) }
         ensures within { IfOk result (λ count. count ≤ length bytes.now) }
         ensures connects { SameClients (connected self.old) (connected self.new) };
 
     /// Closes the client, always. Without room for its entry the record leaves it out, and a fault is counted.
     fn close(&mut self, client: u32)
-        ensures told { TellsClose client (entries self.old) (faults self.old) (entries self.new) (faults self.new) }
+        ensures told { TellsClose client (entries self.old) (faults self.old) (entries self.new)
+            (faults self.new) }
         ensures connects { Disconnects client (connected self.old) (connected self.new) };
 
     /// How many calls have failed.

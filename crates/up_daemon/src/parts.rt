@@ -1,7 +1,8 @@
 //! The parts of a round, in order.
 ghost use Rattle.std.specs.Prelude.{◌≡◌, ℕ, [], IfOk, OnOk, false};
 ghost use Rattle.std.specs.Bool.{OnFalse};
-ghost use Rattle.up_daemon.specs.Dealing.{Reading, Polling, Serving, Deals};
+ghost use Rattle.up_daemon.specs.Attending.{Standing, Attends, LettingIn, TakingRequests, TakingTurns, WritingTo};
+ghost use Rattle.up_daemon.specs.Dealing.{Reading, Polling, Serving, Deals, DealsWhole};
 ghost use Rattle.up_daemon.specs.Working.{phase_after};
 
 use crate::door::Door;
@@ -14,7 +15,7 @@ use up_model::Input;
 const MOST_TURNS: u32 = 256;
 
 impl Work {
-    ghost use Rattle.up_daemon.specs.Working.{KeepsAnswers, IsUntouched, tape_of};
+    ghost use Rattle.up_daemon.specs.Working.{KeepsAnswers, IsUntouched, Leads, NoneEnters, desk_of, tape_of};
 
     /// Reads the clock once. A reading that fails is left for the next round.
     pub(crate) fn read_clock<H: Host>(&mut self, host: &mut H) -> Result<(), AllocError>
@@ -22,6 +23,7 @@ impl Work {
         ensures deals { OnOk result ((begun : ℕ)
             → Deals begun Reading (tape_of self.old (H.entries host.old) (H.faults host.old) [])
             → Deals begun Polling (tape_of self.new (H.entries host.new) (H.faults host.new) [])) }
+        ensures attends { OnOk result (Leads LettingIn LettingIn self.old self.new) }
     {
         match host.now() {
             Ok(reading) => {
@@ -37,7 +39,9 @@ impl Work {
         ensures answers { OnOk result (KeepsAnswers self.old self.new) }
         ensures deals { IfOk result (λ found. (begun : ℕ)
             → Deals begun Polling (tape_of self.old (H.entries host.old) (H.faults host.old) [])
-            → Deals begun (phase_after found) (tape_of self.new (H.entries host.new) (H.faults host.new) [])) }
+            → Deals begun (phase_after found)
+            (tape_of self.new (H.entries host.new) (H.faults host.new) [])) }
+        ensures attends { OnOk result (Leads LettingIn LettingIn self.old self.new) }
     {
         match host.poll() {
             Ok(Some(end)) => {
@@ -56,6 +60,7 @@ impl Work {
         ensures deals { OnOk result ((begun : ℕ)
             → Deals begun Polling (tape_of self.old (H.entries host.old) (H.faults host.old) [])
             → Deals begun Serving (tape_of self.new (H.entries host.new) (H.faults host.new) [])) }
+        ensures attends { OnOk result (Leads LettingIn LettingIn self.old self.new) }
     {
         for turn in 0..u64::MAX {
             if !self.find_end(host)? {
@@ -67,7 +72,10 @@ impl Work {
 
     /// Lets clients in, and reads each once.
     pub(crate) fn hear<D: Door>(&mut self, door: &mut D) -> Result<(), AllocError>
-        ensures { IsUntouched self.old self.new }
+        ensures untouched { IsUntouched self.old self.new }
+        ensures attends { OnOk result ((begun : Standing)
+            → Attends begun LettingIn (desk_of self.old (D.entries door.old) (D.faults door.old) [])
+            → Attends begun TakingRequests (desk_of self.new (D.entries door.new) (D.faults door.new) [])) }
     {
         self.clients.let_in(door)?;
         self.clients.read(door)?;
@@ -76,7 +84,10 @@ impl Work {
 
     /// Writes once to each client for whom bytes wait.
     pub(crate) fn write<D: Door>(&mut self, door: &mut D) -> Result<(), AllocError>
-        ensures { IsUntouched self.old self.new }
+        ensures untouched { IsUntouched self.old self.new }
+        ensures attends { OnOk result ((begun : Standing)
+            → Attends begun TakingTurns (desk_of self.old (D.entries door.old) (D.faults door.old) [])
+            → Attends begun (WritingTo []) (desk_of self.new (D.entries door.new) (D.faults door.new) [])) }
     {
         self.clients.write(door)?;
         Ok(())
@@ -88,6 +99,8 @@ impl Work {
         ensures deals { OnOk result ((begun : ℕ)
             → Deals begun Serving (tape_of self.old (H.entries host.old) (H.faults host.old) [])
             → Deals begun Serving (tape_of self.new (H.entries host.new) (H.faults host.new) [])) }
+        ensures attends { OnOk result (Leads TakingRequests TakingRequests self.old self.new) }
+        ensures rest { IfOk result (λ served. served ≡ false → NoneEnters self.new) }
     {
         let id = self.next;
         let Some(following) = id.checked_add(1) else {
@@ -109,6 +122,7 @@ impl Work {
         ensures deals { OnOk result ((begun : ℕ)
             → Deals begun Serving (tape_of self.old (H.entries host.old) (H.faults host.old) [])
             → Deals begun Serving (tape_of self.new (H.entries host.new) (H.faults host.new) [])) }
+        ensures attends { OnOk result (Leads TakingRequests TakingTurns self.old self.new) }
     {
         for turn in 0..u64::MAX {
             if !self.serve_one(host)? {
@@ -123,7 +137,9 @@ impl Work {
         ensures answers { OnOk result (KeepsAnswers self.old self.new) }
         ensures deals { OnOk result ((begun : ℕ)
             → Deals begun Serving (tape_of self.old (H.entries host.old) (H.faults host.old) [])
-            → Deals begun Serving (tape_of self.new (H.entries host.new) (H.faults host.new) [])) }
+            → DealsWhole begun self.new.engine self.new.log.fed.items self.new.log.gave.items
+            (H.entries host.new) (H.faults host.new)) }
+        ensures attends { OnOk result (Leads TakingTurns TakingTurns self.old self.new) }
     {
         for turn in 0..MOST_TURNS {
             if !self.engine.has_turn() {

@@ -1,6 +1,9 @@
 //! The work of a daemon: an input is fed to the engine, and its orders are carried out.
 ghost use Rattle.std.specs.Prelude.{◌≡◌, ◌∷◌, ℕ, [], List, reverse, IfOk, OnOk, MatchOption};
 ghost use Rattle.up_daemon.specs.Answering.{IsAnswered};
+ghost use Rattle.up_daemon.specs.Attending as attending;
+ghost use Rattle.up_daemon.specs.Attending.{Standing, Part, Attends};
+ghost use Rattle.up_daemon.specs.declared.passed.Passed.{Passed};
 ghost use Rattle.up_daemon.specs.Dealing.{Phase, Deals, with_input, ran, ran_not};
 ghost use Rattle.up_daemon.specs.Working.{IsStarted, IsSent};
 ghost use Rattle.up_model.specs.Chronicle.{Chronicle};
@@ -28,7 +31,8 @@ pub(crate) struct Work {
 
 // What the engine gives for an input: nothing if the input isn't expected. An engine that is down is refused as one without memory.
 fn outputs_of(alloc: Global, engine: &mut Engine, given: Input) -> Result<Vec<Output>, AllocError>
-    ensures { IfOk result (λ outputs. (config : Configuration) (c : Chronicle) → IsAnswered engine.old engine.new config c given outputs.items) }
+    ensures { IfOk result (λ outputs. (config : Configuration) (c : Chronicle)
+        → IsAnswered engine.old engine.new config c given outputs.items) }
 {
     match engine.step(given) {
         Ok(outputs) => Ok(outputs),
@@ -60,7 +64,8 @@ fn answer_of(order: Order, pid: Option<u32>) -> Input
 
 // The host starts the process once, and the input is its answer.
 fn start<H: Host>(host: &mut H, order: Order) -> Input
-    ensures { IsStarted order result (H.entries host.old) (H.entries host.new) (H.faults host.old) (H.faults host.new) }
+    ensures { IsStarted order result (H.entries host.old) (H.entries host.new) (H.faults host.old)
+        (H.faults host.new) }
 {
     match host.spawn(&order) {
         Ok(pid) => answer_of(order, Some(pid)),
@@ -70,7 +75,8 @@ fn start<H: Host>(host: &mut H, order: Order) -> Input
 
 // The host sends the signal once.
 fn send<H: Host>(host: &mut H, who: &Who, pid: u32, signal: u8)
-    ensures { IsSent who.now pid signal (H.entries host.old) (H.entries host.new) (H.faults host.old) (H.faults host.new) }
+    ensures { IsSent who.now pid signal (H.entries host.old) (H.entries host.new) (H.faults host.old)
+        (H.faults host.new) }
 {
     match host.signal(who, pid, signal) {
         Ok(()) => {}
@@ -79,7 +85,7 @@ fn send<H: Host>(host: &mut H, who: &Who, pid: u32, signal: u8)
 }
 
 impl Work {
-    ghost use Rattle.up_daemon.specs.Working.{KeepsAnswers, IsFed, tape_of};
+    ghost use Rattle.up_daemon.specs.Working.{KeepsAnswers, IsFed, Attended, desk_of, tape_of};
 
     // Feeds one input, and puts what it gives on the stack of orders.
     fn feed(&mut self, given: Input, stack: &mut Vec<Output>) -> Result<(), AllocError>
@@ -102,8 +108,12 @@ impl Work {
     ) -> Result<(), AllocError>
         ensures answers { OnOk result (KeepsAnswers self.old self.new) }
         ensures deals { OnOk result ((begun : ℕ) (phase : Phase)
-            → Deals begun phase (tape_of self.old (H.entries host.old) (H.faults host.old) (Output.Spawn order ∷ reverse stack.old.items))
-            → Deals begun phase (tape_of self.new (H.entries host.new) (H.faults host.new) (reverse stack.new.items))) }
+            → Deals begun phase (tape_of self.old (H.entries host.old) (H.faults host.old)
+            (Output.Spawn order ∷ reverse stack.old.items))
+            → Deals begun phase (tape_of self.new (H.entries host.new) (H.faults host.new)
+            (reverse stack.new.items))) }
+        ensures attends { OnOk result (Attended self.old self.new
+            (Output.Spawn order ∷ reverse stack.old.items) (reverse stack.new.items)) }
     {
         let given = start(host, order);
         self.feed(given, stack)?;
@@ -119,8 +129,12 @@ impl Work {
     ) -> Result<(), AllocError>
         ensures answers { OnOk result (KeepsAnswers self.old self.new) }
         ensures deals { OnOk result ((begun : ℕ) (phase : Phase)
-            → Deals begun phase (tape_of self.old (H.entries host.old) (H.faults host.old) (order ∷ reverse stack.old.items))
-            → Deals begun phase (tape_of self.new (H.entries host.new) (H.faults host.new) (reverse stack.new.items))) }
+            → Deals begun phase (tape_of self.old (H.entries host.old) (H.faults host.old)
+            (order ∷ reverse stack.old.items))
+            → Deals begun phase (tape_of self.new (H.entries host.new) (H.faults host.new)
+            (reverse stack.new.items))) }
+        ensures attends { OnOk result (Attended self.old self.new (order ∷ reverse stack.old.items)
+            (reverse stack.new.items)) }
     {
         match order {
             Output::Spawn(order) => {
@@ -146,8 +160,10 @@ impl Work {
     fn carry<H: Host>(&mut self, host: &mut H, mut stack: Vec<Output>) -> Result<(), AllocError>
         ensures answers { OnOk result (KeepsAnswers self.old self.new) }
         ensures deals { OnOk result ((begun : ℕ) (phase : Phase)
-            → Deals begun phase (tape_of self.old (H.entries host.old) (H.faults host.old) (reverse stack.items))
+            → Deals begun phase (tape_of self.old (H.entries host.old) (H.faults host.old)
+            (reverse stack.items))
             → Deals begun phase (tape_of self.new (H.entries host.new) (H.faults host.new) [])) }
+        ensures attends { OnOk result (Attended self.old self.new (reverse stack.items) []) }
     {
         for turn in 0..u64::MAX {
             let Some(order) = stack.pop() else {
@@ -162,8 +178,13 @@ impl Work {
     pub(crate) fn take<H: Host>(&mut self, host: &mut H, given: Input) -> Result<(), AllocError>
         ensures answers { OnOk result (KeepsAnswers self.old self.new) }
         ensures deals { OnOk result ((begun : ℕ) (phase : Phase)
-            → ((outputs : List Output) → Deals begun phase (with_input given outputs (tape_of self.old (H.entries host.old) (H.faults host.old) [])))
+            → ((outputs : List Output) → Deals begun phase
+            (with_input given outputs (tape_of self.old (H.entries host.old) (H.faults host.old) [])))
             → Deals begun phase (tape_of self.new (H.entries host.new) (H.faults host.new) [])) }
+        ensures attends { OnOk result ((begun : Standing) (part : Part) (entries : List Passed) (faults : ℕ)
+            → ((outputs : List Output) → Attends begun part
+            (attending.with_input given outputs (desk_of self.old entries faults [])))
+            → Attends begun part (desk_of self.new entries faults [])) }
     {
         let mut stack: Vec<Output> = Vec::new(self.alloc);
         self.feed(given, &mut stack)?;

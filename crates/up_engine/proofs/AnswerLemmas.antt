@@ -21,15 +21,6 @@ answers_left keys i d failed told c rest within =
     ap (λ left. answering (map place_of left) failed told c ++ rest) one
     ∙ append_assoc (answering (map place_of (drop (i + 1) keys)) failed told c) (answering_one (get_or keys i d).place (request_at (get_or keys i d).place c) failed told) rest
 
--- records after records
-pub chronicle_append : (xs ys : List Record) → chronicle (xs ++ ys) ≡ chronicle ys ++ chronicle xs
-chronicle_append [] ys = nothing (chronicle ys)
-  where
-    nothing : (c : Chronicle) → c ≡ c ++ []
-    nothing [] = refl
-    nothing (e ∷ c) = ap (λ d. e ∷ d) (nothing c)
-chronicle_append (x ∷ xs) ys = ap (λ c. c ++ entry_of x ∷ []) (chronicle_append xs ys) ∙ append_assoc (chronicle ys) (chronicle xs) (entry_of x ∷ [])
-
 -- the lines from one on
 pub lines_left : (lines : List Bytes) (i : ℕ) (d : Bytes) → i < length lines → drop i lines ≡ get_or lines i d ∷ drop (i + 1) lines
 lines_left lines i d within = rw add-one (drop-cons lines i d within)
@@ -40,20 +31,6 @@ pub list_left : (jobs : List JobDef) (i : ℕ) (job : JobDef) (c : Chronicle) �
 list_left jobs i job c within here =
     let one : drop i jobs ≡ get_or jobs i job ∷ drop (i + 1) jobs = rw add-one (drop-cons jobs i job within) in
     ap (λ left. list_lines left c) one ∙ ap (λ j. job_lines j.name (instances_of j.name c) c ++ list_lines (drop (i + 1) jobs) c) (sym here)
-
--- the answer to a request `status` is told at once
-pub status_told : (given : ℕ) (target : Target) (c : Chronicle) → Replied given (answer_of (status target c)) ∷ [] ≡ entries_of given (status target c)
-status_told given (Nobody text) c = refl
-status_told given (Concerns job who environment) c = by_case (instance_named who c)
-  where
-    by_filled : (b : Bool) → Replied given (answer_of (if b then refusal (codes "Unknown instance: ") who else Told (stopped_text job.name))) ∷ []
-        ≡ entries_of given (if b then refusal (codes "Unknown instance: ") who else Told (stopped_text job.name))
-    by_filled true = refl
-    by_filled false = refl
-
-    by_case : (o : Option ℕ) → Replied given (answer_of (status_at job who o c)) ∷ [] ≡ entries_of given (status_at job who o c)
-    by_case None = by_filled (is_filled job.instance)
-    by_case (Some i) = refl
 
 -- a job with instances has a line for each
 pub lines_filled : (job : Bytes) (its : List Instance) (n : ℕ) (c : Chronicle) → n ≡ length its → (n == 0) ≡ false → statuses its c ≡ job_lines job its c

@@ -1,4 +1,5 @@
 pub mod Entries
+pub mod FolderLemmas
 pub mod Slots
 pub mod Chronicles
 pub mod AnswerLemmas

@@ -17,9 +17,6 @@ use Rattle.up_text.specs.Scripts.{is_filled}
 pub filled_stop : (config : Configuration) (job : JobDef) (i e : ℕ) (c : Chronicle) → is_filled (stop_offer config job i e c) ≡ true
 filled_stop config job i e c = filled_last _ _
 
-pub filled_start : (config : Configuration) (job : JobDef) (e : ℕ) (c : Chronicle) → is_filled (start_offer config job e c) ≡ true
-filled_start config job e c = filled_last _ _
-
 -- the search ends at an instance whose expression is still to be offered the event
 pub opens_here : (places : InstanceKey → Option ℕ) (slot : Slot) (config : Configuration) (job : JobDef) (instances : List Instance) (n e : ℕ) (c : Chronicle) → (there : SlotThere places slot instances n)
     → is_open there.place c ≡ true → stop_offer_in config job (drop n instances) e c ≡ stop_offer_in config job instances e c → FindsOpen places (Some slot.key) config job instances e c

@@ -60,11 +60,6 @@ key_there places (key ∷ keys) (event ∷ events) (suc n) d h within =
     let there = key_there places keys events n d (cc) (omega arith) in
     record { place = there.place; is = there.is; rest = there.rest }
 
--- the same for the key that is there
-pub key_here : (places : EventKey → Option ℕ) (keys : List EventKey) (events : List ℕ) (n : ℕ) (key : EventKey)
-    → map places keys ≡ map Some events → n < length keys → key ≡ get_or keys n key → KeyThere places key events n
-key_here places keys events n key h within is = subst (λ k. KeyThere places k events n) (sym is) (key_there places keys events n key h within)
-
 pub keys_length : (places : EventKey → Option ℕ) (keys : List EventKey) (events : List ℕ) → map places keys ≡ map Some events → length keys ≡ length events
 keys_length places [] [] h = refl
 keys_length places [] (event ∷ events) h = absurd cc
@@ -75,10 +70,6 @@ keys_length places (key ∷ keys) (event ∷ events) h = ap suc (keys_length pla
 pub slots_known : (slots : List Slot) → map (slot_at (λ key. Some key.place)) slots ≡ map (λ (i : Instance). Some i) (map instance_of slots)
 slots_known [] = refl
 slots_known (slot ∷ slots) = ap (λ rest. Some (instance_of slot) ∷ rest) (slots_known slots)
-
-pub live_known : (live : Option Live) → option_map (live_at (λ key. Some key.place)) live ≡ option_map (λ (i : model.Live). Some i) (option_map live_of live)
-live_known None = refl
-live_known (Some live) = refl
 
 pub keys_known : (places : List ℕ) → map (λ (key : EventKey). Some key.place) (map event_key places) ≡ map (λ (i : ℕ). Some i) places
 keys_known [] = refl

@@ -44,12 +44,15 @@ FindsMove places (Some slot) job instances c =
     (i : ℕ) × ((places slot.key ≡ Some i) × (move_in job instances c ≡ move job (instance_at i slot.name) c))
 
 -- what a search among these instances found: the first whose `stop on` is still to be offered the event
-abbrev pub FindsOpen : (InstanceKey → Option ℕ) → Option InstanceKey → Configuration → JobDef → List Instance → (event : ℕ) → Chronicle → Type 0
+abbrev pub FindsOpen : (InstanceKey → Option ℕ) → Option InstanceKey → Configuration → JobDef → List Instance
+    → (event : ℕ) → Chronicle → Type 0
 FindsOpen places None config job instances event c = stop_offer_in config job instances event c ≡ []
 FindsOpen places (Some key) config job instances event c =
-    (i : ℕ) × ((places key ≡ Some i) × (stop_offer_in config job instances event c ≡ stop_offer config job i event c))
+    (i : ℕ) × ((places key ≡ Some i) × (stop_offer_in config job instances event c
+    ≡ stop_offer config job i event c))
 
 -- what the end of a process does: nothing, or what a verdict on an instance does
-abbrev pub Judges : (InstanceKey → Option ℕ) → Option (InstanceKey × Verdict) → (does : List Entry) → Chronicle → Type 0
+abbrev pub Judges : (InstanceKey → Option ℕ) → Option (InstanceKey × Verdict) → (does : List Entry)
+    → Chronicle → Type 0
 Judges places None does c = does ≡ []
 Judges places (Some found) does c = (i : ℕ) × ((places found.0 ≡ Some i) × (does ≡ carry_out i found.1 c))

@@ -39,7 +39,8 @@ entry_of (record_of.Offered its event) = model.Offered (expression_of its) event
 entry_of (record_of.Fired its taken) = model.Fired (expression_of its) taken
 entry_of (record_of.Finished event) = model.Finished event
 entry_of (record_of.Made job name) = model.Made job name
-entry_of (record_of.Aimed instance goal environment holders) = model.Aimed instance goal environment (map place_of holders)
+entry_of (record_of.Aimed instance goal environment holders) = model.Aimed instance goal environment
+    (map place_of holders)
 entry_of (record_of.Restarted instance holders) = model.Restarted instance (map place_of holders)
 entry_of (record_of.Released instance failed) = model.Released instance failed
 entry_of (record_of.Failed instance failure) = model.Failed instance failure

@@ -42,22 +42,26 @@ result_map f (Err e) = Err e
 -- gives, and the engine stands for what is after; if the input wasn't expected it still stands for the same; if the engine ran out of
 -- memory the input was expected, and the engine is down.
 abbrev pub StepMeans : Result (List Output) StepError → Engine → Configuration → Chronicle → Input → Type 0
-StepMeans (Ok outputs) engine config c given = (is_expected given c ≡ true) × (outputs ≡ outputs_of config (after config c given)) × Stands engine config (after config c given)
+StepMeans (Ok outputs) engine config c given = (is_expected given c ≡ true)
+    × (outputs ≡ outputs_of config (after config c given)) × Stands engine config (after config c given)
 StepMeans (Err NotExpected) engine config c given = (is_expected given c ≡ false) × Stands engine config c
 StepMeans (Err Memory) engine config c given = (is_expected given c ≡ true) × DownAt engine config c
 StepMeans (Err Down) engine config c given = ⊥
 
 -- the same of the answer to one input of a run, and of none when memory ran out
 abbrev pub AnswerMeans : Option Step → Engine → Configuration → Chronicle → Input → Type 0
-AnswerMeans (Some answered) engine config c given = (answered ≡ answer config c given) × Stands engine config (next config c given)
+AnswerMeans (Some answered) engine config c given = (answered ≡ answer config c given)
+    × Stands engine config (next config c given)
 AnswerMeans None engine config c given = (is_expected given c ≡ true) × DownAt engine config c
 
 -- The steps of a run are the answers to its inputs, item by item. If the run is down they are the answers to the inputs before
 -- the one that ran out of memory.
 abbrev pub StepsMean : Bool → List Step → Engine → Configuration → Chronicle → List Input → Type 0
-StepsMean false steps engine config c inputs = (steps ≡ answers config c inputs) × Stands engine config (after_all config c inputs)
+StepsMean false steps engine config c inputs = (steps ≡ answers config c inputs)
+    × Stands engine config (after_all config c inputs)
 StepsMean true steps engine config c inputs =
-    (length steps < length inputs) × (steps ≡ answers config c (take (length steps) inputs)) × DownAt engine config (after_all config c (take (length steps) inputs))
+    (length steps < length inputs) × (steps ≡ answers config c (take (length steps) inputs))
+    × DownAt engine config (after_all config c (take (length steps) inputs))
 
 -- What a run means: its steps, or that memory ran out before the first of them, so that nothing has changed.
 abbrev pub RunMeans : Result Run StepError → Engine → Configuration → Chronicle → List Input → Type 0

@@ -46,60 +46,73 @@ pub trait Book: Drop {
         ensures { (config : Configuration) → stands result Resting config [] };
 
     fn goal(&self, key: InstanceKey) -> Goal
-        ensures { (mode : Mode) (config : Configuration) (c : Chronicle) (i : ℕ) → stands self.now mode config c
+        ensures { (mode : Mode) (config : Configuration) (c : Chronicle) (i : ℕ)
+            → stands self.now mode config c
             → instance_place self.now c key ≡ Some i → result ≡ read.goal i c };
 
     fn state_of(&self, key: InstanceKey) -> State
-        ensures { (mode : Mode) (config : Configuration) (c : Chronicle) (i : ℕ) → stands self.now mode config c
+        ensures { (mode : Mode) (config : Configuration) (c : Chronicle) (i : ℕ)
+            → stands self.now mode config c
             → instance_place self.now c key ≡ Some i → result ≡ read.state_of i c };
 
     /// Whether a restart of an instance was taken since it entered its state.
     fn was_restarted(&self, key: InstanceKey) -> bool
-        ensures { (mode : Mode) (config : Configuration) (c : Chronicle) (i : ℕ) → stands self.now mode config c
+        ensures { (mode : Mode) (config : Configuration) (c : Chronicle) (i : ℕ)
+            → stands self.now mode config c
             → instance_place self.now c key ≡ Some i → result ≡ read.was_restarted i c };
 
     /// What clients read of an instance.
     fn status_of(&self, key: InstanceKey) -> Result<Text, AllocError>
-        ensures { IfOk result (λ text. (mode : Mode) (config : Configuration) (c : Chronicle) (i : ℕ) → stands self.now mode config c
+        ensures { IfOk result (λ text. (mode : Mode) (config : Configuration) (c : Chronicle) (i : ℕ)
+            → stands self.now mode config c
             → instance_place self.now c key ≡ Some i → text ≡ replies.status_of i c) };
 
     /// What the clock reads.
     fn now(&self) -> u64
-        ensures { (mode : Mode) (config : Configuration) (c : Chronicle) → stands self.now mode config c → result ≡ clock.now c };
+        ensures { (mode : Mode) (config : Configuration) (c : Chronicle) → stands self.now mode config c
+            → result ≡ clock.now c };
 
     /// Whether a limit allows one respawn more of an instance.
     fn may_respawn(&self, key: InstanceKey, limit: Limit) -> bool
-        ensures { (mode : Mode) (config : Configuration) (c : Chronicle) (i : ℕ) → stands self.now mode config c
+        ensures { (mode : Mode) (config : Configuration) (c : Chronicle) (i : ℕ)
+            → stands self.now mode config c
             → instance_place self.now c key ≡ Some i → result ≡ clock.may_respawn limit i c };
 
     /// What the clock read when main was sent its signal, until the timer has sent KILL.
     fn kill_moment(&self, key: InstanceKey) -> Option<u64>
-        ensures { (mode : Mode) (config : Configuration) (c : Chronicle) (i : ℕ) → stands self.now mode config c
+        ensures { (mode : Mode) (config : Configuration) (c : Chronicle) (i : ℕ)
+            → stands self.now mode config c
             → instance_place self.now c key ≡ Some i → result ≡ clock.kill_moment i c };
 
     /// The environment in force, if the instance has one.
     fn env(&self, key: InstanceKey) -> Option<&Env>
-        ensures { (mode : Mode) (config : Configuration) (c : Chronicle) (i : ℕ) → stands self.now mode config c
-            → instance_place self.now c key ≡ Some i → option_map_or (λ env. env.now) result [] ≡ read.env i c };
+        ensures { (mode : Mode) (config : Configuration) (c : Chronicle) (i : ℕ)
+            → stands self.now mode config c
+            → instance_place self.now c key ≡ Some i
+            → option_map_or (λ env. env.now) result [] ≡ read.env i c };
 
     /// Why an instance failed since it entered starting last.
     fn failure(&self, key: InstanceKey) -> Option<Failure>
-        ensures { (mode : Mode) (config : Configuration) (c : Chronicle) (i : ℕ) → stands self.now mode config c
+        ensures { (mode : Mode) (config : Configuration) (c : Chronicle) (i : ℕ)
+            → stands self.now mode config c
             → instance_place self.now c key ≡ Some i → result ≡ read.failure i c };
 
     /// Whether an instance waits for its own event.
     fn is_blocked(&self, key: InstanceKey) -> bool
-        ensures { (mode : Mode) (config : Configuration) (c : Chronicle) (i : ℕ) → stands self.now mode config c
+        ensures { (mode : Mode) (config : Configuration) (c : Chronicle) (i : ℕ)
+            → stands self.now mode config c
             → instance_place self.now c key ≡ Some i → result ≡ is_some (read.blocker i c) };
 
     /// Whether a process was ordered and not answered since.
     fn awaits(&self, key: InstanceKey, process: Process) -> bool
-        ensures { (mode : Mode) (config : Configuration) (c : Chronicle) (i : ℕ) → stands self.now mode config c
+        ensures { (mode : Mode) (config : Configuration) (c : Chronicle) (i : ℕ)
+            → stands self.now mode config c
             → instance_place self.now c key ≡ Some i → result ≡ read.awaited i process c };
 
     /// Whether a process lives.
     fn lives(&self, key: InstanceKey, process: Process) -> bool
-        ensures { (mode : Mode) (config : Configuration) (c : Chronicle) (i : ℕ) → stands self.now mode config c
+        ensures { (mode : Mode) (config : Configuration) (c : Chronicle) (i : ℕ)
+            → stands self.now mode config c
             → instance_place self.now c key ≡ Some i → result ≡ read.lives i process c };
 
     /// The instances of a job, in byte order of their names.
@@ -108,12 +121,14 @@ pub trait Book: Drop {
             → map (slot_at (instance_place self.now c)) result.now ≡ map Some (instances_of job.now c) };
 
     fn event_at(&self, key: EventKey) -> Option<&Event>
-        ensures { (mode : Mode) (config : Configuration) (c : Chronicle) (e : ℕ) → stands self.now mode config c
+        ensures { (mode : Mode) (config : Configuration) (c : Chronicle) (e : ℕ)
+            → stands self.now mode config c
             → event_place self.now c key ≡ Some e → option_copied result ≡ read.event_at e c };
 
     /// Whether an instance that held an event let it go as failed.
     fn is_spoilt(&self, key: EventKey) -> bool
-        ensures { (mode : Mode) (config : Configuration) (c : Chronicle) (e : ℕ) → stands self.now mode config c
+        ensures { (mode : Mode) (config : Configuration) (c : Chronicle) (e : ℕ)
+            → stands self.now mode config c
             → event_place self.now c key ≡ Some e → result ≡ held.is_spoilt e c };
 
     /// The event that this step handles.
@@ -123,12 +138,14 @@ pub trait Book: Drop {
 
     /// Whether an instance was made in this step.
     fn is_newborn(&self, key: InstanceKey) -> bool
-        ensures { (mode : Mode) (config : Configuration) (c : Chronicle) (i : ℕ) → stands self.now mode config c
+        ensures { (mode : Mode) (config : Configuration) (c : Chronicle) (i : ℕ)
+            → stands self.now mode config c
             → instance_place self.now c key ≡ Some i → result ≡ offer.is_newborn i c };
 
     /// Whether an instance's `stop on` was offered the event of this step.
     fn was_offered_stop(&self, key: InstanceKey) -> bool
-        ensures { (mode : Mode) (config : Configuration) (c : Chronicle) (i : ℕ) → stands self.now mode config c
+        ensures { (mode : Mode) (config : Configuration) (c : Chronicle) (i : ℕ)
+            → stands self.now mode config c
             → instance_place self.now c key ≡ Some i → result ≡ seen.was_offered (entry.StopOn i) c };
 
     /// Whether a job's `start on` was.
@@ -138,105 +155,151 @@ pub trait Book: Drop {
 
     /// No fewer than the instances that exist.
     fn most_instances(&self) -> usize
-        ensures { (mode : Mode) (config : Configuration) (c : Chronicle) → stands self.now mode config c → length (existing c) ≤ result };
+        ensures { (mode : Mode) (config : Configuration) (c : Chronicle) → stands self.now mode config c
+            → length (existing c) ≤ result };
 
     /// How many events haven't finished.
     fn live_events(&self) -> usize
-        ensures { (mode : Mode) (config : Configuration) (c : Chronicle) → stands self.now mode config c → result ≡ length (queue.queue c) };
+        ensures { (mode : Mode) (config : Configuration) (c : Chronicle) → stands self.now mode config c
+            → result ≡ length (queue.queue c) };
 
     /// The event that a turn would take, between two steps.
     fn turn(&self) -> Option<Live>
         ensures { (config : Configuration) (c : Chronicle) → stands self.now Resting config c
-            → option_map (live_at (event_place self.now c)) result ≡ option_map Some (turn_event config (queue.queue c) c) };
+            → option_map (live_at (event_place self.now c)) result
+            ≡ option_map Some (turn_event config (queue.queue c) c) };
 
     /// A step begins with an input; returns the key by which a request may hold an instance.
     fn given(&mut self, input: Input) -> Result<EventKey, AllocError>
-        ensures key { IfOk result (λ key. (config : Configuration) (c : Chronicle) → stands self.old Resting config c
+        ensures key { IfOk result (λ key. (config : Configuration) (c : Chronicle)
+            → stands self.old Resting config c
             → event_place self.new (entry.Given input ∷ c) key ≡ Some (length c)) }
-        ensures after { OnOk result ((config : Configuration) (c : Chronicle) → stands self.old Resting config c
+        ensures after { OnOk result ((config : Configuration) (c : Chronicle)
+            → stands self.old Resting config c
             → stands self.new Stepping config (entry.Given input ∷ c)) }
-        ensures instances { OnOk result ((config : Configuration) (c : Chronicle) (k : InstanceKeyValue) (j : ℕ) → stands self.old Resting config c
-            → instance_place self.old c k ≡ Some j → instance_place self.new (entry.Given input ∷ c) k ≡ Some j) }
-        ensures events { OnOk result ((config : Configuration) (c : Chronicle) (k : EventKeyValue) (j : ℕ) → stands self.old Resting config c
+        ensures instances { OnOk result ((config : Configuration) (c : Chronicle) (k : InstanceKeyValue)
+            (j : ℕ) → stands self.old Resting config c
+            → instance_place self.old c k ≡ Some j
+            → instance_place self.new (entry.Given input ∷ c) k ≡ Some j) }
+        ensures events { OnOk result ((config : Configuration) (c : Chronicle) (k : EventKeyValue) (j : ℕ)
+            → stands self.old Resting config c
             → event_place self.old c k ≡ Some j → event_place self.new (entry.Given input ∷ c) k ≡ Some j) };
 
     /// The input was an event from outside: it goes to the end of the queue.
     fn emit(&mut self, event: Event) -> Result<(), AllocError>
-        ensures { OnOk result ((config : Configuration) (c : Chronicle) (input : InputValue) → stands self.old Stepping config (entry.Given input ∷ c)
-            → stands self.new Stepping config (entry.Queued (entry.Outside (length c)) event ∷ entry.Given input ∷ c)) };
+        ensures { OnOk result ((config : Configuration) (c : Chronicle) (input : InputValue)
+            → stands self.old Stepping config (entry.Given input ∷ c)
+            → stands self.new Stepping config
+            (entry.Queued (entry.Outside (length c)) event ∷ entry.Given input ∷ c)) };
 
     /// The input was a request: it is answered.
     fn reply(&mut self, answer: Answer) -> Result<(), AllocError>
-        ensures { OnOk result ((config : Configuration) (c : Chronicle) (input : InputValue) → stands self.old Stepping config (entry.Given input ∷ c)
+        ensures { OnOk result ((config : Configuration) (c : Chronicle) (input : InputValue)
+            → stands self.old Stepping config (entry.Given input ∷ c)
             → stands self.new Stepping config (entry.Replied (length c) answer ∷ entry.Given input ∷ c)) };
 
     /// A turn takes an event up.
     fn handle(&mut self, key: EventKey) -> Result<(), AllocError>
-        ensures { OnOk result ((config : Configuration) (c : Chronicle) (e : ℕ) → stands self.old Stepping config c
+        ensures { OnOk result ((config : Configuration) (c : Chronicle) (e : ℕ)
+            → stands self.old Stepping config c
             → event_place self.old c key ≡ Some e → stands self.new Stepping config (entry.Handled e ∷ c)) };
 
     /// An event leaves the queue, and the client that waits for it is answered; an event that tells that it was spoilt goes to the end,
     /// if there is one.
     fn finish(&mut self, key: EventKey, told: Option<Event>) -> Result<(), AllocError>
-        ensures { OnOk result ((config : Configuration) (c : Chronicle) (e : ℕ) → stands self.old Stepping config c
-            → event_place self.old c key ≡ Some e → stands self.new Stepping config (telling e told ++ (replies.answering_waiter (replies.waiter e c) (held.is_spoilt e c) ++ entry.Finished e ∷ c))) };
+        ensures { OnOk result ((config : Configuration) (c : Chronicle) (e : ℕ)
+            → stands self.old Stepping config c
+            → event_place self.old c key ≡ Some e
+            → stands self.new Stepping config
+            (telling e told ++ (replies.answering_waiter (replies.waiter e c) (held.is_spoilt e c)
+            ++ entry.Finished e ∷ c))) };
 
     /// An instance enters a state other than waiting.
     fn enter(&mut self, key: InstanceKey, state: State) -> Result<(), AllocError>
-        ensures after { OnOk result ((config : Configuration) (c : Chronicle) (i : ℕ) → stands self.old Stepping config c
-            → instance_place self.old c key ≡ Some i → is_waiting state ≡ false → stands self.new Stepping config (entry.Entered i state ∷ c)) }
-        ensures instances { OnOk result ((config : Configuration) (c : Chronicle) (i : ℕ) → stands self.old Stepping config c
-            → instance_place self.old c key ≡ Some i → is_waiting state ≡ false → instance_place self.new (entry.Entered i state ∷ c) key ≡ Some i) };
+        ensures after { OnOk result ((config : Configuration) (c : Chronicle) (i : ℕ)
+            → stands self.old Stepping config c
+            → instance_place self.old c key ≡ Some i → is_waiting state ≡ false
+            → stands self.new Stepping config (entry.Entered i state ∷ c)) }
+        ensures instances { OnOk result ((config : Configuration) (c : Chronicle) (i : ℕ)
+            → stands self.old Stepping config c
+            → instance_place self.old c key ≡ Some i → is_waiting state ≡ false
+            → instance_place self.new (entry.Entered i state ∷ c) key ≡ Some i) };
 
     /// An instance enters waiting, with its last event, lets its holders go, and is gone.
     fn leave(&mut self, key: InstanceKey, event: Event) -> Result<(), AllocError>
-        ensures { OnOk result ((config : Configuration) (c : Chronicle) (i : ℕ) → stands self.old Stepping config c
+        ensures { OnOk result ((config : Configuration) (c : Chronicle) (i : ℕ)
+            → stands self.old Stepping config c
             → instance_place self.old c key ≡ Some i
-            → stands self.new Stepping config (replies.releasing i false (entry.Queued (entry.Entering i entered.Waiting) event ∷ entry.Entered i entered.Waiting ∷ c)
-            ++ entry.Queued (entry.Entering i entered.Waiting) event ∷ entry.Entered i entered.Waiting ∷ c)) };
+            → stands self.new Stepping config
+            (replies.releasing i false (entry.Queued (entry.Entering i entered.Waiting) event
+            ∷ entry.Entered i entered.Waiting ∷ c)
+            ++ entry.Queued (entry.Entering i entered.Waiting) event ∷ entry.Entered i entered.Waiting
+            ∷ c)) };
 
     /// A process of an instance is to be started.
     fn order(&mut self, setup: &Setup, key: InstanceKey, process: Process) -> Result<(), AllocError>
         ensures after { OnOk result ((c : Chronicle) (i : ℕ) → stands self.old Stepping setup.now c
-            → instance_place self.old c key ≡ Some i → stands self.new Stepping setup.now (entry.Ordered i process ∷ c)) }
+            → instance_place self.old c key ≡ Some i
+            → stands self.new Stepping setup.now (entry.Ordered i process ∷ c)) }
         ensures instances { OnOk result ((c : Chronicle) (i : ℕ) → stands self.old Stepping setup.now c
-            → instance_place self.old c key ≡ Some i → instance_place self.new (entry.Ordered i process ∷ c) key ≡ Some i) };
+            → instance_place self.old c key ≡ Some i
+            → instance_place self.new (entry.Ordered i process ∷ c) key ≡ Some i) };
 
     /// An instance emits an event on entering a state.
     fn announce(&mut self, key: InstanceKey, state: State, event: Event) -> Result<(), AllocError>
-        ensures after { OnOk result ((config : Configuration) (c : Chronicle) (i : ℕ) → stands self.old Stepping config c
-            → instance_place self.old c key ≡ Some i → stands self.new Stepping config (entry.Queued (entry.Entering i state) event ∷ c)) }
-        ensures instances { OnOk result ((config : Configuration) (c : Chronicle) (i : ℕ) → stands self.old Stepping config c
-            → instance_place self.old c key ≡ Some i → instance_place self.new (entry.Queued (entry.Entering i state) event ∷ c) key ≡ Some i) };
+        ensures after { OnOk result ((config : Configuration) (c : Chronicle) (i : ℕ)
+            → stands self.old Stepping config c
+            → instance_place self.old c key ≡ Some i
+            → stands self.new Stepping config (entry.Queued (entry.Entering i state) event ∷ c)) }
+        ensures instances { OnOk result ((config : Configuration) (c : Chronicle) (i : ℕ)
+            → stands self.old Stepping config c
+            → instance_place self.old c key ≡ Some i
+            → instance_place self.new (entry.Queued (entry.Entering i state) event ∷ c) key ≡ Some i) };
 
     /// Main of an instance is sent a signal.
     fn signal(&mut self, key: InstanceKey, signal: u8) -> Result<(), AllocError>
-        ensures after { OnOk result ((config : Configuration) (c : Chronicle) (i : ℕ) → stands self.old Stepping config c
-            → instance_place self.old c key ≡ Some i → stands self.new Stepping config (entry.Signalled i signal false ∷ c)) }
-        ensures instances { OnOk result ((config : Configuration) (c : Chronicle) (i : ℕ) → stands self.old Stepping config c
-            → instance_place self.old c key ≡ Some i → instance_place self.new (entry.Signalled i signal false ∷ c) key ≡ Some i) };
+        ensures after { OnOk result ((config : Configuration) (c : Chronicle) (i : ℕ)
+            → stands self.old Stepping config c
+            → instance_place self.old c key ≡ Some i
+            → stands self.new Stepping config (entry.Signalled i signal false ∷ c)) }
+        ensures instances { OnOk result ((config : Configuration) (c : Chronicle) (i : ℕ)
+            → stands self.old Stepping config c
+            → instance_place self.old c key ≡ Some i
+            → instance_place self.new (entry.Signalled i signal false ∷ c) key ≡ Some i) };
 
     /// Main of an instance is sent KILL by the timer.
     fn kill(&mut self, key: InstanceKey) -> Result<(), AllocError>
-        ensures after { OnOk result ((config : Configuration) (c : Chronicle) (i : ℕ) → stands self.old Stepping config c
-            → instance_place self.old c key ≡ Some i → stands self.new Stepping config (entry.Signalled i clock.kill true ∷ c)) }
-        ensures instances { OnOk result ((config : Configuration) (c : Chronicle) (i : ℕ) (ks : List InstanceKeyValue) (js : List ℕ)
-            → stands self.old Stepping config c → instance_place self.old c key ≡ Some i → map (instance_place self.old c) ks ≡ map Some js
+        ensures after { OnOk result ((config : Configuration) (c : Chronicle) (i : ℕ)
+            → stands self.old Stepping config c
+            → instance_place self.old c key ≡ Some i
+            → stands self.new Stepping config (entry.Signalled i clock.kill true ∷ c)) }
+        ensures instances { OnOk result ((config : Configuration) (c : Chronicle) (i : ℕ)
+            (ks : List InstanceKeyValue) (js : List ℕ)
+            → stands self.old Stepping config c → instance_place self.old c key ≡ Some i
+            → map (instance_place self.old c) ks ≡ map Some js
             → map (instance_place self.new (entry.Signalled i clock.kill true ∷ c)) ks ≡ map Some js) };
 
     /// Main of an instance is respawned.
     fn respawn(&mut self, key: InstanceKey) -> Result<(), AllocError>
-        ensures { OnOk result ((config : Configuration) (c : Chronicle) (i : ℕ) → stands self.old Stepping config c
-            → instance_place self.old c key ≡ Some i → stands self.new Stepping config (entry.Respawned i (clock.now c) ∷ c)) };
+        ensures { OnOk result ((config : Configuration) (c : Chronicle) (i : ℕ)
+            → stands self.old Stepping config c
+            → instance_place self.old c key ≡ Some i
+            → stands self.new Stepping config (entry.Respawned i (clock.now c) ∷ c)) };
 
     /// An instance lets its holders go; clients among them are answered.
     fn release(&mut self, key: InstanceKey) -> Result<(), AllocError>
-        ensures after { OnOk result ((config : Configuration) (c : Chronicle) (i : ℕ) → stands self.old Stepping config c
-            → instance_place self.old c key ≡ Some i → stands self.new Stepping config (replies.releasing i false c ++ c)) }
-        ensures instances { OnOk result ((config : Configuration) (c : Chronicle) (i : ℕ) → stands self.old Stepping config c
-            → instance_place self.old c key ≡ Some i → instance_place self.new (replies.releasing i false c ++ c) key ≡ Some i) }
-        ensures events { OnOk result ((config : Configuration) (c : Chronicle) (i : ℕ) (ks : List EventKeyValue) (js : List ℕ)
-            → stands self.old Stepping config c → instance_place self.old c key ≡ Some i → map (event_place self.old c) ks ≡ map Some js
+        ensures after { OnOk result ((config : Configuration) (c : Chronicle) (i : ℕ)
+            → stands self.old Stepping config c
+            → instance_place self.old c key ≡ Some i
+            → stands self.new Stepping config (replies.releasing i false c ++ c)) }
+        ensures instances { OnOk result ((config : Configuration) (c : Chronicle) (i : ℕ)
+            → stands self.old Stepping config c
+            → instance_place self.old c key ≡ Some i
+            → instance_place self.new (replies.releasing i false c ++ c) key ≡ Some i) }
+        ensures events { OnOk result ((config : Configuration) (c : Chronicle) (i : ℕ)
+            (ks : List EventKeyValue) (js : List ℕ)
+            → stands self.old Stepping config c → instance_place self.old c key ≡ Some i
+            → map (event_place self.old c) ks ≡ map Some js
             → map (event_place self.new (replies.releasing i false c ++ c)) ks ≡ map Some js) };
 
     /// An instance's goal changes, with the environment and the holders that go with it.
@@ -247,35 +310,47 @@ pub trait Book: Drop {
         environment: Env,
         holders: Items<EventKey>,
     ) -> Result<(), AllocError>
-        ensures { OnOk result ((config : Configuration) (c : Chronicle) (i : ℕ) (events : List ℕ) → stands self.old Stepping config c
+        ensures { OnOk result ((config : Configuration) (c : Chronicle) (i : ℕ) (events : List ℕ)
+            → stands self.old Stepping config c
             → instance_place self.old c key ≡ Some i → map (event_place self.old c) holders ≡ map Some events
             → stands self.new Stepping config (entry.Aimed i goal environment events ∷ c)) };
 
     /// A restart of an instance is taken, with these holders.
     fn restart(&mut self, key: InstanceKey, holders: Items<EventKey>) -> Result<(), AllocError>
-        ensures { OnOk result ((config : Configuration) (c : Chronicle) (i : ℕ) (places : List ℕ) → stands self.old Stepping config c
+        ensures { OnOk result ((config : Configuration) (c : Chronicle) (i : ℕ) (places : List ℕ)
+            → stands self.old Stepping config c
             → instance_place self.old c key ≡ Some i → map (event_place self.old c) holders ≡ map Some places
             → stands self.new Stepping config (entry.Restarted i places ∷ c)) };
 
     /// An instance's goal becomes stop by itself; its holders stay.
     fn end_itself(&mut self, key: InstanceKey) -> Result<(), AllocError>
-        ensures after { OnOk result ((config : Configuration) (c : Chronicle) (i : ℕ) → stands self.old Stepping config c
-            → instance_place self.old c key ≡ Some i → stands self.new Stepping config (entry.Aimed i goal_stop [] (read.holders i c) ∷ c)) }
-        ensures instances { OnOk result ((config : Configuration) (c : Chronicle) (i : ℕ) → stands self.old Stepping config c
-            → instance_place self.old c key ≡ Some i → instance_place self.new (entry.Aimed i goal_stop [] (read.holders i c) ∷ c) key ≡ Some i) };
+        ensures after { OnOk result ((config : Configuration) (c : Chronicle) (i : ℕ)
+            → stands self.old Stepping config c
+            → instance_place self.old c key ≡ Some i
+            → stands self.new Stepping config (entry.Aimed i goal_stop [] (read.holders i c) ∷ c)) }
+        ensures instances { OnOk result ((config : Configuration) (c : Chronicle) (i : ℕ)
+            → stands self.old Stepping config c
+            → instance_place self.old c key ≡ Some i
+            → instance_place self.new (entry.Aimed i goal_stop [] (read.holders i c) ∷ c) key ≡ Some i) };
 
     /// An instance fails: that is kept, and it lets its holders go as failed; clients among them are answered.
     fn fail(&mut self, key: InstanceKey, failure: Failure) -> Result<(), AllocError>
-        ensures { OnOk result ((config : Configuration) (c : Chronicle) (i : ℕ) → stands self.old Stepping config c
-            → instance_place self.old c key ≡ Some i → stands self.new Stepping config (replies.releasing i true (entry.Failed i failure ∷ c) ++ entry.Failed i failure ∷ c)) };
+        ensures { OnOk result ((config : Configuration) (c : Chronicle) (i : ℕ)
+            → stands self.old Stepping config c
+            → instance_place self.old c key ≡ Some i
+            → stands self.new Stepping config
+            (replies.releasing i true (entry.Failed i failure ∷ c) ++ entry.Failed i failure ∷ c)) };
 
     /// A job gets an instance of this name.
     fn make(&mut self, job: &Name, name: &str) -> Result<InstanceKey, AllocError>
-        ensures after { OnOk result ((config : Configuration) (c : Chronicle) → stands self.old Stepping config c
+        ensures after { OnOk result ((config : Configuration) (c : Chronicle)
+            → stands self.old Stepping config c
             → stands self.new Stepping config (entry.Made job.now name.now ∷ c)) }
-        ensures made { IfOk result (λ key. (config : Configuration) (c : Chronicle) → stands self.old Stepping config c
+        ensures made { IfOk result (λ key. (config : Configuration) (c : Chronicle)
+            → stands self.old Stepping config c
             → instance_place self.new (entry.Made job.now name.now ∷ c) key ≡ Some (length c)) }
-        ensures events { OnOk result ((config : Configuration) (c : Chronicle) (ks : List EventKeyValue) (js : List ℕ)
+        ensures events { OnOk result ((config : Configuration) (c : Chronicle) (ks : List EventKeyValue)
+            (js : List ℕ)
             → stands self.old Stepping config c → map (event_place self.old c) ks ≡ map Some js
             → map (event_place self.new (entry.Made job.now name.now ∷ c)) ks ≡ map Some js) };
 
@@ -292,7 +367,8 @@ pub trait Book: Drop {
             → stands self.new Stepping setup.now (entry.Offered (entry.StopOn i) e ∷ c)) }
         ensures holds { IfOk result (λ holds. (c : Chronicle) (i e : ℕ) → stands self.old Stepping setup.now c
             → instance_place self.old c key ≡ Some i → event_place self.old c event ≡ Some e
-            → holds ≡ seen.holds job.now.stop_on (seen.seen setup.now (entry.StopOn i) (entry.Offered (entry.StopOn i) e ∷ c))) }
+            → holds ≡ seen.holds job.now.stop_on
+            (seen.seen setup.now (entry.StopOn i) (entry.Offered (entry.StopOn i) e ∷ c))) }
         ensures instances { OnOk result ((c : Chronicle) (i e : ℕ) → stands self.old Stepping setup.now c
             → instance_place self.old c key ≡ Some i → event_place self.old c event ≡ Some e
             → instance_place self.new (entry.Offered (entry.StopOn i) e ∷ c) key ≡ Some i) };
@@ -309,7 +385,9 @@ pub trait Book: Drop {
             → stands self.new Stepping setup.now (entry.Offered (entry.StartOn job.now.name) e ∷ c)) }
         ensures holds { IfOk result (λ holds. (c : Chronicle) (e : ℕ) → stands self.old Stepping setup.now c
             → event_place self.old c event ≡ Some e
-            → holds ≡ seen.holds job.now.start_on (seen.seen setup.now (entry.StartOn job.now.name) (entry.Offered (entry.StartOn job.now.name) e ∷ c))) };
+            → holds ≡ seen.holds job.now.start_on
+            (seen.seen setup.now (entry.StartOn job.now.name)
+            (entry.Offered (entry.StartOn job.now.name) e ∷ c))) };
 
     /// An instance's `stop on` fires; returns the events that it takes, from left to right.
     fn fire_stop(
@@ -320,33 +398,43 @@ pub trait Book: Drop {
     ) -> Result<Items<EventKey>, AllocError>
         ensures after { OnOk result ((c : Chronicle) (i : ℕ) → stands self.old Stepping setup.now c
             → instance_place self.old c key ≡ Some i
-            → stands self.new Stepping setup.now (entry.Fired (entry.StopOn i) (seen.taken job.now.stop_on (seen.seen setup.now (entry.StopOn i) c)) ∷ c)) }
+            → stands self.new Stepping setup.now
+            (entry.Fired (entry.StopOn i) (seen.taken job.now.stop_on
+            (seen.seen setup.now (entry.StopOn i) c)) ∷ c)) }
         ensures instances { OnOk result ((c : Chronicle) (i : ℕ) → stands self.old Stepping setup.now c
             → instance_place self.old c key ≡ Some i
-            → instance_place self.new (entry.Fired (entry.StopOn i) (seen.taken job.now.stop_on (seen.seen setup.now (entry.StopOn i) c)) ∷ c) key ≡ Some i) }
+            → instance_place self.new (entry.Fired (entry.StopOn i)
+            (seen.taken job.now.stop_on (seen.seen setup.now (entry.StopOn i) c)) ∷ c) key ≡ Some i) }
         ensures taken { IfOk result (λ taken. (c : Chronicle) (i : ℕ) → stands self.old Stepping setup.now c
             → instance_place self.old c key ≡ Some i
-            → map (event_place self.new (entry.Fired (entry.StopOn i) (seen.taken job.now.stop_on (seen.seen setup.now (entry.StopOn i) c)) ∷ c)) taken
+            → map (event_place self.new (entry.Fired (entry.StopOn i)
+            (seen.taken job.now.stop_on (seen.seen setup.now (entry.StopOn i) c)) ∷ c)) taken
             ≡ map Some (seen.taken job.now.stop_on (seen.seen setup.now (entry.StopOn i) c))) };
 
     /// A job's `start on` fires; returns the events that it takes, from left to right.
     fn fire_start(&mut self, setup: &Setup, job: &JobDef) -> Result<Items<EventKey>, AllocError>
         ensures after { OnOk result ((c : Chronicle) → stands self.old Stepping setup.now c
-            → stands self.new Stepping setup.now (entry.Fired (entry.StartOn job.now.name) (seen.taken job.now.start_on (seen.seen setup.now (entry.StartOn job.now.name) c)) ∷ c)) }
+            → stands self.new Stepping setup.now
+            (entry.Fired (entry.StartOn job.now.name)
+            (seen.taken job.now.start_on (seen.seen setup.now (entry.StartOn job.now.name) c)) ∷ c)) }
         ensures taken { IfOk result (λ taken. (c : Chronicle) → stands self.old Stepping setup.now c
-            → map (event_place self.new (entry.Fired (entry.StartOn job.now.name) (seen.taken job.now.start_on (seen.seen setup.now (entry.StartOn job.now.name) c)) ∷ c)) taken
+            → map (event_place self.new (entry.Fired (entry.StartOn job.now.name)
+            (seen.taken job.now.start_on (seen.seen setup.now (entry.StartOn job.now.name) c)) ∷ c)) taken
             ≡ map Some (seen.taken job.now.start_on (seen.seen setup.now (entry.StartOn job.now.name) c))) };
 
     /// This step's client is answered, if it doesn't wait and wasn't answered yet; returns whether it was.
     fn reply_last(&mut self) -> Result<bool, AllocError>
-        ensures after { OnOk result ((config : Configuration) (c : Chronicle) → stands self.old Stepping config c
+        ensures after { OnOk result ((config : Configuration) (c : Chronicle)
+            → stands self.old Stepping config c
             → stands self.new Stepping config (replies.answering_last c ++ c)) }
-        ensures any { IfOk result (λ replied. (config : Configuration) (c : Chronicle) → stands self.old Stepping config c
+        ensures any { IfOk result (λ replied. (config : Configuration) (c : Chronicle)
+            → stands self.old Stepping config c
             → replied ≡ is_filled (replies.answering_last c)) };
 
     /// The step is over; returns what it asks for, in order.
     fn rest(&mut self, setup: &Setup) -> Result<Vec<Output>, AllocError>
-        ensures after { OnOk result ((c : Chronicle) → stands self.old Stepping setup.now c → stands self.new Resting setup.now c) }
+        ensures after { OnOk result ((c : Chronicle) → stands self.old Stepping setup.now c
+            → stands self.new Resting setup.now c) }
         ensures outputs { IfOk result (λ outputs. (c : Chronicle) → stands self.old Stepping setup.now c
             → outputs.items ≡ outputs_of setup.now c) };
 }

@@ -67,7 +67,8 @@ fn has_living<B: Book>(book: &B, who: &Who, process: Process) -> bool
 /// Whether an input is expected: the answer for a process that is ordered and unanswered, the end of one that lives, or any other.
 #[tactic(auto, unfolding(up_model::specs::Answers::is_expected))]
 pub(crate) fn is_expected<B: Book>(book: &B, input: &Input) -> bool
-    ensures { (mode : Mode) (config : Configuration) (c : Chronicle) → B.stands book.now mode config c → result ≡ answer.is_expected input.now c }
+    ensures { (mode : Mode) (config : Configuration) (c : Chronicle) → B.stands book.now mode config c
+        → result ≡ answer.is_expected input.now c }
 {
     match input {
         Input::Spawned { who, process, .. } | Input::Refused { who, process } => awaits(
@@ -97,7 +98,8 @@ fn take_refusal<B: Book>(
     process: Process,
 ) -> Result<(), AllocError>
     ensures { OnOk result ((c : Chronicle) → B.stands book.old Resting setup.now c
-        → B.stands book.new Stepping setup.now (model.effect setup.now (given_as.Refused who process) c ++ c)) }
+        → B.stands book.new Stepping setup.now
+        (model.effect setup.now (given_as.Refused who process) c ++ c)) }
 {
     let its = who.copy()?;
     book.given(Input::Refused { who, process })?;
@@ -115,7 +117,8 @@ fn take_end<B: Book>(
     how: How,
 ) -> Result<(), AllocError>
     ensures { OnOk result ((c : Chronicle) → B.stands book.old Resting setup.now c
-        → B.stands book.new Stepping setup.now (model.effect setup.now (given_as.Ended who process how) c ++ c)) }
+        → B.stands book.new Stepping setup.now
+        (model.effect setup.now (given_as.Ended who process how) c ++ c)) }
 {
     let its = who.copy()?;
     book.given(Input::Ended { who, process, how })?;
@@ -126,7 +129,8 @@ fn take_end<B: Book>(
 
 // The event that tells that another was spoilt, if it was.
 fn told_of<B: Book>(alloc: Global, book: &B, key: EventKey) -> Result<Option<Event>, AllocError>
-    ensures { IfOk result (λ told. (mode : Mode) (config : Configuration) (c : Chronicle) (e : ℕ) → B.stands book.now mode config c
+    ensures { IfOk result (λ told. (mode : Mode) (config : Configuration) (c : Chronicle) (e : ℕ)
+        → B.stands book.now mode config c
         → B.event_place book.now c key ≡ Some e → told ≡ model.told_of e c) }
 {
     if !book.is_spoilt(key) {
@@ -138,9 +142,11 @@ fn told_of<B: Book>(alloc: Global, book: &B, key: EventKey) -> Result<Option<Eve
 
 #[tactic(auto, using(crate::proofs::Entries::finishing_last))]
 fn finish<B: Book>(alloc: Global, book: &mut B, key: EventKey) -> Result<(), AllocError>
-    ensures { OnOk result ((config : Configuration) (c : Chronicle) (e : ℕ) → B.stands book.old Resting config c
+    ensures { OnOk result ((config : Configuration) (c : Chronicle) (e : ℕ)
+        → B.stands book.old Resting config c
         → B.event_place book.old c key ≡ Some e
-        → B.stands book.new Stepping config (model.finishing e (entry.Given given_as.Turn ∷ c) ++ entry.Given given_as.Turn ∷ c)) }
+        → B.stands book.new Stepping config (model.finishing e (entry.Given given_as.Turn ∷ c)
+        ++ entry.Given given_as.Turn ∷ c)) }
 {
     book.given(Input::Turn)?;
     let told = told_of(alloc, book, key)?;
@@ -149,8 +155,10 @@ fn finish<B: Book>(alloc: Global, book: &mut B, key: EventKey) -> Result<(), All
 }
 
 fn handle<B: Book>(book: &mut B, key: EventKey) -> Result<(), AllocError>
-    ensures { OnOk result ((config : Configuration) (c : Chronicle) (e : ℕ) → B.stands book.old Resting config c
-        → B.event_place book.old c key ≡ Some e → B.stands book.new Stepping config (entry.Handled e ∷ entry.Given given_as.Turn ∷ c)) }
+    ensures { OnOk result ((config : Configuration) (c : Chronicle) (e : ℕ)
+        → B.stands book.old Resting config c
+        → B.event_place book.old c key ≡ Some e
+        → B.stands book.new Stepping config (entry.Handled e ∷ entry.Given given_as.Turn ∷ c)) }
 {
     book.given(Input::Turn)?;
     book.handle(key)?;
@@ -160,9 +168,11 @@ fn handle<B: Book>(book: &mut B, key: EventKey) -> Result<(), AllocError>
 // Takes a turn in: it handles an unhandled event, and finishes a handled one.
 #[tactic(auto, using(crate::proofs::Entries::one_last))]
 fn turn_by<B: Book>(alloc: Global, book: &mut B, live: Live) -> Result<(), AllocError>
-    ensures { OnOk result ((config : Configuration) (c : Chronicle) (e : ℕ) → B.stands book.old Resting config c
+    ensures { OnOk result ((config : Configuration) (c : Chronicle) (e : ℕ)
+        → B.stands book.old Resting config c
         → B.event_place book.old c live.key ≡ Some e
-        → B.stands book.new Stepping config (model.turn_of (Some (queue.live_at e live.handled)) (entry.Given given_as.Turn ∷ c) ++ entry.Given given_as.Turn ∷ c)) }
+        → B.stands book.new Stepping config (model.turn_of (Some (queue.live_at e live.handled))
+        (entry.Given given_as.Turn ∷ c) ++ entry.Given given_as.Turn ∷ c)) }
 {
     if live.handled {
         finish(alloc, book, live.key)?;

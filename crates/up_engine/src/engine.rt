@@ -91,8 +91,10 @@ impl Engine {
 
     /// How many events were queued and haven't finished. Takes no memory.
     pub fn live_events(&self) -> usize
-        ensures up { (config : Configuration) (c : Chronicle) → Stands self.now config c → result ≡ length (queue.queue c) }
-        ensures down { (config : Configuration) (c : Chronicle) → DownAt self.now config c → result ≡ length (queue.queue c) }
+        ensures up { (config : Configuration) (c : Chronicle) → Stands self.now config c
+            → result ≡ length (queue.queue c) }
+        ensures down { (config : Configuration) (c : Chronicle) → DownAt self.now config c
+            → result ≡ length (queue.queue c) }
     {
         if self.down {
             return self.live;
@@ -102,8 +104,10 @@ impl Engine {
 
     /// Whether a turn would handle or finish an event. Takes no memory.
     pub fn has_turn(&self) -> bool
-        ensures up { (config : Configuration) (c : Chronicle) → Stands self.now config c → result ≡ is_some (due.turn_event config (queue.queue c) c) }
-        ensures down { (config : Configuration) (c : Chronicle) → DownAt self.now config c → result ≡ is_some (due.turn_event config (queue.queue c) c) }
+        ensures up { (config : Configuration) (c : Chronicle) → Stands self.now config c
+            → result ≡ is_some (due.turn_event config (queue.queue c) c) }
+        ensures down { (config : Configuration) (c : Chronicle) → DownAt self.now config c
+            → result ≡ is_some (due.turn_event config (queue.queue c) c) }
     {
         if self.down {
             return self.turns;
@@ -130,7 +134,8 @@ impl Engine {
     /// What clients read of all instances, and of the jobs without any: the text of a request `list` (initctl(8)). Refused with `Memory`,
     /// which changes nothing, and with `Down` if the engine is.
     pub fn list(&self) -> Result<Text, StepError>
-        ensures meaning { (config : Configuration) (c : Chronicle) → Stands self.now config c → TellsOf result (commands.listing config c) }
+        ensures meaning { (config : Configuration) (c : Chronicle) → Stands self.now config c
+            → TellsOf result (commands.listing config c) }
         ensures down { IsDown self.now → result ≡ Err StepError.Down }
     {
         if self.down {
@@ -145,7 +150,8 @@ impl Engine {
     /// Takes one input, and answers what it asks for, in order. Refused with `NotExpected` for the answer or the end of a process
     /// that isn't expected, which changes nothing; with `Memory`, after which the engine is down; and with `Down` if it is.
     pub fn step(&mut self, given: Input) -> Result<Vec<Output>, StepError>
-        ensures meaning { (config : Configuration) (c : Chronicle) → Stands self.old config c → StepMeans (result_map (λ outputs. outputs.items) result) self.new config c given }
+        ensures meaning { (config : Configuration) (c : Chronicle) → Stands self.old config c
+            → StepMeans (result_map (λ outputs. outputs.items) result) self.new config c given }
         ensures down { IsDown self.old → (result ≡ Err StepError.Down) × (self.new ≡ self.old) }
     {
         if self.down {
@@ -170,7 +176,8 @@ impl Engine {
 
     // The answer to one input of a run, or none if memory ran out.
     fn answer(&mut self, given: Input) -> Option<Step>
-        ensures { (config : Configuration) (c : Chronicle) → Stands self.old config c → AnswerMeans result self.new config c given }
+        ensures { (config : Configuration) (c : Chronicle) → Stands self.old config c
+            → AnswerMeans result self.new config c given }
     {
         match self.step(given) {
             Ok(outputs) => Some(Step::Gave(Items::new(outputs))),
@@ -183,7 +190,8 @@ impl Engine {
     /// Takes inputs one after another, and answers each. The room for all answers is taken first: refused there with `Memory`, the
     /// engine has taken none of them. It stops at the first input that runs out of memory. Refused with `Down` if it is.
     pub fn run(&mut self, inputs: Vec<Input>) -> Result<Run, StepError>
-        ensures meaning { (config : Configuration) (c : Chronicle) → Stands self.old config c → RunMeans result self.new config c inputs.items }
+        ensures meaning { (config : Configuration) (c : Chronicle) → Stands self.old config c
+            → RunMeans result self.new config c inputs.items }
         ensures down { IsDown self.old → (result ≡ Err StepError.Down) × (self.new ≡ self.old) }
     {
         if self.down {

@@ -93,7 +93,8 @@ fn about_with_result(
     name: &str,
     failure: Option<Failure>,
 ) -> Result<Env, AllocError>
-    ensures { IfOk result (λ vars. vars ≡ model.about (record { job = job.now; instance = name.now }) ++ model.result failure) }
+    ensures { IfOk result (λ vars. vars ≡ model.about (record { job = job.now; instance = name.now })
+        ++ model.result failure) }
 {
     let mut vars = about(alloc, job, name)?;
     put_result(&mut vars, alloc, failure)?;
@@ -118,7 +119,8 @@ fn life_event(
     name: &str,
     failure: Option<Failure>,
 ) -> Result<Event, AllocError>
-    ensures { IfOk result (λ event. event ≡ model.life_event kind (record { job = job.now; instance = name.now }) failure) }
+    ensures { IfOk result (λ event. event ≡ model.life_event kind
+        (record { job = job.now; instance = name.now }) failure) }
 {
     match kind {
         JobEvent::Starting => event_of(alloc, "starting", about(alloc, job, name)?),
@@ -160,7 +162,8 @@ fn value_in<'a>(environment: Option<&'a Env>, key: &str) -> Option<&'a str>
 
 #[tactic(auto, using(crate::proofs::EventLemmas::exports_left))]
 fn export_all(vars: &mut Env, environment: Option<&Env>, keys: &[Text]) -> Result<(), AllocError>
-    ensures { OnOk result (vars.new ≡ model.with_exports (option_map_or (λ env. env.now) environment.entry []) keys.now vars.old) }
+    ensures { OnOk result (vars.new ≡ model.with_exports
+        (option_map_or (λ env. env.now) environment.entry []) keys.now vars.old) }
 {
     for key in keys {
         let key = key.as_str();
@@ -178,7 +181,8 @@ pub(crate) fn job_event<B: Book>(
     slot: &Slot,
     kind: JobEvent,
 ) -> Result<Event, AllocError>
-    ensures { IfOk result (λ event. (mode : Mode) (config : Configuration) (c : Chronicle) (i : ℕ) → B.stands book.now mode config c
+    ensures { IfOk result (λ event. (mode : Mode) (config : Configuration) (c : Chronicle) (i : ℕ)
+        → B.stands book.now mode config c
         → B.instance_place book.now c slot.now.key ≡ Some i
         → event ≡ moves.job_event job.now (moves.who_of job.now (instance_at i slot.now.name)) i kind c) }
 {
@@ -196,7 +200,11 @@ fn tells_failure(event: &Event) -> bool
 
 // The event that tells that another was spoilt. Its name is one, since the other's is.
 fn failure_event(alloc: Global, event: &Event) -> Result<Event, AllocError>
-    ensures { IfOk result (λ told. told ≡ record { name = event.now.name ++ codes "/failed"; vars = event.now.vars }) }
+    ensures { IfOk result (λ told. told ≡ record {
+      name = event.now.name
+          ++ codes "/failed";
+      vars = event.now.vars;
+    }) }
 {
     let mut name = String::from_str(alloc, event.name.as_str())?;
     name.push_str("/failed")?;
@@ -237,8 +245,10 @@ fn events_of<'a, B: Book>(
     book: &'a B,
     keys: &[EventKey],
 ) -> Result<Vec<&'a Event>, AllocError>
-    ensures { IfOk result (λ events. (mode : Mode) (config : Configuration) (c : Chronicle) (places : List ℕ) → B.stands book.now mode config c
-        → map (B.event_place book.now c) keys.now ≡ map Some places → map (λ event. event.now) events.items ≡ model.events_at places c) }
+    ensures { IfOk result (λ events. (mode : Mode) (config : Configuration) (c : Chronicle) (places : List ℕ)
+        → B.stands book.now mode config c
+        → map (B.event_place book.now c) keys.now ≡ map Some places
+        → map (λ event. event.now) events.items ≡ model.events_at places c) }
 {
     let mut events = Vec::new(alloc);
     for key in keys {
@@ -260,7 +270,8 @@ fn collect(env: &mut Env, events: &[&Event]) -> Result<(), AllocError>
 // Adds a name, after a space if it isn't the first.
 fn push_name(text: &mut String, is_first: bool, event: &Event) -> Result<(), AllocError>
     ensures { OnOk result ((events : List EventValue) → string_bytes text.new ++ model.more_names events
-        ≡ string_bytes text.old ++ (if is_first then model.names_of (event.now ∷ events) else model.more_names (event.now ∷ events))) }
+        ≡ string_bytes text.old ++ (if is_first then model.names_of (event.now ∷ events) else model.more_names
+        (event.now ∷ events))) }
 {
     if !is_first {
         text.push_str(" ")?;
@@ -307,8 +318,10 @@ pub(crate) fn events_env<B: Book>(
     book: &B,
     keys: &[EventKey],
 ) -> Result<Env, AllocError>
-    ensures { IfOk result (λ env. (mode : Mode) (config : Configuration) (c : Chronicle) (places : List ℕ) → B.stands book.now mode config c
-        → map (B.event_place book.now c) keys.now ≡ map Some places → env ≡ model.events_env base.now (model.events_at places c)) }
+    ensures { IfOk result (λ env. (mode : Mode) (config : Configuration) (c : Chronicle) (places : List ℕ)
+        → B.stands book.now mode config c
+        → map (B.event_place book.now c) keys.now ≡ map Some places
+        → env ≡ model.events_env base.now (model.events_at places c)) }
 {
     let events = events_of(alloc, book, keys)?;
     env_by(alloc, base, events.as_slice())
@@ -316,7 +329,8 @@ pub(crate) fn events_env<B: Book>(
 
 /// Adds the instance that is started.
 pub(crate) fn add_instance(env: &mut Env, job: &Name, name: &str) -> Result<(), AllocError>
-    ensures { OnOk result (env.new ≡ model.with_instance (record { job = job.now; instance = name.now }) env.old) }
+    ensures { OnOk result (env.new ≡ model.with_instance
+        (record { job = job.now; instance = name.now }) env.old) }
 {
     put(env, "UPSTART_JOB", job.as_str())?;
     put(env, "UPSTART_INSTANCE", name)
@@ -338,8 +352,10 @@ pub(crate) fn stop_env<B: Book>(
     book: &B,
     keys: &[EventKey],
 ) -> Result<Env, AllocError>
-    ensures { IfOk result (λ env. (mode : Mode) (config : Configuration) (c : Chronicle) (places : List ℕ) → B.stands book.now mode config c
-        → map (B.event_place book.now c) keys.now ≡ map Some places → env ≡ model.stopped_by (model.events_at places c)) }
+    ensures { IfOk result (λ env. (mode : Mode) (config : Configuration) (c : Chronicle) (places : List ℕ)
+        → B.stands book.now mode config c
+        → map (B.event_place book.now c) keys.now ≡ map Some places
+        → env ≡ model.stopped_by (model.events_at places c)) }
 {
     let events = events_of(alloc, book, keys)?;
     stop_env_by(alloc, events.as_slice())

@@ -41,7 +41,8 @@ fn is_held_by(
     instance: usize,
     event: usize,
 ) -> Result<bool, AllocError>
-    ensures { IfOk result (λ holds. holds ≡ held.has event (held.held_by setup.now job.now instance (chronicle records.now))) }
+    ensures { IfOk result (λ holds. holds ≡ held.has event
+        (held.held_by setup.now job.now instance (chronicle records.now))) }
 {
     let stop = keeps(
         alloc,
@@ -63,7 +64,8 @@ fn is_held_by_instances(
     slots: &[Slot],
     event: usize,
 ) -> Result<bool, AllocError>
-    ensures { IfOk result (λ holds. holds ≡ held.has event (held.held_by_instances setup.now job.now (map instance_of slots.now) (chronicle records.now))) }
+    ensures { IfOk result (λ holds. holds ≡ held.has event
+        (held.held_by_instances setup.now job.now (map instance_of slots.now) (chronicle records.now))) }
 {
     for slot in slots {
         if is_held_by(alloc, setup, records, job, slot.key.place, event)? {
@@ -82,7 +84,8 @@ fn is_held_by_job(
     slots: &[Slot],
     event: usize,
 ) -> Result<bool, AllocError>
-    ensures { IfOk result (λ holds. map instance_of slots.now ≡ instances_of job.now.name (chronicle records.now)
+    ensures { IfOk result (λ holds. map instance_of slots.now
+        ≡ instances_of job.now.name (chronicle records.now)
         → holds ≡ held.has event (held.held_by_job setup.now job.now (chronicle records.now))) }
 {
     let start = keeps(
@@ -110,7 +113,8 @@ fn is_held(
     jobs: &[JobDef],
     event: usize,
 ) -> Result<bool, AllocError>
-    ensures { IfOk result (λ holds. ((job : Bytes) → listed job groups.now ≡ instances_of job (chronicle records.now))
+    ensures { IfOk result (λ holds. ((job : Bytes)
+        → listed job groups.now ≡ instances_of job (chronicle records.now))
         → holds ≡ held.has event (held.held_by_jobs setup.now jobs.now (chronicle records.now))) }
 {
     for job in jobs {
@@ -136,7 +140,8 @@ fn may_take(
     groups: &[Group],
     live: Live,
 ) -> Result<bool, AllocError>
-    ensures { IfOk result (λ may. ((job : Bytes) → listed job groups.now ≡ instances_of job (chronicle records.now))
+    ensures { IfOk result (λ may. ((job : Bytes)
+        → listed job groups.now ≡ instances_of job (chronicle records.now))
         → may ≡ (not live.handled || not (held.is_held setup.now live.key.place (chronicle records.now)))) }
 {
     if !live.handled {
@@ -155,8 +160,10 @@ pub(crate) fn turn_event(
     groups: &[Group],
     queue: &[Live],
 ) -> Result<Option<Live>, AllocError>
-    ensures { IfOk result (λ found. ((job : Bytes) → listed job groups.now ≡ instances_of job (chronicle records.now))
-        → option_map live_of found ≡ due.turn_event setup.now (map live_of queue.now) (chronicle records.now)) }
+    ensures { IfOk result (λ found. ((job : Bytes)
+        → listed job groups.now ≡ instances_of job (chronicle records.now))
+        → option_map live_of found ≡ due.turn_event setup.now (map live_of queue.now)
+        (chronicle records.now)) }
 {
     for live in queue {
         if may_take(alloc, setup, records, groups, *live)? {

@@ -22,10 +22,14 @@ use up_model::{End, Failure, How, JobDef, Process, Verdict, Who};
 
 // The goal of an instance becomes stop by itself, if it is start.
 fn end_itself<B: Book>(book: &mut B, key: InstanceKey) -> Result<(), AllocError>
-    ensures instances { OnOk result ((config : Configuration) (c : Chronicle) (i : ℕ) → B.stands book.old Stepping config c
-        → B.instance_place book.old c key ≡ Some i → B.instance_place book.new (model.end_itself i c ++ c) key ≡ Some i) }
-    ensures after { OnOk result ((config : Configuration) (c : Chronicle) (i : ℕ) → B.stands book.old Stepping config c
-        → B.instance_place book.old c key ≡ Some i → B.stands book.new Stepping config (model.end_itself i c ++ c)) }
+    ensures instances { OnOk result ((config : Configuration) (c : Chronicle) (i : ℕ)
+        → B.stands book.old Stepping config c
+        → B.instance_place book.old c key ≡ Some i
+        → B.instance_place book.new (model.end_itself i c ++ c) key ≡ Some i) }
+    ensures after { OnOk result ((config : Configuration) (c : Chronicle) (i : ℕ)
+        → B.stands book.old Stepping config c
+        → B.instance_place book.old c key ≡ Some i
+        → B.stands book.new Stepping config (model.end_itself i c ++ c)) }
 {
     if is_start(book.goal(key)) {
         book.end_itself(key)?;
@@ -35,8 +39,10 @@ fn end_itself<B: Book>(book: &mut B, key: InstanceKey) -> Result<(), AllocError>
 
 // An instance fails: its goal becomes stop, and its first failure is kept.
 fn fail<B: Book>(book: &mut B, key: InstanceKey, failure: Failure) -> Result<(), AllocError>
-    ensures { OnOk result ((config : Configuration) (c : Chronicle) (i : ℕ) → B.stands book.old Stepping config c
-        → B.instance_place book.old c key ≡ Some i → B.stands book.new Stepping config (model.fail i failure c ++ c)) }
+    ensures { OnOk result ((config : Configuration) (c : Chronicle) (i : ℕ)
+        → B.stands book.old Stepping config c
+        → B.instance_place book.old c key ≡ Some i
+        → B.stands book.new Stepping config (model.fail i failure c ++ c)) }
 {
     let is_first = book.failure(key).is_none();
     end_itself(book, key)?;
@@ -47,8 +53,10 @@ fn fail<B: Book>(book: &mut B, key: InstanceKey, failure: Failure) -> Result<(),
 }
 
 fn carry_out<B: Book>(book: &mut B, key: InstanceKey, verdict: Verdict) -> Result<(), AllocError>
-    ensures { OnOk result ((config : Configuration) (c : Chronicle) (i : ℕ) → B.stands book.old Stepping config c
-        → B.instance_place book.old c key ≡ Some i → B.stands book.new Stepping config (model.carry_out i verdict c ++ c)) }
+    ensures { OnOk result ((config : Configuration) (c : Chronicle) (i : ℕ)
+        → B.stands book.old Stepping config c
+        → B.instance_place book.old c key ≡ Some i
+        → B.stands book.new Stepping config (model.carry_out i verdict c ++ c)) }
 {
     match verdict {
         Verdict::Note => {}
@@ -116,7 +124,8 @@ fn verdict_in<B: Book>(
     end: End,
 ) -> Option<(InstanceKey, Verdict)>
     ensures { (mode : Mode) (config : Configuration) (c : Chronicle) → B.stands book.now mode config c
-        → Judges (B.instance_place book.now c) result (end_of (Some job.now) (instance_named who.now c) process end c) c }
+        → Judges (B.instance_place book.now c) result
+        (end_of (Some job.now) (instance_named who.now c) process end c) c }
 {
     match instance_named(book, &who.job, who.instance.as_str()) {
         Some(key) => Some((key, judged(book, job, key, process, end))),
@@ -133,7 +142,8 @@ pub(crate) fn verdict_on<B: Book>(
     end: End,
 ) -> Option<(InstanceKey, Verdict)>
     ensures { (mode : Mode) (c : Chronicle) → B.stands book.now mode setup.now c
-        → Judges (B.instance_place book.now c) result (end_of (job_named who.now.job setup.now.jobs) (instance_named who.now c) process end c) c }
+        → Judges (B.instance_place book.now c) result
+        (end_of (job_named who.now.job setup.now.jobs) (instance_named who.now c) process end c) c }
 {
     match job_named(setup.jobs(), &who.job) {
         Some(job) => verdict_in(book, job, who, process, end),
@@ -146,8 +156,10 @@ pub(crate) fn conclude<B: Book>(
     book: &mut B,
     judged: Option<(InstanceKey, Verdict)>,
 ) -> Result<(), AllocError>
-    ensures { OnOk result ((config : Configuration) (c : Chronicle) (entries : List EntryValue) → B.stands book.old Stepping config c
-        → Judges (B.instance_place book.old c) judged entries c → B.stands book.new Stepping config (entries ++ c)) }
+    ensures { OnOk result ((config : Configuration) (c : Chronicle) (entries : List EntryValue)
+        → B.stands book.old Stepping config c
+        → Judges (B.instance_place book.old c) judged entries c
+        → B.stands book.new Stepping config (entries ++ c)) }
 {
     match judged {
         Some((key, verdict)) => carry_out(book, key, verdict)?,

@@ -10,6 +10,7 @@ mod groups;
 mod held;
 mod judgement;
 mod keys;
+mod laws;
 mod life;
 mod moves;
 mod offers;
@@ -30,4 +31,5 @@ mod truth;
 
 pub use engine::Engine;
 pub use fault::StepError;
+pub use laws::one_main;
 pub use run::Run;

@@ -28,14 +28,16 @@ use up_model::{Entry, Goal, JobDef, JobEvent, Process, State};
 // Whether an order was answered, if the job has the process.
 fn is_answered<B: Book>(book: &B, job: &JobDef, key: InstanceKey, process: Process) -> bool
     ensures { (mode : Mode) (config : Configuration) (c : Chronicle) (i : ℕ) → B.stands book.now mode config c
-        → B.instance_place book.now c key ≡ Some i → result ≡ model.is_over job.now i (life.ForAnswer process) c }
+        → B.instance_place book.now c key ≡ Some i
+        → result ≡ model.is_over job.now i (life.ForAnswer process) c }
 {
     !has_process(job, process) || !book.awaits(key, process)
 }
 
 fn is_at_work<B: Book>(book: &B, key: InstanceKey, process: Process) -> bool
     ensures { (mode : Mode) (config : Configuration) (c : Chronicle) (i : ℕ) → B.stands book.now mode config c
-        → B.instance_place book.now c key ≡ Some i → result ≡ (read.awaited i process c || read.lives i process c) }
+        → B.instance_place book.now c key ≡ Some i
+        → result ≡ (read.awaited i process c || read.lives i process c) }
 {
     book.awaits(key, process) || book.lives(key, process)
 }
@@ -43,14 +45,16 @@ fn is_at_work<B: Book>(book: &B, key: InstanceKey, process: Process) -> bool
 // Whether a process was refused or has ended, if the job has it.
 fn is_through<B: Book>(book: &B, job: &JobDef, key: InstanceKey, process: Process) -> bool
     ensures { (mode : Mode) (config : Configuration) (c : Chronicle) (i : ℕ) → B.stands book.now mode config c
-        → B.instance_place book.now c key ≡ Some i → result ≡ model.is_over job.now i (life.ForProcess process) c }
+        → B.instance_place book.now c key ≡ Some i
+        → result ≡ model.is_over job.now i (life.ForProcess process) c }
 {
     !has_process(job, process) || !is_at_work(book, key, process)
 }
 
 fn is_main_gone<B: Book>(book: &B, job: &JobDef, key: InstanceKey) -> bool
     ensures { (mode : Mode) (config : Configuration) (c : Chronicle) (i : ℕ) → B.stands book.now mode config c
-        → B.instance_place book.now c key ≡ Some i → result ≡ (model.has_process job.now process.Main && not (read.lives i process.Main c)) }
+        → B.instance_place book.now c key ≡ Some i
+        → result ≡ (model.has_process job.now process.Main && not (read.lives i process.Main c)) }
 {
     has_process(job, Process::Main) && !book.lives(key, Process::Main)
 }
@@ -120,9 +124,11 @@ fn order<B: Book>(
     orders: Option<Process>,
 ) -> Result<(), AllocError>
     ensures after { OnOk result ((c : Chronicle) (i : ℕ) → B.stands book.old Stepping setup.now c
-        → B.instance_place book.old c key ≡ Some i → B.stands book.new Stepping setup.now (model.ordering job.now i orders ++ c)) }
+        → B.instance_place book.old c key ≡ Some i
+        → B.stands book.new Stepping setup.now (model.ordering job.now i orders ++ c)) }
     ensures instances { OnOk result ((c : Chronicle) (i : ℕ) → B.stands book.old Stepping setup.now c
-        → B.instance_place book.old c key ≡ Some i → B.instance_place book.new (model.ordering job.now i orders ++ c) key ≡ Some i) }
+        → B.instance_place book.old c key ≡ Some i
+        → B.instance_place book.new (model.ordering job.now i orders ++ c) key ≡ Some i) }
 {
     match orders {
         Some(process) => {
@@ -144,12 +150,16 @@ fn emit<B: Book>(
     to: State,
     emits: Option<JobEvent>,
 ) -> Result<(), AllocError>
-    ensures after { OnOk result ((config : Configuration) (c : Chronicle) (i : ℕ) → B.stands book.old Stepping config c
+    ensures after { OnOk result ((config : Configuration) (c : Chronicle) (i : ℕ)
+        → B.stands book.old Stepping config c
         → B.instance_place book.old c slot.now.key ≡ Some i
-        → B.stands book.new Stepping config (model.emitting job.now (model.who_of job.now (instance_at i slot.now.name)) i to emits c ++ c)) }
-    ensures instances { OnOk result ((config : Configuration) (c : Chronicle) (i : ℕ) → B.stands book.old Stepping config c
+        → B.stands book.new Stepping config (model.emitting job.now
+        (model.who_of job.now (instance_at i slot.now.name)) i to emits c ++ c)) }
+    ensures instances { OnOk result ((config : Configuration) (c : Chronicle) (i : ℕ)
+        → B.stands book.old Stepping config c
         → B.instance_place book.old c slot.now.key ≡ Some i
-        → B.instance_place book.new (model.emitting job.now (model.who_of job.now (instance_at i slot.now.name)) i to emits c ++ c) slot.now.key ≡ Some i) }
+        → B.instance_place book.new (model.emitting job.now
+        (model.who_of job.now (instance_at i slot.now.name)) i to emits c ++ c) slot.now.key ≡ Some i) }
 {
     match emits {
         Some(kind) => {
@@ -163,12 +173,15 @@ fn emit<B: Book>(
 
 // Sends main its signal.
 fn kill<B: Book>(book: &mut B, key: InstanceKey, signal: u8, kills: bool) -> Result<(), AllocError>
-    ensures after { OnOk result ((config : Configuration) (c : Chronicle) (i : ℕ) → B.stands book.old Stepping config c
+    ensures after { OnOk result ((config : Configuration) (c : Chronicle) (i : ℕ)
+        → B.stands book.old Stepping config c
         → B.instance_place book.old c key ≡ Some i
         → B.stands book.new Stepping config (entries_if kills (entry.Signalled i signal false ∷ []) ++ c)) }
-    ensures instances { OnOk result ((config : Configuration) (c : Chronicle) (i : ℕ) → B.stands book.old Stepping config c
+    ensures instances { OnOk result ((config : Configuration) (c : Chronicle) (i : ℕ)
+        → B.stands book.old Stepping config c
         → B.instance_place book.old c key ≡ Some i
-        → B.instance_place book.new (entries_if kills (entry.Signalled i signal false ∷ []) ++ c) key ≡ Some i) }
+        → B.instance_place book.new (entries_if kills (entry.Signalled i signal false ∷ []) ++ c) key
+        ≡ Some i) }
 {
     if kills {
         book.signal(key, signal)?;
@@ -177,8 +190,10 @@ fn kill<B: Book>(book: &mut B, key: InstanceKey, signal: u8, kills: bool) -> Res
 }
 
 fn release<B: Book>(book: &mut B, key: InstanceKey, releases: bool) -> Result<(), AllocError>
-    ensures { OnOk result ((config : Configuration) (c : Chronicle) (i : ℕ) → B.stands book.old Stepping config c
-        → B.instance_place book.old c key ≡ Some i → B.stands book.new Stepping config (entries_if releases (replies.releasing i false c) ++ c)) }
+    ensures { OnOk result ((config : Configuration) (c : Chronicle) (i : ℕ)
+        → B.stands book.old Stepping config c
+        → B.instance_place book.old c key ≡ Some i
+        → B.stands book.new Stepping config (entries_if releases (replies.releasing i false c) ++ c)) }
 {
     if releases {
         book.release(key)?;
@@ -225,7 +240,8 @@ fn enter_other<B: Book>(
 ) -> Result<(), AllocError>
     ensures { OnOk result ((c : Chronicle) (i : ℕ) → B.stands book.old Stepping setup.now c
         → B.instance_place book.old c slot.now.key ≡ Some i → is_waiting to ≡ false
-        → B.stands book.new Stepping setup.now (model.enter_whole job.now (model.who_of job.now (instance_at i slot.now.name)) i to table c ++ c)) }
+        → B.stands book.new Stepping setup.now
+        (model.enter_whole job.now (model.who_of job.now (instance_at i slot.now.name)) i to table c ++ c)) }
 {
     let lives = book.lives(slot.key, Process::Main);
     enter_with(alloc, setup, book, job, slot, to, table)?;
@@ -247,7 +263,8 @@ fn enter_waiting<B: Book>(
     slot: &Slot,
     from: State,
 ) -> Result<(), AllocError>
-    ensures { OnOk result ((config : Configuration) (c : Chronicle) (i : ℕ) → B.stands book.old Stepping config c
+    ensures { OnOk result ((config : Configuration) (c : Chronicle) (i : ℕ)
+        → B.stands book.old Stepping config c
         → B.instance_place book.old c slot.now.key ≡ Some i
         → B.stands book.new Stepping config
         (model.enter_whole job.now (model.who_of job.now (instance_at i slot.now.name)) i entered.Waiting (life.entering entered.Waiting from job.now.task) c ++ c)) }
@@ -289,7 +306,8 @@ fn move_on<B: Book>(
 
 // The first of these instances that may leave its state.
 fn first_moving<'a, B: Book>(book: &B, job: &JobDef, slots: &'a [Slot]) -> Option<&'a Slot>
-    ensures { (mode : Mode) (config : Configuration) (c : Chronicle) (its : List model_instances.Instance) → B.stands book.now mode config c
+    ensures { (mode : Mode) (config : Configuration) (c : Chronicle) (its : List model_instances.Instance)
+        → B.stands book.now mode config c
         → map (slot_at (B.instance_place book.now c)) slots.now ≡ map Some its
         → FindsMove (B.instance_place book.now c) (option_copied result) job.now its c }
 {
@@ -303,8 +321,10 @@ fn first_moving<'a, B: Book>(book: &B, job: &JobDef, slots: &'a [Slot]) -> Optio
 
 // A copy of the first of a job's instances that may leave its state.
 fn copy_of_moving<B: Book>(book: &B, job: &JobDef) -> Result<Option<Slot>, AllocError>
-    ensures { IfOk result (λ slot. (mode : Mode) (config : Configuration) (c : Chronicle) → B.stands book.now mode config c
-        → FindsMove (B.instance_place book.now c) slot job.now (model_instances.instances_of job.now.name c) c) }
+    ensures { IfOk result (λ slot. (mode : Mode) (config : Configuration) (c : Chronicle)
+        → B.stands book.now mode config c
+        → FindsMove (B.instance_place book.now c) slot job.now
+        (model_instances.instances_of job.now.name c) c) }
 {
     match first_moving(book, job, book.instances(&job.name)) {
         Some(slot) => {
@@ -323,7 +343,8 @@ fn move_in<B: Book>(
     job: &JobDef,
 ) -> Result<bool, AllocError>
     ensures entries { OnOk result ((c : Chronicle) → B.stands book.old Stepping setup.now c
-        → B.stands book.new Stepping setup.now (model.move_in job.now (model_instances.instances_of job.now.name c) c ++ c)) }
+        → B.stands book.new Stepping setup.now
+        (model.move_in job.now (model_instances.instances_of job.now.name c) c ++ c)) }
     ensures any { IfOk result (λ moved. (c : Chronicle) → B.stands book.old Stepping setup.now c
         → moved ≡ is_filled (model.move_in job.now (model_instances.instances_of job.now.name c) c)) }
 {

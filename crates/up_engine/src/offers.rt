@@ -32,7 +32,8 @@ pub(crate) fn stop_of<B: Book>(
     environment: Env,
     holders: Items<EventKey>,
 ) -> Result<(), AllocError>
-    ensures { OnOk result ((config : Configuration) (c : Chronicle) (i : ℕ) (places : List ℕ) → B.stands book.old Stepping config c
+    ensures { OnOk result ((config : Configuration) (c : Chronicle) (i : ℕ) (places : List ℕ)
+        → B.stands book.old Stepping config c
         → B.instance_place book.old c key ≡ Some i → map (B.event_place book.old c) holders ≡ map Some places
         → B.stands book.new Stepping config (model.stop_of i environment places c ++ c)) }
 {
@@ -48,7 +49,8 @@ fn stop_by<B: Book>(
     key: InstanceKey,
     holders: Items<EventKey>,
 ) -> Result<(), AllocError>
-    ensures { OnOk result ((config : Configuration) (c : Chronicle) (i : ℕ) (events : List ℕ) → B.stands book.old Stepping config c
+    ensures { OnOk result ((config : Configuration) (c : Chronicle) (i : ℕ) (events : List ℕ)
+        → B.stands book.old Stepping config c
         → B.instance_place book.old c key ≡ Some i → map (B.event_place book.old c) holders ≡ map Some events
         → B.stands book.new Stepping config (model.stop_by i events c ++ c)) }
 {
@@ -116,8 +118,10 @@ fn is_open<B: Book>(book: &B, key: InstanceKey) -> bool
 
 // The first of these instances whose `stop on` is still to be offered the event.
 fn first_open<B: Book>(book: &B, slots: &[Slot]) -> Option<InstanceKey>
-    ensures { (mode : Mode) (config conf : Configuration) (job : JobValue) (e : ℕ) (c : Chronicle) (its : List model_instances.Instance)
-        → B.stands book.now mode config c → map (slot_at (B.instance_place book.now c)) slots.now ≡ map Some its
+    ensures { (mode : Mode) (config conf : Configuration) (job : JobValue) (e : ℕ) (c : Chronicle)
+        (its : List model_instances.Instance)
+        → B.stands book.now mode config c → map (slot_at (B.instance_place book.now c)) slots.now
+        ≡ map Some its
         → FindsOpen (B.instance_place book.now c) result conf job its e c }
 {
     for slot in slots {
@@ -135,7 +139,8 @@ fn start_old<B: Book>(
     environment: Env,
     holders: Items<EventKey>,
 ) -> Result<(), AllocError>
-    ensures { OnOk result ((config : Configuration) (c : Chronicle) (who : WhoValue) (i : ℕ) (events : List ℕ) → B.stands book.old Stepping config c
+    ensures { OnOk result ((config : Configuration) (c : Chronicle) (who : WhoValue) (i : ℕ) (events : List ℕ)
+        → B.stands book.old Stepping config c
         → B.instance_place book.old c key ≡ Some i → map (B.event_place book.old c) holders ≡ map Some events
         → B.stands book.new Stepping config (model.start_of who environment events (Some i) c ++ c)) }
 {
@@ -163,9 +168,11 @@ fn start_new<B: Book>(
     environment: Env,
     holders: Items<EventKey>,
 ) -> Result<(), AllocError>
-    ensures { OnOk result ((config : Configuration) (c : Chronicle) (events : List ℕ) → B.stands book.old Stepping config c
+    ensures { OnOk result ((config : Configuration) (c : Chronicle) (events : List ℕ)
+        → B.stands book.old Stepping config c
         → map (B.event_place book.old c) holders ≡ map Some events
-        → B.stands book.new Stepping config (model.start_of (record { job = job.now; instance = name.now }) environment events None c ++ c)) }
+        → B.stands book.new Stepping config (model.start_of
+        (record { job = job.now; instance = name.now }) environment events None c ++ c)) }
 {
     if has_room(book, job) {
         let key = book.make(job, name)?;
@@ -176,7 +183,8 @@ fn start_new<B: Book>(
 
 // The one of these instances that has a name.
 fn named(slots: &[Slot], name: &str) -> Option<InstanceKey>
-    ensures { (places : InstanceKeyValue → Option ℕ) (its : List model_instances.Instance) → map (slot_at places) slots.now ≡ map Some its
+    ensures { (places : InstanceKeyValue → Option ℕ) (its : List model_instances.Instance)
+        → map (slot_at places) slots.now ≡ map Some its
         → option_map places result ≡ option_map Some (model_instances.place_named name.now its) }
 {
     for slot in slots {
@@ -190,7 +198,8 @@ fn named(slots: &[Slot], name: &str) -> Option<InstanceKey>
 /// The instance of a job that has a name.
 pub(crate) fn instance_named<B: Book>(book: &B, job: &Name, name: &str) -> Option<InstanceKey>
     ensures { (mode : Mode) (config : Configuration) (c : Chronicle) → B.stands book.now mode config c
-        → option_map (B.instance_place book.now c) result ≡ option_map Some (model_instances.instance_named (record { job = job.now; instance = name.now }) c) }
+        → option_map (B.instance_place book.now c) result
+        ≡ option_map Some (model_instances.instance_named (record { job = job.now; instance = name.now }) c) }
 {
     named(book.instances(job), name)
 }
@@ -203,7 +212,8 @@ fn start_of<B: Book>(
     environment: Env,
     holders: Items<EventKey>,
 ) -> Result<(), AllocError>
-    ensures { OnOk result ((config : Configuration) (c : Chronicle) (events : List ℕ) → B.stands book.old Stepping config c
+    ensures { OnOk result ((config : Configuration) (c : Chronicle) (events : List ℕ)
+        → B.stands book.old Stepping config c
         → map (B.event_place book.old c) holders ≡ map Some events
         → B.stands book.new Stepping config
         (model.start_of (record { job = job.now; instance = name.now }) environment events (model_instances.instance_named (record { job = job.now; instance = name.now }) c) c ++ c)) }
@@ -223,9 +233,11 @@ pub(crate) fn start_called<B: Book>(
     mut environment: Env,
     holders: Items<EventKey>,
 ) -> Result<(), AllocError>
-    ensures { OnOk result ((config : Configuration) (c : Chronicle) (events : List ℕ) → B.stands book.old Stepping config c
+    ensures { OnOk result ((config : Configuration) (c : Chronicle) (events : List ℕ)
+        → B.stands book.old Stepping config c
         → map (B.event_place book.old c) holders ≡ map Some events
-        → B.stands book.new Stepping config (model.start_who environment events (model.who_called job.now (Some name.now)) c ++ c)) }
+        → B.stands book.new Stepping config (model.start_who environment events
+        (model.who_called job.now (Some name.now)) c ++ c)) }
 {
     add_instance(&mut environment, job, name)?;
     start_of(book, job, name, environment, holders)?;
@@ -277,7 +289,8 @@ fn start_fires<B: Book>(
         → B.stands book.new Stepping setup.now
         (model.start_by setup.now job.now (taken job.now.start_on (seen setup.now (entry.StartOn job.now.name) c))
         (entry.Fired (entry.StartOn job.now.name) (taken job.now.start_on (seen setup.now (entry.StartOn job.now.name) c)) ∷ c)
-        ++ entry.Fired (entry.StartOn job.now.name) (taken job.now.start_on (seen setup.now (entry.StartOn job.now.name) c)) ∷ c)) }
+        ++ entry.Fired (entry.StartOn job.now.name)
+        (taken job.now.start_on (seen setup.now (entry.StartOn job.now.name) c)) ∷ c)) }
 {
     let holders = book.fire_start(setup, job)?;
     start_by(alloc, setup, book, job, holders)?;
@@ -292,7 +305,8 @@ fn offer_start<B: Book>(
     job: &JobDef,
     event: EventKey,
 ) -> Result<(), AllocError>
-    ensures { OnOk result ((c : Chronicle) (e : ℕ) → B.stands book.old Stepping setup.now c → B.event_place book.old c event ≡ Some e
+    ensures { OnOk result ((c : Chronicle) (e : ℕ) → B.stands book.old Stepping setup.now c
+        → B.event_place book.old c event ≡ Some e
         → B.stands book.new Stepping setup.now (model.start_offer setup.now job.now e c ++ c)) }
 {
     let holds = book.offer_start(setup, job, event)?;
@@ -310,10 +324,13 @@ fn offer_stop_in<B: Book>(
     job: &JobDef,
     event: EventKey,
 ) -> Result<bool, AllocError>
-    ensures entries { OnOk result ((c : Chronicle) (e : ℕ) → B.stands book.old Stepping setup.now c → B.event_place book.old c event ≡ Some e
-        → B.stands book.new Stepping setup.now (model.stop_offer_in setup.now job.now (model_instances.instances_of job.now.name c) e c ++ c)) }
+    ensures entries { OnOk result ((c : Chronicle) (e : ℕ) → B.stands book.old Stepping setup.now c
+        → B.event_place book.old c event ≡ Some e
+        → B.stands book.new Stepping setup.now
+        (model.stop_offer_in setup.now job.now (model_instances.instances_of job.now.name c) e c ++ c)) }
     ensures any { IfOk result (λ offered. (c : Chronicle) (e : ℕ) → B.stands book.old Stepping setup.now c
-        → offered ≡ is_filled (model.stop_offer_in setup.now job.now (model_instances.instances_of job.now.name c) e c)) }
+        → offered ≡ is_filled (model.stop_offer_in setup.now job.now
+        (model_instances.instances_of job.now.name c) e c)) }
     ensures same { IfOk result (λ offered. offered ≡ false → book.new ≡ book.old) }
 {
     match first_open(book, book.instances(&job.name)) {
@@ -333,7 +350,8 @@ fn offer_in<B: Book>(
     job: &JobDef,
     event: EventKey,
 ) -> Result<bool, AllocError>
-    ensures entries { OnOk result ((c : Chronicle) (e : ℕ) → B.stands book.old Stepping setup.now c → B.event_place book.old c event ≡ Some e
+    ensures entries { OnOk result ((c : Chronicle) (e : ℕ) → B.stands book.old Stepping setup.now c
+        → B.event_place book.old c event ≡ Some e
         → B.stands book.new Stepping setup.now (model.offer_in setup.now job.now e c ++ c)) }
     ensures any { IfOk result (λ offered. (c : Chronicle) (e : ℕ) → B.stands book.old Stepping setup.now c
         → offered ≡ is_filled (model.offer_in setup.now job.now e c)) }
@@ -357,7 +375,8 @@ fn offer_first<B: Book>(
     jobs: &[JobDef],
     event: EventKey,
 ) -> Result<bool, AllocError>
-    ensures entries { OnOk result ((c : Chronicle) (e : ℕ) → B.stands book.old Stepping setup.now c → B.event_place book.old c event ≡ Some e
+    ensures entries { OnOk result ((c : Chronicle) (e : ℕ) → B.stands book.old Stepping setup.now c
+        → B.event_place book.old c event ≡ Some e
         → B.stands book.new Stepping setup.now (model.offer_first setup.now jobs.now e c ++ c)) }
     ensures any { IfOk result (λ offered. (c : Chronicle) (e : ℕ) → B.stands book.old Stepping setup.now c
         → offered ≡ is_filled (model.offer_first setup.now jobs.now e c)) }
@@ -377,9 +396,11 @@ pub(crate) fn offer_next<B: Book>(
     book: &mut B,
     jobs: &[JobDef],
 ) -> Result<bool, AllocError>
-    ensures entries { OnOk result ((c : Chronicle) → jobs.now ≡ setup.now.jobs → B.stands book.old Stepping setup.now c
+    ensures entries { OnOk result ((c : Chronicle) → jobs.now ≡ setup.now.jobs
+        → B.stands book.old Stepping setup.now c
         → B.stands book.new Stepping setup.now (model.offer_next setup.now (model.offering c) c ++ c)) }
-    ensures any { IfOk result (λ offered. (c : Chronicle) → jobs.now ≡ setup.now.jobs → B.stands book.old Stepping setup.now c
+    ensures any { IfOk result (λ offered. (c : Chronicle) → jobs.now ≡ setup.now.jobs
+        → B.stands book.old Stepping setup.now c
         → offered ≡ is_filled (model.offer_next setup.now (model.offering c) c)) }
 {
     match book.offering() {

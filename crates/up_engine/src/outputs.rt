@@ -94,7 +94,9 @@ fn order_for(
     action: &Action,
     env: Env,
 ) -> Result<Order, AllocError>
-    ensures { IfOk result (λ order. output.Spawn order ∷ [] ≡ model.order_for job.now (record { job = made.now; instance = name.now }) process (Some action.now) env) }
+    ensures { IfOk result (λ order. output.Spawn order ∷ []
+        ≡ model.order_for job.now (record { job = made.now; instance = name.now }) process
+        (Some action.now) env) }
 {
     let argv = argv_of(alloc, action)?;
     let who = who(alloc, made, name)?;
@@ -117,7 +119,9 @@ fn order_by(
     process: Process,
     env: Env,
 ) -> Result<Option<Output>, AllocError>
-    ensures { IfOk result (λ output. listed_output output ≡ model.order_for job.now (record { job = made.now; instance = name.now }) process (action_of job.now process) env) }
+    ensures { IfOk result (λ output. listed_output output
+        ≡ model.order_for job.now (record { job = made.now; instance = name.now }) process
+        (action_of job.now process) env) }
 {
     match action_of(job, process) {
         Some(action) => {
@@ -135,7 +139,9 @@ fn order_of(
     instance: usize,
     process: Process,
 ) -> Result<Option<Output>, AllocError>
-    ensures { IfOk result (λ output. listed_output output ≡ model.order_of setup.now (read.made_at instance (chronicle records.now)) process (read.process_env instance process (chronicle records.now))) }
+    ensures { IfOk result (λ output. listed_output output
+        ≡ model.order_of setup.now (read.made_at instance (chronicle records.now)) process
+        (read.process_env instance process (chronicle records.now))) }
 {
     match made_at(records, instance) {
         Some((job, name)) => match job_named(setup.jobs(), job) {
@@ -155,7 +161,9 @@ fn signal_of(
     instance: usize,
     signal: u8,
 ) -> Result<Option<Output>, AllocError>
-    ensures { IfOk result (λ output. listed_output output ≡ model.signal_of (read.made_at instance (chronicle records.now)) signal (read.pid_of instance process.Main (chronicle records.now))) }
+    ensures { IfOk result (λ output. listed_output output
+        ≡ model.signal_of (read.made_at instance (chronicle records.now)) signal
+        (read.pid_of instance process.Main (chronicle records.now))) }
 {
     match made_at(records, instance) {
         Some((job, name)) => match pid_of(records, instance, Process::Main) {
@@ -174,7 +182,8 @@ fn reply_of(
     request: usize,
     answer: &Answer,
 ) -> Result<Option<Output>, AllocError>
-    ensures { IfOk result (λ output. listed_output output ≡ model.reply_of (read.id_at request (chronicle records.now)) answer.now) }
+    ensures { IfOk result (λ output. listed_output output
+        ≡ model.reply_of (read.id_at request (chronicle records.now)) answer.now) }
 {
     match id_at(records, request) {
         Some(id) => {
@@ -197,7 +206,9 @@ fn output_of(
     earlier: &[Record],
     next: &Record,
 ) -> Result<Option<Output>, AllocError>
-    ensures { IfOk result (λ output. model.outputs_of setup.now (entry_of next.now ∷ chronicle earlier.now) ≡ with_outputs (entry_of next.now) (model.outputs_of setup.now (chronicle earlier.now)) (listed_output output)) }
+    ensures { IfOk result (λ output. model.outputs_of setup.now (entry_of next.now ∷ chronicle earlier.now)
+        ≡ with_outputs (entry_of next.now) (model.outputs_of setup.now (chronicle earlier.now))
+        (listed_output output)) }
 {
     match next {
         Record::Queued {
@@ -235,7 +246,8 @@ fn add_output(
     next: &Record,
     outputs: &mut Vec<Output>,
 ) -> Result<(), AllocError>
-    ensures { OnOk result (outputs.old.items ≡ model.outputs_of setup.now (chronicle earlier.now) → outputs.new.items ≡ model.outputs_of setup.now (entry_of next.now ∷ chronicle earlier.now)) }
+    ensures { OnOk result (outputs.old.items ≡ model.outputs_of setup.now (chronicle earlier.now)
+        → outputs.new.items ≡ model.outputs_of setup.now (entry_of next.now ∷ chronicle earlier.now)) }
 {
     if is_given(next) {
         outputs.clear();
@@ -251,7 +263,8 @@ fn add_output(
 #[tactic(auto, using(crate::proofs::OutputLemmas::given_more, crate::proofs::OutputLemmas::given_last, crate::proofs::OutputLemmas::other_last), unfolding(up_model::specs::Outputs::outputs_of))]
 fn step_start(records: &[Record]) -> usize
     ensures within { result ≤ length records.now }
-    ensures start { (config : Configuration) → model.outputs_of config (chronicle (take result records.now)) ≡ [] }
+    ensures start { (config : Configuration) → model.outputs_of config (chronicle (take result records.now))
+        ≡ [] }
     ensures last { result ≡ after_given (chronicle records.now) }
 {
     let mut left = records.len();

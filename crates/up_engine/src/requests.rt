@@ -37,8 +37,10 @@ const MAX_EVENTS: usize = 32_768;
 
 // A request is refused.
 fn refuse<B: Book>(book: &mut B, text: Text) -> Result<(), AllocError>
-    ensures { OnOk result ((config : Configuration) (c : Chronicle) (input : InputValue) → B.stands book.old Stepping config (entry.Given input ∷ c)
-        → B.stands book.new Stepping config (entry.Replied (length c) (record { ok = false; text = text }) ∷ entry.Given input ∷ c)) }
+    ensures { OnOk result ((config : Configuration) (c : Chronicle) (input : InputValue)
+        → B.stands book.old Stepping config (entry.Given input ∷ c)
+        → B.stands book.new Stepping config (entry.Replied (length c) (record { ok = false; text = text })
+        ∷ entry.Given input ∷ c)) }
 {
     book.reply(Answer { ok: false, text })?;
     Ok(())
@@ -46,8 +48,10 @@ fn refuse<B: Book>(book: &mut B, text: Text) -> Result<(), AllocError>
 
 // A request is told a text at once.
 fn tell<B: Book>(book: &mut B, text: Text) -> Result<(), AllocError>
-    ensures { OnOk result ((config : Configuration) (c : Chronicle) (input : InputValue) → B.stands book.old Stepping config (entry.Given input ∷ c)
-        → B.stands book.new Stepping config (entry.Replied (length c) (record { ok = true; text = text }) ∷ entry.Given input ∷ c)) }
+    ensures { OnOk result ((config : Configuration) (c : Chronicle) (input : InputValue)
+        → B.stands book.old Stepping config (entry.Given input ∷ c)
+        → B.stands book.new Stepping config (entry.Replied (length c) (record { ok = true; text = text })
+        ∷ entry.Given input ∷ c)) }
 {
     book.reply(Answer { ok: true, text })?;
     Ok(())
@@ -55,7 +59,8 @@ fn tell<B: Book>(book: &mut B, text: Text) -> Result<(), AllocError>
 
 // A client that waits holds the instance that it acts on.
 fn holders_of(alloc: Global, key: EventKey, wait: bool) -> Result<Items<EventKey>, AllocError>
-    ensures { IfOk result (λ holders. (places : EventKeyValue → Option ℕ) (given : ℕ) → places key ≡ Some given
+    ensures { IfOk result (λ holders. (places : EventKeyValue → Option ℕ) (given : ℕ)
+        → places key ≡ Some given
         → map places holders ≡ map Some (model.holders_of given wait)) }
 {
     let mut holders = Vec::new(alloc);
@@ -67,10 +72,12 @@ fn holders_of(alloc: Global, key: EventKey, wait: bool) -> Result<Items<EventKey
 
 // Why a start is refused, if it is.
 fn start_refusal<B: Book>(alloc: Global, book: &B, who: &Who) -> Result<Option<Text>, AllocError>
-    ensures { IfOk result (λ text. (mode : Mode) (config : Configuration) (c : Chronicle) (places : List ℕ) (environment : Bindings)
+    ensures { IfOk result (λ text. (mode : Mode) (config : Configuration) (c : Chronicle) (places : List ℕ)
+        (environment : Bindings)
         → B.stands book.now mode config c
         → model.start_at places who.now environment (model_instances.instance_named who.now c) c
-        ≡ unless text (model.Done (offer.start_of who.now environment places (model_instances.instance_named who.now c) c))) }
+        ≡ unless text (model.Done (offer.start_of who.now environment places
+        (model_instances.instance_named who.now c) c))) }
 {
     match instance_named(book, &who.job, who.instance.as_str()) {
         Some(key) => {
@@ -96,7 +103,8 @@ fn start_who<B: Book>(
     who: &Who,
     environment: Env,
 ) -> Result<(), AllocError>
-    ensures { OnOk result ((config : Configuration) (c : Chronicle) (input : InputValue) (places : List ℕ) → B.stands book.old Stepping config (entry.Given input ∷ c)
+    ensures { OnOk result ((config : Configuration) (c : Chronicle) (input : InputValue) (places : List ℕ)
+        → B.stands book.old Stepping config (entry.Given input ∷ c)
         → map (B.event_place book.old (entry.Given input ∷ c)) holders ≡ map Some places
         → B.stands book.new Stepping config
         (model.entries_of (length c) (model.start_at places who.now (with_instance who.now environment) (model_instances.instance_named who.now (entry.Given input ∷ c)) (entry.Given input ∷ c))
@@ -119,7 +127,8 @@ fn start<B: Book>(
     holders: Items<EventKey>,
     target: Target,
 ) -> Result<(), AllocError>
-    ensures { OnOk result ((config : Configuration) (c : Chronicle) (input : InputValue) (places : List ℕ) → B.stands book.old Stepping config (entry.Given input ∷ c)
+    ensures { OnOk result ((config : Configuration) (c : Chronicle) (input : InputValue) (places : List ℕ)
+        → B.stands book.old Stepping config (entry.Given input ∷ c)
         → map (B.event_place book.old (entry.Given input ∷ c)) holders ≡ map Some places
         → B.stands book.new Stepping config
         (model.entries_of (length c) (model.start places (said_of target.entry) (entry.Given input ∷ c)) ++ entry.Given input ∷ c)) }
@@ -147,7 +156,8 @@ fn stop_found<B: Book>(
     who: &Who,
     key: InstanceKey,
 ) -> Result<(), AllocError>
-    ensures { OnOk result ((config : Configuration) (c : Chronicle) (input : InputValue) (places : List ℕ) (i : ℕ) → B.stands book.old Stepping config (entry.Given input ∷ c)
+    ensures { OnOk result ((config : Configuration) (c : Chronicle) (input : InputValue) (places : List ℕ)
+        (i : ℕ) → B.stands book.old Stepping config (entry.Given input ∷ c)
         → B.instance_place book.old (entry.Given input ∷ c) key ≡ Some i
         → map (B.event_place book.old (entry.Given input ∷ c)) holders ≡ map Some places
         → B.stands book.new Stepping config
@@ -171,7 +181,8 @@ fn stop_who<B: Book>(
     vars: Env,
     who: &Who,
 ) -> Result<(), AllocError>
-    ensures { OnOk result ((config : Configuration) (c : Chronicle) (input : InputValue) (places : List ℕ) → B.stands book.old Stepping config (entry.Given input ∷ c)
+    ensures { OnOk result ((config : Configuration) (c : Chronicle) (input : InputValue) (places : List ℕ)
+        → B.stands book.old Stepping config (entry.Given input ∷ c)
         → map (B.event_place book.old (entry.Given input ∷ c)) holders ≡ map Some places
         → B.stands book.new Stepping config
         (model.entries_of (length c) (model.stop_at places vars who.now (model_instances.instance_named who.now (entry.Given input ∷ c)) (entry.Given input ∷ c))
@@ -196,7 +207,8 @@ fn stop<B: Book>(
     vars: Env,
     target: Target,
 ) -> Result<(), AllocError>
-    ensures { OnOk result ((config : Configuration) (c : Chronicle) (input : InputValue) (places : List ℕ) → B.stands book.old Stepping config (entry.Given input ∷ c)
+    ensures { OnOk result ((config : Configuration) (c : Chronicle) (input : InputValue) (places : List ℕ)
+        → B.stands book.old Stepping config (entry.Given input ∷ c)
         → map (B.event_place book.old (entry.Given input ∷ c)) holders ≡ map Some places
         → B.stands book.new Stepping config
         (model.entries_of (length c) (model.stop places vars (said_of target.entry) (entry.Given input ∷ c)) ++ entry.Given input ∷ c)) }
@@ -227,7 +239,8 @@ fn restart_found<B: Book>(
     who: &Who,
     key: InstanceKey,
 ) -> Result<(), AllocError>
-    ensures { OnOk result ((config : Configuration) (c : Chronicle) (input : InputValue) (places : List ℕ) (i : ℕ) → B.stands book.old Stepping config (entry.Given input ∷ c)
+    ensures { OnOk result ((config : Configuration) (c : Chronicle) (input : InputValue) (places : List ℕ)
+        (i : ℕ) → B.stands book.old Stepping config (entry.Given input ∷ c)
         → B.instance_place book.old (entry.Given input ∷ c) key ≡ Some i
         → map (B.event_place book.old (entry.Given input ∷ c)) holders ≡ map Some places
         → B.stands book.new Stepping config
@@ -250,7 +263,8 @@ fn restart_who<B: Book>(
     holders: Items<EventKey>,
     who: &Who,
 ) -> Result<(), AllocError>
-    ensures { OnOk result ((config : Configuration) (c : Chronicle) (input : InputValue) (places : List ℕ) → B.stands book.old Stepping config (entry.Given input ∷ c)
+    ensures { OnOk result ((config : Configuration) (c : Chronicle) (input : InputValue) (places : List ℕ)
+        → B.stands book.old Stepping config (entry.Given input ∷ c)
         → map (B.event_place book.old (entry.Given input ∷ c)) holders ≡ map Some places
         → B.stands book.new Stepping config
         (model.entries_of (length c) (model.restart_at places who.now (model_instances.instance_named who.now (entry.Given input ∷ c)) (entry.Given input ∷ c))
@@ -273,7 +287,8 @@ fn restart<B: Book>(
     holders: Items<EventKey>,
     target: Target,
 ) -> Result<(), AllocError>
-    ensures { OnOk result ((config : Configuration) (c : Chronicle) (input : InputValue) (places : List ℕ) → B.stands book.old Stepping config (entry.Given input ∷ c)
+    ensures { OnOk result ((config : Configuration) (c : Chronicle) (input : InputValue) (places : List ℕ)
+        → B.stands book.old Stepping config (entry.Given input ∷ c)
         → map (B.event_place book.old (entry.Given input ∷ c)) holders ≡ map Some places
         → B.stands book.new Stepping config
         (model.entries_of (length c) (model.restart places (said_of target.entry) (entry.Given input ∷ c)) ++ entry.Given input ∷ c)) }
@@ -297,7 +312,8 @@ fn restart<B: Book>(
 
 // The name of an `emit` is one of an event.
 fn emit<B: Book>(alloc: Global, book: &mut B, name: &str, vars: Env) -> Result<(), AllocError>
-    ensures { OnOk result ((config : Configuration) (c : Chronicle) (input : InputValue) (request : RequestValue) → B.stands book.old Stepping config (entry.Given input ∷ c)
+    ensures { OnOk result ((config : Configuration) (c : Chronicle) (input : InputValue)
+        (request : RequestValue) → B.stands book.old Stepping config (entry.Given input ∷ c)
         → request.name ≡ name.now → request.vars ≡ vars
         → B.stands book.new Stepping config
         (model.entries_of (length c) (model.emit (length c) request (entry.Given input ∷ c)) ++ entry.Given input ∷ c)) }
@@ -321,7 +337,8 @@ fn change<B: Book>(
     key: EventKey,
     request: Request,
 ) -> Result<(), AllocError>
-    ensures { OnOk result ((c : Chronicle) (input : InputValue) → B.stands book.old Stepping setup.now (entry.Given input ∷ c)
+    ensures { OnOk result ((c : Chronicle) (input : InputValue)
+        → B.stands book.old Stepping setup.now (entry.Given input ∷ c)
         → B.event_place book.old (entry.Given input ∷ c) key ≡ Some (length c)
         → B.stands book.new Stepping setup.now
         (model.entries_of (length c) (model.outcome_of setup.now (length c) request (entry.Given input ∷ c)) ++ entry.Given input ∷ c)) }

@@ -65,7 +65,8 @@ fn put(env: &mut Env, key: &str, value: &str) -> Result<(), AllocError>
 }
 
 fn apply(env: &mut Env, base: &Env, setting: &Setting) -> Result<(), AllocError>
-    ensures { OnOk result (env.new ≡ with_value setting.now.key (setting_value base.now setting.now.key setting.now.value) env.old) }
+    ensures { OnOk result (env.new ≡ with_value setting.now.key
+        (setting_value base.now setting.now.key setting.now.value) env.old) }
 {
     let key = setting.key.as_str();
     let value = setting_value(base, key, setting.value.as_ref());
@@ -111,7 +112,8 @@ fn environment_at<'a>(base: &'a Env, environments: &'a [Env], place: usize) -> &
 
 #[tactic(auto, using(crate::proofs::OutputLemmas::jobs_left, crate::proofs::SetupLemmas::environment_there))]
 fn find<'a>(base: &'a Env, environments: &'a [Env], jobs: &[JobDef], name: &Name) -> &'a Env
-    ensures { environments.now ≡ map (job_env base.now) jobs.now → result.now ≡ env_by_job base.now (job_named name.now jobs.now) }
+    ensures { environments.now ≡ map (job_env base.now) jobs.now
+        → result.now ≡ env_by_job base.now (job_named name.now jobs.now) }
 {
     for (place, job) in jobs.iter().enumerate() {
         if job.name.is(name) {

@@ -21,7 +21,8 @@ use up_text::Text;
 
 // The status of an instance that doesn't exist.
 fn absent(alloc: Global, job: &JobDef, who: &Who) -> Result<Answer, AllocError>
-    ensures { IfOk result (λ answer. (c : Chronicle) → answer ≡ answer_of (model.status_at job.now who.now None c)) }
+    ensures { IfOk result (λ answer. (c : Chronicle)
+        → answer ≡ answer_of (model.status_at job.now who.now None c)) }
 {
     if job.instance.is("") {
         let text = stopped(alloc, job.name.as_str())?;
@@ -37,7 +38,8 @@ fn status_at<B: Book>(
     job: &JobDef,
     who: &Who,
 ) -> Result<Answer, AllocError>
-    ensures { IfOk result (λ answer. (mode : Mode) (config : Configuration) (c : Chronicle) → B.stands book.now mode config c
+    ensures { IfOk result (λ answer. (mode : Mode) (config : Configuration) (c : Chronicle)
+        → B.stands book.now mode config c
         → answer ≡ answer_of (model.status_at job.now who.now (model_instances.instance_named who.now c) c)) }
 {
     match instance_named(book, &who.job, who.instance.as_str()) {
@@ -54,7 +56,8 @@ fn status_at<B: Book>(
 
 /// The status of the instance that a request names.
 pub(crate) fn status<B: Book>(alloc: Global, book: &B, target: Target) -> Result<Answer, AllocError>
-    ensures { IfOk result (λ answer. (mode : Mode) (config : Configuration) (c : Chronicle) → B.stands book.now mode config c
+    ensures { IfOk result (λ answer. (mode : Mode) (config : Configuration) (c : Chronicle)
+        → B.stands book.now mode config c
         → answer ≡ answer_of (model.status (said_of target.entry) c)) }
 {
     match target {
@@ -72,8 +75,10 @@ pub(crate) fn status<B: Book>(alloc: Global, book: &B, target: Target) -> Result
 }
 
 fn push_status<B: Book>(book: &B, key: InstanceKey, lines: &mut Vec<Text>) -> Result<(), AllocError>
-    ensures { OnOk result ((mode : Mode) (config : Configuration) (c : Chronicle) (i : ℕ) → B.stands book.now mode config c
-        → B.instance_place book.now c key ≡ Some i → lines.new.items ≡ lines.old.items ++ status_of i c ∷ []) }
+    ensures { OnOk result ((mode : Mode) (config : Configuration) (c : Chronicle) (i : ℕ)
+        → B.stands book.now mode config c
+        → B.instance_place book.now c key ≡ Some i
+        → lines.new.items ≡ lines.old.items ++ status_of i c ∷ []) }
 {
     let text = book.status_of(key)?;
     lines.push(text)?;
@@ -81,7 +86,8 @@ fn push_status<B: Book>(book: &B, key: InstanceKey, lines: &mut Vec<Text>) -> Re
 }
 
 fn add_statuses<B: Book>(book: &B, slots: &[Slot], lines: &mut Vec<Text>) -> Result<(), AllocError>
-    ensures { OnOk result ((mode : Mode) (config : Configuration) (c : Chronicle) (its : List model_instances.Instance) → B.stands book.now mode config c
+    ensures { OnOk result ((mode : Mode) (config : Configuration) (c : Chronicle)
+        (its : List model_instances.Instance) → B.stands book.now mode config c
         → map (slot_at (B.instance_place book.now c)) slots.now ≡ map Some its
         → lines.new.items ≡ lines.old.items ++ model.statuses its c) }
 {
@@ -107,7 +113,8 @@ fn add_slots<B: Book>(
     slots: &[Slot],
     lines: &mut Vec<Text>,
 ) -> Result<(), AllocError>
-    ensures { OnOk result ((mode : Mode) (config : Configuration) (c : Chronicle) (its : List model_instances.Instance) → B.stands book.now mode config c
+    ensures { OnOk result ((mode : Mode) (config : Configuration) (c : Chronicle)
+        (its : List model_instances.Instance) → B.stands book.now mode config c
         → map (slot_at (B.instance_place book.now c)) slots.now ≡ map Some its
         → lines.new.items ≡ lines.old.items ++ model.job_lines job.now.name its c) }
 {
@@ -121,7 +128,8 @@ fn add_slots<B: Book>(
 
 // The lines about these jobs.
 fn lines_of<B: Book>(alloc: Global, book: &B, jobs: &[JobDef]) -> Result<Vec<Text>, AllocError>
-    ensures { IfOk result (λ lines. (mode : Mode) (config : Configuration) (c : Chronicle) → B.stands book.now mode config c
+    ensures { IfOk result (λ lines. (mode : Mode) (config : Configuration) (c : Chronicle)
+        → B.stands book.now mode config c
         → lines.items ≡ model.list_lines jobs.now c) }
 {
     let mut lines = Vec::new(alloc);
@@ -134,7 +142,8 @@ fn lines_of<B: Book>(alloc: Global, book: &B, jobs: &[JobDef]) -> Result<Vec<Tex
 // Adds a line, after a line end if it isn't the first.
 fn push_line(text: &mut String, is_first: bool, line: &Text) -> Result<(), AllocError>
     ensures { OnOk result ((lines : List Bytes) → string_bytes text.new ++ model.more_lines lines
-        ≡ string_bytes text.old ++ (if is_first then model.joined_lines (line.now ∷ lines) else model.more_lines (line.now ∷ lines))) }
+        ≡ string_bytes text.old ++ (if is_first then model.joined_lines
+        (line.now ∷ lines) else model.more_lines (line.now ∷ lines))) }
 {
     if !is_first {
         text.push_str("\n")?;
@@ -144,7 +153,7 @@ fn push_line(text: &mut String, is_first: bool, line: &Text) -> Result<(), Alloc
 }
 
 #[tactic(auto, using(crate::proofs::AnswerLemmas::lines_left))]
-fn joined(alloc: Global, lines: &[Text]) -> Result<String, AllocError>
+fn join_all(alloc: Global, lines: &[Text]) -> Result<String, AllocError>
     ensures { IfOk result (λ text. string_bytes text ≡ model.joined_lines lines.now) }
 {
     let mut text = String::new(alloc);
@@ -158,9 +167,10 @@ fn joined(alloc: Global, lines: &[Text]) -> Result<String, AllocError>
 
 /// The status texts of all instances, and of the jobs without any.
 pub(crate) fn list<B: Book>(alloc: Global, setup: &Setup, book: &B) -> Result<Text, AllocError>
-    ensures { IfOk result (λ text. (mode : Mode) (c : Chronicle) → B.stands book.now mode setup.now c → text ≡ model.listing setup.now c) }
+    ensures { IfOk result (λ text. (mode : Mode) (c : Chronicle) → B.stands book.now mode setup.now c
+        → text ≡ model.listing setup.now c) }
 {
     let lines = lines_of(alloc, book, setup.jobs())?;
-    let text = joined(alloc, lines.as_slice())?;
+    let text = join_all(alloc, lines.as_slice())?;
     Ok(Text::new(text))
 }

@@ -75,7 +75,8 @@ fn add_instance(
     name: &Text,
     place: usize,
 ) -> Result<(), AllocError>
-    ensures { OnOk result ((c : Chronicle) → length c ≡ place → ((k : Bytes) → listed k groups.old.items ≡ instances_of k c)
+    ensures { OnOk result ((c : Chronicle) → length c ≡ place
+        → ((k : Bytes) → listed k groups.old.items ≡ instances_of k c)
         → (k : Bytes) → listed k groups.new.items ≡ instances_of k (entry.Made job.now name.now ∷ c)) }
 {
     let name = name.copy()?;
@@ -101,7 +102,8 @@ fn update_groups(
     next: &Record,
     place: usize,
 ) -> Result<(), AllocError>
-    ensures { OnOk result ((c : Chronicle) → length c ≡ place → ((k : Bytes) → listed k groups.old.items ≡ instances_of k c)
+    ensures { OnOk result ((c : Chronicle) → length c ≡ place
+        → ((k : Bytes) → listed k groups.old.items ≡ instances_of k c)
         → (k : Bytes) → listed k groups.new.items ≡ instances_of k (entry_of next.now ∷ c)) }
 {
     match next {
@@ -126,8 +128,10 @@ fn add(
     ensures stored { OnOk result (chronicle records.new.items ≡ entry_of next ∷ chronicle records.old.items) }
     ensures queue { OnOk result (map live_of queue.old.items ≡ model.queue (chronicle records.old.items)
         → map live_of queue.new.items ≡ model.queue (entry_of next ∷ chronicle records.old.items)) }
-    ensures groups { OnOk result (((k : Bytes) → listed k groups.old.items ≡ instances_of k (chronicle records.old.items))
-        → (k : Bytes) → listed k groups.new.items ≡ instances_of k (entry_of next ∷ chronicle records.old.items)) }
+    ensures groups { OnOk result (((k : Bytes)
+        → listed k groups.old.items ≡ instances_of k (chronicle records.old.items))
+        → (k : Bytes) → listed k groups.new.items
+        ≡ instances_of k (entry_of next ∷ chronicle records.old.items)) }
 {
     let place = count(records);
     if let Err(error) = update_queue(queue, &next, place) {
@@ -158,7 +162,8 @@ fn released(instance: usize, failed: bool) -> Record
 
 // The goal of an instance becomes stop, and its holders stay.
 fn ended_record(alloc: Global, records: &[Record], instance: usize) -> Result<Record, AllocError>
-    ensures { IfOk result (λ made. entry_of made ≡ entry.Aimed instance goal_stop [] (read.holders instance (chronicle records.now))) }
+    ensures { IfOk result (λ made. entry_of made
+        ≡ entry.Aimed instance goal_stop [] (read.holders instance (chronicle records.now))) }
 {
     let holders = Items::new(Vec::from_slice(alloc, life::holders(records, instance))?);
     Ok(Record::Aimed {
@@ -217,7 +222,9 @@ impl StoringBook {
 
     // One record more.
     fn write(&mut self, next: Record) -> Result<(), AllocError>
-        ensures { OnOk result ((config : Configuration) (c : Chronicle) (e : Entry) → Stored self.old Stepping config c → entry_of next ≡ e → Stored self.new Stepping config (e ∷ c)) }
+        ensures { OnOk result ((config : Configuration) (c : Chronicle) (e : Entry)
+            → Stored self.old Stepping config c → entry_of next ≡ e
+            → Stored self.new Stepping config (e ∷ c)) }
     {
         add(
             self.alloc,
@@ -231,7 +238,8 @@ impl StoringBook {
 
     // The first record of a step.
     fn begin(&mut self, input: Input) -> Result<(), AllocError>
-        ensures { OnOk result ((config : Configuration) (c : Chronicle) → Stored self.old Resting config c → Stored self.new Stepping config (entry.Given input ∷ c)) }
+        ensures { OnOk result ((config : Configuration) (c : Chronicle) → Stored self.old Resting config c
+            → Stored self.new Stepping config (entry.Given input ∷ c)) }
     {
         add(
             self.alloc,
@@ -287,7 +295,8 @@ impl StoringBook {
         expression: Expression,
         taken: Items<usize>,
     ) -> Result<Items<EventKey>, AllocError>
-        ensures after { OnOk result ((config : Configuration) (c : Chronicle) (e : Entry) → Stored self.old Stepping config c
+        ensures after { OnOk result ((config : Configuration) (c : Chronicle) (e : Entry)
+            → Stored self.old Stepping config c
             → entry.Fired (expression_of expression) taken ≡ e → Stored self.new Stepping config (e ∷ c)) }
         ensures keys { IfOk result (λ keys. keys ≡ map event_key taken) }
     {
@@ -298,7 +307,8 @@ impl StoringBook {
 
     // These records more, oldest first.
     fn write_all(&mut self, records: Vec<Record>) -> Result<(), AllocError>
-        ensures { OnOk result ((config : Configuration) (c : Chronicle) → Stored self.old Stepping config c → Stored self.new Stepping config (chronicle records.items ++ c)) }
+        ensures { OnOk result ((config : Configuration) (c : Chronicle) → Stored self.old Stepping config c
+            → Stored self.new Stepping config (chronicle records.items ++ c)) }
     {
         for next in records {
             self.write(next)?;
@@ -308,8 +318,10 @@ impl StoringBook {
 
     // The answers to the clients among an instance's holders, if it let them go now.
     fn answers(&self, instance: usize, failed: bool) -> Result<Vec<Record>, AllocError>
-        ensures { IfOk result (λ answers. (config : Configuration) (c : Chronicle) → Stored self.now Stepping config c
-            → chronicle answers.items ≡ replies.answering (read.holders instance c) failed (replies.status_of instance c) c) }
+        ensures { IfOk result (λ answers. (config : Configuration) (c : Chronicle)
+            → Stored self.now Stepping config c
+            → chronicle answers.items ≡ replies.answering (read.holders instance c) failed
+            (replies.status_of instance c) c) }
     {
         let records = self.records.as_slice();
         let told = status::status_of(self.alloc, records, instance)?;
@@ -351,7 +363,8 @@ impl StoringBook {
 
     // The answer to this step's client, at its end.
     fn last_answer(&self) -> Result<Answer, AllocError>
-        ensures { IfOk result (λ answer. (config : Configuration) (c : Chronicle) → Stored self.now Stepping config c
+        ensures { IfOk result (λ answer. (config : Configuration) (c : Chronicle)
+            → Stored self.now Stepping config c
             → answer ≡ record { ok = true; text = replies.status_if (replies.acted_on c) c }) }
     {
         let records = self.records.as_slice();
@@ -376,14 +389,16 @@ impl StoringBook {
 
     // What the clock reads.
     fn today(&self) -> u64
-        ensures { (config : Configuration) (c : Chronicle) → Stored self.now Stepping config c → result ≡ reading_of c }
+        ensures { (config : Configuration) (c : Chronicle) → Stored self.now Stepping config c
+            → result ≡ reading_of c }
     {
         clock::now(self.records.as_slice())
     }
 
     // The place of the newest record.
     fn last(&self) -> usize
-        ensures { (config : Configuration) (c : Chronicle) (input : InputValue) → Stored self.now Stepping config (entry.Given input ∷ c) → result ≡ length c }
+        ensures { (config : Configuration) (c : Chronicle) (input : InputValue)
+            → Stored self.now Stepping config (entry.Given input ∷ c) → result ≡ length c }
     {
         count(&self.records).saturating_sub(1)
     }

@@ -54,7 +54,8 @@ fn who_of(job: &JobDef, instance: Text) -> Result<Who, AllocError>
 
 // The instance whose name this environment gives.
 fn target_in<'a>(alloc: Global, job: &'a JobDef, environment: Env) -> Result<Target<'a>, AllocError>
-    ensures { IfOk result (λ target. said_of target ≡ model.target_as job.now environment (expansion job.now.instance environment)) }
+    ensures { IfOk result (λ target. said_of target
+        ≡ model.target_as job.now environment (expansion job.now.instance environment)) }
 {
     match expand(alloc, job.instance.as_str(), &environment) {
         Ok(Expanded::Text(name)) => {

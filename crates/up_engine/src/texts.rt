@@ -8,7 +8,7 @@ use std::alloc::{AllocError, Global};
 use up_model::{Command, Who, push_who};
 use up_text::Text;
 
-fn joined(alloc: Global, start: &str, end: &str) -> Result<Text, AllocError>
+fn join_all(alloc: Global, start: &str, end: &str) -> Result<Text, AllocError>
     ensures { IfOk result (λ text. text ≡ start.now ++ end.now) }
 {
     let mut text = String::from_str(alloc, start)?;
@@ -27,13 +27,13 @@ fn about(alloc: Global, start: &str, who: &Who) -> Result<Text, AllocError>
 pub(crate) fn unknown_job(alloc: Global, name: &str) -> Result<Text, AllocError>
     ensures { IfOk result (λ text. text ≡ codes "Unknown job: " ++ name.now) }
 {
-    joined(alloc, "Unknown job: ", name)
+    join_all(alloc, "Unknown job: ", name)
 }
 
 pub(crate) fn unknown_parameter(alloc: Global, key: &str) -> Result<Text, AllocError>
     ensures { IfOk result (λ text. text ≡ codes "Unknown parameter: " ++ key.now) }
 {
-    joined(alloc, "Unknown parameter: ", key)
+    join_all(alloc, "Unknown parameter: ", key)
 }
 
 pub(crate) fn unknown_instance(alloc: Global, who: &Who) -> Result<Text, AllocError>
@@ -63,7 +63,7 @@ pub(crate) fn not_running(alloc: Global, who: &Who) -> Result<Text, AllocError>
 pub(crate) fn too_many_instances(alloc: Global, job: &str) -> Result<Text, AllocError>
     ensures { IfOk result (λ text. text ≡ codes "Too many instances: " ++ job.now) }
 {
-    joined(alloc, "Too many instances: ", job)
+    join_all(alloc, "Too many instances: ", job)
 }
 
 pub(crate) fn too_many_events(alloc: Global) -> Result<Text, AllocError>
@@ -75,7 +75,7 @@ pub(crate) fn too_many_events(alloc: Global) -> Result<Text, AllocError>
 pub(crate) fn not_supported(alloc: Global, command: Command) -> Result<Text, AllocError>
     ensures { IfOk result (λ text. text ≡ request.not_supported command) }
 {
-    joined(alloc, "Not supported: ", command.name())
+    join_all(alloc, "Not supported: ", command.name())
 }
 
 pub(crate) fn version(alloc: Global) -> Result<Text, AllocError>
@@ -88,5 +88,5 @@ pub(crate) fn version(alloc: Global) -> Result<Text, AllocError>
 pub(crate) fn stopped(alloc: Global, job: &str) -> Result<Text, AllocError>
     ensures { IfOk result (λ text. text ≡ model.stopped_text job.now) }
 {
-    joined(alloc, job, " stop/waiting")
+    join_all(alloc, job, " stop/waiting")
 }

@@ -37,7 +37,9 @@ fn has_passed(moment: Option<u64>, today: u64, span: u64) -> bool
 
 fn is_overdue<B: Book>(book: &B, job: &JobDef, key: InstanceKey) -> bool
     ensures { (mode : Mode) (config : Configuration) (c : Chronicle) (i : ℕ) → B.stands book.now mode config c
-        → B.instance_place book.now c key ≡ Some i → result ≡ clock.has_passed (clock.kill_moment i c) (clock.now c) (clock.milliseconds job.now.kill_timeout) }
+        → B.instance_place book.now c key ≡ Some i
+        → result ≡ clock.has_passed (clock.kill_moment i c) (clock.now c)
+        (clock.milliseconds job.now.kill_timeout) }
 {
     has_passed(
         book.kill_moment(key),
@@ -68,9 +70,12 @@ fn add_if_due<B: Book>(
     key: InstanceKey,
     keys: &mut Vec<InstanceKey>,
 ) -> Result<(), AllocError>
-    ensures { OnOk result ((mode : Mode) (config : Configuration) (c : Chronicle) (i : ℕ) (done : List ℕ) → B.stands book.now mode config c
-        → B.instance_place book.now c key ≡ Some i → map (B.instance_place book.now c) keys.old.items ≡ map Some done
-        → map (B.instance_place book.now c) keys.new.items ≡ map Some (done ++ entries_if (clock.kill_due job.now i c) (i ∷ []))) }
+    ensures { OnOk result ((mode : Mode) (config : Configuration) (c : Chronicle) (i : ℕ) (done : List ℕ)
+        → B.stands book.now mode config c
+        → B.instance_place book.now c key ≡ Some i
+        → map (B.instance_place book.now c) keys.old.items ≡ map Some done
+        → map (B.instance_place book.now c) keys.new.items
+        ≡ map Some (done ++ entries_if (clock.kill_due job.now i c) (i ∷ []))) }
 {
     if kill_due(book, job, key) {
         keys.push(key)?;
@@ -85,8 +90,10 @@ fn add_overdue<B: Book>(
     slots: &[Slot],
     keys: &mut Vec<InstanceKey>,
 ) -> Result<(), AllocError>
-    ensures { OnOk result ((mode : Mode) (config : Configuration) (c : Chronicle) (its : List Instance) (done : List ℕ) → B.stands book.now mode config c
-        → map (slot_at (B.instance_place book.now c)) slots.now ≡ map Some its → map (B.instance_place book.now c) keys.old.items ≡ map Some done
+    ensures { OnOk result ((mode : Mode) (config : Configuration) (c : Chronicle) (its : List Instance)
+        (done : List ℕ) → B.stands book.now mode config c
+        → map (slot_at (B.instance_place book.now c)) slots.now ≡ map Some its
+        → map (B.instance_place book.now c) keys.old.items ≡ map Some done
         → map (B.instance_place book.now c) keys.new.items ≡ map Some (done ++ clock.overdue job.now its c)) }
 {
     for slot in slots {
@@ -106,7 +113,8 @@ fn all_overdue<B: Book>(
     book: &B,
     jobs: &[JobDef],
 ) -> Result<Vec<InstanceKey>, AllocError>
-    ensures { IfOk result (λ keys. (mode : Mode) (config : Configuration) (c : Chronicle) → B.stands book.now mode config c
+    ensures { IfOk result (λ keys. (mode : Mode) (config : Configuration) (c : Chronicle)
+        → B.stands book.now mode config c
         → map (B.instance_place book.now c) keys.items ≡ map Some (clock.all_overdue jobs.now c)) }
 {
     let mut keys = no_keys(alloc);
@@ -118,8 +126,10 @@ fn all_overdue<B: Book>(
 
 // Main of each of these is sent KILL.
 fn kill_each<B: Book>(book: &mut B, keys: &[InstanceKey]) -> Result<(), AllocError>
-    ensures { OnOk result ((config : Configuration) (c : Chronicle) (places : List ℕ) → B.stands book.old Stepping config c
-        → map (B.instance_place book.old c) keys.now ≡ map Some places → B.stands book.new Stepping config (clock.killing places ++ c)) }
+    ensures { OnOk result ((config : Configuration) (c : Chronicle) (places : List ℕ)
+        → B.stands book.old Stepping config c
+        → map (B.instance_place book.old c) keys.now ≡ map Some places
+        → B.stands book.new Stepping config (clock.killing places ++ c)) }
 {
     for key in keys {
         book.kill(*key)?;

@@ -35,7 +35,7 @@ fn leaf_verdict(alloc: Global, found: Option<usize>) -> Result<Verdict, AllocErr
     Ok(Verdict { holds, taken })
 }
 
-fn joined(left: Items<usize>, right: Items<usize>) -> Result<Items<usize>, AllocError>
+fn join_all(left: Items<usize>, right: Items<usize>) -> Result<Items<usize>, AllocError>
     ensures { IfOk result (λ both. both ≡ left ++ right) }
 {
     let mut all = left.into_vec();
@@ -48,7 +48,7 @@ fn both(alloc: Global, left: Verdict, right: Verdict) -> Result<Verdict, AllocEr
 {
     let holds = left.holds && right.holds;
     let taken = if holds {
-        joined(left.taken, right.taken)?
+        join_all(left.taken, right.taken)?
     } else {
         Items::new(Vec::new(alloc))
     };
@@ -59,7 +59,7 @@ fn either(left: Verdict, right: Verdict) -> Result<Verdict, AllocError>
     ensures { IfOk result (λ said. said ≡ either left right) }
 {
     let holds = left.holds || right.holds;
-    let taken = joined(left.taken, right.taken)?;
+    let taken = join_all(left.taken, right.taken)?;
     Ok(Verdict { holds, taken })
 }
 
@@ -70,7 +70,8 @@ fn judge(
     wanted: Wanted,
     expr: &Expr,
 ) -> Result<Verdict, AllocError>
-    ensures { IfOk result (λ said. said ≡ verdict_of_tree (tree_of expr.now) (seen.seen setup.now (wanted_of wanted.entry) (chronicle records.now))) }
+    ensures { IfOk result (λ said. said ≡ verdict_of_tree (tree_of expr.now)
+        (seen.seen setup.now (wanted_of wanted.entry) (chronicle records.now))) }
 {
     match expr {
         Expr::Leaf(leaf) => {
@@ -101,7 +102,8 @@ pub(crate) fn verdict_of(
     wanted: Wanted,
     condition: &Option<Condition>,
 ) -> Result<Verdict, AllocError>
-    ensures { IfOk result (λ said. said ≡ verdict condition.now (seen.seen setup.now (wanted_of wanted.entry) (chronicle records.now))) }
+    ensures { IfOk result (λ said. said ≡ verdict condition.now
+        (seen.seen setup.now (wanted_of wanted.entry) (chronicle records.now))) }
 {
     match condition {
         Some(condition) => {
@@ -137,7 +139,9 @@ fn has_leaf_of(
     expr: &Expr,
     event: usize,
 ) -> Result<bool, AllocError>
-    ensures { IfOk result (λ keeps. keeps ≡ held.has event (truth.kept (tree_of expr.now) (seen.seen setup.now (wanted_of wanted.entry) (chronicle records.now)))) }
+    ensures { IfOk result (λ keeps. keeps ≡ held.has event
+        (truth.kept (tree_of expr.now) (seen.seen setup.now (wanted_of wanted.entry)
+        (chronicle records.now)))) }
 {
     match expr {
         Expr::Leaf(leaf) => {
@@ -166,7 +170,8 @@ pub(crate) fn keeps(
     condition: &Option<Condition>,
     event: usize,
 ) -> Result<bool, AllocError>
-    ensures { IfOk result (λ keeps. keeps ≡ held.has event (seen.kept condition.now (seen.seen setup.now (wanted_of wanted.entry) (chronicle records.now)))) }
+    ensures { IfOk result (λ keeps. keeps ≡ held.has event
+        (seen.kept condition.now (seen.seen setup.now (wanted_of wanted.entry) (chronicle records.now)))) }
 {
     match condition {
         Some(condition) => {

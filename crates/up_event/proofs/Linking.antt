@@ -206,7 +206,7 @@ node_changed older id change (x ∷ xs) key keeps = by_case (is id x) refl (node
           | inr other ↦ rw other.0 ih
         ]
 
--- the nodes where one is taken out: its neighbours are neighbours then
+-- the nodes if one is taken out: its neighbours are neighbours then
 relinked : (older other : Option ℕ) (newer : Option ℕ) (lives : List LiveEvent) (key : ℕ) → (is_at older key ≡ true → named (id_at key) lives ≡ None)
     → node_at older lives key ≡ with_older (first lives) older key (with_newer older newer key (node_at other lives key))
 relinked older other newer [] key apart = sym (rw (newer_none older newer key) refl)
@@ -262,7 +262,7 @@ node_without (x ∷ xs) older live after key d apart =
         let last : is_at (last_or (Some z.id.key) zs) key ≡ false = ap (is_at (last_or (Some z.id.key) zs)) (sym e) ∙ last_absent None (z ∷ zs) x.id refl parts.1 in
         rw (same, differs, newer, last) refl
 
--- the two ends where one is taken out
+-- the two ends if one is taken out
 pub last_append : (older : Option ℕ) (before after : List LiveEvent) → last_or older (before ++ after) ≡ last_or (last_or older before) after
 last_append older [] after = refl
 last_append older (x ∷ xs) after = last_append (Some x.id.key) xs after

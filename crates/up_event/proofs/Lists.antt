@@ -92,7 +92,7 @@ split id live (first ∷ lives) h = by_case (is id first) refl h (split id live 
         let s = ih found in
         record { before = first ∷ s.before; after = s.after; whole = ap (λ ls. first ∷ ls) s.whole; others = rw e (ap (λ ls. first ∷ ls) s.others); same = s.same }
 
--- what names none of them, where one is taken out
+-- what names none of them, if one is taken out
 pub absent_middle : (id : EventId) (before : List LiveEvent) (live : LiveEvent) (after : List LiveEvent) → named id (before ++ live ∷ after) ≡ None
     → (is id live ≡ false) × (named id before ≡ None) × (named id after ≡ None)
 absent_middle id [] live after absent =

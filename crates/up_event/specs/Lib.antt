@@ -1,2 +1,4 @@
+-- What a contract sees of the live events.
 pub mod LiveEvents
+-- How the live events are linked in memory.
 pub mod Links

@@ -78,7 +78,7 @@ pub record Ends (tokens : List Token) (outer : List Pending) (tree : Tree) : Typ
   pub reaches : Reaches tokens (at outer None Before) (at outer left position)
   pub whole : whole left (operand position) ≡ Some tree
 
--- an item was read behind any operator: its operand is its tree
+-- an item was read after any operator: its operand is its tree
 pub record EndsItem (tokens : List Token) (outer : List Pending) (left : Pending) (tree : Tree) : Type 0 where
   pub position : Position
   pub reaches : Reaches tokens (at outer left Before) (at outer left position)
@@ -127,7 +127,7 @@ joins l r operator outer tree (Some tl) (Some tr) is says first second =
       whole = rw back.operand says;
     }
 
--- each right syntax is read where an operand may stand; one in parentheses or a leaf behind any operator
+-- each right syntax is read where an operand may stand; one in parentheses or a leaf after any operator
 pub reads : (syntax : Syntax) (outer : List Pending) (tree : Tree) → is_right syntax ≡ true → tree_in syntax ≡ Some tree → depth syntax + length outer ≤ 256
     → ((left : Pending) → is_item syntax ≡ true → EndsItem (tokens_of syntax) outer left tree) × Ends (tokens_of syntax) outer tree
 reads (Bare tokens) outer tree right says deep =

@@ -25,7 +25,7 @@ some_nodes (One leaf) = omega arith
 some_nodes (Both left right) = omega arith
 some_nodes (Either left right) = omega arith
 
--- how long a list is behind the nodes of a tree
+-- how long a list is after the nodes of a tree
 pub side_long : (old new : List Node) (tree : Tree) → new ≡ old ++ nodes_of (length old) tree → length new ≡ length old + size tree
 side_long old new tree is = ap length is ∙ length-append old (nodes_of (length old) tree) ∙ ap (λ n. length old + n) (length_nodes (length old) tree)
 
@@ -148,7 +148,7 @@ truths_kept before sights (Either l r) =
     ∙ ap (λ xs. xs ++ holds (Either l r) sights ∷ []) (append_assoc before (values_of l sights) (values_of r sights))
     ∙ append_assoc before (values_of l sights ++ values_of r sights) (holds (Either l r) sights ∷ [])
 
--- the nodes hold where the tree does
+-- the nodes hold if the tree does
 pub root_kept : (tree : Tree) (sights : List Sight) → nodes_hold (nodes_of 0 tree) sights ≡ holds tree sights
 root_kept tree sights =
     ap (λ xs. get_or xs (length (nodes_of 0 tree) - 1) false) (truths_kept [] sights tree)

@@ -54,7 +54,7 @@ pub merged : (tokens : List Token) (outer : List Pending) (left : Pending) (tree
     → outcome tokens (at outer left (Behind tree)) ≡ outcome tokens (at outer None (Behind joint))
 merged tokens outer left tree joint is = same_end tokens outer left None (Behind tree) (Behind joint) is (λ token starts. refl) refl
 
--- a place where nothing is whole ends in nothing, where neither a parenthesis nor a leaf can go on
+-- a place where nothing is whole ends in nothing, if neither a parenthesis nor a leaf can go on
 nowhere : (tokens : List Token) (outer : List Pending) (left : Pending) (position : Position) → operand position ≡ None
     → begins (λ t. not (is_symbol t)) tokens ≡ false → (begins is_open tokens ≡ true → opened outer left position ≡ None)
     → outcome tokens (at outer left position) ≡ None
@@ -108,7 +108,7 @@ leaf_gathered (token ∷ own) later outer left leaf none is =
     let p = or_parts (is_symbol token) (list_any is_symbol own) none in
     rw (step_other token outer left Before p.0) (gathers own (token ∷ []) outer left p.1 later)
 
--- where the tokens in front write a leaf, it is the operand
+-- if the tokens in front write a leaf, it is the operand
 pub leaf_read : (tokens : List Token) (outer : List Pending) (left : Pending) (leaf : Leaf) → leaf_of (take (leaf_count tokens) tokens) ≡ Some leaf
     → outcome tokens (at outer left Before) ≡ outcome (drop (leaf_count tokens) tokens) (at outer left (Behind (One leaf)))
 leaf_read tokens outer left leaf is =
@@ -118,7 +118,7 @@ leaf_read tokens outer left leaf is =
     ∙ leaf_gathered own later outer left leaf (front_plain tokens) is
     ∙ same_end later outer left left (Within own) (Behind (One leaf)) (rw is refl) (λ token starts. absurd (true≢false (sym starts ∙ behind_leaf tokens))) refl
 
--- where they write none, nothing is whole
+-- if they write none, nothing is whole
 refused_by : (own later tokens : List Token) (outer : List Pending) (left : Pending) → own ++ later ≡ tokens → list_any is_symbol own ≡ false → leaf_of own ≡ None
     → begins (λ t. not (is_symbol t)) later ≡ false → begins is_open tokens ≡ false → outcome tokens (at outer left Before) ≡ None
 refused_by [] later tokens outer left all plain none behind no_open =
@@ -135,7 +135,7 @@ pub leaf_refused : (tokens : List Token) (outer : List Pending) (left : Pending)
 leaf_refused tokens outer left no_open none =
     refused_by (take (leaf_count tokens) tokens) (drop (leaf_count tokens) tokens) tokens outer left (take-append-drop (leaf_count tokens) tokens) (front_plain tokens) none (behind_leaf tokens) no_open
 
--- an operator behind a tree
+-- an operator after a tree
 pub operator_read : (token : Token) (tokens : List Token) (outer : List Pending) (left : Pending) (tree joint : Tree) → is_operator token ≡ true → whole left (Some tree) ≡ Some joint
     → outcome (token ∷ tokens) (at outer left (Behind tree)) ≡ outcome tokens (at outer (Some (joint, token)) Before)
 operator_read token tokens outer left tree joint is ends =

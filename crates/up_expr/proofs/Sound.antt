@@ -16,7 +16,7 @@ pub record Reads (tokens : List Token) (tree : Tree) (around : ℕ) : Type 0 whe
   pub says : tree_in syntax ≡ Some tree
   pub shallow : depth syntax + around ≤ 256
 
--- one that may stand behind an operator
+-- one that may stand after an operator
 pub record ReadsItem (tokens : List Token) (tree : Tree) (around : ℕ) : Type 0 where
   pub reads : Reads tokens tree around
   pub item : is_item reads.syntax ≡ true

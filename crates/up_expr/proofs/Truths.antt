@@ -8,7 +8,7 @@ use Rattle.up_expr.specs.Matching.{matches}
 use Rattle.up_expr.specs.Trees.{Tree, One, Both, Either}
 use Rattle.up_expr.specs.Truth.{Sight, first, holds, taken}
 
--- a leaf has a first event where it matches some
+-- a leaf has a first event if it matches some
 pub leaf_any : (leaf : Leaf) (sights : List Sight) → is_some (first leaf sights) ≡ list_any (λ sight. matches leaf sight.name sight.vars sight.env) sights
 leaf_any leaf [] = refl
 leaf_any leaf (sight ∷ sights) = by_case (matches leaf sight.name sight.vars sight.env) (leaf_any leaf sights)
@@ -45,7 +45,7 @@ holds_any (Both left right) sights = by_case (holds left sights) (holds right si
     by_case true true same = sym (any-append (taken left sights) (taken right sights) ∙ ap (λ c. c || any (taken right sights)) (sym same))
 holds_any (Either left right) sights = rw (holds_any left sights, holds_any right sights) (sym (any-append (taken left sights) (taken right sights)))
 
--- nothing is taken where an expression is false
+-- nothing is taken if an expression is false
 pub none_taken : (tree : Tree) (sights : List Sight) → holds tree sights ≡ false → taken tree sights ≡ []
 none_taken tree sights is = any_none (taken tree sights) (sym (holds_any tree sights) ∙ is)
 

@@ -40,7 +40,7 @@ node_holds before sights (node.Leaf leaf) = is_some (first leaf sights)
 node_holds before sights (node.And left right) = get_or before left false && get_or before right false
 node_holds before sights (node.Or left right) = get_or before left false || get_or before right false
 
--- which nodes are true, behind those of which this is known
+-- which nodes are true, after those of which this is known
 abbrev pub truths : List Bool → List Sight → List Node → List Bool
 truths before sights [] = before
 truths before sights (next ∷ nodes) = truths (before ++ node_holds before sights next ∷ []) sights nodes
@@ -49,7 +49,7 @@ truths before sights (next ∷ nodes) = truths (before ++ node_holds before sigh
 abbrev pub nodes_hold : List Node → List Sight → Bool
 nodes_hold nodes sights = get_or (truths [] sights nodes) (length nodes - 1) false
 
--- the flat form of a tree: its nodes, at most 4,095; the root is true where the tree is, whatever was seen, and the leaves from left to
+-- the flat form of a tree: its nodes, at most 4,095; the root is true if the tree is, whatever was seen, and the leaves from left to
 -- right are the tree's
 pub record IsFlat (nodes : List Node) (tree : Tree) : Type 0 where
   pub laid : nodes ≡ nodes_of 0 tree

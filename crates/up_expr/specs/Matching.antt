@@ -10,13 +10,13 @@ use Rattle.up_expr.specs.declared.expr.Leaf.{Leaf}
 use Rattle.up_expr.specs.declared.expr.Test.{Test}
 use Rattle.up_expr.specs.declared.expr.Test.TheVariants.{Place, Same, Differs}
 
--- the pattern that an expanded value is; none where a key is unset, or the value is no good expansion or no supported pattern
+-- the pattern that an expanded value is; none if a key is unset, or the value is no good expansion or no supported pattern
 abbrev pub pattern_of : Expansion → Option (List ℕ)
 pattern_of (Expands pattern) = if supported pattern then Some pattern else None
 pattern_of (Lacks key) = None
 pattern_of Malformed = None
 
--- whether a variable, where there is one, matches a pattern; without a pattern nothing does
+-- whether a variable, if there is one, matches a pattern; without a pattern nothing does
 abbrev pub meets : Option (List ℕ) → Option (List ℕ) → Bool
 meets None found = false
 meets (Some pattern) None = false
@@ -47,6 +47,6 @@ abbrev pub tests_hold : List (List ℕ × List ℕ) → List (List ℕ × List �
 tests_hold vars env k [] = true
 tests_hold vars env k (test ∷ tests) = if test_holds vars env k test then tests_hold vars env (next_place k test) tests else false
 
--- a leaf matches an event of its name where all its values do
+-- a leaf matches an event of its name if all its values do
 abbrev pub matches : Leaf → List ℕ → List (List ℕ × List ℕ) → List (List ℕ × List ℕ) → Bool
 matches leaf name vars env = if bytes_eq name leaf.event then tests_hold vars env 0 leaf.values else false

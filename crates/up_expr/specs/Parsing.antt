@@ -9,7 +9,7 @@ use Rattle.up_expr.specs.Values.{is_open, is_close, is_operator, leaf_of}
 abbrev pub Pending : Type 0
 Pending = Option (Tree × Token)
 
--- where a parser stands: before an operand; within a leaf, of which it has these tokens; behind one
+-- where a parser stands: before an operand; within a leaf, of which it has these tokens; after one
 pub data Position : Type 0 where
   Before : Position
   Within : (tokens : List Token) → Position
@@ -58,7 +58,7 @@ step token parser =
     else (if is_operator token then option_map (λ tree. at parser.outer (Some (tree, token)) Before) (whole parser.left (operand parser.position))
     else lengthened parser.outer parser.left token parser.position))
 
--- the tree that is whole at the end, where no parenthesis is open
+-- the tree that is whole at the end, if no parenthesis is open
 abbrev pub finished : List Pending → Option Tree → Option Tree
 finished [] tree = tree
 finished (left ∷ outer) tree = None

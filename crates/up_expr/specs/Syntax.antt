@@ -20,7 +20,7 @@ tokens_of (Bare tokens) = tokens
 tokens_of (Group opening inner closing) = opening ∷ (tokens_of inner ++ closing ∷ [])
 tokens_of (Joined left operator right) = tokens_of left ++ operator ∷ tokens_of right
 
--- what may stand behind an operator: a leaf, or an expression in parentheses
+-- what may stand after an operator: a leaf, or an expression in parentheses
 abbrev pub is_item : Syntax → Bool
 is_item (Joined left operator right) = false
 is_item other = true
@@ -35,7 +35,7 @@ is_right (Joined left operator right) = is_operator operator && is_item right &&
 abbrev pub joined : Token → Tree → Tree → Tree
 joined operator left right = if is_and operator then Both left right else Either left right
 
--- both of two, where there are both
+-- both of two, if there are both
 abbrev pub with_both : Token → Option Tree → Option Tree → Option Tree
 with_both operator None right = None
 with_both operator (Some left) None = None

@@ -1,4 +1,4 @@
--- How the logic stores a tree: as its nodes, each behind those of its sides.
+-- How the logic stores a tree: as its nodes, each after those of its sides.
 use Rattle.std.specs.Prelude.{◌≡◌, ◌⊎◌, Bool, true, false, List, [], ◌∷◌, ◌++◌}
 use Rattle.std.specs.Coded.{Coded, code_by, coded_list, coded_bool, coded⊎}
 use Rattle.std.proofs.Common.{inl, inr, refl, ap, ◌∙◌, sym}

@@ -33,7 +33,7 @@ is_operator token = is_and token || is_or token
 abbrev pub is_symbol : Token → Bool
 is_symbol token = is_open token || is_close token || is_operator token
 
--- the = behind a key
+-- the = after a key
 abbrev pub is_equals : ℕ → Bool
 is_equals byte = byte == 61
 
@@ -41,11 +41,11 @@ is_equals byte = byte == 61
 abbrev pub has_equals : List ℕ → Bool
 has_equals text = nat_lt (position_or_len is_equals text) (length text)
 
--- a key with a ! behind it
+-- a key with a ! after it
 abbrev pub is_negated_key : List ℕ → Bool
 is_negated_key text = if ends_with nat_eq text (codes "!") then is_key (take (length text - 1) text) else false
 
--- what a text says where this stands before its first =, and that behind it: KEY=VALUE, KEY!=VALUE, or a positional value
+-- what a text says where this stands before its first =, and that after it: KEY=VALUE, KEY!=VALUE, or a positional value
 abbrev pub test_by : List ℕ → List ℕ → List ℕ → Test
 test_by text key value =
     if is_key key then Same key value
@@ -69,7 +69,7 @@ abbrev pub is_positional : Test → Bool
 is_positional (Place value) = true
 is_positional keyed = false
 
--- no positional value stands behind a keyed one
+-- no positional value stands after a keyed one
 abbrev pub is_ordered : List Test → Bool
 is_ordered [] = true
 is_ordered (test ∷ tests) = if is_positional test then is_ordered tests else not (list_any is_positional tests)

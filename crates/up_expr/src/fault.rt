@@ -11,7 +11,7 @@ pub enum ExprFault {
     /// A name, an operator or a parenthesis is missing or stands where none may.
     #[error("BadExpression")]
     BadExpression,
-    /// A positional value stands behind a keyed one.
+    /// A positional value stands after a keyed one.
     #[error("ValueBeforeKey")]
     ValueBeforeKey,
     /// An event's name has a byte that it may not have.

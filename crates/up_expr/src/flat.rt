@@ -103,7 +103,7 @@ fn append_nodes(alloc: Global, expr: &Expr, nodes: &mut Vec<Node>) -> Result<u16
 }
 
 /// The nodes of an expression, which are as true as it is, and whose leaves are its leaves from left to right. Refused with
-/// `ImageTooLarge` only where it has more than 4,095 nodes.
+/// `ImageTooLarge` only if it has more than 4,095 nodes.
 pub fn flatten(alloc: Global, expr: &Expr) -> Result<Nodes, FlatFault>
     ensures flat { IfOk result (λ nodes. IsFlat nodes (tree_of expr.now)) }
     ensures refused { IfErr result (λ fault. fault ≡ ImageTooLarge → 4095 < size (tree_of expr.now)) }

@@ -13,12 +13,12 @@ pub fn one_tree()
     ensures { (tokens : List Token) (tree other : Tree) → Writes tokens tree → Writes tokens other → tree ≡ other }
 {}
 
-/// A leaf has a first event where it matches some event.
+/// A leaf has a first event if it matches some event.
 pub fn leaf_true()
     ensures { (leaf : Leaf) (sights : List Sight) → is_some (first leaf sights) ≡ list_any (λ sight. matches leaf sight.name sight.vars sight.env) sights }
 {}
 
-/// An expression is false where no event is taken, and only there.
+/// An expression is false if no event is taken, and only then.
 pub fn true_by_taken()
     ensures { (tree : Tree) (sights : List Sight) → (holds tree sights ≡ false) ↔ (taken tree sights ≡ []) }
 {}

@@ -11,7 +11,7 @@ use crate::fault::ExprFault;
 use std::alloc::Global;
 use up_text::{Env, Expanded, Name, Text, TextFault, expand, glob, supported};
 
-// The pattern that a value is behind its expansion, where it is one.
+// The pattern that a value is after its expansion, if it is one.
 fn pattern_of(alloc: Global, value: &Text, env: &Env) -> Result<Option<Text>, ExprFault>
     ensures pattern { IfOk result (λ pattern. pattern ≡ pattern_of (expand value.now env.now)) }
     ensures memory { OnErr result (result ≡ Err Memory) }
@@ -30,7 +30,7 @@ fn pattern_of(alloc: Global, value: &Text, env: &Env) -> Result<Option<Text>, Ex
     }
 }
 
-// Whether a variable, where there is one, matches the pattern.
+// Whether a variable, if there is one, matches the pattern.
 fn meets(pattern: &Option<Text>, found: Option<&str>) -> bool
     ensures { result ≡ meets pattern.now (option_map (λ value. value.now) found.entry) }
 {
@@ -56,7 +56,7 @@ fn misses(pattern: &Option<Text>, found: Option<&str>) -> bool
     }
 }
 
-// The value of the variable at a place, where there is one.
+// The value of the variable at a place, if there is one.
 fn nth_value(vars: &Env, k: usize) -> Option<&str>
     ensures { option_map (λ value. value.now) result ≡ nth_value k vars.now }
 {
@@ -68,7 +68,7 @@ fn nth_value(vars: &Env, k: usize) -> Option<&str>
     }
 }
 
-// Whether a value is a pattern, behind its expansion, that a variable matches.
+// Whether a value is a pattern, after its expansion, that a variable matches.
 fn value_meets(
     alloc: Global,
     value: &Text,
@@ -82,7 +82,7 @@ fn value_meets(
     Ok(meets(&pattern, found))
 }
 
-// Whether a value is a pattern, behind its expansion, and no variable matches it.
+// Whether a value is a pattern, after its expansion, and no variable matches it.
 fn value_misses(
     alloc: Global,
     value: &Text,
@@ -123,7 +123,7 @@ fn is_positional(test: &Test) -> bool
     }
 }
 
-// Whether all tests hold, where the first positional value is for the first variable.
+// Whether all tests hold, if the first positional value is for the first variable.
 fn tests_hold(alloc: Global, tests: &[Test], vars: &Env, env: &Env) -> Result<bool, ExprFault>
     ensures holds { IfOk result (λ holds. holds ≡ tests_hold vars.now env.now 0 tests.now) }
     ensures memory { OnErr result (result ≡ Err Memory) }
@@ -140,7 +140,7 @@ fn tests_hold(alloc: Global, tests: &[Test], vars: &Env, env: &Env) -> Result<bo
     Ok(true)
 }
 
-/// Whether the leaf matches an event of this name with these variables, where its values expand by `env` (init(5), "Event
+/// Whether the leaf matches an event of this name with these variables, if its values expand by `env` (init(5), "Event
 /// conditions"). The only fault is `Memory`.
 pub fn leaf_matches(
     alloc: Global,

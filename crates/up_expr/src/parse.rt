@@ -78,7 +78,7 @@ fn keep_leaf(alloc: Global, tokens: &[Token]) -> Result<Option<Condition>, ExprF
     }
 }
 
-// The leaf in front, and what stands behind it.
+// The leaf in front, and what stands after it.
 fn read_operand(alloc: Global, tokens: &[Token]) -> Result<(Option<Condition>, &[Token]), ExprFault>
     requires { begins values.is_open tokens.now ≡ false }
     ensures read { IfOk result (λ found. (tree : Tree) × Keeps found.0 tree × ((outer : List Pending) (left : Pending) → outcome tokens.now (at outer left Before) ≡ outcome found.1.now (at outer left (Behind tree)))) }
@@ -93,14 +93,14 @@ fn read_operand(alloc: Global, tokens: &[Token]) -> Result<(Option<Condition>, &
     }
 }
 
-// The opening parenthesis in front, if one comes, and what stands behind it.
+// The opening parenthesis in front, if one comes, and what stands after it.
 fn behind_open(tokens: &[Token]) -> Option<(&Token, &[Token])>
     ensures { MatchOption result (begins values.is_open tokens.now ≡ false) (λ found. (tokens.now ≡ found.0.now ∷ found.1.now) × (values.is_open found.0.now ≡ true)) }
 {
     tokens.split_first().filter(|(token, _)| is_open(token))
 }
 
-// What stands behind a closing parenthesis, which must come.
+// What stands after a closing parenthesis, which must come.
 fn behind_close(tokens: &[Token]) -> Result<&[Token], ExprFault>
     ensures ok { IfOk result (λ behind. (begins values.is_close tokens.now ≡ true) × (behind.now ≡ drop 1 tokens.now) × (0 < length tokens.now)) }
     ensures refused { OnErr result (begins values.is_close tokens.now ≡ false) }
@@ -112,14 +112,14 @@ fn behind_close(tokens: &[Token]) -> Result<&[Token], ExprFault>
     }
 }
 
-// What stands behind the operator in front, if one comes.
+// What stands after the operator in front, if one comes.
 fn behind_operator(tokens: &[Token]) -> Option<(&Token, &[Token])>
     ensures { MatchOption result (begins values.is_operator tokens.now ≡ false) (λ found. (tokens.now ≡ found.0.now ∷ found.1.now) × (values.is_operator found.0.now ≡ true)) }
 {
     tokens.split_first().filter(|(token, _)| is_operator(token))
 }
 
-// The leaf or the parentheses in front, within so many open parentheses, and what stands behind.
+// The leaf or the parentheses in front, within so many open parentheses, and what stands after.
 #[cycle(parser)]
 fn parse_item(
     alloc: Global,
@@ -146,7 +146,7 @@ fn parse_item(
     }
 }
 
-// The longest expression in front, within so many open parentheses, and what stands behind it.
+// The longest expression in front, within so many open parentheses, and what stands after it.
 #[cycle(parser)]
 fn parse_items(
     alloc: Global,

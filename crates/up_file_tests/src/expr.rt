@@ -590,7 +590,7 @@ fn fails(alloc: Global, value: &str) -> Result<bool, Fail> {
     is_match(alloc, &leaf, &Env::new(alloc), NO_VALUES)
 }
 
-// A value that no expression may have fails its leaf too, also where it must not match.
+// A value that no expression may have fails its leaf too, also if it must not match.
 #[test]
 fn malformed_values_fail(rt: HostRuntime) -> Result<(), Fail> {
     for value in ["${Z", "${5}", "[[:x]"] {
@@ -599,7 +599,7 @@ fn malformed_values_fail(rt: HostRuntime) -> Result<(), Fail> {
     Ok(())
 }
 
-// A leaf of the event e whose variable X must not be b, with this positional value behind: no file says so, but a leaf may.
+// A leaf of the event e whose variable X must not be b, with this positional value after: no file says so, but a leaf may.
 fn keyed_first(alloc: Global, value: &str) -> Result<Leaf, Fail> {
     let key = Text::from_str(alloc, "X")?;
     let other = Text::from_str(alloc, "b")?;

@@ -207,6 +207,7 @@ fn many_files_are_compared(rt: HostRuntime) -> Result<(), Fail> {
 const REFUSALS: &'static [(CompileError, u8, &'static str)] = &[
     (CompileError::TooManyJobs, 20, "TooManyJobs"),
     (CompileError::SameName, 21, "SameName"),
+    (CompileError::ImageTooLarge, 22, "ImageTooLarge"),
     (CompileError::Memory, 42, "Memory"),
 ];
 

@@ -45,7 +45,7 @@ fn refuses_names(rt: HostRuntime) {
 
 pub(crate) type Pair = (&'static str, &'static str);
 
-// The environment where these keys were set, one after the other.
+// The environment if these keys were set, one after the other.
 pub(crate) fn env_of(alloc: Global, pairs: &[Pair]) -> Result<Env, TextFault> {
     let mut env = Env::new(alloc);
     for (key, value) in pairs {

@@ -1,4 +1,4 @@
--- What a call tells: the record gains one entry where it succeeded, and the count of faults one where it failed.
+-- What a call tells: the record gains one entry if it succeeded, and the count of faults one if it failed.
 use Rattle.std.specs.Prelude.{◌≡◌, ℕ, ◌+◌, min, List, [], ◌∷◌, ◌++◌, Result, Ok, Err}
 
 -- the greatest count of faults, that of 64 bits

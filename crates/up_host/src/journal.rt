@@ -25,7 +25,7 @@ impl<T> Journal<T> {
         }
     }
 
-    /// Whether there is room for one entry more, which is taken where it is missing.
+    /// Whether there is room for one entry more, which is taken if it is missing.
     pub fn make_room(&mut self) -> bool
         ensures room { OnTrue result (HasRoom self.new) }
         ensures full { OnFalse result (room self.old ≡ 0) }

@@ -1,10 +1,10 @@
 -- When the nodes of an expression fit.
-use Rattle.std.proofs.Common.{◌≡◌, ℕ, ◌≤◌, Bool, true, List, refl, sym, ap, ◌∙◌, length, arith, nat_le}
+use Rattle.std.proofs.Common.{◌≡◌, Bool, true, List, refl, ap, ◌∙◌, length, arith, nat_le}
 use Rattle.std.proofs.lemmas.Bool.{le-leb}
 use Rattle.std.specs.List.{list_all}
-use Rattle.std.specs.Prelude.{◌&&◌, Some}
+use Rattle.std.specs.Prelude.{Some}
 use Rattle.up_expr.specs.declared.node.Node.{Node}
-use Rattle.up_expr.specs.Flat.{IsFlat, nodes_of, size}
+use Rattle.up_expr.specs.Flat.{IsFlat, size}
 use Rattle.up_expr.specs.Trees.{Tree}
 use Rattle.up_expr.proofs.Flattening.{length_nodes}
 use Rattle.up_image.specs.Image.{fits_condition, fits_node}

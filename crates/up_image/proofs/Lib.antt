@@ -1,6 +1,10 @@
 pub mod Appending
 pub mod Fitting
 pub mod Images
+pub mod Lengths
 pub mod Paths
 pub mod Places
+pub mod Prefixes
 pub mod Repeats
+pub mod Tables
+pub mod Telling

@@ -28,7 +28,7 @@ paths_more files i file q path had has inside is same before after =
     after ∙ ap (λ p. cond (bytes_eq p q) true had) same ∙ ap (cond (bytes_eq file.path q) true) before
     ∙ sym (bytes_at-push q (take i files) file) ∙ ap (λ fs. is_some (bytes_at q fs)) (sym next)
 
--- the paths so far that pass a test, and the next one where it does
+-- the paths so far that pass a test, and the next one if it does
 pub passing_more : (test : List ℕ → Bool) (files : List File) (i : ℕ) (file : File) → i < length files → file ≡ get_or files i file
     → filter test (map (λ f. f.path) (take (i + 1) files)) ≡ filter test (map (λ f. f.path) (take i files)) ++ cond (test file.path) (file.path ∷ []) []
 passing_more test files i file inside is =

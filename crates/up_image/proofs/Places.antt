@@ -1,5 +1,5 @@
 -- The leaves of a table, and the runs of one event.
-use Rattle.std.proofs.Common.{◌≡◌, ℕ, ◌+◌, ◌<◌, Bool, true, false, List, [], ◌∷◌, ◌++◌, refl, sym, ap, ◌∙◌, length, get_or, take, drop, append_assoc, arith, add-one, suc}
+use Rattle.std.proofs.Common.{◌≡◌, ℕ, ◌+◌, ◌<◌, Bool, true, false, List, [], ◌∷◌, ◌++◌, refl, sym, ap, ◌∙◌, length, get_or, take, drop, append_assoc, arith, suc}
 use Rattle.std.proofs.lemmas.List.{take_more, append-nil, length-take-le}
 use Rattle.std.specs.List.{prefix_len}
 use Rattle.std.proofs.lemmas.Slice.Eq.{bytes_eq-Decides}
@@ -58,7 +58,7 @@ places_more all next jobs i d below so_far one =
     ∙ sym (places-append 0 (take i jobs) (job ∷ []))
     ∙ ap (λ js. places_of 0 js) (sym (take_more jobs i d below))
 
--- the first run, and the runs of what stands behind it
+-- the first run, and the runs of what stands after it
 pub first_run : (first : Place) (places : List Place) (n : ℕ) → n ≡ prefix_len (λ place. bytes_eq place.event first.event) places
     → runs_of (first ∷ places) ≡ take (suc n) (first ∷ places) ∷ runs_of (drop (suc n) (first ∷ places))
 first_run first [] n is = rw is refl

@@ -1,8 +1,7 @@
 -- How a table is kept as bytes. Numbers have their highest byte first.
-use Rattle.std.specs.Prelude.{◌≡◌, ℕ, ◌+◌, ◌≤◌, Bool, true, false, ◌&&◌, nat_le, List, [], ◌∷◌, ◌++◌, length, Option, None, Some, if◌then◌else◌, codes}
+use Rattle.std.specs.Prelude.{◌≡◌, ℕ, ◌+◌, ◌≤◌, Bool, true, ◌&&◌, nat_le, List, [], ◌∷◌, ◌++◌, length, Option, None, Some, if◌then◌else◌, codes}
 use Rattle.std.specs.List.{flat_map, list_all}
 use Rattle.byteorder.specs.Endian.{big_bytes}
-use Rattle.up_expr.specs.declared.expr.Leaf.{Leaf}
 use Rattle.up_expr.specs.declared.expr.Test.{Test}
 use Rattle.up_expr.specs.declared.expr.Test.TheVariants.{Place, Same, Differs}
 use Rattle.up_expr.specs.declared.node.Node.{Node}
@@ -67,23 +66,30 @@ abbrev pub text_parts : JobDef → List ℕ
 text_parts job = text_part job.name ++ (flags job ∷ []) ++ text_part job.instance ++ text_part job.dir
 
 abbrev pub number_parts : JobDef → List ℕ
-number_parts job = big_bytes 4 job.limit.count ++ big_bytes 4 job.limit.interval ++ (job.kill_signal ∷ []) ++ big_bytes 4 job.kill_timeout
+number_parts job = big_bytes 4 job.limit.count ++ big_bytes 4 job.limit.interval ++ (job.kill_signal ∷ [])
+    ++ big_bytes 4 job.kill_timeout
 
 abbrev pub field_part : JobDef → List ℕ
 field_part job = text_parts job ++ number_parts job
 
 abbrev pub set_part : JobDef → List ℕ
-set_part job = list_part setting_part job.env ++ list_part text_part job.export ++ list_part exit_part job.normal
+set_part job = list_part setting_part job.env ++ list_part text_part job.export
+    ++ list_part exit_part job.normal
 
 abbrev pub process_part : JobDef → List ℕ
 process_part job =
-    action_part job.main ++ action_part job.pre_start ++ action_part job.post_start ++ action_part job.pre_stop ++ action_part job.post_stop
+    action_part job.main ++ action_part job.pre_start ++ action_part job.post_start
+    ++ action_part job.pre_stop ++ action_part job.post_stop
 
 abbrev pub event_part : JobDef → List ℕ
 event_part job = list_part node_part (nodes_in job.start_on) ++ list_part node_part (nodes_in job.stop_on)
 
 unfoldable pub job_part : JobDef → List ℕ
 job_part job = field_part job ++ set_part job ++ process_part job ++ event_part job
+
+-- whether a number fits four bytes
+abbrev pub fits_number : ℕ → Bool
+fits_number number = nat_le number 4294967295
 
 -- whether the numbers of its items fit: 65,535 in a list, and 4,095 nodes in an expression
 abbrev pub is_countable : {X : Type 0} → List X → Bool
@@ -106,20 +112,25 @@ is_short (Some tree) = nat_le (size tree) 4095
 abbrev pub fits_condition : Option Tree → Bool
 fits_condition condition = is_short condition && list_all fits_node (nodes_in condition)
 
+abbrev pub fits_numbers : JobDef → Bool
+fits_numbers job = fits_number job.limit.count && fits_number job.limit.interval
+    && fits_number job.kill_timeout
+
 abbrev pub fits_lists : JobDef → Bool
 fits_lists job = is_countable job.env && is_countable job.export && is_countable job.normal
 
 abbrev pub fits_processes : JobDef → Bool
 fits_processes job =
-    fits_action job.main && fits_action job.pre_start && fits_action job.post_start && fits_action job.pre_stop && fits_action job.post_stop
+    fits_action job.main && fits_action job.pre_start && fits_action job.post_start
+    && fits_action job.pre_stop && fits_action job.post_stop
 
 abbrev pub fits_events : JobDef → Bool
 fits_events job = fits_condition job.start_on && fits_condition job.stop_on
 
 unfoldable pub fits : JobDef → Bool
-fits job = fits_lists job && fits_processes job && fits_events job
+fits job = fits_numbers job && fits_lists job && fits_processes job && fits_events job
 
--- the jobs, and behind them the index of the events
+-- the jobs, and after them the index of the events
 abbrev pub body_of : List JobDef → List ℕ
 body_of jobs = flat_map job_part jobs ++ index_part (entries_of jobs)
 
@@ -127,8 +138,13 @@ body_of jobs = flat_map job_part jobs ++ index_part (entries_of jobs)
 abbrev pub head_of : ℕ → ℕ → List ℕ
 head_of jobs long = codes "UPTB" ++ big_bytes 2 1 ++ big_bytes 2 jobs ++ big_bytes 4 long
 
--- bytes are the image of jobs: their head, which says how long they are, and their body; 16 MiB at most, 1,024 jobs at most, and each
--- list as long as its number can say
+-- whether jobs have an image: there are 1,024 at most, their numbers and lists fit, and the whole has 16 MiB at most
+unfoldable pub has_image : List JobDef → Bool
+has_image jobs = nat_le (length jobs) 1024 && list_all fits jobs
+    && nat_le (12 + length (body_of jobs)) 16777216
+
+-- bytes are the image of jobs: their head, which says how long they are, and their body; 16 MiB at most, 1,024 jobs at most, each
+-- number as large as its bytes can say, and each list as long as its number can say
 pub record IsImage (bytes : List ℕ) (jobs : List JobDef) : Type 0 where
   pub written : bytes ≡ head_of (length jobs) (length bytes) ++ body_of jobs
   pub small : length bytes ≤ 16777216

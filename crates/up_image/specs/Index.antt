@@ -3,7 +3,6 @@ use Rattle.std.specs.Prelude.{ℕ, ◌+◌, Bool, true, false, List, [], ◌∷�
 use Rattle.std.specs.List.{flat_map}
 use Rattle.std.specs.Str.{bytes_eq}
 use Rattle.byteorder.specs.Endian.{big_bytes}
-use Rattle.up_expr.specs.declared.expr.Leaf.{Leaf}
 use Rattle.up_expr.specs.declared.node.Node.{Node}
 use Rattle.up_expr.specs.declared.node.Node.TheVariants as node
 use Rattle.up_expr.specs.Flat.{nodes_of}
@@ -29,14 +28,16 @@ places_in job start (Some tree) = leaf_places job start 0 (nodes_of 0 tree)
 -- all leaves of the jobs, the first of which has this place: job by job, first what stops it and then what starts it
 abbrev pub places_of : ℕ → List JobDef → List Place
 places_of at [] = []
-places_of at (job ∷ jobs) = places_in at false job.stop_on ++ places_in at true job.start_on ++ places_of (at + 1) jobs
+places_of at (job ∷ jobs) = places_in at false job.stop_on ++ places_in at true job.start_on
+    ++ places_of (at + 1) jobs
 
--- a place in front of runs: it joins the first one where the event is the same
+-- a place before runs: it joins the first one if the event is the same
 abbrev pub onto_runs : Place → List (List Place) → List (List Place)
 onto_runs place [] = (place ∷ []) ∷ []
 onto_runs place ([] ∷ runs) = (place ∷ []) ∷ runs
 onto_runs place ((next ∷ run) ∷ runs) =
-    if bytes_eq next.event place.event then (place ∷ next ∷ run) ∷ runs else (place ∷ []) ∷ (next ∷ run) ∷ runs
+    if bytes_eq next.event place.event then (place ∷ next ∷ run) ∷ runs else (place ∷ []) ∷ (next ∷ run)
+    ∷ runs
 
 -- the longest runs of one event
 abbrev pub runs_of : List Place → List (List Place)

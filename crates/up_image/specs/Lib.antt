@@ -1,7 +1,14 @@
-pub mod Compiling
-pub mod Image
-pub mod ImageErrors
-pub mod Index
-pub mod Reading
-pub mod Refusals
+-- How a text is kept as bytes.
 pub mod Texts
+-- The index of a table.
+pub mod Index
+-- How a table is kept as bytes.
+pub mod Image
+-- What a folder of job files is compiled to.
+pub mod Compiling
+-- The numbers and names of errors of images.
+pub mod ImageErrors
+-- When bytes are read as a table, and why they are refused.
+pub mod Reading
+-- Why a folder isn't compiled.
+pub mod Refusals

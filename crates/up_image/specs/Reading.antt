@@ -11,8 +11,8 @@ use Rattle.up_image.specs.Compiling.{Compiles}
 use Rattle.up_image.specs.Image.{IsImage}
 
 -- how long an image says that it is
-abbrev pub claimed : List ℕ → ℕ
-claimed bytes = big_number 4 (drop 8 bytes)
+abbrev pub claimed_length : List ℕ → ℕ
+claimed_length bytes = big_number 4 (drop 8 bytes)
 
 -- what is wrong with the head of an image: its mark, as far as there are bytes; its version; or its length
 unfoldable pub head_error : List ℕ → Option ImageError
@@ -20,8 +20,8 @@ head_error bytes =
     if not (bytes_eq (take 4 bytes) (take (length bytes) (codes "UPTB"))) then Some BadMagic
     else (if nat_lt (length bytes) 12 then Some Truncated
     else (if not (big_number 2 (drop 4 bytes) == 1) then Some BadVersion
-    else (if nat_lt (length bytes) (claimed bytes) then Some Truncated
-    else (if nat_lt (claimed bytes) (length bytes) then Some Trailing
+    else (if nat_lt (length bytes) (claimed_length bytes) then Some Truncated
+    else (if nat_lt (claimed_length bytes) (length bytes) then Some Trailing
     else None))))
 
 -- a table that some folder of job files is compiled to

@@ -1,8 +1,9 @@
 //! Compiles a folder of job files.
 ghost use Rattle.std.specs.Prelude.{◌≡◌, IfOk, IfErr, Ok, Err, if◌then◌else◌, length, nat_le};
-ghost use Rattle.up_image.specs.declared.refusal.CompileError.TheVariants.{SameName, TooManyJobs};
+ghost use Rattle.up_image.specs.declared.refusal.CompileError.TheVariants.{ImageTooLarge, SameName, TooManyJobs};
 ghost use Rattle.up_image.specs.Compiling.{Compiles, MayRefuse};
 
+use crate::image::has_image;
 use crate::refusal::CompileError;
 use crate::table::Table;
 use crate::twice::has_same_path;
@@ -33,6 +34,16 @@ fn table_of(jobs: Items<JobDef>) -> Result<Table, CompileError>
     Ok(Table::new(jobs))
 }
 
+// Refuses jobs that have no image.
+fn check_small(small: bool) -> Result<(), CompileError>
+    ensures { result ≡ (if small then Ok tt else Err ImageTooLarge) }
+{
+    if small {
+        return Ok(());
+    }
+    Err(CompileError::ImageTooLarge)
+}
+
 /// Compiles a folder to the table of its jobs. Files that aren't readable are reported, and define no job.
 pub fn compile(alloc: Global, folder: &Folder) -> Result<(Table, Report), CompileError>
     ensures compiled { IfOk result (λ made. Compiles folder.now made.0 made.1) }
@@ -44,5 +55,7 @@ pub fn compile(alloc: Global, folder: &Folder) -> Result<(Table, Report), Compil
         return Err(CompileError::Memory);
     };
     let table = table_of(jobs)?;
+    let small = has_image(alloc, table.as_slice())?;
+    check_small(small)?;
     Ok((table, report))
 }

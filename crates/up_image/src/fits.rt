@@ -50,6 +50,19 @@ fn fits_condition(alloc: Global, condition: &Option<Condition>) -> Result<bool, 
     }
 }
 
+// Four bytes hold any such number.
+fn fits_number(_number: u32) -> bool
+    ensures { result ≡ image.fits_number _number }
+{
+    true
+}
+
+fn fits_numbers(job: &JobDef) -> bool
+    ensures { result ≡ image.fits_numbers job.now }
+{
+    fits_number(job.limit.count) && fits_number(job.limit.interval) && fits_number(job.kill_timeout)
+}
+
 fn fits_lists(job: &JobDef) -> bool
     ensures { result ≡ image.fits_lists job.now }
 {
@@ -81,7 +94,7 @@ fn fits(alloc: Global, job: &JobDef) -> Result<bool, AllocError>
     ensures { IfOk result (λ fits. fits ≡ image.fits job.now) }
 {
     let events = fits_events(alloc, job)?;
-    Ok(fits_lists(job) && fits_processes(job) && events)
+    Ok(fits_numbers(job) && fits_lists(job) && fits_processes(job) && events)
 }
 
 /// Whether all lists of the jobs are as short as an image can say.

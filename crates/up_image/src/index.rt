@@ -90,7 +90,8 @@ fn add_condition(
 #[tactic(auto, unfolding(crate::specs::Image::fits))]
 fn add_job(alloc: Global, places: &mut Vec<Place>, at: u16, job: &JobDef) -> Result<(), AllocError>
     requires { fits job.now ≡ true }
-    ensures { OnOk result (places.new.items ≡ places.old.items ++ (places_in at false job.now.stop_on ++ places_in at true job.now.start_on)) }
+    ensures { OnOk result (places.new.items ≡ places.old.items
+        ++ (places_in at false job.now.stop_on ++ places_in at true job.now.start_on)) }
 {
     add_condition(alloc, places, at, false, &job.stop_on)?;
     add_condition(alloc, places, at, true, &job.start_on)?;
@@ -130,9 +131,11 @@ fn same_len(event: &Name, places: &[Place]) -> usize
         .count()
 }
 
-// The first run of one event, and the places behind it.
+// The first run of one event, and the places after it.
 fn split_run(places: &[Place]) -> Option<(&[Place], &[Place])>
-    ensures { MatchOption result (places.now ≡ []) (λ found. (runs_of places.now ≡ found.0.now ∷ runs_of found.1.now) × (length found.1.now < length places.now)) }
+    ensures { MatchOption result (places.now ≡ [])
+        (λ found. (runs_of places.now ≡ found.0.now ∷ runs_of found.1.now)
+        × (length found.1.now < length places.now)) }
 {
     match places.split_first() {
         None => None,
@@ -194,7 +197,8 @@ fn put_entry(out: &mut Vec<u8>, places: &[Place]) -> Result<(), AllocError>
 }
 
 fn put_each_entry(out: &mut Vec<u8>, runs: &[&[Place]]) -> Result<(), AllocError>
-    ensures { OnOk result (out.new.items ≡ out.old.items ++ flat_map entry_part (map (λ run. run.now) runs.now)) }
+    ensures { OnOk result (out.new.items ≡ out.old.items
+        ++ flat_map entry_part (map (λ run. run.now) runs.now)) }
 {
     for run in runs {
         put_entry(out, run)?;

@@ -230,7 +230,7 @@ fn add_job(alloc: Global, folder: &mut Folder, job: &JobDef) -> Result<(), Alloc
     Ok(())
 }
 
-/// A folder of files that define these jobs, where any files of the lengths that are read do. What else it defines is for the caller
+/// A folder of files that define these jobs, if any files of the lengths that are read do. What else it defines is for the caller
 /// to see: nothing is promised of it here.
 pub(crate) fn folder_of(alloc: Global, jobs: &[JobDef]) -> Result<Folder, AllocError> {
     let mut folder = Folder::new(alloc);

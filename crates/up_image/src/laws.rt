@@ -1,9 +1,21 @@
 //! Laws: what holds of every image.
-ghost use Rattle.std.specs.Prelude.{◌≡◌, List, ℕ};
+ghost use Rattle.std.specs.Prelude.{◌≡◌, ◌↔◌, List, true, ℕ};
 ghost use Rattle.up_conf.specs.declared.job.JobDef.{JobDef};
-ghost use Rattle.up_image.specs.Image.{IsImage};
+ghost use Rattle.up_image.specs.Image.{IsImage, has_image};
 
 /// A table has one image at most.
 pub fn one_image()
-    ensures { (bytes other : List ℕ) (jobs : List JobDef) → IsImage bytes jobs → IsImage other jobs → bytes ≡ other }
+    ensures { (bytes other : List ℕ) (jobs : List JobDef) → IsImage bytes jobs → IsImage other jobs
+        → bytes ≡ other }
+{}
+
+/// An image is that of one table at most.
+pub fn one_table()
+    ensures { (bytes : List ℕ) (jobs others : List JobDef) → IsImage bytes jobs → IsImage bytes others
+        → jobs ≡ others }
+{}
+
+/// Jobs have an image exactly if they are few, fit and are small.
+pub fn some_image()
+    ensures { (jobs : List JobDef) → (has_image jobs ≡ true) ↔ ((bytes : List ℕ) × IsImage bytes jobs) }
 {}

@@ -3,6 +3,7 @@
 
 mod bytes;
 pub mod compiling;
+mod files;
 mod fits;
 mod image;
 pub mod image_error;
@@ -24,6 +25,7 @@ mod twice;
 mod unread;
 
 pub use compiling::compile;
+pub use files::job_files;
 pub use image_error::ImageError;
 pub use refusal::CompileError;
 pub use table::Table;

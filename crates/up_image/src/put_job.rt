@@ -1,5 +1,5 @@
 //! Writes jobs.
-ghost use Rattle.std.specs.Prelude.{◌≡◌, ◌++◌, ◌≤◌, true, OnOk};
+ghost use Rattle.std.specs.Prelude.{◌≡◌, ◌++◌, ◌≤◌, true, IfOk, OnOk, length};
 ghost use Rattle.std.specs.List.{flat_map, list_all};
 ghost use Rattle.up_image.specs.Image.{bit, event_part, field_part, fits, fits_events, flags, job_part, number_parts, process_part, set_part, text_parts};
 
@@ -89,6 +89,16 @@ fn put_job(alloc: Global, out: &mut Vec<u8>, job: &JobDef) -> Result<(), AllocEr
     put_processes(out, job)?;
     put_events(alloc, out, job)?;
     Ok(())
+}
+
+/// How many bytes a job has whose lists aren't too long.
+pub(crate) fn job_len(alloc: Global, job: &JobDef) -> Result<usize, AllocError>
+    requires { fits job.now ≡ true }
+    ensures { IfOk result (λ len. len ≡ length (job_part job.now)) }
+{
+    let mut bytes = Vec::new(alloc);
+    put_job(alloc, &mut bytes, job)?;
+    Ok(bytes.len())
 }
 
 /// Appends jobs whose lists aren't too long.

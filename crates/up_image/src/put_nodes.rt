@@ -56,7 +56,8 @@ fn put_tests(out: &mut Vec<u8>, tests: &[Test]) -> Result<(), AllocError>
 }
 
 fn put_leaf(out: &mut Vec<u8>, leaf: &Leaf) -> Result<(), AllocError>
-    ensures { OnOk result (out.new.items ≡ out.old.items ++ (text_part leaf.now.event ++ list_part test_part leaf.now.values)) }
+    ensures { OnOk result (out.new.items ≡ out.old.items
+        ++ (text_part leaf.now.event ++ list_part test_part leaf.now.values)) }
 {
     put_text(out, leaf.event.as_str())?;
     put_tests(out, leaf.values.as_slice())?;

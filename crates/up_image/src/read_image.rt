@@ -6,7 +6,7 @@ ghost use Rattle.std.specs.Prelude.{◌≡◌, ◌≤◌, IfOk, OnOk, None, code
 ghost use Rattle.std.specs.Str.{bytes_eq};
 ghost use Rattle.byteorder.specs.Endian.{big_number};
 ghost use Rattle.up_image.specs.Image.{IsImage};
-ghost use Rattle.up_image.specs.Reading.{IsGiven, ReadsImage, claimed, head_error};
+ghost use Rattle.up_image.specs.Reading.{IsGiven, ReadsImage, claimed_length, head_error};
 
 use crate::compiling::compile;
 use crate::image::{HEAD, MAX_IMAGE, VERSION, write_image};
@@ -32,9 +32,9 @@ fn version(bytes: &[u8]) -> u16
 }
 
 // How long an image says that it is.
-fn claimed(bytes: &[u8]) -> u32
+fn claimed_length(bytes: &[u8]) -> u32
     requires { 12 ≤ length bytes.now }
-    ensures { result ≡ claimed bytes.now }
+    ensures { result ≡ claimed_length bytes.now }
 {
     BigEndian::read_u32(&bytes[8..])
 }
@@ -68,10 +68,10 @@ fn head_error(bytes: &[u8]) -> Option<ImageError>
     if version(bytes) != VERSION {
         return Some(ImageError::BadVersion);
     }
-    if bytes.len() < claimed(bytes) as usize {
+    if bytes.len() < claimed_length(bytes) as usize {
         return Some(ImageError::Truncated);
     }
-    if (claimed(bytes) as usize) < bytes.len() {
+    if (claimed_length(bytes) as usize) < bytes.len() {
         return Some(ImageError::Trailing);
     }
     None
@@ -87,6 +87,7 @@ fn compiled(alloc: Global, jobs: &[JobDef]) -> Result<Table, Unread>
         Err(CompileError::Memory) => Err(Unread::Memory),
         Err(CompileError::SameName) => Err(Unread::BadTable),
         Err(CompileError::TooManyJobs) => Err(Unread::BadTable),
+        Err(CompileError::ImageTooLarge) => Err(Unread::BadTable),
     }
 }
 

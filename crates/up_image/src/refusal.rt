@@ -14,6 +14,9 @@ pub enum CompileError {
     /// Two files define one job.
     #[error("SameName")]
     SameName,
+    /// The image of the jobs would have more than 16 MiB.
+    #[error("ImageTooLarge")]
+    ImageTooLarge,
     /// Memory was refused.
     #[error("Memory")]
     Memory,
@@ -38,17 +41,19 @@ impl CompileError {
         match self {
             CompileError::TooManyJobs => 20,
             CompileError::SameName => 21,
+            CompileError::ImageTooLarge => 22,
             CompileError::Memory => 42,
         }
     }
 
-    /// The name that a report prints behind the number.
+    /// The name that a report prints after the number.
     pub fn name(self) -> &'static str
         ensures { result.now ≡ name_of self }
     {
         match self {
             CompileError::TooManyJobs => "TooManyJobs",
             CompileError::SameName => "SameName",
+            CompileError::ImageTooLarge => "ImageTooLarge",
             CompileError::Memory => "Memory",
         }
     }

@@ -73,7 +73,7 @@ fn put_words(out: &mut String, words: &[Text]) -> Result<(), AllocError> {
     Ok(())
 }
 
-// A text that ends a line is a script's, and any other is a command's behind its `exec`.
+// A text that ends a line is a script's, and any other is a command's after its `exec`.
 fn put_shell(out: &mut String, text: &str) -> Result<(), AllocError> {
     if text.is_empty() || text.ends_with('\n') {
         out.push_str("script\n")?;
@@ -86,7 +86,7 @@ fn put_shell(out: &mut String, text: &str) -> Result<(), AllocError> {
     Ok(())
 }
 
-/// Appends the `exec` or `script` of a process, behind the process's name.
+/// Appends the `exec` or `script` of a process, after the process's name.
 pub(crate) fn put_action(
     out: &mut String,
     process: &str,

@@ -60,10 +60,11 @@ impl Table {
         self.jobs.as_slice()
     }
 
-    /// The table's image. Refused with `ImageTooLarge` only where it has none, else with `Memory`.
+    /// The table's image. Refused with `ImageTooLarge` only if it has none, else with `Memory`.
     pub fn to_bytes(&self, alloc: Global) -> Result<Vec<u8>, ImageError>
         ensures image { IfOk result (λ bytes. IsImage bytes.items self.now) }
-        ensures refused { IfErr result (λ error. error ≡ ImageTooLarge → (bytes : List ℕ) → IsImage bytes self.now → ⊥) }
+        ensures refused { IfErr result (λ error. error ≡ ImageTooLarge → (bytes : List ℕ)
+            → IsImage bytes self.now → ⊥) }
     {
         write_image(alloc, self.as_slice())
     }

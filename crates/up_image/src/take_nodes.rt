@@ -1,5 +1,5 @@
 //! Reads expressions from their nodes. Which places a node names isn't looked at: the image is written again from what was read, and
-//! is taken only where it is the same.
+//! is taken only if it is the same.
 
 use crate::take::{push, take_byte, take_name, take_text, take_two};
 use crate::unread::Unread;

@@ -14,7 +14,8 @@ use up_conf::File;
 
 // The paths of files.
 fn paths_of(alloc: Global, files: &[File]) -> Result<BTreeSet<&[u8]>, AllocError>
-    ensures { IfOk result (λ paths. (q : List ℕ) → contains_by (λ k. slice_cmp nat_cmp q k.now) paths ≡ is_some (bytes_at q files.now)) }
+    ensures { IfOk result (λ paths. (q : List ℕ)
+        → contains_by (λ k. slice_cmp nat_cmp q k.now) paths ≡ is_some (bytes_at q files.now)) }
 {
     let mut paths: BTreeSet<&[u8]> = BTreeSet::new(alloc);
     for file in files {
@@ -25,7 +26,9 @@ fn paths_of(alloc: Global, files: &[File]) -> Result<BTreeSet<&[u8]>, AllocError
 
 // Whether this path overrides a job whose file is among the paths.
 fn has_conf(alloc: Global, paths: &BTreeSet<&[u8]>, path: &[u8]) -> Result<bool, AllocError>
-    ensures { IfOk result (λ has. (files : List File) → ((q : List ℕ) → contains_by (λ k. slice_cmp nat_cmp q k.now) paths.now ≡ is_some (bytes_at q files)) → has ≡ has_conf files (overridden_name path.now)) }
+    ensures { IfOk result (λ has. (files : List File)
+        → ((q : List ℕ) → contains_by (λ k. slice_cmp nat_cmp q k.now) paths.now ≡ is_some (bytes_at q files))
+        → has ≡ has_conf files (overridden_name path.now)) }
 {
     if !path.ends_with(b".override") {
         return Ok(false);
@@ -37,7 +40,9 @@ fn has_conf(alloc: Global, paths: &BTreeSet<&[u8]>, path: &[u8]) -> Result<bool,
 
 // Whether a path of a folder with these paths is read.
 fn is_read(alloc: Global, paths: &BTreeSet<&[u8]>, path: &[u8]) -> Result<bool, AllocError>
-    ensures { IfOk result (λ read. (files : List File) → ((q : List ℕ) → contains_by (λ k. slice_cmp nat_cmp q k.now) paths.now ≡ is_some (bytes_at q files)) → read ≡ is_read files path.now) }
+    ensures { IfOk result (λ read. (files : List File)
+        → ((q : List ℕ) → contains_by (λ k. slice_cmp nat_cmp q k.now) paths.now ≡ is_some (bytes_at q files))
+        → read ≡ is_read files path.now) }
 {
     if path.ends_with(b".conf") {
         return Ok(true);

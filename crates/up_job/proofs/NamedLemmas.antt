@@ -69,7 +69,7 @@ module _ {X : Type 0} (key : X → Bytes) where
   below_all_absent name [] b = refl
   below_all_absent name (x ∷ xs) b = rw (other_of name x b.0) (below_all_absent name xs b.1)
 
-  -- where the first name is neither below a name nor that name, none has that name
+  -- if the first name is neither below a name nor that name, none has that name
   pub absent_from : (name : Bytes) (x : X) (xs : List X) → IsBelowAll key (key x) xs → is_below (key x) name ≡ false → bytes_eq (key x) name ≡ false
       → named key name xs ≡ None
   absent_from name x xs b not_below differs =

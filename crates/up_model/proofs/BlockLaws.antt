@@ -412,7 +412,7 @@ turn-idle (Some live) c = by_case live.handled
     by_case true = finishing-idle live.place c
     by_case false = (tt, tt)
 
--- idle entries in front of an input
+-- idle entries before an input
 given-keeps : (es : List Entry) (given : Input) (c : Chronicle) → AllByRecursion IsIdle es → Keeps c → Keeps ((es ++ Given given ∷ []) ++ c)
 given-keeps es given c idle keeps = rw append_assoc (idles-keep es (Given given ∷ c) idle (idle-keeps (Given given) c tt keeps))
 

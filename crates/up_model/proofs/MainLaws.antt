@@ -604,7 +604,7 @@ turn-still (Some live) c = by_case live.handled
     by_case true = finishing-still live.place c
     by_case false = (tt, tt)
 
--- still entries in front of an input
+-- still entries before an input
 given-keeps : (config : Configuration) (es : List Entry) (given : Input) (c : Chronicle) → AllByRecursion IsStill es → Keeps config (Given given ∷ c)
     → Keeps config ((es ++ Given given ∷ []) ++ c)
 given-keeps config es given c still keeps = rw append_assoc (stills-keep config es (Given given ∷ c) still keeps)

@@ -14,7 +14,7 @@ unfolding settle
 settle_still zero config c none = refl
 settle_still (suc n) config c none = ap (λ es. settle n config (es ++ c)) none ∙ settle_still n config c none
 
--- a count is as good as another, where both are enough
+-- a count is as good as another, if both are enough
 pub settle_enough : (n m : ℕ) (config : Configuration) (c : Chronicle) → work config c ≤ n → work config c ≤ m
     → settle n config c ≡ settle m config c
 unfolding settle
@@ -36,32 +36,6 @@ settle_enough (suc n) (suc m) config c h k = by_case (falls config c) (settle_en
         → settle (suc n) config c ≡ settle (suc m) config c
     by_case (inl none) ih = settle_still (suc n) config c none ∙ sym (settle_still (suc m) config c none)
     by_case (inr less) ih = ih (omega arith) (omega arith)
-
--- what is due is done first
-pub settle_first : (n : ℕ) (config : Configuration) (c : Chronicle) → work config (due config c ++ c) < n
-    → settle (work config (due config c ++ c)) config (due config c ++ c) ≡ settle n config c
-unfolding settle
-settle_first zero config c h = absurd (omega arith)
-settle_first (suc n) config c h = settle_enough (work config (due config c ++ c)) n config (due config c ++ c) (omega arith) (omega arith)
-
--- doing once what is due changes nothing of what comes out
-pub settle_next : (config : Configuration) (c : Chronicle)
-    → settle (work config (due config c ++ c)) config (due config c ++ c) ≡ settle (work config c) config c
-unfolding settle
-settle_next config c = by_case (falls config c)
-  where
-    by_case : (due config c ≡ []) ⊎ (work config (due config c ++ c) < work config c)
-        → settle (work config (due config c ++ c)) config (due config c ++ c) ≡ settle (work config c) config c
-    by_case (inl none) = ap (λ es. settle (work config (es ++ c)) config (es ++ c)) none
-    by_case (inr less) = settle_first (work config c) config c less
-
--- where something is due, doing it leaves less work
-pub due_falls : (config : Configuration) (c : Chronicle) → (due config c ≡ [] → ⊥) → work config (due config c ++ c) < work config c
-due_falls config c some = by_case (falls config c)
-  where
-    by_case : (due config c ≡ []) ⊎ (work config (due config c ++ c) < work config c) → work config (due config c ++ c) < work config c
-    by_case (inl none) = absurd (some none)
-    by_case (inr less) = less
 
 -- nothing is due after enough
 pub settle_rest : (n : ℕ) (config : Configuration) (c : Chronicle) → work config c ≤ n → due config (settle n config c) ≡ []

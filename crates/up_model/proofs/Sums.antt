@@ -27,7 +27,7 @@ sum-same offers p c d (x ∷ xs) spared older none = by_case (x.place == p) refl
         let rest = ih (omega (arith, none)) in
         omega (arith, here, rest)
 
--- where the one at the place has less work, there is no more
+-- if the one at the place has less work, there is no more
 pub sum-no_more : (offers : Bool) (p : ℕ) (c d : Chronicle) (xs : List Instance) → IsSpared offers p c d → AreOlder (length c) xs
     → instance_work offers p d < instance_work offers p c → work_in offers xs d ≤ work_in offers xs c
 sum-no_more offers p c d [] spared older fewer = omega arith
@@ -49,7 +49,7 @@ sum-less offers p c d (x ∷ xs) spared older fewer some =
     by_case true e some rest ih = omega (arith, at offers p x.place c e, at offers p x.place d e, rest)
     by_case false e some rest ih = omega (arith, spared x.place e older.0, ih (omega (arith, some)))
 
--- where the one at the place is gone, there is no more
+-- if the one at the place is gone, there is no more
 pub gone-no_more : (offers : Bool) (p : ℕ) (c d : Chronicle) (xs : List Instance) → IsSpared offers p c d → AreOlder (length c) xs
     → work_in offers (without_instance p xs) d ≤ work_in offers xs c
 gone-no_more offers p c d [] spared older = omega arith
@@ -60,7 +60,7 @@ gone-no_more offers p c d (x ∷ xs) spared older = by_case (x.place == p) refl 
     by_case true e rest = omega (arith, rest)
     by_case false e rest = omega (arith, spared x.place e older.0, rest)
 
--- and less where it stood in the list and had work
+-- and less if it stood in the list and had work
 pub gone-less : (offers : Bool) (p : ℕ) (c d : Chronicle) (xs : List Instance) → IsSpared offers p c d → AreOlder (length c) xs
     → 0 < instance_work offers p c → 0 < count p xs → work_in offers (without_instance p xs) d < work_in offers xs c
 gone-less offers p c d [] spared older some there = absurd (omega arith)
@@ -73,7 +73,7 @@ gone-less offers p c d (x ∷ xs) spared older some there =
     by_case true e there rest ih = omega (arith, at offers p x.place c e, rest)
     by_case false e there rest ih = omega (arith, spared x.place e older.0, ih (omega (arith, there)))
 
--- where the one at the place has less than six more, the whole has
+-- if the one at the place has less than six more, the whole has
 pub sum-more : (offers : Bool) (p : ℕ) (c d : Chronicle) (xs : List Instance) → IsSpared offers p c d → AreOlder (length c) xs
     → instance_work offers p d < instance_work offers p c + 6 → count p xs ≤ 1 → work_in offers xs d < work_in offers xs c + 6
 sum-more offers p c d [] spared older few once = omega arith

@@ -246,7 +246,7 @@ pub after-keeps : (config : Configuration) (c : List Entry) (given : Input) → 
 unfolding after
 after-keeps config c given keeps = settle-keeps (work config (effect config given c ++ c)) config (effect config given c ++ c) (effect-keeps config given c keeps)
 
--- also where it may not be expected
+-- also if it may not be expected
 pub next-keeps : (config : Configuration) (c : List Entry) (given : Input) → Keeps config c → Keeps config (next config c given)
 next-keeps config c given keeps = by_case (is_expected given c)
   where
@@ -268,7 +268,7 @@ empty-keeps config = record { standing = λ event. (refl, le_suc 0, λ later. re
 pub reached-keeps : (config : Configuration) (inputs : List Input) → Keeps config (after_all config [] inputs)
 reached-keeps config inputs = after_all-keeps config [] inputs (empty-keeps config)
 
--- where they fit, an event finished no more often than it was handled, and that once at most
+-- if they fit, an event finished no more often than it was handled, and that once at most
 pub orderly_once : (config : Configuration) (c : List Entry) (event : ℕ) → Keeps config c → (finished_times event c ≤ handled_times event c) × (handled_times event c ≤ 1)
 orderly_once config c event keeps = by_case (status event (queue c)) (keeps.standing event)
   where

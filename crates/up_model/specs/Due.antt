@@ -1,5 +1,5 @@
 -- What a step does: the effect of its input, and then what is due until nothing is (the Upstart Cookbook, "Job lifecycle").
--- Each of these is a list of entries to be put in front of the chronicle, newest first.
+-- Each of these is a list of entries to be put before the chronicle, newest first.
 use Rattle.std.specs.Prelude.{ℕ, not, ◌||◌, List, [], ◌∷◌, ◌++◌, Option, None, Some, if◌then◌else◌, length}
 use Rattle.up_conf.specs.declared.job.JobDef.{JobDef}
 use Rattle.up_stanza.specs.declared.process.Process.{Process}
@@ -59,7 +59,7 @@ abbrev pub turn_of : Option Live → Chronicle → List Entry
 turn_of None c = []
 turn_of (Some live) c = if live.handled then finishing live.place c else Handled live.place ∷ []
 
--- the effect of an input, in front of the input itself
+-- the effect of an input, before the input itself
 unfoldable pub effect : Configuration → Input → Chronicle → List Entry
 effect config (input.Emit event) c = Queued (Outside (length c)) event ∷ Given (input.Emit event) ∷ []
 effect config (input.Request id request) c =

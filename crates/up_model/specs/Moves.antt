@@ -1,5 +1,5 @@
 -- How instances move from state to state (the Upstart Cookbook's table of states).
--- Each of these is a list of entries to be put in front of the chronicle, newest first.
+-- Each of these is a list of entries to be put before the chronicle, newest first.
 use Rattle.std.specs.Prelude.{ℕ, Bool, false, ◌&&◌, ◌||◌, not, List, [], ◌∷◌, ◌++◌, Option, None, Some, is_some}
 use Rattle.up_stanza.specs.declared.action.Action.{Action}
 use Rattle.up_stanza.specs.declared.process.Process.{Process}

@@ -1,5 +1,5 @@
 -- How the event of a turn is offered to the expressions, and what one does that fires (init(5), "start on" and "stop on").
--- Each of these is a list of entries to be put in front of the chronicle, newest first.
+-- Each of these is a list of entries to be put before the chronicle, newest first.
 use Rattle.std.specs.Prelude.{ℕ, nat_lt, Bool, true, false, not, ◌||◌, ◌==◌, List, [], ◌∷◌, ◌++◌, Option, None, Some, if◌then◌else◌, length}
 use Rattle.up_conf.specs.declared.job.JobDef.{JobDef}
 use Rattle.up_model.specs.declared.state.Goal.TheVariants.{Start, Stop}

@@ -1,5 +1,5 @@
 -- What clients are told of instances and events: the status text, and the answers to those that wait (initctl(8), status(8)).
--- Each list of entries is to be put in front of the chronicle, newest first.
+-- Each list of entries is to be put before the chronicle, newest first.
 use Rattle.std.specs.Prelude.{ℕ, Bool, true, false, ◌==◌, List, [], ◌∷◌, ◌++◌, Option, None, Some, codes, if◌then◌else◌, length}
 use Rattle.up_stanza.specs.declared.process.Process.{Process}
 use Rattle.up_stanza.specs.declared.process.Process.TheVariants as process

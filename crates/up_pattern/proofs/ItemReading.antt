@@ -62,7 +62,7 @@ none-behind : (after : List Symbol) → list_any is_close after ≡ false → li
 none-behind [] none = refl
 none-behind (symbol ∷ after) none = (or_parts _ _ none).1
 
--- behind a set that isn't closed there are no sets
+-- after a set that isn't closed there are no sets
 flat-inner : (n : Bool) (after : List Symbol) → list_any is_close (drop 1 (cond n (drop 1 after) after)) ≡ false → list_any is_close (drop 2 after) ≡ false
 flat-inner true [] none = refl
 flat-inner true (symbol ∷ after) none = none
@@ -127,7 +127,7 @@ none-further : (after : List Symbol) → list_any is_close (drop 1 after) ≡ fa
 none-further [] none = refl
 none-further (symbol ∷ after) none = none-behind after none
 
--- where an item is that of its symbol, the others are those of the symbols behind it
+-- if an item is that of its symbol, the others are those of the symbols after it
 pub items-lone : (symbol : Symbol) (after : List Symbol) → item_of symbol after ≡ lone_item symbol → items_from 0 (symbol ∷ after) ≡ lone_item symbol ∷ items_from 0 after
 items-lone symbol after lone =
     ap (λ item. item ∷ items_from (more item after) after) lone
@@ -164,7 +164,7 @@ set-open after class unclosed = rw (class, unclosed) refl
 pub set-among : (after : List Symbol) → has_class (body (inner after)) ≡ false → is_closed (inner after) ≡ true → set_item after ≡ Among (begins is_not after) (ranges (body (inner after)))
 set-among after class closed = rw (class, closed) refl
 
--- what stands behind a closed set
+-- what stands after a closed set
 inner-drop : (n : Bool) (count : ℕ) (after : List Symbol) → drop (cond n 1 0 + count) after ≡ drop count (cond n (drop 1 after) after)
 inner-drop true count after = sym (drop-drop count 1 after)
 inner-drop false count after = let same : 0 + count ≡ count = omega arith in ap (λ n. drop n after) same
@@ -194,7 +194,7 @@ means-closed text set rest reading is shorter ends part rest_is sets =
       shorter = let no_longer = ends.3 in rw rest_is (omega arith);
     }
 
--- behind a ! a set is what follows it, and without one what is there
+-- after a ! a set is what follows it, and without one what is there
 pub inner-behind : (symbols after : List Symbol) → symbols ≡ Bare 33 ∷ after → (true ≡ begins is_not symbols) × (after ≡ inner symbols)
 inner-behind symbols after is = rw is (refl, refl)
 

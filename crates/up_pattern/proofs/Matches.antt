@@ -101,7 +101,7 @@ pub star-here : (test : List ℕ → Bool) (bytes : List ℕ) → test bytes ≡
 star-here test [] passes = passes
 star-here test (byte ∷ bytes) passes = or_left _ _ passes
 
--- where the items behind a later run fail, a longer run before it doesn't help
+-- if the items after a later run fail, a longer run before it doesn't help
 pub absorbs : (items : List Item) (bytes : List ℕ) (later : List Item) (left : List ℕ) → Leads items bytes later left → star_from (items_match items) bytes ≡ star_from (items_match later) left
 absorbs items bytes later left leads =
     by_case (star_from (items_match items) bytes) (star_from (items_match later) left) refl refl
@@ -219,24 +219,7 @@ leads-more item items bytes behind later left other one shorter leads =
           subst (λ bs. star_from (items_match later) bs ≡ true) (drop-drop n 1 others ∙ ap (λ k. drop k others) (sym next)) at_later;
     }
 
--- a place where the item takes no byte, or the items behind it fail
-pub search-on : (item : Item) (items : List Item) (bytes : List ℕ) (byte : ℕ) (behind : List ℕ) → bytes ≡ byte ∷ behind → is_run item ≡ false
-    → (admits_byte item byte && items_match items behind) ≡ false → star_from (items_match (item ∷ items)) behind ≡ star_from (items_match (item ∷ items)) bytes
-search-on item items bytes byte behind is other fails =
-    let here : items_match (item ∷ items) (byte ∷ behind) ≡ false = no_run item (items_match items) (byte ∷ behind) other ∙ fails in
-    sym (ap (star_from (items_match (item ∷ items))) is ∙ ap (λ b. b || star_from (items_match (item ∷ items)) behind) here)
-
-pub search-end : (item : Item) (items : List Item) (bytes : List ℕ) → length bytes ≡ 0 → is_run item ≡ false → star_from (items_match (item ∷ items)) bytes ≡ false
-search-end item items [] none other = no_run item (items_match items) [] other
-search-end item items (byte ∷ bytes) none other = absurd (omega arith)
-
-pub search-here : (item : Item) (items : List Item) (bytes : List ℕ) (byte : ℕ) (behind : List ℕ) → bytes ≡ byte ∷ behind → is_run item ≡ false
-    → admits_byte item byte ≡ true → items_match items behind ≡ true → star_from (items_match (item ∷ items)) bytes ≡ true
-search-here item items bytes byte behind is other admitted passes =
-    let here : items_match (item ∷ items) (byte ∷ behind) ≡ true = no_run item (items_match items) (byte ∷ behind) other ∙ rw (admitted, passes) refl in
-    rw is (or_left _ _ here)
-
--- a run behind a run
+-- a run after a run
 star-star : (test : List ℕ → Bool) (bytes : List ℕ) → star_from (star_from test) bytes ≡ star_from test bytes
 star-star test [] = refl
 star-star test (byte ∷ bytes) = ap (λ b. (test (byte ∷ bytes) || star_from test bytes) || b) (star-star test bytes) ∙ by_case (test (byte ∷ bytes)) (star_from test bytes)
@@ -254,7 +237,7 @@ pub run-run : (item : Item) (items : List Item) (bytes : List ℕ) → is_run it
 run-run item items bytes run =
     sym (star-same (items_match (item ∷ items)) (star_from (items_match items)) (λ bs. a_run item (items_match items) bs run) bytes ∙ star-star (items_match items) bytes)
 
--- no items behind a run match the end of the bytes
+-- no items after a run match the end of the bytes
 pub run-end : (bytes : List ℕ) → star_from (items_match []) bytes ≡ true
 run-end [] = refl
 run-end (byte ∷ bytes) = run-end bytes
@@ -264,7 +247,7 @@ nothing zero byte admitted got = cc
 nothing (suc count) zero admitted got = cc
 nothing (suc count) (suc byte) admitted got = nothing count byte admitted got
 
--- where nothing is known, nothing wrong is
+-- if nothing is known, nothing wrong is
 pub knows-nothing : (known : List (Option Bool)) (item : Item) → known ≡ replicate 256 None → Knows known item
 knows-nothing known item none = λ byte admitted got. absurd (nothing 256 byte admitted (rw none at got))
 

@@ -32,7 +32,7 @@ unfolding symbols
 first-trailing text byte [] is backslash none = rw is (rw (eq-eqb byte 92 backslash) refl, omega arith)
 first-trailing text byte (escaped ∷ behind) is backslash none = absurd (omega arith)
 
--- symbols behind a backslash begin with no bare byte
+-- symbols after a backslash begin with no bare byte
 begins-behind : (byte : ℕ) (text : List ℕ) → begins (is_bare byte) (symbols_from true text) ≡ false
 begins-behind byte [] = refl
 begins-behind byte (escaped ∷ text) = refl
@@ -95,7 +95,7 @@ range-to low symbols after high behind is further then_is =
 
 pub ruleset range_ends = (range-none, range-last, range-empty, range-to)
 
--- an item reaches to its range's end, and the other items stand behind it
+-- an item reaches to its range's end, and the other items stand after it
 pub ranges-step : (low : Symbol) (after : List Symbol) → ranges (body (low ∷ after)) ≡ (byte_of low, (range_end (byte_of low) after).0) ∷ ranges (before_close (range_end (byte_of low) after).1)
 ranges-step low [] = refl
 ranges-step low (dash ∷ []) =
@@ -156,7 +156,7 @@ class-here symbol after class =
     let parts = and_parts _ _ class in
     or_left _ _ (and_from _ _ parts.0 (begins-before after parts.1))
 
--- a set that ends behind its first item
+-- a set that ends after its first item
 pub record EndsHere (symbol : Symbol) (rest : List Symbol) : Type 0 where
   pub classes : has_class (body (symbol ∷ Bare 93 ∷ rest)) ≡ false
   pub closed : is_closed (symbol ∷ Bare 93 ∷ rest) ≡ true

@@ -21,12 +21,12 @@ abbrev pub star_from : (List ℕ → Bool) → List ℕ → Bool
 star_from test [] = test []
 star_from test (byte ∷ bytes) = test (byte ∷ bytes) || star_from test bytes
 
--- whether the bytes begin with one that the item admits, and the test passes behind it
+-- whether the bytes begin with one that the item admits, and the test passes after it
 abbrev pub one_from : Item → (List ℕ → Bool) → List ℕ → Bool
 one_from item test [] = false
 one_from item test (byte ∷ bytes) = admits_byte item byte && test bytes
 
--- whether an item admits the front of the bytes, and the test passes behind it
+-- whether an item admits the front of the bytes, and the test passes after it
 abbrev pub item_from : Item → (List ℕ → Bool) → List ℕ → Bool
 item_from Run test bytes = star_from test bytes
 item_from item test bytes = one_from item test bytes
@@ -41,7 +41,7 @@ abbrev pub TakesNone : Item → List ℕ → Type 0
 TakesNone item [] = Unit {0}
 TakesNone item (byte ∷ bytes) = admits_byte item byte ≡ false
 
--- it does, and these stand behind it
+-- it does, and these stand after it
 abbrev pub TakesOne : Item → List ℕ → List ℕ → Type 0
 TakesOne item [] behind = ⊥
 TakesOne item (byte ∷ bytes) behind = (admits_byte item byte ≡ true) × (behind ≡ bytes)
@@ -95,7 +95,7 @@ pub record Settled (unclosed : ℕ) (text : List ℕ) : Type 0 where
 abbrev pub Knows : List (Option Bool) → Item → Type 0
 Knows known item = (byte : ℕ) (admitted : Bool) → slice_get known byte ≡ Some (Some admitted) → admits_byte item byte ≡ admitted
 
--- the last byte of the range that begins with this item, and what stands behind it
+-- the last byte of the range that begins with this item, and what stands after it
 abbrev pub range_end : ℕ → List Symbol → ℕ × List Symbol
 range_end low [] = (low, [])
 range_end low (dash ∷ []) = (low, dash ∷ [])
@@ -132,7 +132,7 @@ pub record Takes (items : List Item) (bytes : List ℕ) (later : List Item) (lef
   pub shorter : length left ≤ length bytes
   pub needs : (others : List ℕ) → items_match items others ≡ true → items_match later (drop (length bytes - length left) others) ≡ true
 
--- items take one byte each, up to a run of any bytes: behind it these items and these bytes are left
+-- items take one byte each, up to a run of any bytes: after it these items and these bytes are left
 pub record Leads (items : List Item) (bytes : List ℕ) (later : List Item) (left : List ℕ) : Type 0 where
   pub same : items_match items bytes ≡ star_from (items_match later) left
   pub behind : left ≡ drop (length bytes - length left) bytes

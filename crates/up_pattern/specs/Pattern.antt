@@ -5,14 +5,14 @@ use Rattle.up_pattern.specs.Lists.{begins}
 use Rattle.up_pattern.specs.declared.pattern.Symbol.{Symbol}
 use Rattle.up_pattern.specs.declared.pattern.Symbol.TheVariants.{Bare, Escaped, Trailing}
 
--- the symbols of a pattern, on from a byte behind a backslash or not
+-- the symbols of a pattern, on from a byte after a backslash or not
 abbrev pub symbols_from : Bool → List ℕ → List Symbol
 symbols_from false [] = []
 symbols_from true [] = Trailing ∷ []
 symbols_from false (byte ∷ text) = if byte == 92 then symbols_from true text else Bare byte ∷ symbols_from false text
 symbols_from true (byte ∷ text) = Escaped byte ∷ symbols_from false text
 
--- the symbols of a pattern: bytes that stand bare, bytes behind a backslash, and perhaps a trailing backslash
+-- the symbols of a pattern: bytes that stand bare, bytes after a backslash, and perhaps a trailing backslash
 unfoldable pub symbols : List ℕ → List Symbol
 symbols text = symbols_from false text
 
@@ -37,7 +37,7 @@ is_not symbol = is_bare 33 symbol
 abbrev pub is_dash : Symbol → Bool
 is_dash symbol = is_bare 45 symbol
 
--- the : . or = behind a [ within a set
+-- the : . or = after a [ within a set
 abbrev pub is_class_mark : Symbol → Bool
 is_class_mark symbol = is_bare 58 symbol || is_bare 46 symbol || is_bare 61 symbol
 
@@ -52,7 +52,7 @@ abbrev pub before_close : List Symbol → List Symbol
 before_close [] = []
 before_close (symbol ∷ symbols) = if is_close symbol then [] else symbol ∷ before_close symbols
 
--- what stands in a set, of the symbols behind its [ and !: the first symbol, whatever it is, and those up to the next ]
+-- what stands in a set, of the symbols after its [ and !: the first symbol, whatever it is, and those up to the next ]
 abbrev pub body : List Symbol → List Symbol
 body [] = []
 body (first ∷ symbols) = first ∷ before_close symbols
@@ -91,7 +91,7 @@ lone_item (Bare byte) = if byte == 42 then Run else (if byte == 63 then Any else
 lone_item (Escaped byte) = Only byte
 lone_item Trailing = Never
 
--- a set's symbols, behind the [ and perhaps the !
+-- a set's symbols, after the [ and perhaps the !
 abbrev pub inner : List Symbol → List Symbol
 inner symbols = if begins is_not symbols then drop 1 symbols else symbols
 
@@ -174,7 +174,7 @@ cuts (suc count) bytes = flat_map (λ split. map (λ pieces. split.0 ∷ pieces)
 abbrev pub fits : List Item → List ℕ → Bool
 fits read bytes = list_any (all_admit read) (cuts (length read) bytes)
 
--- the same where there may be no items
+-- the same if there may be no items
 abbrev pub fits_if : Option (List Item) → List ℕ → Bool
 fits_if None bytes = false
 fits_if (Some read) bytes = fits read bytes

@@ -7,7 +7,7 @@ ghost use Rattle.up_pattern.specs.Matching.{First, items_match, EndsSo, IsFlat, 
 
 pub mod laws;
 
-/// A byte of a pattern that stands bare or behind a backslash, or the backslash at the pattern's end.
+/// A byte of a pattern that stands bare or after a backslash, or the backslash at the pattern's end.
 #[derive(Clone, Copy)]
 enum Symbol {
     Bare(u8),
@@ -26,7 +26,7 @@ enum Part<'a> {
     Class,
 }
 
-/// How a set ends: it has a class, it isn't closed, or this stands behind its `]`.
+/// How a set ends: it has a class, it isn't closed, or this stands after its `]`.
 #[derive(Clone, Copy)]
 enum SetEnd<'a> {
     Class,
@@ -34,7 +34,7 @@ enum SetEnd<'a> {
     Closed(&'a [u8]),
 }
 
-/// An item, what stands behind it, and whether a set may be ahead: behind one that isn't closed, none is.
+/// An item, what stands after it, and whether a set may be ahead: after one that isn't closed, none is.
 #[derive(Clone, Copy)]
 struct Reading<'a> {
     part: Part<'a>,
@@ -66,7 +66,7 @@ fn next_symbol(text: &[u8]) -> Option<(Symbol, &[u8])>
     }
 }
 
-// What stands behind this byte, which is no backslash, where the text begins with it.
+// What stands after this byte, which is no backslash, where the text begins with it.
 #[tactic(auto, using(crate::proofs::SetReading::firsts))]
 fn strip(text: &[u8], byte: u8) -> Option<&[u8]>
     requires { byte ≢ 92 }
@@ -144,7 +144,7 @@ fn byte_of(symbol: Symbol) -> u8
     }
 }
 
-// Whether this symbol of a set begins a class, with what stands behind it.
+// Whether this symbol of a set begins a class, with what stands after it.
 fn begins_class(symbol: Symbol, behind: &[u8]) -> bool
     ensures { result ≡ (is_open symbol && begins is_class_mark (symbols behind.now)) }
 {
@@ -169,7 +169,7 @@ fn set_end(set: &[u8]) -> SetEnd<'_>
     SetEnd::Open
 }
 
-// The last byte of the range that begins with this item, and what stands behind it.
+// The last byte of the range that begins with this item, and what stands after it.
 #[tactic(auto, using(crate::proofs::SetReading::range_ends))]
 fn range_end(low: u8, behind: &[u8]) -> (u8, &[u8])
     ensures shorter { length result.1.now ≤ length behind.now }
@@ -332,7 +332,7 @@ fn is_class(part: &Part) -> bool
     }
 }
 
-// What stands behind the first byte, where the item admits it.
+// What stands after the first byte, if the item admits it.
 fn take_byte<'b>(part: &Part, bytes: &'b [u8]) -> Option<&'b [u8]>
     ensures { MatchOption result (TakesNone (item_of_part part.now) bytes.now) (λ behind. TakesOne (item_of_part part.now) bytes.now behind.now) }
 {

@@ -1,4 +1,4 @@
--- The first line of a text, and the lines behind it.
+-- The first line of a text, and the lines after it.
 use Rattle.std.proofs.Common.{◌≡◌, ℕ, ◌+◌, ◌≤◌, Bool, true, false, cond, List, [], ◌∷◌, length, take, drop, refl, sym, ◌∙◌, ap, arith, add-one, one-add, not}
 use Rattle.std.proofs.lemmas.List.{take_all, drop_all}
 use Rattle.std.specs.List.{position_or_len}
@@ -6,7 +6,7 @@ use Rattle.up_replay.specs.Bundle.{lines_of, first_line, after_line, without_fee
 use Rattle.up_text.specs.Tokens.{is_line_feed}
 use Rattle.std.specs.List.{onto_first}
 
--- a text's lines are its first line and those behind it
+-- a text's lines are its first line and those after it
 pub lines_of-first : (byte : ℕ) (text : List ℕ) → lines_of (byte ∷ text) ≡ first_line (byte ∷ text) ∷ lines_of (after_line (byte ∷ text))
 unfolding lines_of
 lines_of-first byte [] = by_case (is_line_feed byte)
@@ -41,7 +41,7 @@ trimmed_take (byte ∷ text) = by_case (is_line_feed byte) (trimmed_take text)
     by_case true h = refl
     by_case false h = rw one-add (ap (λ line. byte ∷ line) h)
 
--- the first line ends behind its line feed
+-- the first line ends after its line feed
 pub line_take : (text : List ℕ) → (first_line text ≡ take (position_or_len is_line_feed text + 1) text) × (after_line text ≡ drop (position_or_len is_line_feed text + 1) text)
 line_take [] = (refl, refl)
 line_take (byte ∷ text) = by_case (is_line_feed byte) (line_take text)

@@ -1,4 +1,4 @@
--- A line that begins a file, and what stands behind it.
+-- A line that begins a file, and what stands after it.
 use Rattle.std.proofs.Common.{◌≡◌, ℕ, ◌+◌, ◌<◌, Bool, true, false, cond, not, ◌||◌, if◌then◌else◌, List, [], ◌∷◌, ◌++◌, Option, None, Some, length, refl, ◌∙◌, ap, arith}
 use Rattle.std.specs.List.{flat_map}
 use Rattle.std.specs.Option.{option_or}
@@ -44,7 +44,7 @@ joined_onto : (byte : ℕ) (lines : List (List ℕ)) → flat_map (λ line. line
 joined_onto byte [] = refl
 joined_onto byte (line ∷ lines) = refl
 
--- the lines of a text, one behind another, are the text
+-- the lines of a text, one after another, are the text
 pub joined : (text : List ℕ) → flat_map (λ line. line) (lines_of text) ≡ text
 unfolding lines_of
 joined [] = refl
@@ -80,7 +80,7 @@ bad_line_begins text = by_lines (lines_of text)
     by_lines [] = refl
     by_lines (line ∷ lines) = refl
 
--- the first bad line, with those behind it
+-- the first bad line, with those after it
 pub option_or-first : (bad : Option ℕ) (good : Bool) (line : ℕ) (later : Option ℕ) → option_or (option_or bad (if good then None else Some line)) later ≡ option_or bad (if good then later else Some line)
 option_or-first (Some earlier) good line later = refl
 option_or-first None true line later = refl

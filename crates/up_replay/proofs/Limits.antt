@@ -52,7 +52,7 @@ replayed_whole all bytes made status old new front had wrote below =
       text = subst (λ text. Appends old new text) (ap (λ (m : Printed). m.text) whole.same) written.1;
     }
 
--- what was written for a reader's bytes, where these are known
+-- what was written for a reader's bytes, if these are known
 pub replayed_known : (known : Option (List ℕ)) (bytes : List ℕ) (made : Printed) (status : ℕ) (old new : Option (List ℕ)) → IfSome known (λ all. bytes ≡ take 67108865 all) → Prints bytes made
     → (status < 3 → (status ≡ made.status) × Appends old new made.text) → IfSome known (λ all. Replays all status old new)
 replayed_known None bytes made status old new front had wrote = tt

@@ -16,7 +16,7 @@ pub record Passed (text front rest : List ℕ) (lines : ℕ) : Type 0 where
   pub bad : (n : ℕ) → bad_path (n + lines) (lines_of rest) ≡ bad_path n (lines_of text)
   pub within : length rest + lines ≤ length text
 
--- a text is its first line and what stands behind it
+-- a text is its first line and what stands after it
 pub first_line-append : (text : List ℕ) → text ≡ first_line text ++ after_line text
 first_line-append [] = refl
 first_line-append (byte ∷ text) = by_case (is_line_feed byte) (first_line-append text)
@@ -55,7 +55,7 @@ passed_line text front byte rest lines none before =
       within = omega (arith, before.within, shorter byte rest);
     }
 
--- a text begins with a header where it is empty, or its first line is one
+-- a text begins with a header if it is empty, or its first line is one
 pub begins_first : (text : List ℕ) → begins_header (lines_of text) ≡ ((length text == 0) || is_header (first_line text))
 unfolding lines_of
 begins_first [] = refl
@@ -64,7 +64,7 @@ begins_first (byte ∷ text) = rw (lines_of-first byte text) (sym (rw (longer te
     longer : (text : List ℕ) → (suc (length text) == 0) ≡ false
     longer text = ne_eqb (suc (length text)) 0 (λ e. omega arith)
 
--- where it doesn't, its first line can be passed
+-- if it doesn't, its first line can be passed
 pub passed_first : (text front rest : List ℕ) (lines : ℕ) → begins_header (lines_of rest) ≡ false → Passed text front rest lines
     → Passed text (front ++ first_line rest) (after_line rest) (lines + 1)
 passed_first text front [] lines none before = cc (sym (begins_first []) ∙ none)

@@ -1,9 +1,6 @@
 -- What was read of known bytes, and texts appended one after another.
-use Rattle.std.proofs.Common.{◌≡◌, ◌∙◌, ℕ, List, [], ◌++◌, Option, None, Some, IfSome, option_map, take, refl, ap, append_assoc}
+use Rattle.std.proofs.Common.{◌≡◌, ◌∙◌, ℕ, List, [], ◌++◌, Option, None, Some, IfSome, option_map, take, refl}
 
 pub read_front : (left : Option (List ℕ)) (old new : List ℕ) (limit : ℕ) → old ≡ [] → limit ≡ 67108865 → IfSome (option_map (take limit) left) (λ front. new ≡ old ++ front) → IfSome left (λ all. new ≡ take 67108865 all)
 read_front None old new limit none size h = tt
 read_front (Some all) old new limit none size h = let e : old ++ take limit all ≡ take 67108865 all = rw (none, size) refl in h ∙ e
-
-pub three : (old a b c x y z : List ℕ) → x ≡ old ++ a → y ≡ x ++ b → z ≡ y ++ c → z ≡ old ++ (a ++ b ++ c)
-three old a b c x y z p q r = r ∙ ap (λ text. text ++ c) (q ∙ ap (λ text. text ++ b) p) ∙ simp append_assoc

@@ -2,7 +2,7 @@
 use Rattle.std.proofs.Common.{◌≡◌, ℕ, ◌+◌, zero, suc, List, [], ◌∷◌, ◌++◌, Option, None, Some, take, slice_get, refl, add-one, append_assoc, append-nil, arith, rules}
 use Rattle.std.specs.List.{flat_map}
 
--- what a binding is printed as, where there is one
+-- what a binding is printed as, if there is one
 abbrev pub of_found : (List ℕ × List ℕ → List ℕ) → Option (List ℕ × List ℕ) → List ℕ
 of_found f None = []
 of_found f (Some pair) = f pair

@@ -14,7 +14,7 @@ use Rattle.up_replay.specs.Rows.{is_text, begins_text, inputs_from, lines_inputs
 use Rattle.up_replay.proofs.BundleLemmas.{lines_of-first}
 use Rattle.up_replay.proofs.Passing.{first_line-append, shorter}
 
--- a script begins with these many lines that are text, and this stands behind them
+-- a script begins with these many lines that are text, and this stands after them
 pub record Texts (script rest : List ℕ) (count : ℕ) : Type 0 where
   pub passed : List (List ℕ)
   pub joined : script ≡ concat passed ++ rest
@@ -22,9 +22,6 @@ pub record Texts (script rest : List ℕ) (count : ℕ) : Type 0 where
   pub text : list_all is_text passed ≡ true
   pub counted : count ≡ length passed
   pub within : count + length rest ≤ length script
-
-pub no_texts : (script : List ℕ) → Texts script script 0
-no_texts script = record { passed = []; joined = refl; lines = refl; text = refl; counted = refl; within = omega arith }
 
 longer : (bytes : List ℕ) → (suc (length bytes) == 0) ≡ false
 longer bytes = ne_eqb (suc (length bytes)) 0 (λ e. omega arith)
@@ -94,7 +91,7 @@ front_bytes passed script rest is =
     let long : length script - length rest ≡ length (concat passed) = omega (arith, ap length is, length-append (concat passed) rest) in
     ap (λ n. take n script) long ∙ ap (take (length (concat passed))) is ∙ take-append_seam (concat passed) rest
 
--- where no more lines are text, the front is whole
+-- if no more lines are text, the front is whole
 pub fronts : (script front rest : List ℕ) (count : ℕ) → front ≡ take (length script - length rest) script → begins_text (lines_of rest) ≡ false → Texts script rest count → Fronts script front rest count
 fronts script front rest count is none before =
     let lines = front_bytes before.passed script rest before.joined in
@@ -112,7 +109,7 @@ fronts script front rest count is none before =
       count_within = omega (arith, before.within);
     }
 
--- the inputs of the front, where nothing is left of the script; otherwise the line behind the front may be the bad one
+-- the inputs of the front, if nothing is left of the script; otherwise the line after the front may be the bad one
 pub left_none : (line : ℕ) (rest : List ℕ) (read : Result (List Input) ℕ) → (length rest == 0) ≡ true → unless_left line (lines_of rest) read ≡ read
 unfolding lines_of
 left_none line [] read none = refl

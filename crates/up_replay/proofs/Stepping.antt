@@ -70,7 +70,7 @@ first_step (Word token ∷ later) = Word token ∷ first_step later
 first_step (Bad line fault ∷ later) = Bad line fault ∷ first_step later
 first_step (End ∷ later) = []
 
--- lexemes are their first step and those behind it
+-- lexemes are their first step and those after it
 split_first : (lexeme : Lexeme) (later : List Lexeme) → split_ends (lexeme ∷ later) ≡ first_step (lexeme ∷ later) ∷ split_ends (behind_step (lexeme ∷ later))
 split_first End later = refl
 split_first (Word token) [] = refl

@@ -37,7 +37,7 @@ abbrev pub lead : List (List ℕ) → List ℕ
 lead [] = []
 lead (line ∷ lines) = if is_header line then [] else line ++ lead lines
 
--- a file with its path, where that is text
+-- a file with its path, if that is text
 abbrev pub file_of : List ℕ → List ℕ → List File
 file_of path bytes = if is_utf8 path then record { path = path; bytes = bytes } ∷ [] else []
 
@@ -49,12 +49,12 @@ files_of (line ∷ lines) =
     else (if is_file line then file_of (path_of line) (lead lines) ++ files_of lines
     else files_of lines)
 
--- the script: all that stands behind its line
+-- the script: all that stands after its line
 abbrev pub script_text : List (List ℕ) → List ℕ
 script_text [] = []
 script_text (line ∷ lines) = if is_script line then flat_map (λ x. x) lines else script_text lines
 
--- the number of the script's first line, where the first of these lines has the number n
+-- the number of the script's first line, if the first of these lines has the number n
 abbrev pub script_line : ℕ → List (List ℕ) → ℕ
 script_line n [] = n
 script_line n (line ∷ lines) = if is_script line then n + 1 else script_line (n + 1) lines
@@ -77,7 +77,7 @@ abbrev pub first_line : List ℕ → List ℕ
 first_line [] = []
 first_line (byte ∷ text) = if is_line_feed byte then byte ∷ [] else byte ∷ first_line text
 
--- what stands behind it
+-- what stands after it
 abbrev pub after_line : List ℕ → List ℕ
 after_line [] = []
 after_line (byte ∷ text) = if is_line_feed byte then text else after_line text

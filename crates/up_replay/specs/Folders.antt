@@ -1,5 +1,5 @@
 -- What is printed of a folder.
-use Rattle.std.specs.Prelude.{◌≡◌, ℕ, nat_le, List, [], ◌∷◌, ◌++◌, length, Result, Ok, Err, if◌then◌else◌, codes}
+use Rattle.std.specs.Prelude.{◌≡◌, ℕ, nat_le, not, List, [], ◌∷◌, ◌++◌, length, Result, Ok, Err, if◌then◌else◌, codes}
 use Rattle.std.specs.List.{flat_map}
 use Rattle.std.specs.Fmt.{decimal}
 use Rattle.up_conf.specs.declared.folder.File.{File}
@@ -8,19 +8,29 @@ use Rattle.up_conf.specs.declared.job.JobDef.{JobDef}
 use Rattle.up_conf.specs.FaultCodes as fault
 use Rattle.up_conf.specs.Folders.{jobs_of, IsReport}
 use Rattle.up_image.specs.declared.refusal.CompileError.{CompileError}
-use Rattle.up_image.specs.declared.refusal.CompileError.TheVariants.{SameName, TooManyJobs}
+use Rattle.up_image.specs.declared.refusal.CompileError.TheVariants.{SameName, TooManyJobs, ImageTooLarge}
 use Rattle.up_image.specs.Compiling.{has_twice, read_paths}
+use Rattle.up_image.specs.Image.{has_image}
 use Rattle.up_image.specs.Refusals as refusal
+use Rattle.up_image.specs.declared.image_error.ImageError.{ImageError}
+use Rattle.up_image.specs.ImageErrors as image_error
 use Rattle.up_replay.specs.declared.printed.Printed.{Printed}
 
 -- the line of a fault
 unfoldable pub fault_line : Fault → List ℕ
 fault_line found =
-    found.path ++ codes ":" ++ decimal found.line ++ codes ": " ++ decimal (fault.number_of found.code) ++ codes " " ++ fault.name_of found.code ++ codes "\n"
+    found.path ++ codes ":" ++ decimal found.line ++ codes ": " ++ decimal (fault.number_of found.code)
+    ++ codes " " ++ fault.name_of found.code ++ codes "\n"
 
 -- the line of a refused folder
 unfoldable pub refusal_line : CompileError → List ℕ
-refusal_line error = codes "initd: " ++ decimal (refusal.number_of error) ++ codes " " ++ refusal.name_of error ++ codes "\n"
+refusal_line error = codes "initd: " ++ decimal (refusal.number_of error) ++ codes " "
+    ++ refusal.name_of error ++ codes "\n"
+
+-- the line of an image that is refused, or of a table that has none
+unfoldable pub image_refusal_line : ImageError → List ℕ
+image_refusal_line error = codes "initd: " ++ decimal (image_error.number_of error) ++ codes " "
+    ++ image_error.name_of error ++ codes "\n"
 
 -- the line of what can't be read or written
 unfoldable pub unusable : List ℕ → List ℕ
@@ -36,29 +46,32 @@ status_of [] = 0
 status_of (found ∷ report) = 1
 
 -- the jobs of files with this report of their faults, or why they are refused
-unfoldable pub compiled : List Fault → List File → Result (List JobDef × List Fault) CompileError
-compiled report files =
+unfoldable pub compile_outcome : List Fault → List File → Result (List JobDef × List Fault) CompileError
+compile_outcome report files =
     if has_twice (read_paths files) then Err SameName
-    else (if nat_le (length (jobs_of files)) 1024 then Ok (jobs_of files, report)
-    else Err TooManyJobs)
+    else (if not (nat_le (length (jobs_of files)) 1024) then Err TooManyJobs
+    else (if has_image (jobs_of files) then Ok (jobs_of files, report)
+    else Err ImageTooLarge))
 
 -- how many jobs and faults there are
 unfoldable pub count_line : ℕ → ℕ → List ℕ
 count_line jobs faults = decimal jobs ++ codes " jobs, " ++ decimal faults ++ codes " faults\n"
 
 -- what a check of a folder prints
-abbrev pub checked : Result (List JobDef × List Fault) CompileError → Printed
-checked (Ok made) = prints (flat_map fault_line made.1 ++ count_line (length made.0) (length made.1)) (status_of made.1)
-checked (Err error) = prints (refusal_line error) 3
+abbrev pub check_output : Result (List JobDef × List Fault) CompileError → Printed
+check_output (Ok made) = prints (flat_map fault_line made.1 ++ count_line (length made.0) (length made.1))
+    (status_of made.1)
+check_output (Err error) = prints (refusal_line error) 3
 
 -- the jobs and some report of a folder's files, or why they are refused
-pub record IsCompiled (files : List File) (made : Result (List JobDef × List Fault) CompileError) : Type 0 where
+pub record IsCompiled (files : List File) (made : Result
+    (List JobDef × List Fault) CompileError) : Type 0 where
   pub report : List Fault
   pub is : IsReport files report
-  pub same : made ≡ compiled report files
+  pub same : made ≡ compile_outcome report files
 
 -- what is printed for a check of a folder's files, with some report of its faults
 pub record Checks (files : List File) (made : Printed) : Type 0 where
   pub report : List Fault
   pub is : IsReport files report
-  pub same : made ≡ checked (compiled report files)
+  pub same : made ≡ check_output (compile_outcome report files)

@@ -1,8 +1,16 @@
+-- How a bundle is read.
 pub mod Bundle
+-- What is printed of a folder.
 pub mod Folders
+-- The lines that are printed.
 pub mod Lines
-pub mod Replay
-pub mod Requests
-pub mod Rows
-pub mod Script
+-- The variables of its events and requests, KEY=VALUE.
 pub mod Variables
+-- The requests of a replay script.
+pub mod Requests
+-- What the lines of a script say.
+pub mod Script
+-- The steps of a script.
+pub mod Rows
+-- What a replay prints, and its status.
+pub mod Replay

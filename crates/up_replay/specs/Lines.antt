@@ -26,7 +26,7 @@ escaped byte =
 unfoldable pub quoted : List ℕ → List ℕ
 quoted text = codes "\"" ++ flat_map escaped text ++ codes "\""
 
--- the name of an instance that isn't empty, behind the job's
+-- the name of an instance that isn't empty, after the job's
 abbrev pub instance_text : List ℕ → List ℕ
 instance_text [] = []
 instance_text (byte ∷ bytes) = codes " (" ++ (byte ∷ bytes) ++ codes ")"
@@ -54,12 +54,14 @@ variable_line binding = codes "  " ++ binding_text binding ++ codes "\n"
 -- the lines of a start
 unfoldable pub spawn_lines : Order → List ℕ
 spawn_lines order =
-    codes "spawn " ++ who_text order.who ++ codes " " ++ process_name order.process ++ flat_map word_text order.argv ++ codes "\n"
+    codes "spawn " ++ who_text order.who ++ codes " " ++ process_name order.process
+    ++ flat_map word_text order.argv ++ codes "\n"
     ++ flat_map variable_line order.env
 
 -- the line of a signal
 unfoldable pub signal_line : Who → ℕ → ℕ → List ℕ
-signal_line who pid signal = codes "signal " ++ who_text who ++ codes " " ++ decimal pid ++ codes " " ++ signal_text signal ++ codes "\n"
+signal_line who pid signal = codes "signal " ++ who_text who ++ codes " " ++ decimal pid ++ codes " "
+    ++ signal_text signal ++ codes "\n"
 
 -- the line of an event
 unfoldable pub event_line : Event → List ℕ
@@ -72,7 +74,8 @@ verdict_text false = codes " failed "
 
 -- the line of a reply
 unfoldable pub reply_line : ℕ → Answer → List ℕ
-reply_line id answer = codes "reply " ++ decimal id ++ verdict_text answer.ok ++ quoted answer.text ++ codes "\n"
+reply_line id answer = codes "reply " ++ decimal id ++ verdict_text answer.ok ++ quoted answer.text
+    ++ codes "\n"
 
 -- the lines of an output
 abbrev pub output_lines : Output → List ℕ

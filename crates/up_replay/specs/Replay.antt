@@ -12,7 +12,7 @@ use Rattle.up_model.specs.declared.input.Input.{Input}
 use Rattle.up_model.specs.Answers.{answers}
 use Rattle.up_replay.specs.declared.printed.Printed.{Printed}
 use Rattle.up_replay.specs.Bundle.{lines_of, files_of, bad_line, script_line, script_text}
-use Rattle.up_replay.specs.Folders.{fault_line, refusal_line, unusable, prints, status_of, compiled}
+use Rattle.up_replay.specs.Folders.{fault_line, refusal_line, unusable, prints, status_of, compile_outcome}
 use Rattle.up_replay.specs.Lines.{step_lines}
 use Rattle.up_replay.specs.Rows.{script_inputs}
 
@@ -29,26 +29,33 @@ unless_bad (Some line) read = Err line
 unfoldable pub inputs_in : List (List ℕ) → Result (List Input) ℕ
 inputs_in lines = unless_bad (bad_line lines) (script_inputs (script_line 1 lines) (script_text lines))
 
--- what the faults of a folder and a run of its jobs print
-abbrev pub played : List ℕ → List JobDef → List Fault → Result (List Input) ℕ → Printed
-played name jobs report (Ok inputs) = prints (flat_map fault_line report ++ flat_map step_lines (answers (record { base = []; jobs = jobs }) [] inputs)) (status_of report)
-played name jobs report (Err line) = prints (flat_map fault_line report ++ bad_step_line name line) 2
+-- what the faults of a folder and a run of its jobs with a base environment print
+abbrev pub play_output : List (List ℕ × List ℕ) → List ℕ → List JobDef → List Fault → Result (List Input) ℕ
+    → Printed
+play_output base name jobs report (Ok inputs) = prints
+    (flat_map fault_line report ++ flat_map step_lines
+    (answers (record { base = base; jobs = jobs }) [] inputs)) (status_of report)
+play_output base name jobs report (Err line) = prints
+    (flat_map fault_line report ++ bad_step_line name line) 2
 
--- what a folder and a script with this name print
-abbrev pub replayed : List ℕ → Result (List JobDef × List Fault) CompileError → Result (List Input) ℕ → Printed
-replayed name (Ok made) read = played name made.0 made.1 read
-replayed name (Err error) read = prints (refusal_line error) 3
+-- what a folder and a script with this name print, with a base environment
+abbrev pub replay_output : List (List ℕ × List ℕ) → List ℕ → Result (List JobDef × List Fault) CompileError
+    → Result (List Input) ℕ → Printed
+replay_output base name (Ok made) read = play_output base name made.0 made.1 read
+replay_output base name (Err error) read = prints (refusal_line error) 3
 
--- what is printed for a folder's files and a script, with some report of the folder's faults
-pub record Plays (files : List File) (name : List ℕ) (read : Result (List Input) ℕ) (made : Printed) : Type 0 where
+-- what is printed for a folder's files, a base environment and a script, with some report of the folder's faults
+pub record Plays (files : List File) (base : List (List ℕ × List ℕ)) (name : List ℕ)
+    (read : Result (List Input) ℕ) (made : Printed) : Type 0 where
   pub report : List Fault
   pub is : IsReport files report
-  pub same : made ≡ replayed name (compiled report files) read
+  pub same : made ≡ replay_output base name (compile_outcome report files) read
 
 -- what is printed for the bytes of a bundle, which has 64 MiB at most, with this report of its folder's faults
 unfoldable pub bundle_printed : List Fault → List ℕ → Printed
 bundle_printed report bytes =
-    if nat_le (length bytes) 67108864 then replayed (codes "-") (compiled report (files_of (lines_of bytes))) (inputs_in (lines_of bytes))
+    if nat_le (length bytes) 67108864 then replay_output [] (codes "-")
+    (compile_outcome report (files_of (lines_of bytes))) (inputs_in (lines_of bytes))
     else prints (unusable (codes "-")) 3
 
 -- what is printed for a bundle

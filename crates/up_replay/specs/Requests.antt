@@ -28,7 +28,7 @@ abbrev pub begins_no_wait : List (List ℕ) → Bool
 begins_no_wait [] = false
 begins_no_wait (word ∷ words) = bytes_eq word (codes "--no-wait")
 
--- the words behind the first
+-- the words after the first
 abbrev pub behind_first : List (List ℕ) → List (List ℕ)
 behind_first [] = []
 behind_first (word ∷ words) = words
@@ -45,20 +45,23 @@ alone asked wait (word ∷ words) = None
 -- a command with its NAME [KEY=VALUE]..
 abbrev pub with_name : Command → Bool → List (List ℕ) → Option Request
 with_name asked wait [] = None
-with_name asked wait (word ∷ words) = option_and_then (λ name. option_map (make asked wait name) (vars_of [] words)) (name_in word)
+with_name asked wait (word ∷ words) = option_and_then
+    (λ name. option_map (make asked wait name) (vars_of [] words)) (name_in word)
 
 -- a command with what it takes
 abbrev pub with_words : Command → Bool → List (List ℕ) → Option Request
 with_words asked wait words = if is_alone asked then alone asked wait words else with_name asked wait words
 
--- a command with the words behind it
-abbrev pub asked_by : List (List ℕ) → Command → Option Request
-asked_by words asked =
-    if may_wait asked && begins_no_wait words then with_words asked false (behind_first words) else with_words asked true words
+-- a command with the words after it
+abbrev pub request_by : List (List ℕ) → Command → Option Request
+request_by words asked =
+    if may_wait asked && begins_no_wait words then with_words asked false
+    (behind_first words) else with_words asked true words
 
 -- ID COMMAND [--no-wait] [NAME] [KEY=VALUE]..
 abbrev pub request_of : List (List ℕ) → Option Input
 request_of [] = None
 request_of (id ∷ []) = None
 request_of (id ∷ name ∷ words) =
-    option_and_then (λ number. option_map (input.Request number) (option_and_then (asked_by words) (command_of name))) (number_in 0 18446744073709551615 id)
+    option_and_then (λ number. option_map (input.Request number)
+    (option_and_then (request_by words) (command_of name))) (number_in 0 18446744073709551615 id)

@@ -22,7 +22,7 @@ texts_in (Word token ∷ lexemes) = option_map (λ words. token.text ∷ words) 
 texts_in (Bad line fault ∷ lexemes) = None
 texts_in (End ∷ lexemes) = Some []
 
--- the inputs of a step, where its words give some
+-- the inputs of a step, if its words give some
 abbrev pub step_inputs : List Lexeme → Option (List Input)
 step_inputs step = option_and_then inputs_of (texts_in step)
 
@@ -38,7 +38,7 @@ abbrev pub with_inputs : List Input → Result (List Input) ℕ → Result (List
 with_inputs inputs (Ok others) = Ok (inputs ++ others)
 with_inputs inputs (Err line) = Err line
 
--- the inputs of a step and those of the steps behind it; or its line, where it is bad
+-- the inputs of a step and those of the steps after it; or its line, if it is bad
 abbrev pub step_then : ℕ → Option (List Input) → Result (List Input) ℕ → Result (List Input) ℕ
 step_then line None others = Err line
 step_then line (Some inputs) others = with_inputs inputs others
@@ -46,15 +46,16 @@ step_then line (Some inputs) others = with_inputs inputs others
 -- the inputs of the steps of a text whose first line has this number, or the line on which the first bad step begins
 abbrev pub inputs_from : ℕ → List (List Lexeme) → Result (List Input) ℕ
 inputs_from line [] = Ok []
-inputs_from line (step ∷ steps) = step_then (line + (begins_on step - 1)) (step_inputs step) (inputs_from line steps)
+inputs_from line (step ∷ steps) = step_then (line + (begins_on step - 1)) (step_inputs step)
+    (inputs_from line steps)
 
--- what is read where no lines are left; otherwise the first of these has this number, and is bad unless a step before it is
+-- what is read if no lines are left; otherwise the first of these has this number, and is bad unless a step before it is
 abbrev pub unless_left : ℕ → List (List ℕ) → Result (List Input) ℕ → Result (List Input) ℕ
 unless_left line [] read = read
 unless_left line (other ∷ lines) (Ok inputs) = Err line
 unless_left line (other ∷ lines) (Err earlier) = Err earlier
 
--- the inputs of the lines up to the first that is no text, or the number of the first bad line, where the first has this number
+-- the inputs of the lines up to the first that is no text, or the number of the first bad line, if the first has this number
 unfoldable pub lines_inputs : ℕ → List (List ℕ) → Result (List Input) ℕ
 lines_inputs line lines =
     let texts = prefix_len is_text lines in
@@ -70,7 +71,7 @@ abbrev pub begins_text : List (List ℕ) → Bool
 begins_text [] = false
 begins_text (line ∷ lines) = is_text line
 
--- a script is these bytes, which are its lines up to the first that is no text, so many, and those that are left behind them
+-- a script is these bytes, which are its lines up to the first that is no text, so many, and those that are left after them
 pub record Fronts (script front rest : List ℕ) (count : ℕ) : Type 0 where
   pub counted : count ≡ prefix_len is_text (lines_of script)
   pub lines : front ≡ concat (take count (lines_of script))
@@ -86,7 +87,7 @@ IsNext (Word token ∷ later) new step = (step ≡ next.Word token.text) × (new
 IsNext (Bad line fault ∷ later) new step = step ≡ next.Bad
 IsNext (End ∷ later) new step = (step ≡ next.End) × (new ≡ later)
 
--- what stands behind a step
+-- what stands after a step
 abbrev pub behind_step : List Lexeme → List Lexeme
 behind_step [] = []
 behind_step (Word token ∷ later) = behind_step later

@@ -39,23 +39,27 @@ how_of kind text =
 abbrev pub emit_of : List (List ℕ) → Option Input
 emit_of [] = None
 emit_of (name ∷ words) =
-    option_and_then (λ event. option_map (λ vars. input.Emit (record { name = event; vars = vars })) (vars_of [] words)) (name_in name)
+    option_and_then (λ event. option_map (λ vars. input.Emit (record { name = event; vars = vars }))
+    (vars_of [] words)) (name_in name)
 
 -- JOB INSTANCE PROCESS PID
 abbrev pub spawned_of : List (List ℕ) → Option Input
 spawned_of (job ∷ instance ∷ name ∷ pid ∷ []) =
-    option_and_then (λ who. option_and_then (λ its. option_map (input.Spawned who its) (number_in 0 4294967295 pid)) (process_of name)) (who_named job instance)
+    option_and_then (λ who. option_and_then (λ its. option_map (input.Spawned who its)
+    (number_in 0 4294967295 pid)) (process_of name)) (who_named job instance)
 spawned_of words = None
 
 -- JOB INSTANCE PROCESS
 abbrev pub refused_of : List (List ℕ) → Option Input
-refused_of (job ∷ instance ∷ name ∷ []) = option_and_then (λ who. option_map (input.Refused who) (process_of name)) (who_named job instance)
+refused_of (job ∷ instance ∷ name ∷ []) = option_and_then
+    (λ who. option_map (input.Refused who) (process_of name)) (who_named job instance)
 refused_of words = None
 
 -- JOB INSTANCE PROCESS exit CODE, or JOB INSTANCE PROCESS signal SIGNAL
 abbrev pub ended_of : List (List ℕ) → Option Input
 ended_of (job ∷ instance ∷ name ∷ kind ∷ text ∷ []) =
-    option_and_then (λ who. option_and_then (λ its. option_map (input.Ended who its) (how_of kind text)) (process_of name)) (who_named job instance)
+    option_and_then (λ who. option_and_then (λ its. option_map (input.Ended who its) (how_of kind text))
+    (process_of name)) (who_named job instance)
 ended_of words = None
 
 -- MS
@@ -83,4 +87,5 @@ turns_of words = None
 -- the inputs of a line by its words; a line without words has none
 abbrev pub inputs_of : List (List ℕ) → Option (List Input)
 inputs_of [] = Some []
-inputs_of (kind ∷ words) = if bytes_eq kind (codes "turn") then turns_of words else option_map (λ one. one ∷ []) (input_of kind words)
+inputs_of (kind ∷ words) = if bytes_eq kind (codes "turn") then turns_of words else option_map
+    (λ one. one ∷ []) (input_of kind words)

@@ -18,7 +18,8 @@ with_binding key value vars = if is_key key && is_value value then Some (set_in 
 -- variables with that of a word KEY=VALUE, which is cut at its first `=`
 abbrev pub with_word : List ℕ → List (List ℕ × List ℕ) → Option (List (List ℕ × List ℕ))
 with_word word vars =
-    if nat_lt (position_or_len is_equals word) (length word) then with_binding (before_first is_equals word) (after_first is_equals word) vars else None
+    if nat_lt (position_or_len is_equals word) (length word) then with_binding (before_first is_equals word)
+    (after_first is_equals word) vars else None
 
 -- variables with those of words KEY=VALUE
 abbrev pub vars_of : List (List ℕ × List ℕ) → List (List ℕ) → Option (List (List ℕ × List ℕ))

@@ -47,7 +47,7 @@ fn line_len(text: &[u8]) -> usize
     }
 }
 
-/// The first line, and what stands behind it.
+/// The first line, and what stands after it.
 pub(crate) fn split_line(text: &[u8]) -> (&[u8], &[u8])
     ensures line { result.0.now ≡ bundle.first_line text.now }
     ensures after { result.1.now ≡ bundle.after_line text.now }
@@ -101,10 +101,14 @@ fn to_header(text: &[u8]) -> (&[u8], &[u8], u32)
     requires { length text.now < 2 ^ 32 }
     ensures content { result.0.now ≡ bundle.lead (bundle.lines_of text.now) }
     ensures header { bundle.begins_header (bundle.lines_of result.1.now) ≡ true }
-    ensures files { bundle.files_of (bundle.lines_of result.1.now) ≡ bundle.files_of (bundle.lines_of text.now) }
-    ensures script { bundle.script_text (bundle.lines_of result.1.now) ≡ bundle.script_text (bundle.lines_of text.now) }
-    ensures number { (n : ℕ) → bundle.script_line (n + result.2) (bundle.lines_of result.1.now) ≡ bundle.script_line n (bundle.lines_of text.now) }
-    ensures bad { (n : ℕ) → bundle.bad_path (n + result.2) (bundle.lines_of result.1.now) ≡ bundle.bad_path n (bundle.lines_of text.now) }
+    ensures files { bundle.files_of (bundle.lines_of result.1.now)
+        ≡ bundle.files_of (bundle.lines_of text.now) }
+    ensures script { bundle.script_text (bundle.lines_of result.1.now)
+        ≡ bundle.script_text (bundle.lines_of text.now) }
+    ensures number { (n : ℕ) → bundle.script_line (n + result.2) (bundle.lines_of result.1.now)
+        ≡ bundle.script_line n (bundle.lines_of text.now) }
+    ensures bad { (n : ℕ) → bundle.bad_path (n + result.2) (bundle.lines_of result.1.now)
+        ≡ bundle.bad_path n (bundle.lines_of text.now) }
     ensures within { length result.1.now + result.2 ≤ length text.now }
 {
     let mut rest = text;
@@ -117,7 +121,7 @@ fn to_header(text: &[u8]) -> (&[u8], &[u8], u32)
     (content, rest, lines)
 }
 
-/// The bytes as a text, where they are UTF-8.
+/// The bytes as a text, if they are UTF-8.
 pub(crate) fn as_text(bytes: &[u8]) -> Option<&str>
     ensures test { MatchOption result (is_utf8 bytes.now ≡ false) (λ text. is_utf8 bytes.now ≡ true) }
     ensures same { IfSome result (λ text. text.now ≡ bytes.now) }
@@ -166,14 +170,14 @@ fn first_bad(bad: Option<u32>, good: bool, line: u32) -> Option<u32>
     }
 }
 
-// The first line, where it is neither a header nor the end.
+// The first line, if it is neither a header nor the end.
 fn stray(text: &[u8]) -> Option<u32>
     ensures { result ≡ (if bundle.begins_header (bundle.lines_of text.now) then None else Some 1) }
 {
     if begins_header(text) { None } else { Some(1) }
 }
 
-/// Reads a bundle: a line `%file PATH` begins a file, whose bytes are the lines up to the next such line or to `%script`; all behind
+/// Reads a bundle: a line `%file PATH` begins a file, whose bytes are the lines up to the next such line or to `%script`; all after
 /// that is the script.
 pub fn read_bundle(alloc: Global, text: &[u8]) -> Result<Bundle<'_>, AllocError>
     requires { length text.now < 2 ^ 32 - 1 }

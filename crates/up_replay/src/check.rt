@@ -1,7 +1,7 @@
 //! Checks a folder: what its faults are, and how many jobs it has.
 ghost use Rattle.std.specs.Prelude.{◌≡◌, ◌++◌, Err, IfOk, OnErr, OnOk};
 ghost use Rattle.up_image.specs.declared.refusal.CompileError.TheVariants.{Memory};
-ghost use Rattle.up_replay.specs.Folders.{checked, compiled, count_line, Checks, IsCompiled};
+ghost use Rattle.up_replay.specs.Folders.{check_output, compile_outcome, count_line, Checks, IsCompiled};
 
 use crate::lines::{push, push_decimal};
 use crate::printed::{Printed, push_faults, refused, status_of};
@@ -21,12 +21,13 @@ fn unless_memory(
         Ok(made) => Ok(Ok(made)),
         Err(CompileError::SameName) => Ok(Err(CompileError::SameName)),
         Err(CompileError::TooManyJobs) => Ok(Err(CompileError::TooManyJobs)),
+        Err(CompileError::ImageTooLarge) => Ok(Err(CompileError::ImageTooLarge)),
         Err(CompileError::Memory) => Err(AllocError),
     }
 }
 
 /// The jobs and the faults of a folder, or why it is refused.
-pub(crate) fn compiled(
+pub(crate) fn compile_outcome(
     alloc: Global,
     folder: &Folder,
 ) -> Result<Result<(Table, Report), CompileError>, AllocError>
@@ -47,11 +48,11 @@ fn push_counts(text: &mut Vec<u8>, jobs: usize, faults: usize) -> Result<(), All
     push(text, " faults\n")
 }
 
-fn print_made(
+fn render_made(
     alloc: Global,
     made: Result<(Table, Report), CompileError>,
 ) -> Result<Printed, AllocError>
-    ensures { IfOk result (λ printed. printed ≡ checked made) }
+    ensures { IfOk result (λ printed. printed ≡ check_output made) }
 {
     match made {
         Ok((table, report)) => {
@@ -70,6 +71,6 @@ fn print_made(
 pub fn check(alloc: Global, folder: &Folder) -> Result<Printed, AllocError>
     ensures { IfOk result (Checks folder.now) }
 {
-    let made = compiled(alloc, folder)?;
-    print_made(alloc, made)
+    let made = compile_outcome(alloc, folder)?;
+    render_made(alloc, made)
 }

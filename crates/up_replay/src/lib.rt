@@ -3,16 +3,19 @@
 
 pub mod bundle;
 pub mod check;
+pub mod inputs;
 pub mod lines;
 pub mod printed;
 pub mod replay;
 mod requests;
+mod same;
 pub mod script;
 mod variables;
 mod words;
 
 pub use bundle::{Bundle, read_bundle};
-pub use lines::{push_output, push_step};
-pub use printed::{Printed, cannot_use};
-pub use replay::{print, print_folder, write_printed};
+pub use inputs::script_lines;
+pub use lines::{push_output, push_outputs, push_step};
+pub use printed::{Printed, cannot_use, image_refused};
+pub use replay::{render_bundle, render_folder, write_printed};
 pub use script::script_inputs;

@@ -58,7 +58,7 @@ pub(crate) fn push_decimal(text: &mut Vec<u8>, number: u64) -> Result<(), AllocE
     push(text, digits.as_str())
 }
 
-fn push_signal(text: &mut Vec<u8>, signal: u8) -> Result<(), AllocError>
+pub(crate) fn push_signal(text: &mut Vec<u8>, signal: u8) -> Result<(), AllocError>
     ensures { OnOk result (text.new.items ≡ text.old.items ++ signal_text signal) }
 {
     match signal_name(signal) {
@@ -214,7 +214,8 @@ pub fn push_output(text: &mut Vec<u8>, output: &Output) -> Result<(), AllocError
     }
 }
 
-fn push_outputs(text: &mut Vec<u8>, outputs: &[Output]) -> Result<(), AllocError>
+/// Appends the lines of outputs.
+pub fn push_outputs(text: &mut Vec<u8>, outputs: &[Output]) -> Result<(), AllocError>
     ensures { OnOk result (text.new.items ≡ text.old.items ++ flat_map output_lines outputs.now) }
 {
     for output in outputs {

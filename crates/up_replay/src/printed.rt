@@ -1,12 +1,12 @@
 //! What the program prints, and its status.
 ghost use Rattle.std.specs.Prelude.{◌≡◌, ◌++◌, IfOk, OnOk, codes};
 ghost use Rattle.std.specs.List.{flat_map};
-ghost use Rattle.up_replay.specs.Folders.{fault_line, prints, refusal_line, status_of, unusable};
+ghost use Rattle.up_replay.specs.Folders.{fault_line, image_refusal_line, prints, refusal_line, status_of, unusable};
 
 use crate::lines::{push, push_decimal};
 use std::alloc::{AllocError, Global};
 use up_conf::{Fault, Report};
-use up_image::CompileError;
+use up_image::{CompileError, ImageError};
 use up_text::Items;
 
 /// What is printed, and the status.
@@ -49,6 +49,21 @@ pub(crate) fn status_of(report: &Report) -> u8
 #[tactic(auto, unfolding(crate::specs::Folders::refusal_line))]
 pub(crate) fn refused(alloc: Global, error: CompileError) -> Result<Printed, AllocError>
     ensures { IfOk result (λ made. made ≡ prints (refusal_line error) 3) }
+{
+    let mut text: Vec<u8> = Vec::new(alloc);
+    push(&mut text, "initd: ")?;
+    push_decimal(&mut text, u64::from(error.number()))?;
+    push(&mut text, " ")?;
+    push(&mut text, error.name())?;
+    push(&mut text, "\n")?;
+    let text = Items::new(text);
+    Ok(Printed { text, status: 3 })
+}
+
+/// The line of an image that is refused, or of a table that has none.
+#[tactic(auto, unfolding(crate::specs::Folders::image_refusal_line))]
+pub fn image_refused(alloc: Global, error: ImageError) -> Result<Printed, AllocError>
+    ensures { IfOk result (λ made. made ≡ prints (image_refusal_line error) 3) }
 {
     let mut text: Vec<u8> = Vec::new(alloc);
     push(&mut text, "initd: ")?;

@@ -5,11 +5,11 @@ ghost use Rattle.std.specs.Io.KnownBytes.{Appends};
 ghost use Rattle.up_model.specs.Answers.{answers};
 ghost use Rattle.up_replay.specs.Folders.{fault_line};
 ghost use Rattle.up_replay.specs.Lines.{step_lines};
-ghost use Rattle.up_replay.specs.Replay.{bad_step_line, played, replayed, unless_bad, Plays, Prints, Replays};
+ghost use Rattle.up_replay.specs.Replay.{bad_step_line, play_output, replay_output, unless_bad, Plays, Prints, Replays};
 ghost use Rattle.up_replay.specs.Rows.{script_inputs};
 
 use crate::bundle::{Bundle, read_bundle};
-use crate::check::compiled;
+use crate::check::compile_outcome;
 use crate::lines::{push, push_decimal, push_step};
 use crate::printed::{Printed, cannot_use, push_faults, refused, status_of};
 use crate::script::script_inputs;
@@ -45,10 +45,14 @@ fn push_bad_step(text: &mut Vec<u8>, name: &str, line: u32) -> Result<(), AllocE
 }
 
 // The steps of a run from nothing.
-fn run(alloc: Global, table: Table, inputs: Vec<Input>) -> Result<Items<Step>, AllocError>
-    ensures { IfOk result (λ steps. steps ≡ answers (record { base = []; jobs = table }) [] inputs.items) }
+fn run(
+    alloc: Global,
+    table: Table,
+    base: Env,
+    inputs: Vec<Input>,
+) -> Result<Items<Step>, AllocError>
+    ensures { IfOk result (λ steps. steps ≡ answers (record { base = base; jobs = table }) [] inputs.items) }
 {
-    let base = Env::new(alloc);
     let mut engine = Engine::new(alloc, table, base)?;
     let run = engine.run(inputs);
     drop(engine);
@@ -68,7 +72,8 @@ fn run(alloc: Global, table: Table, inputs: Vec<Input>) -> Result<Items<Step>, A
 // The inputs of a bundle, or its first bad line.
 fn inputs_in(alloc: Global, bundle: &Bundle<'_>) -> Result<Result<Items<Input>, u32>, AllocError>
     requires { bundle.now.line + length bundle.now.script.now < 4294967295 }
-    ensures { IfOk result (λ read. read ≡ unless_bad bundle.now.bad (script_inputs bundle.now.line bundle.now.script.now)) }
+    ensures { IfOk result (λ read. read ≡ unless_bad bundle.now.bad
+        (script_inputs bundle.now.line bundle.now.script.now)) }
 {
     match bundle.bad {
         Some(line) => Ok(Err(line)),
@@ -76,17 +81,19 @@ fn inputs_in(alloc: Global, bundle: &Bundle<'_>) -> Result<Result<Items<Input>, 
     }
 }
 
-// A folder's faults, and behind them what a run gave.
+// A folder's faults, and after them what a run gave.
 fn push_run(text: &mut Vec<u8>, report: &Report, steps: &[Step]) -> Result<(), AllocError>
-    ensures { OnOk result (text.new.items ≡ text.old.items ++ (flat_map fault_line report.now ++ flat_map step_lines steps.now)) }
+    ensures { OnOk result (text.new.items ≡ text.old.items
+        ++ (flat_map fault_line report.now ++ flat_map step_lines steps.now)) }
 {
     push_faults(text, report.as_slice())?;
     push_steps(text, steps)
 }
 
-// A folder's faults, and behind them the first bad line of a script.
+// A folder's faults, and after them the first bad line of a script.
 fn push_no_run(text: &mut Vec<u8>, report: &Report, name: &str, line: u32) -> Result<(), AllocError>
-    ensures { OnOk result (text.new.items ≡ text.old.items ++ (flat_map fault_line report.now ++ bad_step_line name.now line)) }
+    ensures { OnOk result (text.new.items ≡ text.old.items
+        ++ (flat_map fault_line report.now ++ bad_step_line name.now line)) }
 {
     push_faults(text, report.as_slice())?;
     push_bad_step(text, name, line)
@@ -96,15 +103,16 @@ fn play(
     alloc: Global,
     table: Table,
     report: &Report,
+    base: Env,
     name: &str,
     read: Result<Items<Input>, u32>,
 ) -> Result<Printed, AllocError>
-    ensures { IfOk result (λ made. made ≡ played name.now table report.now read) }
+    ensures { IfOk result (λ made. made ≡ play_output base name.now table report.now read) }
 {
     let mut text: Vec<u8> = Vec::new(alloc);
     match read {
         Ok(inputs) => {
-            let steps = run(alloc, table, inputs.into_vec())?;
+            let steps = run(alloc, table, base, inputs.into_vec())?;
             let pushed = push_run(&mut text, report, steps.as_slice());
             drop(steps);
             pushed?;
@@ -121,36 +129,39 @@ fn play(
     }
 }
 
-fn print_made(
+fn render_made(
     alloc: Global,
     made: Result<(Table, Report), CompileError>,
+    base: Env,
     name: &str,
     read: Result<Items<Input>, u32>,
 ) -> Result<Printed, AllocError>
-    ensures { IfOk result (λ printed. printed ≡ replayed name.now made read) }
+    ensures { IfOk result (λ printed. printed ≡ replay_output base name.now made read) }
 {
     match made {
-        Ok((table, report)) => play(alloc, table, &report, name, read),
+        Ok((table, report)) => play(alloc, table, &report, base, name, read),
         Err(error) => refused(alloc, error),
     }
 }
 
-/// What is printed for a folder and the inputs of a script with this name, or the script's first bad line.
-pub fn print_folder(
+/// What is printed for a folder and the inputs of a script with this name, or the script's first bad line. Each process gets the base
+/// environment.
+pub fn render_folder(
     alloc: Global,
     folder: &Folder,
+    base: Env,
     name: &str,
     read: Result<Items<Input>, u32>,
 ) -> Result<Printed, AllocError>
-    ensures { IfOk result (Plays folder.now name.now read) }
+    ensures { IfOk result (Plays folder.now base name.now read) }
 {
-    let made = compiled(alloc, folder)?;
-    print_made(alloc, made, name, read)
+    let made = compile_outcome(alloc, folder)?;
+    render_made(alloc, made, base, name, read)
 }
 
 /// What is printed for the bytes of a bundle.
 #[tactic(auto, unfolding(crate::specs::Replay::bundle_printed, crate::specs::Replay::inputs_in), using(crate::proofs::Sizes::script_small, crate::proofs::Limits::prints_long))]
-pub fn print(alloc: Global, bytes: &[u8]) -> Result<Printed, AllocError>
+pub fn render_bundle(alloc: Global, bytes: &[u8]) -> Result<Printed, AllocError>
     ensures { IfOk result (Prints bytes.now) }
 {
     if bytes.len() > MAX_LEN {
@@ -158,12 +169,13 @@ pub fn print(alloc: Global, bytes: &[u8]) -> Result<Printed, AllocError>
     }
     let bundle = read_bundle(alloc, bytes)?;
     let read = inputs_in(alloc, &bundle)?;
-    print_folder(alloc, &bundle.folder, "-", read)
+    render_folder(alloc, &bundle.folder, Env::new(alloc), "-", read)
 }
 
 // All bytes, but at most one more than a bundle may have.
 fn read_all<R: Read>(alloc: Global, reader: &mut R) -> io::Result<Vec<u8>>
-    ensures { IfOk result (λ bytes. IfSome (R.remaining reader.old) (λ all. bytes.items ≡ take 67108865 all)) }
+    ensures { IfOk result (λ bytes. IfSome (R.remaining reader.old)
+        (λ all. bytes.items ≡ take 67108865 all)) }
 {
     let mut bytes: Vec<u8> = Vec::new(alloc);
     let mut limited = Read::take(reader, 67_108_865);
@@ -171,9 +183,10 @@ fn read_all<R: Read>(alloc: Global, reader: &mut R) -> io::Result<Vec<u8>>
     Ok(bytes)
 }
 
-/// Writes what is printed, and gives the status: 3 where it can't be written.
+/// Writes what is printed, and gives the status: 3 if it can't be written.
 pub fn write_printed<W: Write>(writer: &mut W, made: &Printed) -> u8
-    ensures written { result < 3 → (result ≡ made.now.status) × Appends (W.contents writer.old) (W.contents writer.new) made.now.text }
+    ensures written { result < 3 → (result ≡ made.now.status)
+        × Appends (W.contents writer.old) (W.contents writer.new) made.now.text }
     ensures status { (result ≡ made.now.status) ⊎ (result ≡ 3) }
 {
     match writer.write_all(made.text.as_slice()) {
@@ -190,13 +203,14 @@ fn write_unreadable<W: Write>(writer: &mut W) -> u8
     3
 }
 
-/// Reads a bundle, writes what is printed for it and gives the status: 0; 1 with faulty files; 2 at a bad step; 3 where the folder is
-/// refused or the bundle can't be read or written; 4 for want of memory.
+/// Reads a bundle, writes what is printed for it and gives the status: 0; 1 with faulty files; 2 at a bad step; 3 if the folder is
+/// refused or the bundle can't be read or written; 4 if memory ran out.
 pub fn replay<R: Read, W: Write>(alloc: Global, reader: &mut R, writer: &mut W) -> u8
-    ensures { IfSome (R.remaining reader.old) (λ bytes. Replays bytes result (W.contents writer.old) (W.contents writer.new)) }
+    ensures { IfSome (R.remaining reader.old)
+        (λ bytes. Replays bytes result (W.contents writer.old) (W.contents writer.new)) }
 {
     match read_all(alloc, reader) {
-        Ok(bytes) => match print(alloc, bytes.as_slice()) {
+        Ok(bytes) => match render_bundle(alloc, bytes.as_slice()) {
             Ok(made) => write_printed(writer, &made),
             Err(_) => 4,
         },

@@ -1,7 +1,7 @@
 //! Reads the requests of a script.
 ghost use Rattle.std.specs.Prelude.{◌≡◌, ◌||◌, true, false, IfOk};
 ghost use Rattle.up_model.specs.Requests.{may_wait, is_alone};
-ghost use Rattle.up_replay.specs.Requests.{command_of, begins_no_wait, alone, with_name, with_words, asked_by, request_of};
+ghost use Rattle.up_replay.specs.Requests.{command_of, begins_no_wait, alone, with_name, with_words, request_by, request_of};
 
 use crate::variables::{name_of, vars_of};
 use std::alloc::{AllocError, Global};
@@ -113,8 +113,12 @@ fn with_words(
     }
 }
 
-fn asked_by(alloc: Global, words: &[Text], command: Command) -> Result<Option<Request>, AllocError>
-    ensures { IfOk result (λ request. request ≡ asked_by words.now command) }
+fn request_by(
+    alloc: Global,
+    words: &[Text],
+    command: Command,
+) -> Result<Option<Request>, AllocError>
+    ensures { IfOk result (λ request. request ≡ request_by words.now command) }
 {
     if command.may_wait() && begins_no_wait(words) {
         with_words(alloc, command, false, &words[1..])
@@ -123,7 +127,7 @@ fn asked_by(alloc: Global, words: &[Text], command: Command) -> Result<Option<Re
     }
 }
 
-/// The request of the words behind `request`.
+/// The request of the words after `request`.
 pub(crate) fn request_of(alloc: Global, words: &[Text]) -> Result<Option<Input>, AllocError>
     ensures { IfOk result (λ input. input ≡ request_of words.now) }
 {
@@ -136,7 +140,7 @@ pub(crate) fn request_of(alloc: Global, words: &[Text]) -> Result<Option<Input>,
     let Some(command) = command_of(name) else {
         return Ok(None);
     };
-    match asked_by(alloc, words, command)? {
+    match request_by(alloc, words, command)? {
         Some(request) => Ok(Some(Input::Request { id, request })),
         None => Ok(None),
     }

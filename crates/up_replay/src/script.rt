@@ -72,10 +72,11 @@ fn next_word(alloc: Global, lexer: &mut Lexer) -> Result<Next, AllocError>
     }
 }
 
-// The words of the step in front, where each is whole; the lexer then stands behind it.
+// The words of the step in front, where each is whole; the lexer then stands after it.
 fn step_words(alloc: Global, lexer: &mut Lexer) -> Result<Option<Items<Text>>, AllocError>
     ensures words { IfOk result (λ words. words ≡ texts_in (lexemes_of lexer.old)) }
-    ensures behind { IfOk result (λ words. IfSome words (λ _. lexemes_of lexer.new ≡ behind_step (lexemes_of lexer.old))) }
+    ensures behind { IfOk result (λ words. IfSome words
+        (λ _. lexemes_of lexer.new ≡ behind_step (lexemes_of lexer.old))) }
     ensures within { ReachesNoFurther lexer.new lexer.old }
 {
     let mut words: Vec<Text> = Vec::new(alloc);
@@ -89,10 +90,11 @@ fn step_words(alloc: Global, lexer: &mut Lexer) -> Result<Option<Items<Text>>, A
     Ok(Some(Items::new(words)))
 }
 
-// The inputs of the step in front, where it is no bad one; the lexer then stands behind it.
+// The inputs of the step in front, if it is no bad one; the lexer then stands after it.
 fn step_inputs(alloc: Global, lexer: &mut Lexer) -> Result<Option<Items<Input>>, AllocError>
     ensures inputs { IfOk result (λ inputs. inputs ≡ step_inputs (lexemes_of lexer.old)) }
-    ensures behind { IfOk result (λ inputs. IfSome inputs (λ _. lexemes_of lexer.new ≡ behind_step (lexemes_of lexer.old))) }
+    ensures behind { IfOk result (λ inputs. IfSome inputs
+        (λ _. lexemes_of lexer.new ≡ behind_step (lexemes_of lexer.old))) }
     ensures within { ReachesNoFurther lexer.new lexer.old }
 {
     match step_words(alloc, lexer)? {

@@ -1,7 +1,7 @@
 //! What command lines ask for.
 use std::alloc::{AllocError, Global};
 use std::test::Fail;
-use up_command::{Asked, print_refusal, read_words};
+use up_command::{Asked, Rounds, Telling, print_refusal, read_words};
 
 // What a command line gives: what it asks for, or the status or the text of its refusal.
 enum Wanted {
@@ -12,7 +12,7 @@ enum Wanted {
 
 type Case = (&'static [&'static str], Wanted);
 
-static ASKED: [Case; 5] = [
+static ASKED: [Case; 9] = [
     (&["initd"], Wanted::Asked(Asked::Bundle)),
     (
         &["initd", "check", "jobs"],
@@ -36,13 +36,69 @@ static ASKED: [Case; 5] = [
             script: "replay",
         }),
     ),
+    (
+        &["initd", "replay", "a", "b", "--env", "A=1", "--env", "A="],
+        Wanted::Asked(Asked::Replay {
+            dir: "a",
+            script: "b",
+        }),
+    ),
+    (
+        &["initd", "compile", "jobs", "jobs.image"],
+        Wanted::Asked(Asked::Compile {
+            dir: "jobs",
+            image: "jobs.image",
+        }),
+    ),
+    (
+        &["initd", "show", "jobs.image"],
+        Wanted::Asked(Asked::Show {
+            image: "jobs.image",
+        }),
+    ),
+    (
+        &[
+            "initd",
+            "run",
+            "jobs.image",
+            "--verbose",
+            "s",
+            "--record",
+            "r",
+            "--rounds",
+            "3",
+        ],
+        Wanted::Asked(Asked::Run {
+            source: "jobs.image",
+            socket: "s",
+            rounds: Rounds {
+                count: 3,
+                most_pause: 10,
+            },
+            telling: Telling {
+                verbose: true,
+                log: Some("r"),
+            },
+        }),
+    ),
 ];
 
-static REFUSED: [Case; 11] = [
+static REFUSED: [Case; 16] = [
     (&["initd", "check"], Wanted::Status(2)),
     (&["initd", "check", "a", "b"], Wanted::Status(2)),
     (&["initd", "replay", "a"], Wanted::Status(2)),
     (&["initd", "replay", "a", "b", "c"], Wanted::Status(2)),
+    (
+        &["initd", "replay", "a", "b", "--env", "A"],
+        Wanted::Status(2),
+    ),
+    (
+        &["initd", "replay", "a", "b", "--env", "1=2"],
+        Wanted::Status(2),
+    ),
+    (&["initd", "check", "a", "--env", "A=1"], Wanted::Status(2)),
+    (&["initd", "compile", "a"], Wanted::Status(2)),
+    (&["initd", "show"], Wanted::Status(2)),
     (&["initd", "chek", "a"], Wanted::Status(2)),
     (&["initd", "a.bundle"], Wanted::Status(2)),
     (&["initd", "--fast"], Wanted::Status(2)),
@@ -64,7 +120,7 @@ fn strings(alloc: Global, words: &[&str]) -> Result<Vec<String>, AllocError> {
 
 fn asks(alloc: Global, words: &[String], asked: &Asked) -> bool {
     match read_words(alloc, words) {
-        Ok(found) => found == *asked,
+        Ok((found, _)) => found == *asked,
         Err(_) => false,
     }
 }

@@ -5,6 +5,7 @@ use std::{fs, io};
 use up_command::answer::answer;
 use up_command::{Asked, check_dir, replay_dir};
 use up_replay::Printed;
+use up_text::Env;
 
 // Files that are written, by their paths in the folder; what is printed then, as `text_of` takes it; and the status.
 type Step = (&'static [(&'static str, &'static [u8])], &'static str, u8);
@@ -36,7 +37,7 @@ fn checks(rt: &HostRuntime, dir: &str, path: &str, wanted: (&str, u8)) -> Result
 // Whether a replay of the folder's script prints this, with this status.
 fn replays(rt: &HostRuntime, dir: &str, wanted: (&str, u8)) -> Result<bool, Fail> {
     let script = below(rt, dir, "up.script")?;
-    let made = replay_dir(rt, dir, script.as_str())?;
+    let made = replay_dir(rt, dir, Env::new(rt.alloc()), script.as_str())?;
     Ok(is_printed(rt, dir, &made, wanted)?)
 }
 
@@ -114,8 +115,8 @@ fn answers(rt: &HostRuntime, dir: &str) -> Result<bool, Fail> {
     make_file(rt, dir, "up.script", b"turn 0\n")?;
     let script = below(rt, dir, "up.script")?;
     let script = script.as_str();
-    let checked = answer(rt, Asked::Check { dir })?;
-    let replayed = answer(rt, Asked::Replay { dir, script })?;
+    let checked = answer(rt, Asked::Check { dir }, Env::new(rt.alloc()))?;
+    let replayed = answer(rt, Asked::Replay { dir, script }, Env::new(rt.alloc()))?;
     Ok(checked == 0 && replayed == 2)
 }
 

@@ -454,7 +454,7 @@ fn worked_rows(rt: HostRuntime) -> Result<(), Fail> {
 }
 
 // What came of a run of the row `startup`. Where memory is refused in its midst, its steps are the first of the row's, and the engine
-// is down; where it is refused before, nothing has happened.
+// is down; if it is refused before, nothing has happened.
 #[derive(Clone, Copy, Debug, PartialEq, Eq)]
 enum Outcome {
     Whole,
@@ -541,7 +541,7 @@ fn always_memory(rt: HostRuntime) -> Result<(), Fail> {
     Ok(())
 }
 
-// The same where an allocation fails: `rt try --test --fail-alloc N -- engine::memory_refused`. It passes also where the row's
+// The same if an allocation fails: `rt try --test --fail-alloc N -- engine::memory_refused`. It passes also if the row's
 // inputs, its table or the texts to compare were refused memory.
 #[test]
 fn memory_refused(rt: HostRuntime) -> Result<(), Fail> {

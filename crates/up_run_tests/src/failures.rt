@@ -199,7 +199,7 @@ static FAILURES: [(At, &[u8], &str); 8] = [
     (At::Nothing, b"a.conf\0\xff\0", "etc"),
 ];
 
-// Whether the path is named; and where what fails does so for want of memory, that is told.
+// Whether the path is named; and if what fails does so because memory ran out, that is told.
 fn is_named(alloc: Global, at: At, names: &'static [u8], path: &'static str) -> bool {
     let mut fake = Fake {
         alloc,

@@ -1,6 +1,7 @@
 //! What is printed for bundles.
 mod distribution;
 mod expressions;
+mod inputs;
 mod lines;
 mod reader;
 mod requests;
@@ -161,7 +162,7 @@ fn bundles(rt: HostRuntime) {
     check_topic(&rt, &("bundles", &BUNDLES));
 }
 
-/// Lines that are steps, and what the engine answers where it has no job.
+/// Lines that are steps, and what the engine answers if it has no job.
 static STEPS: [(&[u8], &str); 33] = [
     (b"turn", ""),
     (b"turn 1", ""),

@@ -41,7 +41,7 @@ pub(crate) fn expect(is_so: bool, what: &str, place: usize) -> Result<(), Fail> 
     Err(Fail::new(format_args!("not so: {what}, at {place}")))
 }
 
-// What is made in a folder, by its path there. The target of a link stands behind its path, as `text_of` takes it.
+// What is made in a folder, by its path there. The target of a link stands after its path, as `text_of` takes it.
 enum Made {
     Folder(&'static str),
     File(&'static str, &'static [u8]),

@@ -13,7 +13,7 @@ use Rattle.up_stanza.proofs.Saying.{said_finished, said_more}
 use Rattle.up_stanza.proofs.Shrinking.{stanza_less}
 use Rattle.up_stanza.proofs.Standing.{StandsAt-stanza_at, stanza_at-StandsAt, stanza_first}
 
--- behind the end of a text nothing is read
+-- after the end of a text nothing is read
 goes_on : (place next : Place) (token : Token) → reading place ≡ Got token next → is_finished place ≡ false
 goes_on place next token got = by_case (is_finished place) refl
   where

@@ -27,7 +27,7 @@ one_more : (n : ℕ) (place : Place) → said_from (suc n) place ≡ cond (is_fi
 unfolding said_from
 one_more n place = refl
 
--- what is left is a stanza, and what is left behind it
+-- what is left is a stanza, and what is left after it
 pub said_of-is : (place : Place) → said_of place ≡ cond (is_finished place) ([], None) (said_then (λ behind. said_of behind) (line_at place) (stanza_at place))
 unfolding said_of
 said_of-is place =
@@ -48,7 +48,7 @@ said_finished place finished = said_of-is place ∙ rw finished refl
 pub said_more : (place : Place) (found : Found Stanza) → is_finished place ≡ false → stanza_at place ≡ found → said_of place ≡ said_then (λ behind. said_of behind) (line_at place) found
 said_more place found goes_on is = said_of-is place ∙ rw (goes_on, is) refl
 
--- with the stanzas in front of them
+-- with the stanzas before them
 
 pub behind_more : (stanzas : List Stanza) (place behind : Place) (stanza : Stanza) → is_finished place ≡ false → stanza_at place ≡ Some (stanza, behind)
     → said_behind (stanzas ++ stanza ∷ []) (said_of behind) ≡ said_behind stanzas (said_of place)

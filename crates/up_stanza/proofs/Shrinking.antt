@@ -21,7 +21,7 @@ use Rattle.up_stanza.specs.Arguments.{listed_of}
 use Rattle.up_stanza.specs.Kinds.{kind_of}
 use Rattle.up_stanza.specs.Stanzas.{Found, made, found_by, unswitched, expression_in, expression_by, texts_at, with_end, command_by, command_at, script_of, script_by, script_at, action_by, action_at, said_as, said_by, stanza_by, stanza_at}
 
--- how much of the text is left behind a part, where it is read
+-- how much of the text is left after a part, if it is read
 abbrev left : {X : Type 0} → Found X → ℕ
 left None = 0
 left (Some found) = length found.1.rest

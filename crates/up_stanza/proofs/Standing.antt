@@ -118,7 +118,7 @@ switched_of {X} (Some found) x behind is =
     let same = ap (λ (p : X × Place). p.1) pair in
     record { end = found.1; is = ap (λ v. Some (v, found.1)) value; back = sym same }
 
--- the expression behind `on`
+-- the expression after `on`
 
 IsOn-by : (word : List ℕ) (place next : Place) (tree : Tree) (behind : Place) → Says place word next → expression_by (reading next) ≡ Some (tree, behind) → IsOn word tree place behind
 IsOn-by word place next tree behind first is = by_reading (reading next) refl is

@@ -66,7 +66,7 @@ lacks_by old new answers = by_reading (reading old) answers
     by_reading (Ended behind) is = absurd (cc)
     by_reading (Fails why) is = cc
 
--- and only where the text of a command isn't refused
+-- and only if the text of a command isn't refused
 pub text_lacks : (old new : Place) → ReadsCommand old (Err Memory) new → (fault : TextFault) → fault_in (row_at old) ≡ Some fault → fault ≡ Memory
 text_lacks old new reads fault is = by_fault (fault_in (row_at old)) is reads
   where

@@ -13,7 +13,7 @@ is_shell byte = list_any (λ special. special == byte) (codes "~`!$^&*()=|\\{}[]
 abbrev pub words_action : List (List ℕ) → Option Action
 words_action words = if nat_le (length words) 65535 then Some (Words words) else None
 
--- what the text of a command says: words where it needs no shell
+-- what the text of a command says: words if it needs no shell
 unfoldable pub action_of : List ℕ → Option Action
 action_of text =
     if length text == 0 then None

@@ -21,7 +21,7 @@ abbrev pub none : {X : Type 0} → X → List (List ℕ) → Option X
 none x [] = Some x
 none x (text ∷ others) = None
 
--- an item in front of others, where there are both
+-- an item before others, if there are both
 abbrev pub with_first : {X : Type 0} → Option X → Option (List X) → Option (List X)
 with_first None others = None
 with_first (Some x) None = None
@@ -41,12 +41,12 @@ filled (text ∷ texts) = Some (text ∷ texts)
 abbrev pub some : {X : Type 0} → (List ℕ → Option X) → List (List ℕ) → Option (List X)
 some f texts = option_and_then (each f) (filled texts)
 
--- the arguments behind this word
+-- the arguments after this word
 abbrev pub behind : List ℕ → List (List ℕ) → Option (List (List ℕ))
 behind word [] = None
 behind word (text ∷ texts) = if bytes_eq text word then Some texts else None
 
--- a limit of these numbers, where there are both
+-- a limit of these numbers, if there are both
 abbrev pub limit_by : Option ℕ → Option ℕ → Option Limit
 limit_by None interval = None
 limit_by (Some count) None = None

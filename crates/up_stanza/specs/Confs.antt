@@ -35,7 +35,7 @@ abbrev pub stanzas_unless : List Stanza → Option ℕ → Result (List Stanza) 
 stanzas_unless stanzas None = Ok stanzas
 stanzas_unless stanzas (Some line) = Err line
 
--- where the stanzas up to the first unreadable one have too many keys, the whole file is too large
+-- if the stanzas up to the first unreadable one have too many keys, the whole file is too large
 abbrev pub limited : Said → Result (List Stanza) ℕ
 limited said = if has_few_keys said.0 then stanzas_unless said.0 said.1 else Err 1
 

@@ -23,6 +23,6 @@ IsWholeFault bytes =
 abbrev pub IsUnreadableAt : List ℕ → ℕ → Type 0
 IsUnreadableAt bytes line = (is_readable bytes ≡ true) × (stanzas : List Stanza) × StopsAt (start bytes) stanzas line × (has_few_keys stanzas ≡ true)
 
--- the line of a file's fault: 1 where the whole file is at fault, and else that of the first unreadable stanza
+-- the line of a file's fault: 1 if the whole file is at fault, and else that of the first unreadable stanza
 abbrev pub FirstFault : List ℕ → ℕ → Type 0
 FirstFault bytes line = (IsWholeFault bytes × (line ≡ 1)) ⊎ IsUnreadableAt bytes line

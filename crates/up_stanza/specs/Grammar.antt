@@ -73,7 +73,7 @@ pub record IsScript (action : Action) (place behind : Place) : Type 0 where
 abbrev pub IsAction : Action → Place → Place → Type 0
 IsAction action place behind = IsExec action place behind ⊎ IsScript action place behind
 
--- the main process has no word; what another one runs stands behind its word
+-- the main process has no word; what another one runs stands after its word
 abbrev pub IsRun : processes.Process → Action → Place → Place → Type 0
 IsRun process.Main action place behind = IsAction action place behind
 IsRun process.PreStart action place behind = (next : Place) × Says place (codes "pre-start") next × IsAction action next behind
@@ -88,7 +88,7 @@ pub data IsAbout : List ℕ → Type 0 where
   IsVersion : IsAbout (codes "version")
   IsUsage : IsAbout (codes "usage")
 
--- a stanza stands at a place, and this is the place behind it
+-- a stanza stands at a place, and this is the place after it
 abbrev pub StandsAt : Place → Stanza → Place → Type 0
 StandsAt place (About text) behind = (word : List ℕ) × IsAbout word × IsListed word (text ∷ []) place behind
 StandsAt place (Emits texts) behind = (is_filled texts ≡ true) × IsListed (codes "emits") texts place behind

@@ -11,7 +11,7 @@ is_digit byte = nat_le 48 byte && nat_le byte 57
 abbrev pub are_digits : List ℕ → Bool
 are_digits text = not (length text == 0) && list_all is_digit text
 
--- the number that digits write, where it has 64 bits
+-- the number that digits write, if it has 64 bits
 unfoldable pub decimal_of : List ℕ → Option ℕ
 decimal_of text = if are_digits text && nat_lt (digits_value 10 text) (2 ^ 64) then Some (digits_value 10 text) else None
 

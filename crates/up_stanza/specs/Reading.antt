@@ -13,12 +13,12 @@ use Rattle.up_stanza.specs.declared.row.Next.TheVariants as next
 use Rattle.up_stanza.specs.declared.stanza.Stanza.{Stanza}
 use Rattle.up_stanza.specs.Stanzas.{Found, Said, expression_by}
 
--- items that were read, and those behind them
+-- items that were read, and those after them
 abbrev pub items_before : {X : Type 0} → List X → Option (List X) → Option (List X)
 items_before xs None = None
 items_before xs (Some others) = Some (xs ++ others)
 
--- and the place behind them all
+-- and the place after them all
 abbrev pub put_before : {X : Type 0} → List X → Found (List X) → Found (List X)
 put_before xs None = None
 put_before xs (Some row) = Some (xs ++ row.0, row.1)
@@ -40,7 +40,7 @@ abbrev pub IsFound : {X : Type 0} → Found X → Result X FaultCode → Place �
 IsFound found (Ok x) new = found ≡ Some (x, new)
 IsFound found (Err code) new = found ≡ None
 
--- whether the token `on` is read, and the place behind it
+-- whether the token `on` is read, and the place after it
 abbrev pub HasOn : Reading → Result (Unit {0}) FaultCode → Place → Type 0
 HasOn read (Ok done) new = (token : Token) × (read ≡ Got token new) × (bytes_eq token.text (codes "on") ≡ true)
 HasOn read (Err code) new = expression_by read ≡ None
@@ -50,7 +50,7 @@ abbrev pub HasText : Place → Result (List ℕ) FaultCode → Place → Type 0
 HasText old (Ok text) new = (fault_in (row_at old) ≡ None) × (text ≡ command_in (row_at old)) × (new ≡ passing (length (row_at old)) old)
 HasText old (Err code) new = (fault : TextFault) × (fault_in (row_at old) ≡ Some fault)
 
--- stanzas that were read, and those behind them
+-- stanzas that were read, and those after them
 abbrev pub said_behind : List Stanza → Said → Said
 said_behind stanzas said = (stanzas ++ said.0, said.1)
 

@@ -19,7 +19,7 @@ term = 15
 abbrev pub is_signal : ℕ → Bool
 is_signal number = nat_le 1 number && nat_le number 31
 
--- the name of the signal with this number, where there is one
+-- the name of the signal with this number, if there is one
 unfoldable pub name_of : ℕ → Option (List ℕ)
 name_of number = if number == 0 then None else slice_get names (number - 1)
 

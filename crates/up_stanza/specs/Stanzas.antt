@@ -21,7 +21,7 @@ use Rattle.up_stanza.specs.Actions.{action_of}
 use Rattle.up_stanza.specs.Arguments.{listed_of}
 use Rattle.up_stanza.specs.Kinds.{kind_of}
 
--- a part of a stanza that is read, and the place behind it
+-- a part of a stanza that is read, and the place after it
 abbrev pub Found : Type 0 → Type 0
 Found X = Option (X × Place)
 
@@ -35,7 +35,7 @@ abbrev pub found_by : {X Y : Type 0} → (X → Option Y) → Found X → Found 
 found_by f None = None
 found_by f (Some found) = option_map (λ y. (y, found.1)) (f found.0)
 
--- no parenthesis is a token any more behind a part
+-- no parenthesis is a token any more after a part
 abbrev pub unswitched : {X : Type 0} → Found X → Found X
 unswitched None = None
 unswitched (Some found) = Some (found.0, switched false found.1)
@@ -44,7 +44,7 @@ unswitched (Some found) = Some (found.0, switched false found.1)
 abbrev pub expression_in : List Token → Option Tree
 expression_in tokens = if nat_le (operators tokens) 2047 then outcome tokens begin else None
 
--- the expression behind the token `on`, where parentheses are tokens
+-- the expression after the token `on`, where parentheses are tokens
 abbrev pub expression_by : Reading → Found Tree
 expression_by (Got token behind) =
     if bytes_eq token.text (codes "on") then unswitched (found_by expression_in (row_of (switched true behind))) else None
@@ -55,14 +55,14 @@ expression_by (Fails fault) = None
 abbrev pub texts_at : Place → Found (List (List ℕ))
 texts_at place = made (λ tokens. map (λ token. token.text) tokens) (row_of place)
 
--- a part with the end of its stanza behind it
+-- a part with the end of its stanza after it
 abbrev pub with_end : {X : Type 0} → Option X → Reading → Found X
 with_end None read = None
 with_end (Some x) (Ended behind) = Some (x, behind)
 with_end (Some x) (Got token behind) = None
 with_end (Some x) (Fails fault) = None
 
--- the command whose text goes up to the stanza's end, where the text is whole
+-- the command whose text goes up to the stanza's end, if the text is whole
 abbrev pub command_by : Place → Option TextFault → Found Action
 command_by place None = with_end (action_of (command_in (row_at place))) (reading (passing (length (row_at place)) place))
 command_by place (Some fault) = None
@@ -70,12 +70,12 @@ command_by place (Some fault) = None
 abbrev pub command_at : Place → Found Action
 command_at place = command_by place (fault_in (row_at place))
 
--- the script of these lines, and the place behind its end line
+-- the script of these lines, and the place after its end line
 abbrev pub script_of : Place → Option (List (List ℕ) × List ℕ) → Found Action
 script_of place None = None
 script_of place (Some script) = Some (Shell (concat script.0), behind_stanza (passing (length (concat script.0) + length script.1) place))
 
--- the script that begins behind the end of a line
+-- the script that begins after the end of a line
 abbrev pub script_by : Reading → Found Action
 script_by (Ended behind) = script_of behind (script_in (lines_of behind.rest))
 script_by (Got token behind) = None
@@ -96,7 +96,7 @@ action_by (Fails fault) = None
 abbrev pub action_at : Place → Found Action
 action_at place = action_by (reading place)
 
--- what a stanza of this kind says with what stands behind its first token
+-- what a stanza of this kind says with what stands after its first token
 abbrev pub said_as : Kind → Place → Found Stanza
 said_as (kind.Listed kind) place = found_by (listed_of kind) (texts_at place)
 said_as kind.Exec place = made (Runs process.Main) (command_at place)
@@ -108,7 +108,7 @@ said_as kind.PostStop place = made (Runs process.PostStop) (action_at place)
 said_as kind.Start place = made StartOn (expression_by (reading place))
 said_as kind.Stop place = made StopOn (expression_by (reading place))
 
--- what a first token says with what stands behind it, where it begins a stanza
+-- what a first token says with what stands after it, where it begins a stanza
 abbrev pub said_by : Option Kind → Place → Found Stanza
 said_by None place = None
 said_by (Some kind) place = said_as kind place
@@ -119,7 +119,7 @@ stanza_by (Got token behind) = said_by (kind_of token.text) behind
 stanza_by (Ended behind) = None
 stanza_by (Fails fault) = None
 
--- what the stanza at a place says, and the place behind it; nothing where it is unreadable
+-- what the stanza at a place says, and the place after it; nothing if it is unreadable
 abbrev pub stanza_at : Place → Found Stanza
 stanza_at place = stanza_by (reading place)
 

@@ -31,7 +31,7 @@ pub(crate) fn read_key(alloc: Global, text: &str) -> Result<Result<Text, FaultCo
     Ok(Ok(key))
 }
 
-// The parts of a text before and behind its first =, where it has one.
+// The parts of a text before and after its first =, if it has one.
 fn split_setting(text: &str) -> Option<(&str, &str)>
     ensures { MatchOption result (has_equals text.now ≡ false) (λ parts. (has_equals text.now ≡ true) × (parts.0.now ≡ before_first is_equals text.now) × (parts.1.now ≡ after_first is_equals text.now)) }
 {

@@ -100,7 +100,7 @@ fn read_text(alloc: Global, text: &str) -> Result<Result<Stanzas, ConfFault>, Al
     }
 }
 
-// The bytes as a text, where they are UTF-8.
+// The bytes as a text, if they are UTF-8.
 fn as_text(bytes: &[u8]) -> Option<&str>
     ensures test { MatchOption result (is_utf8 bytes.now ≡ false) (λ text. is_utf8 bytes.now ≡ true) }
     ensures same { IfSome result (λ text. text.now ≡ bytes.now) }
@@ -111,7 +111,7 @@ fn as_text(bytes: &[u8]) -> Option<&str>
     }
 }
 
-// The text of a file's bytes, where they may be read.
+// The text of a file's bytes, if they may be read.
 #[tactic(auto, unfolding(crate::specs::Confs::is_readable))]
 fn text_of(bytes: &[u8]) -> Result<&str, FaultCode>
     ensures test { MatchResult result (λ text. is_readable bytes.now ≡ true) (λ code. is_readable bytes.now ≡ false) }
@@ -130,7 +130,7 @@ fn text_of(bytes: &[u8]) -> Result<&str, FaultCode>
     }
 }
 
-/// The stanzas of a file, or why it has none; an `AllocError` where memory is refused.
+/// The stanzas of a file, or why it has none; an `AllocError` if memory is refused.
 #[tactic(auto, unfolding(crate::specs::Confs::conf_of))]
 pub fn read_bytes(alloc: Global, bytes: &[u8]) -> Result<Result<Stanzas, ConfFault>, AllocError>
     ensures { IfOk result (λ read. IsConf (conf_of bytes.now) read) }
@@ -141,8 +141,8 @@ pub fn read_bytes(alloc: Global, bytes: &[u8]) -> Result<Result<Stanzas, ConfFau
     }
 }
 
-/// The stanzas of a file. Every fault but `Memory` comes only where the file isn't well formed, and its line is that of the first
-/// unreadable stanza, or 1 where the whole file is at fault.
+/// The stanzas of a file. Every fault but `Memory` comes only if the file isn't well formed, and its line is that of the first
+/// unreadable stanza, or 1 if the whole file is at fault.
 #[tactic(auto, using(crate::proofs::Conforming::conf_is_not))]
 pub fn read_conf(alloc: Global, bytes: &[u8]) -> Result<Stanzas, ConfFault>
     ensures read { IfOk result (λ stanzas. conf_of bytes.now ≡ Ok stanzas) }

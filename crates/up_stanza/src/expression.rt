@@ -13,7 +13,7 @@ use std::alloc::{AllocError, Global};
 use up_expr::{Condition, ExprFault, parse_expr};
 use up_text::{Lexer, Token};
 
-// Whether the token `on` comes next; the lexer then stands behind it.
+// Whether the token `on` comes next; the lexer then stands after it.
 fn read_on(alloc: Global, lexer: &mut Lexer) -> Result<Result<(), FaultCode>, AllocError>
     ensures { IfOk result (λ found. HasOn (reading lexer.old) found lexer.new) }
 {
@@ -79,7 +79,7 @@ fn read_tree(alloc: Global, lexer: &mut Lexer) -> Result<Result<Condition, Fault
     }
 }
 
-/// The expression behind the token `on`.
+/// The expression after the token `on`.
 pub(crate) fn read_expression(
     alloc: Global,
     lexer: &mut Lexer,

@@ -87,7 +87,7 @@ impl FaultCode {
         }
     }
 
-    /// The name that a report prints behind the number.
+    /// The name that a report prints after the number.
     pub fn name(self) -> &'static str
         ensures { result.now ≡ name_of self }
     {

@@ -2,7 +2,7 @@
 ghost use Rattle.std.specs.Prelude.{◌≡◌};
 ghost use Rattle.up_stanza.specs.Kinds.{kind_of};
 
-/// A first token behind which the arguments are the tokens up to the stanza's end. Several stanzas may begin with it, as with `kill`.
+/// A first token after which the arguments are the tokens up to the stanza's end. Several stanzas may begin with it, as with `kill`.
 #[derive(Clone, Copy)]
 pub(crate) enum Listed {
     Description,

@@ -64,7 +64,7 @@ fn filled(texts: Items<Text>) -> Result<Items<Text>, FaultCode>
     }
 }
 
-// The arguments behind this word.
+// The arguments after this word.
 fn behind<'a>(texts: &'a [Text], word: &str) -> Result<&'a [Text], FaultCode>
     ensures { option_map (λ others. others.now) (result_ok result) ≡ behind word.now texts.now }
 {
@@ -376,7 +376,7 @@ fn read_instance_name(
     }
 }
 
-// Why more or fewer words than one aren't where output goes: `console owner` isn't supported, whatever is behind it.
+// Why more or fewer words than one aren't where output goes: `console owner` isn't supported, whatever is after it.
 fn no_output(texts: &[Text], code: FaultCode) -> FaultCode {
     match texts.first() {
         Some(text) => {

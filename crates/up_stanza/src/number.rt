@@ -23,7 +23,7 @@ pub(crate) fn are_digits(text: &str) -> bool
     !text.is_empty() && are_all_digits(text.as_bytes())
 }
 
-// The number that digits write, where it has 64 bits.
+// The number that digits write, if it has 64 bits.
 fn value_of(text: &str) -> Option<u64>
     ensures { result ≡ decimal_of text.now }
 {
@@ -36,7 +36,7 @@ fn value_of(text: &str) -> Option<u64>
     }
 }
 
-/// The number that a text writes in decimal digits, where it writes one from `low` to `high`.
+/// The number that a text writes in decimal digits, if it writes one from `low` to `high`.
 #[tactic(auto, unfolding(crate::specs::Numbers::number_in))]
 pub fn number_in(low: u64, high: u64, text: &str) -> Option<u64>
     ensures value { result ≡ number_in low high text.now }

@@ -65,7 +65,7 @@ fn read_stop(alloc: Global, lexer: &mut Lexer) -> Result<Result<Stanza, FaultCod
     }
 }
 
-// What a stanza of this kind says; the lexer then stands behind it.
+// What a stanza of this kind says; the lexer then stands after it.
 fn read_kind(
     alloc: Global,
     kind: Kind,
@@ -109,7 +109,7 @@ fn no_kind(word: &str) -> FaultCode {
     }
 }
 
-/// What the stanza in front says; the lexer then stands behind it.
+/// What the stanza in front says; the lexer then stands after it.
 pub(crate) fn read_stanza(
     alloc: Global,
     lexer: &mut Lexer,

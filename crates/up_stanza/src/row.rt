@@ -36,7 +36,7 @@ fn code_of(fault: TextFault) -> FaultCode {
     }
 }
 
-/// What comes next; behind a token or an end the lexer goes on.
+/// What comes next; after a token or an end the lexer goes on.
 #[tactic(auto, using(up_text::proofs::Rows::got_by, up_text::proofs::Rows::ended_by, up_text::proofs::Rows::fails_by, crate::proofs::Telling::lacks_by))]
 pub(crate) fn next_token(alloc: Global, lexer: &mut Lexer) -> Result<Next, AllocError>
     ensures next { IfOk result (Continues lexer.old lexer.new) }
@@ -50,7 +50,7 @@ pub(crate) fn next_token(alloc: Global, lexer: &mut Lexer) -> Result<Next, Alloc
     }
 }
 
-/// The tokens up to the stanza's end, behind which the lexer then stands.
+/// The tokens up to the stanza's end, after which the lexer then stands.
 pub(crate) fn read_row(
     alloc: Global,
     lexer: &mut Lexer,
@@ -68,7 +68,7 @@ pub(crate) fn read_row(
     Ok(Ok(Items::new(tokens)))
 }
 
-/// The texts of the tokens up to the stanza's end, behind which the lexer then stands.
+/// The texts of the tokens up to the stanza's end, after which the lexer then stands.
 pub(crate) fn read_texts(
     alloc: Global,
     lexer: &mut Lexer,

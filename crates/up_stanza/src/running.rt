@@ -15,7 +15,7 @@ use crate::stanza::Stanza;
 use std::alloc::{AllocError, Global};
 use up_text::Lexer;
 
-// The action, where its stanza ends here.
+// The action, if its stanza ends here.
 fn read_end(
     alloc: Global,
     action: Action,
@@ -30,7 +30,7 @@ fn read_end(
     }
 }
 
-/// The command that is the rest of the stanza; the lexer then stands behind its end.
+/// The command that is the rest of the stanza; the lexer then stands after its end.
 pub(crate) fn read_exec(
     alloc: Global,
     lexer: &mut Lexer,
@@ -46,7 +46,7 @@ pub(crate) fn read_exec(
     }
 }
 
-// The script of the lines up to its end line, behind which the lexer then stands.
+// The script of the lines up to its end line, after which the lexer then stands.
 fn read_lines(alloc: Global, lexer: &mut Lexer) -> Result<Result<Action, FaultCode>, AllocError>
     ensures script { IfOk result (λ action. IsFound (script_of lexer.old (script_in (lines_of lexer.old.rest))) action lexer.new) }
     ensures memory { OnErr result (is_some (script_in (lines_of lexer.old.rest)) ≡ true) }
@@ -58,7 +58,7 @@ fn read_lines(alloc: Global, lexer: &mut Lexer) -> Result<Result<Action, FaultCo
     }
 }
 
-/// The script on the next lines; the lexer then stands behind its end line.
+/// The script on the next lines; the lexer then stands after its end line.
 pub(crate) fn read_script(
     alloc: Global,
     lexer: &mut Lexer,

@@ -63,7 +63,7 @@ impl Signal {
     }
 }
 
-// The text at a place, where there is one.
+// The text at a place, if there is one.
 fn text_at(texts: &[&'static str], place: usize) -> Option<&'static str>
     ensures { option_copied result ≡ slice_get (map (λ text. text.now) texts.now) place }
 {
@@ -73,14 +73,14 @@ fn text_at(texts: &[&'static str], place: usize) -> Option<&'static str>
     }
 }
 
-// The first place of a text, where it has one.
+// The first place of a text, if it has one.
 fn place_of(texts: &[&str], text: &str) -> Option<usize>
     ensures { result ≡ position (λ known. bytes_eq known.now text.now) texts.now }
 {
     texts.iter().position(|known| *known == text)
 }
 
-/// The name of the signal with this number (signal(7)), where there is one.
+/// The name of the signal with this number (signal(7)), if there is one.
 #[tactic(auto, unfolding(crate::specs::Signals::name_of))]
 pub fn signal_name(number: u8) -> Option<&'static str>
     ensures { option_copied result ≡ name_of number }

@@ -50,7 +50,7 @@ pub enum Stanza {
     Console(Console),
     /// `chdir DIRECTORY`
     Chdir(Text),
-    /// `exec` or `script`, on its own or behind `pre-start`, `post-start`, `pre-stop` or `post-stop`
+    /// `exec` or `script`, on its own or after `pre-start`, `post-start`, `pre-stop` or `post-stop`
     Runs(Process, Action),
     /// `start on EXPRESSION`
     StartOn(Condition),

@@ -16,7 +16,7 @@ use Rattle.up_text.specs.Tokens.{Mark, Part, Quoting, Folded, Alone, Blank, Pass
 use Rattle.up_value.specs.declared.fault.TextFault.{TextFault}
 use Rattle.up_value.specs.declared.fault.TextFault.TheVariants.{Memory}
 
--- a spelling and the gap behind it
+-- a spelling and the gap after it
 word-tidy : (text rest : List ℕ) (front spaces : List Mark) → marks_in text ≡ (front ++ spaces) ++ marks_in rest → list_all is_spelling front ≡ true → list_all is_space spaces ≡ true → begins_gap false rest ≡ false
     → tidied (row_in text) ≡ (front ++ cond (is_line_end rest) [] spaces) ++ tidied (row_in rest)
 word-tidy text rest front spaces same spelled blank ends = by_case (is_line_end rest) refl
@@ -93,7 +93,7 @@ Told-none text line out = record {
   pushed = λ held holds. Holds-same out held (held ++ []) (sym (append-nil held)) holds;
 }
 
--- a fault behind a part
+-- a fault after a part
 pub Refused-then : {text middle : List ℕ} {line crossed : ℕ} {old half : Option (List ℕ)} {fault : TextFault} → Told text line middle crossed old half → Broken false (Outside false) middle fault → Refused text fault
 Refused-then {fault} a b = record {
   front = a.front ++ b.front;
@@ -103,17 +103,8 @@ Refused-then {fault} a b = record {
 
 -- how much text is left
 
-pub Between-fits : {text rest : List ℕ} {line reached : ℕ} {old new : Option (List ℕ)} → Between text line rest reached old new → (reached + length rest ≤ line + length text) × (length rest ≤ length text)
-Between-fits {text} {rest} a = (omega (arith, feeds-length a.bytes, a.counted, ap length a.joined, length-append a.bytes rest), omega (arith, ap length a.joined, length-append a.bytes rest))
-
 pub Told-fits : {text rest : List ℕ} {line reached : ℕ} {old new : Option (List ℕ)} → Told text line rest reached old new → (reached + length rest ≤ line + length text) × (length rest ≤ length text)
 Told-fits {text} {rest} a = (omega (arith, feeds-length a.bytes, a.counted, ap length a.joined, length-append a.bytes rest), omega (arith, ap length a.joined, length-append a.bytes rest))
-
--- a spelling of which something is read leaves less
-pub spelling-shorter : {text rest : List ℕ} {line reached : ℕ} {old new : Option (List ℕ)} → (run : Run false true (Outside false) text line (Outside false) rest reached old new) → ends_token false text ≡ false → ends_token false rest ≡ true → length rest < length text
-spelling-shorter {text} {rest} run before behind =
-    let some = filled-front false text run.bytes rest run.front run.joined run.long before behind in
-    omega (arith, some, run.long, ap length run.joined, length-append run.bytes rest)
 
 -- where a word begins
 pub begins-word : (text : List ℕ) → is_line_end text ≡ false → begins_gap false text ≡ false → ends_token false text ≡ false

@@ -1,4 +1,4 @@
--- Where a text may be cut before or behind bytes below 128.
+-- Where a text may be cut before or after bytes below 128.
 use Rattle.std.proofs.Common.{◌≡◌, ℕ, ◌+◌, ◌-◌, ◌<◌, Bool, true, false, List, [], ◌∷◌, ◌++◌, length, take, drop, cond, IsUtf8, refl, sym, ap, ◌∙◌, subst, one-add, ⊎_elim, arith}
 use Rattle.std.proofs.lemmas.Bool.{cases_lt}
 use Rattle.std.proofs.lemmas.Bool.Decides.{nat_tests}
@@ -13,7 +13,7 @@ use Rattle.up_text.specs.Lexer.{is_ordinary, is_literal, is_in_line, is_low, is_
 use Rattle.up_text.specs.Tokens.{is_line_feed, is_blank, is_hash, is_backslash, is_quote, is_paren}
 use Rattle.up_pattern.specs.Lists.{begins}
 
--- where the bytes that pass are below 128, the text may be cut behind them
+-- where the bytes that pass are below 128, the text may be cut after them
 pub IsCharBoundary-behind : (p : ℕ → Bool) (text : List ℕ) → IsUtf8 text → ((byte : ℕ) → p byte ≡ true → byte < 128) → IsCharBoundary text (prefix_len p text)
 IsCharBoundary-behind p text utf8 ascii =
     let n = prefix_len p text in
@@ -70,12 +70,12 @@ high-ascii : (byte : ℕ) → is_high byte ≡ false → byte < 128
 unfolding is_high
 high-ascii byte low = grind (arith, nat_tests)
 
--- a text may be cut behind a byte of ASCII
+-- a text may be cut after a byte of ASCII
 pub IsCharBoundary-after_first : (text : List ℕ) → IsUtf8 text → begins is_low text ≡ true → IsCharBoundary text 1
 IsCharBoundary-after_first [] utf8 low = absurd (cc)
 IsCharBoundary-after_first (byte ∷ text) utf8 low = IsCharBoundary-after_ascii (byte ∷ text) 0 utf8 (omega arith) (low-ascii byte low)
 
--- and behind its first character
+-- and after its first character
 pub IsCharBoundary-after_char : (text : List ℕ) → 0 < length text → IsCharBoundary text (1 + prefix_len is_high (drop 1 text))
 IsCharBoundary-after_char text filled =
     IsCharBoundary-from_rest text 1 (prefix_len is_high (drop 1 text)) (omega arith) (IsCharBoundary-before is_high (drop 1 text) high-ascii)
@@ -99,7 +99,7 @@ list_all-take p (byte ∷ text) =
       | false ↦ λ _. refl
     ] refl
 
--- a text is its longest run of bytes that pass, and what stands behind it
+-- a text is its longest run of bytes that pass, and what stands after it
 pub Splits-prefix : (p : ℕ → Bool) (text : List ℕ) → Splits p text (take (prefix_len p text) text) (drop (prefix_len p text) text)
 Splits-prefix p text = record { joined = sym (take-append-drop (prefix_len p text) text); all = list_all-take p text; ends = begins-drop p text }
 
@@ -114,7 +114,7 @@ Splits-behind p text front rest splits = ap (λ whole. drop (prefix_len p whole)
         let both = and_parts (p byte) (list_all p front) all in
         rw (both.0, one-add) (past front rest both.1 ends)
 
--- and its first character and what stands behind it
+-- and its first character and what stands after it
 pub SplitsChar-first : (text : List ℕ) → 0 < length text → SplitsChar text (take (1 + prefix_len is_high (drop 1 text)) text) (drop (1 + prefix_len is_high (drop 1 text)) text)
 SplitsChar-first [] filled = absurd (omega arith)
 SplitsChar-first (byte ∷ text) filled =

@@ -204,7 +204,7 @@ ends-spaces (byte ∷ text) ends =
     let solid : is_space (mark_outside false 0 false byte text) ≡ false = (or_parts _ _ (ends-gap_mark true false 0 false byte text ends)).0 in
     rw solid refl
 
--- the marks behind a gap
+-- the marks after a gap
 pub gap-behind : (text rest : List ℕ) (line reached : ℕ) → (run : GapRun true false 0 false text line rest reached) → begins_gap false rest ≡ false → marks_in text ≡ run.front ++ marks_in rest
 gap-behind text rest line reached run ends =
     let a : ((begins is_blank rest || begins is_hash rest || begins_joint rest) ≡ false) × (_ ≡ false) = or_parts _ _ ends in
@@ -212,7 +212,7 @@ gap-behind text rest line reached run ends =
     let c : (begins is_blank rest ≡ false) × (begins is_hash rest ≡ false) = or_parts _ _ b.0 in
     run.same ∙ ap (λ ms. run.front ++ ms) (unjoined false 0 run.behind rest c.0 b.1)
 
--- what is written for blanks and the gap behind them, where the stanza goes on behind it
+-- what is written for blanks and the gap after them, if the stanza goes on after it
 gap-written : (text blanks rest behind : List ℕ) (line reached : ℕ) → Splits is_blank text blanks rest → (run : GapRun true false 0 false rest line behind reached) → begins_gap false behind ≡ false → is_line_end behind ≡ false
     → cond (begins_joint rest) (32 ∷ []) blanks ≡ flat_map written (map (gap_mark (begins_fold rest)) blanks ++ run.front)
 gap-written text blanks rest behind line reached splits run ends within =
@@ -230,7 +230,7 @@ gap-written text blanks rest behind line reached splits run ends within =
         let none = unblanked-written rest run.front (marks_in behind) splits.ends ej (gap-behind rest behind line reached run ends) (gap-spaces run.front run.gaps) in
         rw (ej, ef, written-blanks blanks, none) (sym (append-nil blanks))
 
--- blanks, and the gap behind them
+-- blanks, and the gap after them
 pub Between-made : (text blanks rest behind : List ℕ) (line reached : ℕ) (between : List ℕ) (old new : Option (List ℕ)) → Splits is_blank text blanks rest → GapRun true false 0 false rest line behind reached → begins_gap false behind ≡ false
     → between ≡ cond (begins_joint rest) (32 ∷ []) blanks → ((held : List ℕ) → Holds old held → Holds new (held ++ cond (is_line_end behind) [] between))
     → Between text line behind reached old new

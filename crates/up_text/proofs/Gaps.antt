@@ -14,7 +14,7 @@ use Rattle.up_pattern.specs.Lists.{begins}
 or-true : (b : Bool) → (true || b) ≡ true
 or-true b = refl
 
--- one part of a gap behind another
+-- one part of a gap after another
 pub GapRun-then : {inside parens : Bool} {depth : ℕ} {joined : Bool} {text middle rest : List ℕ} {line crossed reached : ℕ}
     → (a : GapRun inside parens depth joined text line middle crossed) → GapRun inside parens depth a.behind middle crossed rest reached → GapRun inside parens depth joined text line rest reached
 GapRun-then {inside} {parens} {depth} {joined} {text} {middle} {rest} {line} {crossed} {reached} a b = record {
@@ -225,7 +225,7 @@ unjoined parens depth joined (byte ∷ text) blank joint =
     by_case true false ek ej is = simp (blank, ek, ej)
     by_case false j ek ej is = simp (blank, ek)
 
--- behind a gap
+-- after a gap
 pub behind-gap : (inside parens : Bool) (depth : ℕ) (text : List ℕ) (line : ℕ) (rest : List ℕ) (reached : ℕ) → GapRun inside parens depth false text line rest reached → begins_gap (passes_feeds inside depth) rest ≡ false
     → IsBehindGap (place text line inside parens depth) (place rest reached inside parens depth)
 unfolding gap_at marks_at

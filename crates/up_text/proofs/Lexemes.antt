@@ -1,4 +1,4 @@
--- What is read from a place on is what the next reading gives, and what is read behind it.
+-- What is read from a place on is what the next reading gives, and what is read after it.
 use Rattle.std.proofs.Common.{◌≡◌, inl, inr, ℕ, zero, suc, ◌+◌, ◌<◌, ◌≤◌, Bool, true, false, true≢false, cond, not, ◌&&◌, List, [], ◌∷◌, length, drop, Option, None, Some, Result, Ok, refl, sym, ap, ◌∙◌, subst, arith, if◌then◌else◌, length-drop, one-add}
 use Rattle.std.proofs.lemmas.List.{nil_from_length}
 use Rattle.std.proofs.lemmas.Bool.{and_parts, not-true}
@@ -30,7 +30,7 @@ fail_mark : (fault : TextFault) (n : ℕ) (mark : Mark) (ms : List Mark) → dro
 fail_mark fault zero mark ms is = let same : Fail fault ≡ mark = cc in subst (λ m. is_fail m ≡ true) same refl
 fail_mark fault (suc n) mark ms is = absurd (nothing_behind n mark ms is)
 
--- behind the last byte there is nothing but a fault
+-- after the last byte there is nothing but a fault
 end_mark : (mode : Mode) (n : ℕ) (mark : Mark) (ms : List Mark) → drop n (end_marks mode) ≡ mark ∷ ms → is_fail mark ≡ true
 end_mark (Outside joined) n mark ms is = absurd (nothing_behind n mark ms is)
 end_mark Comment n mark ms is = absurd (nothing_behind n mark ms is)
@@ -46,12 +46,12 @@ mark_within parens depth mode (b ∷ text) zero mark ms is byte = omega arith
 mark_within parens depth mode (b ∷ text) (suc n) mark ms is byte =
     let below = mark_within parens (open_after depth (mark_of parens depth mode b text)) (mode_after mode b text) text n mark ms is byte in omega (arith, below)
 
--- a byte of the text is left where a mark that isn't a fault is
+-- a byte of the text is left if a mark that isn't a fault is
 filled : (place : Place) (mark : Mark) (ms : List Mark) → drop (gap_at place) (marks_at place) ≡ mark ∷ ms → is_fail mark ≡ false → gap_at place < length place.rest
 unfolding marks_at
 filled place mark ms is byte = mark_within place.parens place.depth (Outside false) place.rest (gap_at place) mark ms is byte
 
--- a place that has passed a byte behind a gap has less text left
+-- a place that has passed a byte after a gap has less text left
 less : (place : Place) (n : ℕ) → gap_at place < length place.rest → 0 < n → length (drop n (drop (gap_at place) place.rest)) < length place.rest
 less place n gap some = omega (arith, length-drop n (drop (gap_at place) place.rest), length-drop (gap_at place) place.rest)
 
@@ -66,7 +66,7 @@ spelled_less place spelling None token behind gap some got =
     let rest : drop (length spelling) (drop (gap_at place) place.rest) ≡ behind.rest = cc in
     subst (λ r. length r < length place.rest) rest (less place (length spelling) gap some)
 
--- what a token leaves, where the marks behind the gap are these
+-- what a token leaves, if the marks after the gap are these
 token_less : (place : Place) (ms : List Mark) → drop (gap_at place) (marks_at place) ≡ ms → (token : Token) (behind : Place)
     → read_at (passing (gap_at place) place) ms ≡ Got token behind → length behind.rest < length place.rest
 token_less place [] is token behind got = cc
@@ -120,7 +120,7 @@ pub one_at_least : (b : Bool) → 1 ≤ (if b then 2 else 1)
 one_at_least true = omega arith
 one_at_least false = omega arith
 
--- what is left behind a token, and behind a stanza
+-- what is left after a token, and after a stanza
 pub left_got : (place : Place) (token : Token) (behind : Place) → reading place ≡ Got token behind → readings_left behind < readings_left place
 left_got place token behind got = omega (arith, reading_less place token behind got, two_at_most behind.inside, one_at_least place.inside)
 
@@ -151,7 +151,7 @@ one_more : (n : ℕ) (place : Place) → lexemes_from (suc n) place ≡ lexeme_b
 unfolding lexemes_from
 one_more n place = refl
 
--- what is read from a place on: one reading, and what is read behind it
+-- what is read from a place on: one reading, and what is read after it
 pub lexemes_of-is : (place : Place) → lexemes_of place ≡ lexeme_by (λ behind. lexemes_of behind) place (reading place)
 unfolding lexemes_of
 lexemes_of-is place =
@@ -173,7 +173,7 @@ marks_count parens depth mode [] = omega arith
 marks_count parens depth mode (byte ∷ text) =
     let more = marks_count parens (open_after depth (mark_of parens depth mode byte text)) (mode_after mode byte text) text in omega (arith, more)
 
--- behind a longest run what follows doesn't pass
+-- after a longest run what follows doesn't pass
 run_stops : (p : Mark → Bool) (ms : List Mark) (mark : Mark) (later : List Mark) → drop (prefix_len p ms) ms ≡ mark ∷ later → p mark ≡ false
 run_stops p [] mark later is = absurd (nothing_behind 0 mark later is)
 run_stops p (m ∷ ms) mark later is =
@@ -199,7 +199,7 @@ at_nothing place none outside =
     ∙ ap (λ b. lexemes_of (record { rest = []; line = place.line; inside = b; parens = place.parens; depth = place.depth })) outside
     ∙ nothing_at place.line place.depth place.parens
 
--- outside a stanza an end comes behind all marks
+-- outside a stanza an end comes after all marks
 ended_marks : (place : Place) (ms : List Mark) (behind : Place) → place.inside ≡ false → drop (gap_at place) (marks_at place) ≡ ms
     → read_at (passing (gap_at place) place) ms ≡ Ended behind → ms ≡ []
 unfolding gap_at
@@ -223,7 +223,7 @@ ended_empty place [] behind none is ended =
     (sym rest ∙ nothing_drop (gap_at place) (marks_at place) place.rest (marks_count place.parens place.depth (Outside false) place.rest) is, cc)
 ended_empty place (m ∷ ms) behind none is ended = cc
 
--- nothing is left behind the end of the text
+-- nothing is left after the end of the text
 none_behind : (old behind : Place) → old.inside ≡ false → reading old ≡ Ended behind → lexemes_of behind ≡ []
 unfolding reading
 none_behind old behind outside ended =
@@ -260,7 +260,7 @@ got_at place (Fail fault ∷ ms) token behind got = cc
 got_at place (Blank byte ∷ ms) token behind got = cc
 got_at place (Passed ∷ ms) token behind got = cc
 
--- a token stands on the line that was reached, and the place behind it is inside a stanza
+-- a token stands on the line that was reached, and the place after it is inside a stanza
 pub reading_got : (place : Place) (token : Token) (behind : Place) → reading place ≡ Got token behind → (token.line ≡ line_at place) × (behind.inside ≡ true)
 unfolding reading
 reading_got place token behind got = got_at (passing (gap_at place) place) (drop (gap_at place) (marks_at place)) token behind got
@@ -278,40 +278,10 @@ line_lexemes place = rw (lexemes_of-is place) (by_reading (reading place) refl)
     by_reading (Ended behind) is = by_end place.inside behind
     by_reading (Fails fault) is = refl
 
--- the stanzas of lexemes that are read have a token each; the first goes on where a token of it was read before
+-- the stanzas of lexemes that are read have a token each; the first goes on if a token of it was read before
 abbrev AreFilled : Bool → List (List Lexeme) → Type 0
 AreFilled false stanzas = list_all is_filled stanzas ≡ true
 AreFilled true stanzas = list_all is_filled (drop 1 stanzas) ≡ true
-
-put_filled : (lexeme : Lexeme) (stanzas : List (List Lexeme)) → list_all is_filled (drop 1 stanzas) ≡ true → (inside : Bool) → AreFilled inside (put_front lexeme stanzas)
-put_filled lexeme [] filled true = refl
-put_filled lexeme [] filled false = refl
-put_filled lexeme (stanza ∷ stanzas) filled true = filled
-put_filled lexeme (stanza ∷ stanzas) filled false = filled
-
-from_filled : (n : ℕ) (place : Place) → AreFilled place.inside (split_ends (lexemes_from n place))
-unfolding lexemes_from
-from_filled zero place = none place.inside
-  where
-    none : (inside : Bool) → AreFilled inside []
-    none true = refl
-    none false = refl
-from_filled (suc n) place = by_reading (reading place) refl (λ behind. from_filled n behind)
-  where
-    by_end : (inside : Bool) (behind : Place) → behind.inside ≡ false → AreFilled behind.inside (split_ends (lexemes_from n behind)) → AreFilled inside (split_ends (if inside then End ∷ lexemes_from n behind else []))
-    by_end true behind outside more = subst (λ b. AreFilled b (split_ends (lexemes_from n behind))) outside more
-    by_end false behind outside more = refl
-
-    by_reading : (r : Reading) → reading place ≡ r → ((behind : Place) → AreFilled behind.inside (split_ends (lexemes_from n behind)))
-        → AreFilled place.inside (split_ends (lexeme_by (λ behind. lexemes_from n behind) place r))
-    by_reading (Got token behind) is more = put_filled (Word token) (split_ends (lexemes_from n behind)) (subst (λ b. AreFilled b (split_ends (lexemes_from n behind))) (reading_got place token behind is).1 (more behind)) place.inside
-    by_reading (Ended behind) is more = by_end place.inside behind (reading_ends place behind is).0 (more behind)
-    by_reading (Fails fault) is more = put_filled (Bad (line_at place) fault) [] refl place.inside
-
--- each stanza of a text has a token
-pub stanzas_filled : (text : List ℕ) → list_all is_filled (stanzas text) ≡ true
-unfolding lexemes_of
-stanzas_filled text = from_filled (readings_left (start text)) (start text)
 
 -- a run that goes to the end
 all_dropped : (p : Mark → Bool) (ms : List Mark) → list_all p ms ≡ true → drop (prefix_len p ms) ms ≡ []
@@ -328,7 +298,7 @@ none_left p (m ∷ ms) none =
       | false ↦ λ _ is. cc
     ] refl none
 
--- nothing is left where all is a gap outside a stanza
+-- nothing is left if all is a gap outside a stanza
 pub none_when_finished : (place : Place) → is_finished place ≡ true → lexemes_of place ≡ []
 unfolding is_finished reading gap_at marks_at
 none_when_finished place finished =

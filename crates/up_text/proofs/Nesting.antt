@@ -6,7 +6,7 @@ use Rattle.up_text.specs.Expanding.{run_before, piece_before, said, meanings}
 use Rattle.up_text.specs.Expansion.{Sign, Plain, Parts, Done, Byte, Key, innermost, outside, before, nested, signs, texts_of, is_expandable, Expansion, Expands, Lacks, Malformed, followed, counted, meaning}
 use Rattle.up_text.specs.declared.expansion.Piece.{Piece}
 
--- one function behind another
+-- one function after another
 option_map-option_map : {A B C : Type 0} (f : B → C) (g : A → B) (o : Option A) → option_map f (option_map g o) ≡ option_map (λ x. f (g x)) o
 option_map-option_map f g None = refl
 option_map-option_map f g (Some x) = refl

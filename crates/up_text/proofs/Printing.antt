@@ -86,7 +86,7 @@ unfolding is_line_feed is_blank is_hash is_backslash
 feed-read text line =
     reading-behind _ _ (space-behind (10 ∷ text) line refl refl) ∙ end-read (10 ∷ text) line true false 0 refl refl
 
--- what is left of a line behind a word
+-- what is left of a line after a word
 line-left : (words : List (List ℕ)) (rest : List ℕ) (line : ℕ) → list_all is_word words ≡ true
     → lexemes_of (place (32 ∷ (printed_line words ++ rest)) line true false 0) ≡ map (λ word. Word (token_of line word true)) words ++ End ∷ lexemes_of (place rest (line + 1) false false 0)
 line-left [] rest line all =

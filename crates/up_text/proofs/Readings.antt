@@ -55,7 +55,7 @@ fault-none (Blank byte ∷ front) later all = absurd (false≢true all)
 fault-none (Passed ∷ front) later all = absurd (false≢true all)
 fault-none (Stop ∷ front) later all = absurd (false≢true all)
 
--- where a token ends, no mark of a spelling stands
+-- if a token ends, no mark of a spelling stands
 
 ends-mark : (parens : Bool) (depth byte : ℕ) (text : List ℕ) → ends_token parens (byte ∷ text) ≡ true → is_spelled (mark_outside parens depth false byte text) ≡ false
 ends-mark parens depth byte text ends =
@@ -147,7 +147,7 @@ token-broken parens text line fault inside depth broken =
     let at = place text line inside parens depth in
     rw (broken.same depth, read-broken at broken.front fault broken.spelled) refl
 
--- where a token is read, the fault of memory may come
+-- if a token is read, the fault of memory may come
 pub token-memory : (at : Place) (token : Token) (behind : Place) → GivesToken at token behind → GivesFault at Memory
 token-memory at token behind gives = rw gives refl
 
@@ -171,7 +171,7 @@ ordinary-read parens text front rest line inside depth splits before behind =
     is_plain_token : (bytes : List ℕ) → token_of line (flat_map given (map Part bytes)) (list_all is_plain (map Part bytes)) ≡ token_of line bytes true
     is_plain_token bytes = rw (plain-parts bytes, given-parts bytes) refl
 
--- behind bytes that stand for themselves comes a quote or a backslash
+-- after bytes that stand for themselves comes a quote or a backslash
 quoting-first : (parens : Bool) (depth : ℕ) (byte : ℕ) (text : List ℕ) → ends_token parens (byte ∷ text) ≡ false → is_ordinary parens byte ≡ false → is_plain (mark_outside parens depth false byte text) ≡ false
 unfolding is_ordinary
 quoting-first parens depth byte text before other =
@@ -240,7 +240,7 @@ paren-read (byte ∷ text) line inside depth paren =
     let is = paren-is byte paren in
     rw (is.0, is.1, is.2, is.3, is.4, paren) (rw (is.0, add-zero) refl)
 
--- what the parts of a lexer call read, where the text is behind a gap
+-- what the parts of a lexer call read, if the text is after a gap
 pub reading-behind : (before after : Place) → IsBehindGap before after → reading before ≡ read_at after (marks_at after)
 unfolding reading
 reading-behind before after behind = rw (← behind.at, ← behind.marked) refl

@@ -1,4 +1,4 @@
--- The tokens of a stanza are what the next reading gives, and those behind it.
+-- The tokens of a stanza are what the next reading gives, and those after it.
 use Rattle.std.proofs.Common.{◌≡◌, inl, inr, Ok, Err, ℕ, zero, suc, ◌<◌, ◌≤◌, false, List, [], ◌∷◌, length, Option, None, Some, refl, sym, ap, ◌∙◌, subst, arith}
 use Rattle.up_value.specs.declared.fault.TextFault.{TextFault}
 use Rattle.up_value.specs.declared.fault.TextFault.TheVariants.{Memory}

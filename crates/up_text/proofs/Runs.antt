@@ -139,7 +139,7 @@ marks-high parens depth quote (byte ∷ bytes) rest is all = marks-literal paren
 pub Holds-same : (held : Option (List ℕ)) (xs ys : List ℕ) → xs ≡ ys → Holds held xs → Holds held ys
 Holds-same held xs ys same holds = subst (Holds held) same holds
 
--- one part behind another
+-- one part after another
 unfoldable pub Run-then : {parens keep : Bool} {mode between behind : Mode} {text middle rest : List ℕ} {line crossed reached : ℕ} {old half new : Option (List ℕ)}
     → Run parens keep mode text line between middle crossed old half → Run parens keep between middle crossed behind rest reached half new → Run parens keep mode text line behind rest reached old new
 Run-then {parens} {keep} {mode} {between} {behind} {text} {middle} {rest} {line} {crossed} {reached} {old} {half} {new} a b = record {
@@ -155,7 +155,7 @@ Run-then {parens} {keep} {mode} {between} {behind} {text} {middle} {rest} {line}
       (b.pushed (held ++ flat_map (shown keep) a.front) (a.pushed held holds));
 }
 
--- a fault behind a part
+-- a fault after a part
 pub Broken-then : {parens keep : Bool} {mode between : Mode} {text middle : List ℕ} {line crossed : ℕ} {old half : Option (List ℕ)} {fault : TextFault}
     → Run parens keep mode text line between middle crossed old half → Broken parens between middle fault → Broken parens mode text fault
 Broken-then {fault} a b = record {
@@ -164,7 +164,7 @@ Broken-then {fault} a b = record {
   spelled = list_all-append is_spelling a.front b.front ∙ and_from _ _ a.spelled b.spelled;
 }
 
--- the line numbers that are left fit where those before fit
+-- the line numbers that are left fit if those before fit
 pub feeds-length : (bytes : List ℕ) → feeds bytes ≤ length bytes
 feeds-length [] = omega arith
 feeds-length (byte ∷ bytes) = by_case (is_line_feed byte) (feeds-length bytes)
@@ -206,7 +206,7 @@ Run-literal parens keep quote joined text (byte ∷ bytes) rest line old new spl
   pushed = λ held holds. Holds-same new (held ++ byte ∷ bytes) _ (ap (λ xs. held ++ xs) (sym (shown-parts keep (byte ∷ bytes)))) (pushed held holds);
 }
 
--- blanks in a quoted piece: joined with a line end before or behind them, or not
+-- blanks in a quoted piece: joined with a line end before or after them, or not
 pub reaches-blanks : (blanks rest : List ℕ) → list_all is_blank blanks ≡ true → begins is_blank rest ≡ false → reaches_feed (blanks ++ rest) ≡ begins_fold rest
 reaches-blanks [] [] all ends = refl
 reaches-blanks [] (byte ∷ rest) all ends = by_case (is_line_feed byte) ends
@@ -386,7 +386,7 @@ Run-opening parens keep quote (byte ∷ rest) line old new quoting opens pushed 
       pushed = λ held holds. Holds-same new (held ++ cond keep (byte ∷ []) []) _ (ap (λ xs. held ++ xs) (sym (quoting-shown keep byte))) (pushed held holds);
     }
 
--- a character behind a backslash
+-- a character after a backslash
 
 escape-shown : (keep : Bool) (first : ℕ) (others held : List ℕ) → (held ++ cond keep (92 ∷ []) []) ++ (first ∷ others) ≡ held ++ flat_map (shown keep) (Quoting 92 ∷ Part first ∷ map Part others)
 escape-shown true first others held = append_assoc held (92 ∷ []) (first ∷ others) ∙ ap (λ xs. held ++ (92 ∷ first ∷ xs)) (sym (shown-parts true others))
@@ -516,7 +516,7 @@ unfolding is_literal
 literal-first quote [] filled apart feed blank backslash = absurd (omega arith)
 literal-first quote (byte ∷ text) filled apart feed blank backslash = rw (apart, feed, blank, backslash) refl
 
--- a longest run of bytes that pass is shorter where one passes
+-- a longest run of bytes that pass is shorter if one passes
 pub Splits-shorter : (p : ℕ → Bool) (text front rest : List ℕ) → Splits p text front rest → begins p text ≡ true → length rest < length text
 Splits-shorter p text [] rest splits first = absurd (true≢false (sym first ∙ ap (begins p) splits.joined ∙ splits.ends))
 Splits-shorter p text (byte ∷ front) rest splits first = omega (arith, ap length splits.joined, length-append (byte ∷ front) rest)
@@ -545,7 +545,7 @@ Run-shrinks {rest} a = omega (arith, ap length a.joined, length-append a.bytes r
 pub not-joint : (parens : Bool) (text : List ℕ) → ends_token parens text ≡ false → begins_joint text ≡ false
 not-joint parens text before = (or_parts _ _ (or_parts _ _ before).0).1
 
--- where a spelling goes on without a quote or a backslash, a byte stands for itself
+-- if a spelling goes on without a quote or a backslash, a byte stands for itself
 pub ordinary-first : (parens : Bool) (text : List ℕ) → ends_token parens text ≡ false → begins is_backslash text ≡ false → begins is_quote text ≡ false → begins (is_ordinary parens) text ≡ true
 unfolding is_ordinary
 ordinary-first parens [] before backslash quote = absurd (true≢false before)
@@ -556,7 +556,7 @@ ordinary-first parens (byte ∷ text) before backslash quote =
     let e : (is_line_feed byte ≡ false) × (is_blank byte ≡ false) = or_parts _ _ d.0 in
     rw (e.0, e.1, d.1, backslash, quote, a.1) refl
 
--- in front of such bytes too
+-- before such bytes too
 pub ends-front : (parens : Bool) (front text : List ℕ) → list_all (is_ordinary parens) front ≡ true → ends_token parens text ≡ false → ends_token parens (front ++ text) ≡ false
 ends-front parens [] text all before = before
 ends-front parens (byte ∷ front) text all before =

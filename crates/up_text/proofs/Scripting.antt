@@ -23,16 +23,6 @@ words-blanks (byte ∷ blanks) rest all =
     let both = and_parts (is_blank byte) (list_all is_blank blanks) all in
     ap (filter is_filled) (slice_split-cons_yes is_blank byte (blanks ++ rest) both.0) ∙ words-blanks blanks rest both.1
 
--- there is always a first piece
-pub slice_split-filled : (p : ℕ → Bool) (xs : List ℕ) → (first : List ℕ) × (others : List (List ℕ)) × (slice_split p xs ≡ first ∷ others)
-slice_split-filled p [] = ([], [], refl)
-slice_split-filled p (x ∷ xs) =
-    let later = slice_split-filled p xs in
-    elim (p x) as (λ b. (first : List ℕ) × (others : List (List ℕ)) × (cond b ([] ∷ slice_split p xs) (onto_first x (slice_split p xs)) ≡ first ∷ others)) [
-      | true ↦ ([], slice_split p xs, refl)
-      | false ↦ (x ∷ later.0, later.1, ap (onto_first x) later.2)
-    ]
-
 -- a word in front is in the first piece
 slice_split-word : (word rest first : List ℕ) (others : List (List ℕ)) → list_all is_in_word word ≡ true → slice_split is_blank rest ≡ first ∷ others → slice_split is_blank (word ++ rest) ≡ (word ++ first) ∷ others
 unfolding is_in_word
@@ -41,7 +31,7 @@ slice_split-word (byte ∷ word) rest first others all is =
     let both = and_parts (is_in_word byte) (list_all is_in_word word) all in
     slice_split-cons_no is_blank byte (word ++ rest) (not-true _ both.0) ∙ ap (onto_first byte) (slice_split-word word rest first others both.1 is)
 
--- behind a word stands a blank or nothing, and so the first piece is the word
+-- after a word stands a blank or nothing, and so the first piece is the word
 first-none : (rest : List ℕ) → begins is_in_word rest ≡ false → (others : List (List ℕ)) × (slice_split is_blank rest ≡ [] ∷ others)
 unfolding is_in_word
 first-none [] ends = ([], refl)
@@ -80,12 +70,12 @@ BeginsWord-filled text byte words same none =
     let whole : words_in (byte ∷ words) ≡ (byte ∷ take n words) ∷ words_in (drop n words) = ap (λ ws. words_in (byte ∷ ws)) (sym (take-append-drop n words)) ∙ split in
     rw (first, one-add) (same ∙ whole)
 
--- behind a word that isn't one, only ASCII stands
+-- after a word that isn't one, only ASCII stands
 pub word-ascii : (byte : ℕ) → is_in_word byte ≡ false → byte < 128
 unfolding is_in_word is_blank
 word-ascii byte other = grind (arith, nat_tests)
 
--- what is cut off behind the blanks of a text, as far as its first word goes, is that word
+-- what is cut off after the blanks of a text, as far as its first word goes, is that word
 pub word-cut : (text blanks words bytes word rest : List ℕ) (n : ℕ) → Splits is_blank text blanks words → bytes ≡ words → n ≡ prefix_len is_in_word bytes → word ≡ take n words → rest ≡ drop n words → BeginsWord text word rest
 word-cut text blanks words bytes word rest n splits same long front back =
     rw (front, back, long, same) (by_words words (ap words_in splits.joined ∙ words-blanks blanks words splits.all) splits.ends)
@@ -94,7 +84,7 @@ word-cut text blanks words bytes word rest n splits same long front back =
     by_words [] same none = same
     by_words (byte ∷ words) same none = BeginsWord-filled text byte words same none
 
--- and what stands behind it is the rest
+-- and what stands after it is the rest
 pub rest-cut : (text blanks words bytes word rest : List ℕ) (n : ℕ) → Splits is_blank text blanks words → bytes ≡ words → n ≡ prefix_len is_in_word bytes → word ≡ take n words → rest ≡ drop n words
     → Splits is_in_word (drop (prefix_len is_blank text) text) word rest
 rest-cut text blanks words bytes word rest n splits same long front back =
@@ -145,7 +135,7 @@ BeginsLine-feed text inside =
     let n = prefix_len is_in_line text in
     line-split text (take n text) (drop n text) n (take-append-drop n text) (list_all-take is_in_line text) (length-take-le n text (omega arith)) (begins-drop is_in_line text) inside
 
--- it may be cut behind its line feed
+-- it may be cut after its line feed
 pub IsCharBoundary-after_line : (text : List ℕ) → IsUtf8 text → prefix_len is_in_line text < length text → IsCharBoundary text (prefix_len is_in_line text + 1)
 IsCharBoundary-after_line text utf8 inside =
     IsCharBoundary-after_ascii text (prefix_len is_in_line text) utf8 inside (in_line-ascii _ (prefix_len_stops is_in_line text 0 inside))

@@ -40,14 +40,14 @@ signs-run (byte ∷ text) =
           subst Goal (sym (one-add (prefix_len is_plain text))) (simp (is.0, is.1) (ap (λ later. Plain byte ∷ later) (signs-run text)))
     ] refl
 
--- a text may be cut behind the byte below 128 that it begins with
+-- a text may be cut after the byte below 128 that it begins with
 pub IsCharBoundary-after_first : (text : List ℕ) (byte : ℕ) → IsUtf8 text → begins (λ first. first == byte) text ≡ true → byte < 128 → IsCharBoundary text 1
 IsCharBoundary-after_first [] byte utf8 is ascii = absurd (cc)
 IsCharBoundary-after_first (first ∷ text) byte utf8 is ascii =
     let same : first ≡ byte = eqb-true first byte is in
     IsCharBoundary-after_ascii (first ∷ text) 0 utf8 (omega arith) (rw same ascii)
 
--- what stands behind `${`, a key and these bytes
+-- what stands after `${`, a key and these bytes
 behind_key : (n k m : ℕ) (text front rest : List ℕ) → m ≡ suc (k + n) → drop k text ≡ front → drop n front ≡ rest → drop m (123 ∷ text) ≡ rest
 behind_key n k m text front rest is at gone = rw is (sym (drop-drop n k text) ∙ ap (drop n) at ∙ gone)
 

@@ -65,7 +65,7 @@ spelling-solid (Blank byte) is = absurd (false≢true is)
 spelling-solid Passed is = absurd (false≢true is)
 spelling-solid Stop is = absurd (false≢true is)
 
--- blanks behind a spelling go
+-- blanks after a spelling go
 pub tidied-behind : (front later : List Mark) → list_all is_spelling front ≡ true → list_all is_space later ≡ true → tidied (front ++ later) ≡ front
 tidied-behind front later spelled spaces =
     let size : length front ≡ length (front ++ later) - suffix_len is_space (front ++ later) =

@@ -13,7 +13,7 @@ use Rattle.up_value.specs.declared.fault.TextFault.{TextFault}
 use Rattle.up_value.specs.declared.fault.TextFault.TheVariants.{BadExpansion, Memory}
 use Rattle.up_text.proofs.Nesting.{followed-assoc, followed-nothing, nothing-followed, drop-outside}
 
--- the texts of a list have this length, where there are any
+-- the texts of a list have this length, if there are any
 abbrev HasLength : ℕ → Option (List Parts) → Type 0
 HasLength n None = Unit {0}
 HasLength n (Some texts) = length texts ≡ n
@@ -79,7 +79,7 @@ remains-start text env good = by_case (texts_of 0 (signs 0 text)) good (length-t
     by_case None good one = absurd (true≢false (sym good))
     by_case (Some texts) good one = record { texts = texts; are = refl; means = meanings-one env texts one }
 
--- the texts behind a piece
+-- the texts after a piece
 behind : (f : List Parts → List Parts) (o : Option (List Parts)) (texts : List Parts) → option_map f o ≡ Some texts → (later : List Parts) × (o ≡ Some later) × (f later ≡ texts)
 behind f None texts is = absurd (cc)
 behind f (Some later) texts is = (later, refl, same_Some (f later) texts is)

@@ -6,7 +6,7 @@ use Rattle.up_text.specs.Tokens.{Mark, Fail, Outside, marks}
 use Rattle.up_text.specs.Places.{feeds, is_space, is_stop, written}
 use Rattle.up_text.specs.Lexer.{Holds, is_line_end, is_spelling, begins_gap}
 
--- the marks of a text in which a command is read, those behind its stanza's end too: parentheses are bytes like any other
+-- the marks of a text in which a command is read, those after its stanza's end too: parentheses are bytes like any other
 abbrev pub marks_in : List ℕ → List Mark
 marks_in text = marks false 0 (Outside false) text
 
@@ -22,7 +22,7 @@ tidied row = take (length row - suffix_len is_space row) row
 abbrev pub is_kept : Mark → Bool
 is_kept mark = is_spelling mark || is_space mark
 
--- a gap, and what stands behind it; it is written where the stanza doesn't end there
+-- a gap, and what stands after it; it is written if the stanza doesn't end there
 pub record Between (text : List ℕ) (line : ℕ) (rest : List ℕ) (reached : ℕ) (old new : Option (List ℕ)) : Type 0 where
   pub bytes : List ℕ
   pub front : List Mark

@@ -21,7 +21,7 @@ abbrev pub command_in : List Mark → List ℕ
 command_in row = flat_map written (trimmed row)
 
 -- what reading a command's text may answer: the text, and the place at its stanza's end; the fault of memory, or why the text is
--- refused, where the place stays
+-- refused, and the place stays
 abbrev pub CommandUnless : Place → Option TextFault → Result (List ℕ) TextFault → Place → Type 0
 CommandUnless old (Some fault) result new = (result ≡ Err fault) × (new ≡ old)
 CommandUnless old None result new =

@@ -19,11 +19,11 @@ abbrev pub uncommented : Mode → List ℕ → List ℕ
 uncommented mode [] = []
 uncommented mode (byte ∷ text) = unless_comment mode byte ++ uncommented (mode_after mode byte text) text
 
--- a text without its comments; the line ends behind them stay
+-- a text without its comments; the line ends after them stay
 unfoldable pub without_comments : List ℕ → List ℕ
 without_comments text = uncommented (Outside false) text
 
--- a mode, where nothing is joined
+-- a mode in which nothing is joined
 abbrev pub unjoined : Mode → Mode
 unjoined (Outside joined) = Outside false
 unjoined (Continued joined) = Continued false

@@ -30,7 +30,7 @@ abbrev pub run_before : List ℕ → List Parts → List Parts
 run_before [] texts = texts
 run_before (byte ∷ run) texts = before (Byte byte) (run_before run texts)
 
--- a piece before the texts behind it, at the depth where it stands
+-- a piece before the texts after it, at the depth where it stands
 abbrev pub piece_before : ℕ → Piece → List Parts → List Parts
 piece_before depth (piece.Run run) texts = run_before run.now texts
 piece_before depth (piece.Named key) texts = before (Key key.now) texts
@@ -39,12 +39,12 @@ piece_before depth (piece.Opened key emptied) texts = nested key.now emptied tex
 piece_before depth piece.Closing texts = if depth == 0 then before (Byte 125) texts else Done ∷ texts
 piece_before depth piece.Wrong texts = texts
 
--- what a piece and the signs behind it say, by the depth behind it
+-- what a piece and the signs after it say, by the depth after it
 abbrev pub said : ℕ → Piece → List Sign → Option ℕ → Option (List Parts)
 said depth piece later None = None
 said depth piece later (Some deeper) = option_map (piece_before depth piece) (texts_of deeper later)
 
--- how many texts are open behind a piece, by how many were
+-- how many texts are open after a piece, by how many were
 abbrev pub depth_behind : ℕ → Piece → ℕ
 depth_behind depth (piece.Opened key emptied) = depth + 1
 depth_behind depth piece.Closing = depth - 1
@@ -55,7 +55,7 @@ abbrev pub texts_opened : Piece → ℕ
 texts_opened (piece.Opened key emptied) = 1
 texts_opened other = 0
 
--- texts that stand in each other, one behind another
+-- texts that stand in each other, one after another
 abbrev pub meanings : List (List ℕ × List ℕ) → List Parts → Expansion
 meanings env [] = Expands []
 meanings env (text ∷ outer) = followed (meaning env text) (meanings env outer)

@@ -6,7 +6,7 @@ use Rattle.up_pattern.specs.Lists.{begins}
 use Rattle.up_value.specs.Names.{is_key_start, is_key_byte}
 
 -- The first half: what a text says, whatever is set. Its bytes are read as signs, and the signs as texts that may stand in one
--- another. It is malformed where a sign is wrong, where a text isn't ended, or where more than 16 `${` stand in each other.
+-- another. It is malformed if a sign is wrong, if a text isn't ended, or where more than 16 `${` stand in each other.
 
 -- a byte that stands for itself; $KEY; ${KEY}; the ${KEY- or, if `emptied`, the ${KEY:- before a text; a }; any other ${
 pub data Sign : Type 0 where
@@ -21,7 +21,7 @@ pub data Sign : Type 0 where
 abbrev pub key_of : List ℕ → List ℕ
 key_of text = if begins is_key_start text then take (prefix_len is_key_byte text) text else []
 
--- what a ${ and a key begin, by the bytes behind them
+-- what a ${ and a key begin, by the bytes after them
 abbrev pub braced : List ℕ → List ℕ → Sign
 braced key [] = Wrong
 braced key (byte ∷ text) =
@@ -31,7 +31,7 @@ braced key (byte ∷ text) =
     else (if byte == 58 && begins (λ next. next == 45) text then Opened key true
     else Wrong)))
 
--- what a $ begins, by the bytes behind it
+-- what a $ begins, by the bytes after it
 abbrev pub dollar : List ℕ → Sign
 dollar [] = Plain 36
 dollar (byte ∷ text) =
@@ -39,11 +39,11 @@ dollar (byte ∷ text) =
     else (if length (key_of (byte ∷ text)) == 0 then Plain 36
     else Named (key_of (byte ∷ text)))
 
--- the sign that begins with a byte, by the bytes behind it
+-- the sign that begins with a byte, by the bytes after it
 abbrev pub sign : ℕ → List ℕ → Sign
 sign byte text = if byte == 36 then dollar text else (if byte == 125 then Closing else Plain byte)
 
--- how many bytes of a sign stand behind its first
+-- how many bytes of a sign stand after its first
 abbrev pub bytes_behind : Sign → ℕ
 bytes_behind (Plain byte) = 0
 bytes_behind (Named key) = length key
@@ -59,7 +59,7 @@ signs zero (byte ∷ text) = sign byte text ∷ signs (bytes_behind (sign byte t
 signs (suc n) (byte ∷ text) = signs n text
 
 -- what a text says: no more; or a byte that stands for itself, a key that must be set, or a key with the text that stands in for
--- it where it is unset (or empty, if `emptied`), and more behind it. A chain of parts, since no `data` may hold a list of itself
+-- it if it is unset (or empty, if `emptied`), and more after it. A chain of parts, since no `data` may hold a list of itself
 pub data Parts : Type 0 where
   Done : Parts
   Byte : (byte : ℕ) → (more : Parts) → Parts
@@ -86,7 +86,7 @@ before part texts = part (innermost texts) ∷ outside texts
 abbrev pub nested : List ℕ → Bool → List Parts → List Parts
 nested key emptied texts = before (Default key emptied (innermost texts)) (outside texts)
 
--- what the signs say in so many texts round them, or none where it is malformed
+-- what the signs say in so many texts round them, or none if it is malformed
 abbrev pub texts_of : ℕ → List Sign → Option (List Parts)
 texts_of depth [] = if depth == 0 then Some (Done ∷ []) else None
 texts_of depth (Plain byte ∷ later) = option_map (before (Byte byte)) (texts_of depth later)
@@ -98,7 +98,7 @@ texts_of depth (Closing ∷ later) =
     else option_map (λ texts. Done ∷ texts) (texts_of (depth - 1) later)
 texts_of depth (Wrong ∷ later) = None
 
--- what a text says, or none where it is malformed
+-- what a text says, or none if it is malformed
 abbrev pub parts_of : List ℕ → Option Parts
 parts_of text = option_map innermost (texts_of 0 (signs 0 text))
 
@@ -114,7 +114,7 @@ pub data Expansion : Type 0 where
   Lacks : (key : List ℕ) → Expansion
   Malformed : Expansion
 
--- one expansion behind another
+-- one expansion after another
 abbrev pub followed : Expansion → Expansion → Expansion
 followed (Expands front) (Expands back) = Expands (front ++ back)
 followed (Expands front) (Lacks key) = Lacks key

@@ -34,7 +34,7 @@ lexemes_of place = lexemes_from (readings_left place) place
 abbrev pub lexemes : List ℕ → List Lexeme
 lexemes text = lexemes_of (start text)
 
--- a lexeme in front of the first stanza
+-- a lexeme before the first stanza
 abbrev pub put_front : Lexeme → List (List Lexeme) → List (List Lexeme)
 put_front lexeme [] = (lexeme ∷ []) ∷ []
 put_front lexeme (stanza ∷ stanzas) = (lexeme ∷ stanza) ∷ stanzas
@@ -51,7 +51,7 @@ abbrev pub stanzas : List ℕ → List (List Lexeme)
 stanzas text = split_ends (lexemes text)
 
 -- what one reading gives and leaves of lexemes: nothing at the text's end; nothing at a stanza's end, which is passed; the fault of a
--- refused token, which is never passed; a token, which is passed, or the fault of memory, where it is not
+-- refused token, which is never passed; a token, which is passed, or the fault of memory, if it is not
 abbrev pub Reads : List Lexeme → Result (Option Token) TextFault → List Lexeme → Type 0
 Reads [] result new = (result ≡ Ok None) × (new ≡ [])
 Reads (End ∷ later) result new = (result ≡ Ok None) × (new ≡ later)

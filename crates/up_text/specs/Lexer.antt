@@ -77,13 +77,13 @@ abbrev pub ends_token : Bool → List ℕ → Bool
 ends_token parens text =
     is_line_end text || begins is_blank text || begins is_hash text || begins_joint text || (parens && begins is_paren text)
 
--- a text is a longest run of bytes that pass, and what stands behind it
+-- a text is a longest run of bytes that pass, and what stands after it
 pub record Splits (passes : ℕ → Bool) (text front rest : List ℕ) : Type 0 where
   pub joined : text ≡ front ++ rest
   pub all : list_all passes front ≡ true
   pub ends : begins passes rest ≡ false
 
--- a text is its first character and what stands behind it
+-- a text is its first character and what stands after it
 pub record SplitsChar (text front rest : List ℕ) : Type 0 where
   pub first : ℕ
   pub others : List ℕ
@@ -116,7 +116,7 @@ is_spelling (Quoting byte) = true
 is_spelling Folded = true
 is_spelling other = false
 
--- part of a spelling: its bytes and their marks, the mode and the line behind it, and what is appended for it
+-- part of a spelling: its bytes and their marks, the mode and the line after it, and what is appended for it
 pub record Run (parens keep : Bool) (mode : Mode) (text : List ℕ) (line : ℕ) (behind : Mode) (rest : List ℕ) (reached : ℕ) (old new : Option (List ℕ)) : Type 0 where
   pub bytes : List ℕ
   pub front : List Mark
@@ -133,7 +133,7 @@ pub record Broken (parens : Bool) (mode : Mode) (text : List ℕ) (fault : TextF
   pub same : (depth : ℕ) → marks parens depth mode text ≡ front ++ Fail fault ∷ []
   pub spelled : list_all is_spelling front ≡ true
 
--- a character behind a backslash, and what is appended for both
+-- a character after a backslash, and what is appended for both
 pub record Escape (keep : Bool) (text : List ℕ) (old new : Option (List ℕ)) (rest : List ℕ) : Type 0 where
   pub first : ℕ
   pub others : List ℕ
@@ -145,7 +145,7 @@ abbrev pub IsEscape : Bool → List ℕ → Option (List ℕ) → Option (List �
 IsEscape keep text old new None = text ≡ 92 ∷ []
 IsEscape keep text old new (Some rest) = Escape keep text old new rest.now
 
--- part of a gap: its bytes and their marks, and the line behind it
+-- part of a gap: its bytes and their marks, and the line after it
 pub record GapRun (inside parens : Bool) (depth : ℕ) (joined : Bool) (text : List ℕ) (line : ℕ) (rest : List ℕ) (reached : ℕ) : Type 0 where
   pub bytes : List ℕ
   pub front : List Mark
@@ -156,16 +156,16 @@ pub record GapRun (inside parens : Bool) (depth : ℕ) (joined : Bool) (text : L
   pub gaps : list_all (is_gap inside) front ≡ true
   pub counted : reached ≡ line + feeds bytes
 
--- the place behind the gap, whose marks are those behind the gap's
+-- the place after the gap, whose marks are those after the gap's
 pub record IsBehindGap (before after : Place) : Type 0 where
   pub at : after ≡ passing (gap_at before) before
   pub marked : marks_at after ≡ drop (gap_at before) (marks_at before)
 
--- a token is read at a place, and this is the place behind it
+-- a token is read at a place, and this is the place after it
 abbrev pub GivesToken : Place → Token → Place → Type 0
 GivesToken at token behind = read_at at (marks_at at) ≡ Got token behind
 
--- the fault of memory where a token is read, or why it is refused
+-- the fault of memory if a token is read, or why it is refused
 abbrev pub IsFaultOf : Reading → TextFault → Type 0
 IsFaultOf (Got token behind) fault = fault ≡ Memory
 IsFaultOf (Ended behind) fault = ⊥
@@ -178,19 +178,19 @@ GivesFault at fault = IsFaultOf (read_at at (marks_at at)) fault
 unfoldable pub is_in_word : ℕ → Bool
 is_in_word byte = not (is_blank byte)
 
--- the first word of a text, which is empty where there is none, and what stands behind it
+-- the first word of a text, which is empty if there is none, and what stands after it
 abbrev pub BeginsWord : List ℕ → List ℕ → List ℕ → Type 0
 BeginsWord text [] rest = words_in text ≡ []
 BeginsWord text (byte ∷ word) rest = words_in text ≡ (byte ∷ word) ∷ words_in rest
 
--- the first line of a text, what stands behind it, and how many line feeds it has
+-- the first line of a text, what stands after it, and how many line feeds it has
 pub record BeginsLine (text line rest : List ℕ) (count : ℕ) : Type 0 where
   pub joined : text ≡ line ++ rest
   pub lines : lines_of text ≡ line ∷ lines_of rest
   pub counted : count ≡ feeds line
   pub filled : 0 < length line
 
--- the lines of a script and its end line, which begin a text, and the place behind them
+-- the lines of a script and its end line, which begin a text, and the place after them
 pub record EndsScript (text : List ℕ) (line : ℕ) (script rest : List ℕ) (reached : ℕ) : Type 0 where
   pub before : List (List ℕ)
   pub last : List ℕ
@@ -199,6 +199,6 @@ pub record EndsScript (text : List ℕ) (line : ℕ) (script rest : List ℕ) (r
   pub lines : script ≡ concat before
   pub counted : reached ≡ line + feeds (concat before ++ last)
 
--- how many parentheses are open behind the one that begins a text
+-- how many parentheses are open after the one that begins a text
 abbrev pub open_at : List ℕ → ℕ → ℕ
 open_at text depth = if begins (is_byte 40) text then depth + 1 else depth - 1

@@ -19,7 +19,7 @@ pub record Place : Type 0 where
 abbrev pub start : List ℕ → Place
 start text = record { rest = text; line = 1; inside = false; parens = false; depth = 0 }
 
--- what a reading gives and the place behind it: a token; a stanza's end or the text's; or why a token is refused
+-- what a reading gives and the place after it: a token; a stanza's end or the text's; or why a token is refused
 pub data Reading : Type 0 where
   Got : (token : Token) (behind : Place) → Reading
   Ended : (behind : Place) → Reading
@@ -34,11 +34,11 @@ feeds (byte ∷ text) = if is_line_feed byte then feeds text + 1 else feeds text
 abbrev pub passing : ℕ → Place → Place
 passing n place = record place { rest = drop n place.rest; line = place.line + feeds (take n place.rest) }
 
--- the place behind a token
+-- the place after a token
 abbrev pub within : ℕ → Place → Place
 within depth place = record place { inside = true; depth = depth }
 
--- the place behind a stanza
+-- the place after a stanza
 abbrev pub behind_stanza : Place → Place
 behind_stanza place = record place { inside = false; depth = 0 }
 
@@ -119,12 +119,12 @@ read_at place (Blank byte ∷ ms) = Ended (behind_stanza place)
 read_at place (Passed ∷ ms) = Ended (behind_stanza place)
 read_at place (mark ∷ ms) = let spelling = take_while is_spelled (mark ∷ ms) in spelled place spelling (fault_in spelling)
 
--- what the next reading gives: behind the gap, a token or an end
+-- what the next reading gives: after the gap, a token or an end
 unfoldable pub reading : Place → Reading
 reading place = read_at (passing (gap_at place) place) (drop (gap_at place) (marks_at place))
 
--- what a call that reads at a place may answer: what is read, and the place behind it; or the fault of memory, or why the text is
--- refused, where the place stays
+-- what a call that reads at a place may answer: what is read, and the place after it; or the fault of memory, or why the text is
+-- refused, and the place stays
 abbrev pub Answers : Place → Reading → Result (Option Token) TextFault → Place → Type 0
 Answers old (Got token behind) result new = ((result ≡ Ok (Some token)) × (new ≡ behind)) ⊎ ((result ≡ Err Memory) × (new ≡ old))
 Answers old (Ended behind) result new = (result ≡ Ok None) × (new ≡ behind)

@@ -14,7 +14,7 @@ is_word word = is_filled word && list_all (is_ordinary false) word
 abbrev pub is_stanza : List (List ℕ) → Bool
 is_stanza words = is_filled words && list_all is_word words
 
--- a stanza as a line, with a space behind each word
+-- a stanza as a line, with a space after each word
 abbrev pub printed_line : List (List ℕ) → List ℕ
 printed_line [] = 10 ∷ []
 printed_line (word ∷ words) = word ++ 32 ∷ printed_line words

@@ -4,12 +4,12 @@ use Rattle.up_text.specs.declared.token.Token.{Token}
 use Rattle.up_text.specs.Places.{Place, Reading, Got, Ended, Fails, reading}
 use Rattle.up_text.specs.Lexemes.{readings_left}
 
--- these tokens stand at a place up to the stanza's end, and this is the place behind it
+-- these tokens stand at a place up to the stanza's end, and this is the place after it
 abbrev pub Row : Place → List Token → Place → Type 0
 Row place [] behind = reading place ≡ Ended behind
 Row place (token ∷ tokens) behind = (next : Place) × (reading place ≡ Got token next) × Row next tokens behind
 
--- a token in front of others
+-- a token before others
 abbrev pub with_token : Token → Option (List Token × Place) → Option (List Token × Place)
 with_token token None = None
 with_token token (Some row) = Some (token ∷ row.0, row.1)
@@ -25,6 +25,6 @@ unfoldable pub row_from : ℕ → Place → Option (List Token × Place)
 row_from zero place = None
 row_from (suc n) place = row_by (λ behind. row_from n behind) (reading place)
 
--- the tokens up to the stanza's end, and the place behind it; nothing where one is refused
+-- the tokens up to the stanza's end, and the place after it; nothing if one is refused
 unfoldable pub row_of : Place → Option (List Token × Place)
 row_of place = row_from (readings_left place) place

@@ -30,7 +30,7 @@ abbrev pub may_follow : List ℕ → Bool
 may_follow [] = true
 may_follow (byte ∷ word) = is_hash byte
 
--- whether these are the words `end` and `script`, perhaps with blanks and a comment behind them
+-- whether these are the words `end` and `script`, perhaps with blanks and a comment after them
 abbrev pub are_end_words : List (List ℕ) → Bool
 are_end_words [] = false
 are_end_words (first ∷ []) = false
@@ -41,7 +41,7 @@ are_end_words (first ∷ second ∷ third ∷ others) = bytes_eq first (codes "e
 unfoldable pub is_end_line : List ℕ → Bool
 is_end_line line = are_end_words (line_words line)
 
--- the lines of a script, where its end line is there: those before it, and the end line
+-- the lines of a script, if its end line is there: those before it, and the end line
 abbrev pub script_in : List (List ℕ) → Option (List (List ℕ) × List ℕ)
 script_in [] = None
 script_in (line ∷ lines) = if is_end_line line then Some ([], line) else with_line line (script_in lines)
@@ -51,7 +51,7 @@ script_in (line ∷ lines) = if is_end_line line then Some ([], line) else with_
     with_line line (Some script) = Some (line ∷ script.0, script.1)
 
 -- what reading a script's lines may answer: the lines before its end line, which is passed too, or the fault of memory; nothing
--- where there is no end line, and then the place stays
+-- if there is no end line, and then the place stays
 abbrev pub ScriptUnless : Place → Option (List (List ℕ) × List ℕ) → Result (Option (List ℕ)) TextFault → Place → Type 0
 ScriptUnless old None result new = (result ≡ Ok None) × (new ≡ old)
 ScriptUnless old (Some script) result new =

@@ -17,8 +17,8 @@ pub data Mark : Type 0 where
   Stop : Mark
   Fail : (fault : TextFault) → Mark
 
--- where a byte stands: outside quotes and comments; in a comment; behind a backslash; between a backslash and a line end; in a
--- piece quoted by this byte; behind a backslash there. A run of blanks is joined once it had a line end
+-- where a byte stands: outside quotes and comments; in a comment; after a backslash; between a backslash and a line end; in a
+-- piece quoted by this byte; after a backslash there. A run of blanks is joined once it had a line end
 pub data Mode : Type 0 where
   Outside : (joined : Bool) → Mode
   Comment : Mode
@@ -56,11 +56,11 @@ abbrev pub reaches_feed : List ℕ → Bool
 reaches_feed [] = false
 reaches_feed (byte ∷ text) = is_line_feed byte || (is_blank byte && reaches_feed text) || (is_backslash byte && begins is_line_feed text)
 
--- a line end ends the stanza where no parenthesis is open
+-- a line end ends the stanza if no parenthesis is open
 abbrev pub feed_mark : ℕ → Mark
 feed_mark depth = if depth == 0 then Stop else Passed
 
--- what a byte is outside quotes and comments, by what stands behind it
+-- what a byte is outside quotes and comments, by what stands after it
 abbrev pub mark_outside : Bool → ℕ → Bool → ℕ → List ℕ → Mark
 mark_outside parens depth joined byte text =
     if is_line_feed byte then feed_mark depth
@@ -89,7 +89,7 @@ mark_of parens depth (Continued joined) byte text = if joined then Passed else B
 mark_of parens depth (Quoted quote joined) byte text = mark_quoted quote joined byte text
 mark_of parens depth (QuotedEscape quote) byte text = Part byte
 
--- where the byte behind one outside quotes and comments stands
+-- where the byte after one outside quotes and comments stands
 abbrev pub mode_outside : Bool → ℕ → List ℕ → Mode
 mode_outside joined byte text =
     if is_blank byte then Outside joined
@@ -98,7 +98,7 @@ mode_outside joined byte text =
     else (if is_quote byte then Quoted byte false
     else Outside false)))
 
--- where the byte behind one inside quotes stands
+-- where the byte after one inside quotes stands
 abbrev pub mode_quoted : ℕ → Bool → ℕ → List ℕ → Mode
 mode_quoted quote joined byte text =
     if byte == quote then Outside false
@@ -116,12 +116,12 @@ mode_after (Continued joined) byte text = Outside true
 mode_after (Quoted quote joined) byte text = mode_quoted quote joined byte text
 mode_after (QuotedEscape quote) byte text = Quoted quote false
 
--- how many parentheses are open behind a mark
+-- how many parentheses are open after a mark
 abbrev pub open_after : ℕ → Mark → ℕ
 open_after depth (Alone byte) = if byte == 40 then depth + 1 else depth - 1
 open_after depth other = depth
 
--- what stands behind the last byte: nothing, or the fault of a token that isn't whole
+-- what stands after the last byte: nothing, or the fault of a token that isn't whole
 abbrev pub end_marks : Mode → List Mark
 end_marks Escaped = Fail TrailingBackslash ∷ []
 end_marks (Quoted quote joined) = Fail UnterminatedQuote ∷ []

@@ -60,7 +60,7 @@ fn begins_with(text: &str, byte: u8) -> bool
     text.as_bytes().first() == Some(&byte)
 }
 
-// The text behind its first byte, if that is this one.
+// The text after its first byte, if that is this one.
 fn behind(text: &str, byte: u8) -> Option<&str>
     requires { byte < 128 }
     ensures { MatchOption result (begins (λ first. first == byte) text.now ≡ false) (λ rest. text.now ≡ byte ∷ rest.now) }
@@ -87,7 +87,7 @@ fn key_bytes_len(bytes: &[u8]) -> usize
     bytes.iter().take_while(|byte| is_key_byte(**byte)).count()
 }
 
-// The longest key that the text begins with, which may be empty, and what stands behind it.
+// The longest key that the text begins with, which may be empty, and what stands after it.
 fn split_key(text: &str) -> (&str, &str)
     ensures key { result.0.now ≡ key_of text.now }
     ensures rest { result.1.now ≡ drop (length (key_of text.now)) text.now }
@@ -106,7 +106,7 @@ fn run_len(bytes: &[u8]) -> usize
     memchr2(b'$', b'}', bytes).unwrap_or(bytes.len())
 }
 
-// What a `${` begins, by the text behind it.
+// What a `${` begins, by the text after it.
 fn read_braced(text: &str) -> (Piece, &str)
     ensures same { signs 0 (36 ∷ 123 ∷ text.now) ≡ signs_of result.0 ++ signs 0 result.1.now }
     ensures shorter { length result.1.now ≤ length text.now }
@@ -129,7 +129,7 @@ fn read_braced(text: &str) -> (Piece, &str)
     (Piece::Wrong, text)
 }
 
-// What a `$` begins, by the text behind it.
+// What a `$` begins, by the text after it.
 fn read_dollar(text: &str) -> (Piece, &str)
     ensures same { signs 0 (36 ∷ text.now) ≡ signs_of result.0 ++ signs 0 result.1.now }
     ensures shorter { length result.1.now ≤ length text.now }
@@ -144,7 +144,7 @@ fn read_dollar(text: &str) -> (Piece, &str)
     (Piece::Named(key), rest)
 }
 
-// What the text begins with, and what stands behind it.
+// What the text begins with, and what stands after it.
 fn read_piece(text: &str) -> (Piece, &str)
     requires { 0 < length text.now }
     ensures same { signs 0 text.now ≡ signs_of result.0 ++ signs 0 result.1.now }
@@ -160,7 +160,7 @@ fn read_piece(text: &str) -> (Piece, &str)
     (Piece::Run(run), rest)
 }
 
-// How many texts are open behind a piece, by how many were; none where the piece makes the text malformed.
+// How many texts are open after a piece, by how many were; none if the piece makes the text malformed.
 #[tactic(auto, using(crate::proofs::Nesting::said_run))]
 fn depth_behind(depth: usize, piece: Piece) -> Option<usize>
     requires { depth ≤ 16 }
@@ -182,7 +182,7 @@ fn depth_behind(depth: usize, piece: Piece) -> Option<usize>
     }
 }
 
-// The value of a key; where emptied, an empty one doesn't count.
+// The value of a key; if emptied, an empty one doesn't count.
 fn counted<'a>(env: &'a Env, key: &str, emptied: bool) -> Option<&'a str>
     ensures { option_map (λ value. value.now) result ≡ counted emptied (value_of key.now env.now) }
 {
@@ -273,8 +273,8 @@ pub fn is_expandable(text: &str) -> bool
 }
 
 /// Replaces each expansion in a text by the value of its key, or by the text that stands in for it. `$KEY` takes the longest key;
-/// `${KEY}` is the same, `${KEY-text}` takes the text where the key is unset, and `${KEY:-text}` also where it is empty. Such a
-/// text may have expansions of its own, with at most 16 `${` in each other. Refused with `BadExpansion` where any other `${`
+/// `${KEY}` is the same, `${KEY-text}` takes the text if the key is unset, and `${KEY:-text}` also if it is empty. Such a
+/// text may have expansions of its own, with at most 16 `${` in each other. Refused with `BadExpansion` if any other `${`
 /// stands in the text, whatever is set, and with `Memory`. Keys that aren't needed aren't looked up.
 pub fn expand(alloc: Global, text: &str, env: &Env) -> Result<Expanded, TextFault>
     ensures { Gives (expand text.now env.now) result }

@@ -29,7 +29,7 @@ use std::alloc::Global;
 use std::marker::Model;
 use up_value::{Text, TextFault};
 
-/// Reads a text token by token, as init(5) says. It stands right behind what it read.
+/// Reads a text token by token, as init(5) says. It stands right after what it read.
 #[derive(Debug, Drop)]
 pub struct Lexer<'a> {
     // What is left of the text.
@@ -55,7 +55,7 @@ impl<'a> Model for Lexer<'a> {
     ghost invariant = { IsInRange };
 }
 
-// The line and the text behind a line end.
+// The line and the text after a line end.
 fn after_line_end(text: &str, line: u32) -> (u32, &str)
     requires at_end { is_line_end text.now ≡ true }
     requires in_range { line + length text.now < 2 ^ 32 }
@@ -147,8 +147,8 @@ impl<'a> Lexer<'a> {
         Ok(text)
     }
 
-    /// The lines of a script up to its end line, each with its line feed; the end line is passed too. `None` where there is no
-    /// end line. Call it behind the `None` that ended the line `script`.
+    /// The lines of a script up to its end line, each with its line feed; the end line is passed too. `None` if there is no
+    /// end line. Call it after the `None` that ended the line `script`.
     pub fn script_lines(&mut self, alloc: Global) -> Result<Option<Text>, TextFault>
         ensures { ReadsScript self.old result self.new }
     {

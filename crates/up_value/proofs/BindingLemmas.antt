@@ -161,12 +161,6 @@ are_bindings-set_in key value (binding ∷ bindings) are good fit =
       rest = ih h.rest good fit;
     })
 
-pub are_bindings-set_all : (bindings pairs : List (List ℕ × List ℕ)) → are_bindings bindings ≡ true → are_bindings pairs ≡ true → are_bindings (set_all bindings pairs) ≡ true
-are_bindings-set_all bindings [] are others = are
-are_bindings-set_all bindings (pair ∷ pairs) are others =
-    let h = leads pair pairs others in
-    are_bindings-set_all (set_in pair.0 pair.1 bindings) pairs (are_bindings-set_in pair.0 pair.1 bindings are h.key h.value) h.rest
-
 has_key-middle : (front : List (List ℕ × List ℕ)) (pair : List ℕ × List ℕ) (pairs : List (List ℕ × List ℕ)) (key : List ℕ) → has_key key (front ++ pair ∷ pairs) ≡ false → bytes_eq key pair.0 ≡ false
 has_key-middle [] pair pairs key absent = (either (bytes_eq key pair.0) (has_key key pairs) absent).0
 has_key-middle (binding ∷ front) pair pairs key absent = has_key-middle front pair pairs key (either (bytes_eq key binding.0) (has_key key (front ++ pair ∷ pairs)) absent).1
@@ -218,7 +212,7 @@ put_new key value old new places more is good fit none added noted =
       refl,
     )
 
--- where neither changes, nothing does
+-- if neither changes, nothing does
 pub put_not : {A : Type 0} (old new : List (List ℕ × List ℕ)) (places more : BTreeMap (String A) ℕ) → (are_bindings old ≡ true) × AreIndexed places old
     → new ≡ old → ((other : List ℕ) → get_by_text more other ≡ get_by_text places other) → (are_bindings new ≡ true) × AreIndexed more new
 put_not old new places more is same noted = rw same (is.0, λ other. noted other ∙ is.1 other)

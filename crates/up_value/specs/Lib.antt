@@ -1,3 +1,6 @@
-pub mod Bindings
-pub mod Fault
+-- Names, keys and values (init(5)).
 pub mod Names
+-- Environments: lists of distinct keys with values.
+pub mod Bindings
+-- The numbers and names of faults of texts.
+pub mod Fault

@@ -50,7 +50,7 @@ fn is_name(text: &str) -> bool
 }
 
 impl Name {
-    /// The name of these bytes. Refused with `BadName` where they are no name: a name has one or more bytes from 0x21 to 0x7E
+    /// The name of these bytes. Refused with `BadName` if they are no name: a name has one or more bytes from 0x21 to 0x7E
     /// without `"`, `'`, `\`, `(`, `)`, `#`, `=` and `$`.
     pub fn new(alloc: Global, text: &str) -> Result<Self, TextFault>
         ensures named { IfOk result (λ name. (name ≡ text.now) × IsTrue (is_name text.now)) }

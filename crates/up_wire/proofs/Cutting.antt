@@ -29,7 +29,7 @@ pub cut_is : (word : Bytes) (found : Option (Bor Bytes × Bor Bytes)) → IsSpli
 cut_is word None h = cut_none word h
 cut_is word (Some parts) h = cut_found word parts h
 
--- the texts behind references
+-- the texts after references
 abbrev pub texts : List (Bor Bytes) → List Bytes
 texts = map (λ word. word.now)
 

@@ -64,10 +64,6 @@ one_more bytes requests rest request after whole first =
     let last : flat_map request_frame (requests ++ request ∷ []) ≡ flat_map request_frame requests ++ request_frame request = flat_map-append request_frame requests (request ∷ []) ∙ ap (λ x. flat_map request_frame requests ++ x) (append-nil (request_frame request)) in
     whole ∙ (ap (λ x. flat_map request_frame requests ++ x) first ∙ (sym (append_assoc (flat_map request_frame requests) (request_frame request) after) ∙ ap (λ x. x ++ after) (sym last)))
 
-pub each_more : (requests : List RequestValue) (request : RequestValue) → AllByRecursion IsSendable requests → IsSendable request → AllByRecursion IsSendable (requests ++ request ∷ [])
-each_more [] request each one = (one, tt)
-each_more (first ∷ requests) request each one = (each.0, each_more requests request each.1 one)
-
 -- a frame takes bytes away
 pub shorter : (rest : Bytes) (request : RequestValue) (after : Bytes) → rest ≡ request_frame request ++ after → length after < length rest
 unfolding request_frame

@@ -11,9 +11,6 @@ use Rattle.up_wire.specs.Fields.{number_at}
 pub two_bytes : (a b n : ℕ) → a < 256 → b < 256 → n ≡ a * 256 + b → (n / 256 % 256 ≡ a) × (n % 256 ≡ b)
 two_bytes a b n low high e = (omega arith, omega arith)
 
-pub four_bytes : (a b c d n : ℕ) → a < 256 → b < 256 → c < 256 → d < 256 → n ≡ a * 16777216 + b * 65536 + c * 256 + d → (n / 16777216 % 256 ≡ a) × (n / 65536 % 256 ≡ b) × (n / 256 % 256 ≡ c) × (n % 256 ≡ d)
-four_bytes a b c d n la lb lc ld e = (omega arith, omega arith, omega arith, omega arith)
-
 -- bytes are a front and the bytes after it
 abbrev pub Takes : Bytes → Bytes → Bytes → Type 0
 Takes bytes front rest = (bytes ≡ front ++ rest) × AreOctets rest
@@ -47,16 +44,6 @@ number_again n rest small = number_is 2 (big_bytes 2 n ++ rest) n rest (grind (a
 -- and so is one of four
 pub length_again : (n : ℕ) (rest : Bytes) → n < 4294967296 → big_number 4 (big_bytes 4 n ++ rest) ≡ n
 length_again n rest small = big_number-reads_back 4 n rest small
-
--- the first four bytes are those of their number
-pub length_takes : (bytes : Bytes) → AreOctets bytes → 4 ≤ length bytes → bytes ≡ big_bytes 4 (big_number 4 bytes) ++ drop 4 bytes
-length_takes [] are h = absurd (omega (arith, h))
-length_takes (a ∷ []) are h = absurd (omega (arith, h))
-length_takes (a ∷ b ∷ []) are h = absurd (omega (arith, h))
-length_takes (a ∷ b ∷ c ∷ []) are h = absurd (omega (arith, h))
-length_takes (a ∷ b ∷ c ∷ d ∷ bytes) are h =
-    let four = four_bytes a b c d (big_number 4 (a ∷ b ∷ c ∷ d ∷ bytes)) are.0 are.1.0 are.1.1.0 are.1.1.1.0 (omega arith) in
-    cons_two _ _ _ _ _ _ four.0 four.1 (cons_two _ _ _ _ _ _ four.2 four.3 refl)
 
 pub drop_octets : (n : ℕ) (bytes : Bytes) → AreOctets bytes → AreOctets (drop n bytes)
 drop_octets zero bytes are = are

@@ -100,7 +100,7 @@ AnswerBegins BadFrame bytes = IsFaultyAnswer Malformed bytes
 AnswerBegins BadWord bytes = ⊥
 AnswerBegins Memory bytes = Unit {0}
 
--- the same, where the cause is what comes after the whole good ones
+-- the same, if the cause is what comes after the whole good ones
 abbrev pub AnswersStop : WireFault → Bytes → Type 0
 AnswersStop FrameTooLarge bytes = AnswersBreak TooLarge bytes
 AnswersStop BadFrame bytes = AnswersBreak Malformed bytes
@@ -114,7 +114,7 @@ LiesAhead bytes text (Ok (Last payload after)) =
     Opens bytes text (frame payload.now ++ after.now) × (length payload.now ≤ max_payload) × (is_chunk payload.now ≡ false)
 LiesAhead bytes text (Err fault) = AnswerBegins fault bytes
 
--- where no frame was taken, the bytes are what is left
+-- if no frame was taken, the bytes are what is left
 abbrev pub KeepsWhole : Bytes → Result Ahead WireFault → Type 0
 KeepsWhole bytes (Ok (Open rest)) = length bytes ≤ length rest.now → rest.now ≡ bytes
 KeepsWhole bytes (Ok (Last payload after)) = Unit {0}

@@ -6,14 +6,14 @@ use Rattle.up_wire.specs.declared.fault.WireFault.{WireFault}
 use Rattle.up_wire.specs.declared.fault.WireFault.TheVariants.{FrameTooLarge, BadFrame, BadWord, Memory}
 use Rattle.up_wire.specs.Frames.{Bytes, IsFaulty, Breaks}
 
--- a refusal whose cause is the first frame of the bytes, or want of memory
+-- a refusal whose cause is the first frame of the bytes, or that memory ran out
 abbrev pub Begins : WireFault → Bytes → Type 0
 Begins FrameTooLarge bytes = IsFaulty TooLarge bytes
 Begins BadFrame bytes = IsFaulty Malformed bytes
 Begins BadWord bytes = ⊥
 Begins Memory bytes = Unit {0}
 
--- the same, where the cause is the frame after the whole good ones
+-- the same, if the cause is the frame after the whole good ones
 abbrev pub Stops : WireFault → Bytes → Type 0
 Stops FrameTooLarge bytes = Breaks TooLarge bytes
 Stops BadFrame bytes = Breaks Malformed bytes

@@ -30,7 +30,7 @@ no_wait_rule = record (new_rule (codes "no-wait")) { long = Some (codes "no-wait
 abbrev pub about_app : Bytes → App
 about_app name = with_rule (with_rule (new_app name) name_rule) words_rule
 
--- the same, where the client may choose not to wait
+-- the same, if the client may choose not to wait
 abbrev pub waiting_app : Bytes → App
 waiting_app name = with_rule (about_app name) no_wait_rule
 

@@ -56,7 +56,7 @@ fn about<'a>(
         .arg(variables(alloc))
 }
 
-// The same, where the client may choose not to wait.
+// The same, if the client may choose not to wait.
 fn waiting<'a>(
     alloc: Global,
     name: &'a str,

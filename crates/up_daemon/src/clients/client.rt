@@ -1,6 +1,7 @@
 //! A client of the daemon: what it said that has not entered the engine, and what waits to be written to it.
-ghost use Rattle.std.specs.Prelude.{◌≡◌, ◌≤◌, ◌<◌, [], None, IfOk, IfSome, false, vec_len, length, take, option_map};
-ghost use Rattle.up_daemon.specs.Hearing.{Hears, Enters, IsAnswered, IsTaken, IsPassedOver, IsReadOnce, IsWrittenOnce, is_ready, most_waiting};
+ghost use Rattle.std.specs.Prelude.{◌≡◌, ◌≤◌, ◌<◌, [], None, IfOk, IfSome, length, take, option_map};
+ghost use Rattle.up_daemon.specs.Hearing.{Hears, Enters, IsAnswered, IsTaken, IsPassedOver, IsReadOnce, IsWrittenOnce, most_waiting};
+ghost use Rattle.up_daemon.specs.Peers.{peer_of, is_ready};
 
 use crate::door::Door;
 use std::alloc::{AllocError, Global};
@@ -25,8 +26,6 @@ pub(crate) struct Client {
     pub(crate) unanswered: Option<u64>,
     // the bytes that wait to be written
     pub(crate) answers: Vec<u8>,
-    // whether it is to be let go of at the end of this part of the round
-    pub(crate) is_closed: bool,
 }
 
 impl Client {
@@ -37,7 +36,6 @@ impl Client {
         ensures waiting { result.waiting.items ≡ [] }
         ensures unanswered { result.unanswered ≡ None }
         ensures answers { result.answers.items ≡ [] }
-        ensures open { result.is_closed ≡ false }
     {
         Client {
             number,
@@ -45,13 +43,12 @@ impl Client {
             waiting: Vec::new(alloc),
             unanswered: None,
             answers: Vec::new(alloc),
-            is_closed: false,
         }
     }
 
     /// Whether its next request may enter: it has one, and none before that is unanswered.
     pub(crate) fn is_ready(&self) -> bool
-        ensures { result ≡ is_ready self.now }
+        ensures { result ≡ is_ready (peer_of self.now) }
     {
         self.unanswered.is_none() && self.waiting.len() > 0
     }
@@ -66,7 +63,9 @@ impl Client {
                 Ok(true)
             }
             Err(WireFault::Memory) => Err(AllocError),
-            Err(_) => Ok(false),
+            Err(WireFault::FrameTooLarge) => Ok(false),
+            Err(WireFault::BadFrame) => Ok(false),
+            Err(WireFault::BadWord) => Ok(false),
         }
     }
 
@@ -100,7 +99,8 @@ impl Client {
     // Takes what a read found at the buffer's beginning. False if that is the end, or breaks a frame.
     fn take(&mut self, buffer: &[u8], found: Option<usize>) -> Result<bool, AllocError>
         requires { IfSome found (λ count. count ≤ length buffer.now) }
-        ensures { IfOk result (λ stays. IsTaken stays (option_map (λ count. take count buffer.now) found) self.old self.new) }
+        ensures { IfOk result (λ stays. IsTaken stays
+            (option_map (λ count. take count buffer.now) found) self.old self.new) }
     {
         match found {
             Some(count) => {
@@ -116,8 +116,12 @@ impl Client {
 
     /// Reads it once, if it may be read. False if it is to be closed: the read failed, it sends no more, or it broke a frame.
     pub(crate) fn read<D: Door>(&mut self, door: &mut D) -> Result<bool, AllocError>
-        ensures limit { IfOk result (λ stays. most_waiting ≤ vec_len self.old.waiting → IsPassedOver stays self.old self.new (D.entries door.old) (D.entries door.new) (D.faults door.old) (D.faults door.new)) }
-        ensures once { IfOk result (λ stays. vec_len self.old.waiting < most_waiting → IsReadOnce stays self.old self.new (D.entries door.old) (D.entries door.new) (D.faults door.old) (D.faults door.new)) }
+        ensures limit { IfOk result (λ stays. most_waiting ≤ length self.old.waiting.items
+            → IsPassedOver stays self.old self.new (D.entries door.old) (D.entries door.new)
+            (D.faults door.old) (D.faults door.new)) }
+        ensures once { IfOk result (λ stays. length self.old.waiting.items < most_waiting
+            → IsReadOnce stays self.old self.new (D.entries door.old) (D.entries door.new) (D.faults door.old)
+            (D.faults door.new)) }
     {
         if self.waiting.len() >= MOST_WAITING {
             return Ok(true);
@@ -134,8 +138,12 @@ impl Client {
 
     /// Writes what waits, in one call, if anything does. False if the write failed.
     pub(crate) fn write<D: Door>(&mut self, door: &mut D) -> Result<bool, AllocError>
-        ensures none { IfOk result (λ stays. vec_len self.old.answers ≡ 0 → IsPassedOver stays self.old self.new (D.entries door.old) (D.entries door.new) (D.faults door.old) (D.faults door.new)) }
-        ensures once { IfOk result (λ stays. 0 < vec_len self.old.answers → IsWrittenOnce stays self.old self.new (D.entries door.old) (D.entries door.new) (D.faults door.old) (D.faults door.new)) }
+        ensures none { IfOk result (λ stays. length self.old.answers.items ≡ 0
+            → IsPassedOver stays self.old self.new (D.entries door.old) (D.entries door.new)
+            (D.faults door.old) (D.faults door.new)) }
+        ensures once { IfOk result (λ stays. 0 < length self.old.answers.items
+            → IsWrittenOnce stays self.old self.new (D.entries door.old) (D.entries door.new)
+            (D.faults door.old) (D.faults door.new)) }
     {
         if self.answers.len() == 0 {
             return Ok(true);

@@ -18,7 +18,8 @@ fn if_hurried(place: usize, input: &Input) -> Option<usize>
 }
 
 fn asked_by(next: &Record, place: usize) -> Option<Option<usize>>
-    ensures { (c : Chronicle) → length c ≡ place → model.asked (entry_of next.now ∷ c) ≡ unwrap_or result (model.asked c) }
+    ensures { (c : Chronicle) → length c ≡ place
+        → model.asked (entry_of next.now ∷ c) ≡ unwrap_or result (model.asked c) }
 {
     match next {
         Record::Given(input) => Some(if_hurried(place, input)),
@@ -42,7 +43,8 @@ fn asked(records: &[Record]) -> Option<usize>
 }
 
 fn answered_by(next: &Record, asking: usize) -> Option<bool>
-    ensures { (c : Chronicle) → model.was_answered asking (entry_of next.now ∷ c) ≡ unwrap_or result (model.was_answered asking c) }
+    ensures { (c : Chronicle) → model.was_answered asking (entry_of next.now ∷ c)
+        ≡ unwrap_or result (model.was_answered asking c) }
 {
     match next {
         Record::Given(_) => Some(false),

@@ -38,7 +38,8 @@ fn is_recent(today: u64, moment: u64, span: u64) -> bool
 
 // How many respawns are left of a number, after one record more.
 fn left_after(next: &Record, instance: usize, today: u64, span: u64, left: u32) -> u32
-    ensures { (c : Chronicle) (count : ℕ) → left ≡ count - clock.respawns instance today span c → result ≡ count - clock.respawns instance today span (entry_of next.now ∷ c) }
+    ensures { (c : Chronicle) (count : ℕ) → left ≡ count - clock.respawns instance today span c
+        → result ≡ count - clock.respawns instance today span (entry_of next.now ∷ c) }
 {
     match next {
         Record::Respawned {
@@ -61,7 +62,8 @@ fn left(records: &[Record], instance: usize, today: u64, span: u64, count: u32) 
 }
 
 fn has_left(records: &[Record], instance: usize, limit: Limit) -> bool
-    ensures { result ≡ nat_lt (clock.respawns instance (clock.now (chronicle records.now)) (clock.milliseconds limit.interval) (chronicle records.now)) limit.count }
+    ensures { result ≡ nat_lt (clock.respawns instance (clock.now (chronicle records.now))
+        (clock.milliseconds limit.interval) (chronicle records.now)) limit.count }
 {
     left(
         records,
@@ -86,7 +88,8 @@ pub(crate) fn may_respawn(records: &[Record], instance: usize, limit: Limit) -> 
 }
 
 fn kill_moment_after(next: &Record, instance: usize, today: u64, before: Option<u64>) -> Option<u64>
-    ensures { (c : Chronicle) → today ≡ clock.now c → before ≡ clock.kill_moment instance c → result ≡ clock.kill_moment instance (entry_of next.now ∷ c) }
+    ensures { (c : Chronicle) → today ≡ clock.now c → before ≡ clock.kill_moment instance c
+        → result ≡ clock.kill_moment instance (entry_of next.now ∷ c) }
 {
     match next {
         Record::Entered {

@@ -12,7 +12,9 @@ use up_model::{Goal, Process, State};
 use up_text::Env;
 
 fn pending_after<'a>(next: &'a Record, instance: usize, before: Option<&'a Env>) -> Option<&'a Env>
-    ensures { (c : Chronicle) → reading.pending_env instance c ≡ option_map_or (λ env. env.now) before.entry [] → option_map_or (λ env. env.now) result [] ≡ reading.pending_env instance (entry_of next.now ∷ c) }
+    ensures { (c : Chronicle) → reading.pending_env instance c
+        ≡ option_map_or (λ env. env.now) before.entry []
+        → option_map_or (λ env. env.now) result [] ≡ reading.pending_env instance (entry_of next.now ∷ c) }
 {
     match next {
         Record::Aimed {
@@ -31,7 +33,8 @@ fn env_after<'a>(
     pending: Option<&'a Env>,
     before: Option<&'a Env>,
 ) -> Option<&'a Env>
-    ensures { (c : Chronicle) → reading.pending_env instance c ≡ option_map_or (λ env. env.now) pending.entry []
+    ensures { (c : Chronicle) → reading.pending_env instance c
+        ≡ option_map_or (λ env. env.now) pending.entry []
         → reading.env instance c ≡ option_map_or (λ env. env.now) before.entry []
         → option_map_or (λ env. env.now) result [] ≡ reading.env instance (entry_of next.now ∷ c) }
 {

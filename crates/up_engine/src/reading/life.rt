@@ -9,7 +9,8 @@ use crate::record::{Origin, Record};
 use up_model::{Failure, Goal, State};
 
 fn goal_after(next: &Record, instance: usize, before: Goal) -> Goal
-    ensures { (c : Chronicle) → reading.goal instance c ≡ before → result ≡ reading.goal instance (entry_of next.now ∷ c) }
+    ensures { (c : Chronicle) → reading.goal instance c ≡ before
+        → result ≡ reading.goal instance (entry_of next.now ∷ c) }
 {
     match next {
         Record::Aimed {
@@ -33,7 +34,8 @@ pub(crate) fn goal(records: &[Record], instance: usize) -> Goal
 }
 
 fn state_after(next: &Record, instance: usize, before: State) -> State
-    ensures { (c : Chronicle) → reading.state_of instance c ≡ before → result ≡ reading.state_of instance (entry_of next.now ∷ c) }
+    ensures { (c : Chronicle) → reading.state_of instance c ≡ before
+        → result ≡ reading.state_of instance (entry_of next.now ∷ c) }
 {
     match next {
         Record::Entered {
@@ -56,7 +58,8 @@ pub(crate) fn state_of(records: &[Record], instance: usize) -> State
 }
 
 fn restarted_after(next: &Record, instance: usize, before: bool) -> bool
-    ensures { (c : Chronicle) → reading.was_restarted instance c ≡ before → result ≡ reading.was_restarted instance (entry_of next.now ∷ c) }
+    ensures { (c : Chronicle) → reading.was_restarted instance c ≡ before
+        → result ≡ reading.was_restarted instance (entry_of next.now ∷ c) }
 {
     match next {
         Record::Restarted {
@@ -84,7 +87,8 @@ pub(crate) fn was_restarted(records: &[Record], instance: usize) -> bool
 }
 
 fn holders_after<'a>(next: &'a Record, instance: usize, before: &'a [EventKey]) -> &'a [EventKey]
-    ensures { (c : Chronicle) → reading.holders instance c ≡ map place_of before.now → map place_of result.now ≡ reading.holders instance (entry_of next.now ∷ c) }
+    ensures { (c : Chronicle) → reading.holders instance c ≡ map place_of before.now
+        → map place_of result.now ≡ reading.holders instance (entry_of next.now ∷ c) }
 {
     match next {
         Record::Aimed {
@@ -116,7 +120,8 @@ pub(crate) fn holders(records: &[Record], instance: usize) -> &[EventKey]
 }
 
 fn failure_after(next: &Record, instance: usize, before: Option<Failure>) -> Option<Failure>
-    ensures { (c : Chronicle) → reading.failure instance c ≡ before → result ≡ reading.failure instance (entry_of next.now ∷ c) }
+    ensures { (c : Chronicle) → reading.failure instance c ≡ before
+        → result ≡ reading.failure instance (entry_of next.now ∷ c) }
 {
     match next {
         Record::Failed {
@@ -174,7 +179,8 @@ fn blocker_after(
     instance: usize,
     before: Option<usize>,
 ) -> Option<usize>
-    ensures { (c : Chronicle) → length c ≡ place → reading.blocker instance c ≡ before → result ≡ reading.blocker instance (entry_of next.now ∷ c) }
+    ensures { (c : Chronicle) → length c ≡ place → reading.blocker instance c ≡ before
+        → result ≡ reading.blocker instance (entry_of next.now ∷ c) }
 {
     match next {
         Record::Queued {

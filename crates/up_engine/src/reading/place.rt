@@ -38,7 +38,8 @@ pub(crate) fn event_at(records: &[Record], place: usize) -> Option<&Event>
 }
 
 fn made_of(found: &Record) -> Option<(&Name, &str)>
-    ensures { option_map (λ made. record { job = made.0.now; instance = made.1.now }) result ≡ reading.made_of (Some (entry_of found.now)) }
+    ensures { option_map (λ made. record { job = made.0.now; instance = made.1.now }) result
+        ≡ reading.made_of (Some (entry_of found.now)) }
 {
     match found {
         Record::Made { job, name } => Some((job, name.as_str())),
@@ -48,7 +49,8 @@ fn made_of(found: &Record) -> Option<(&Name, &str)>
 
 /// The names of the instance that was made at a place.
 pub(crate) fn made_at(records: &[Record], place: usize) -> Option<(&Name, &str)>
-    ensures { option_map (λ made. record { job = made.0.now; instance = made.1.now }) result ≡ reading.made_at place (chronicle records.now) }
+    ensures { option_map (λ made. record { job = made.0.now; instance = made.1.now }) result
+        ≡ reading.made_at place (chronicle records.now) }
 {
     match record_at(records, place) {
         Some(found) => made_of(found),

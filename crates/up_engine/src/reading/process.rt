@@ -30,7 +30,8 @@ fn same_process(process: Process, other: Process) -> bool
 
 // Whether an input that names a process speaks of this process of an instance, which is known outside by these names.
 fn speaks_of(its: Option<(&Name, &str)>, process: Process, who: &Who, named: Process) -> bool
-    ensures { result ≡ reading.speaks_of (option_map (λ its. record { job = its.0.now; instance = its.1.now }) its.entry) process who.now named }
+    ensures { result ≡ reading.speaks_of (option_map
+        (λ its. record { job = its.0.now; instance = its.1.now }) its.entry) process who.now named }
 {
     match its {
         Some((job, name)) => who.job.is(job)
@@ -49,7 +50,8 @@ fn awaited_after(
     process: Process,
     before: bool,
 ) -> bool
-    ensures { length (chronicle earlier.now) ≡ place → before ≡ reading.awaited instance process (chronicle earlier.now)
+    ensures { length (chronicle earlier.now) ≡ place
+        → before ≡ reading.awaited instance process (chronicle earlier.now)
         → result ≡ reading.awaited instance process (entry_of next.now ∷ chronicle earlier.now) }
 {
     match next {
@@ -91,7 +93,8 @@ fn pid_after(
     process: Process,
     before: Option<u32>,
 ) -> Option<u32>
-    ensures { length (chronicle earlier.now) ≡ place → before ≡ reading.pid_of instance process (chronicle earlier.now)
+    ensures { length (chronicle earlier.now) ≡ place
+        → before ≡ reading.pid_of instance process (chronicle earlier.now)
         → result ≡ reading.pid_of instance process (entry_of next.now ∷ chronicle earlier.now) }
 {
     match next {

@@ -61,7 +61,9 @@ fn matched(
     wanted: Wanted,
     leaf: &Leaf,
 ) -> Result<Option<usize>, AllocError>
-    ensures { IfOk result (λ found. found ≡ truth.first leaf.now (seen.sight_of place (reading.event_at place (chronicle earlier.now)) (seen.env_of setup.now (wanted_of wanted.entry) (chronicle earlier.now)))) }
+    ensures { IfOk result (λ found. found ≡ truth.first leaf.now
+        (seen.sight_of place (reading.event_at place (chronicle earlier.now))
+        (seen.env_of setup.now (wanted_of wanted.entry) (chronicle earlier.now)))) }
 {
     let Some(event) = event_at(earlier, place) else {
         return Ok(None);
@@ -88,7 +90,9 @@ fn matched_after(
     leaf: &Leaf,
     before: Option<usize>,
 ) -> Result<Option<usize>, AllocError>
-    ensures { IfOk result (λ found. found ≡ option_or before (truth.first leaf.now (seen.sight_of place (reading.event_at place (chronicle earlier.now)) (seen.env_of setup.now (wanted_of wanted.entry) (chronicle earlier.now))))) }
+    ensures { IfOk result (λ found. found ≡ option_or before
+        (truth.first leaf.now (seen.sight_of place (reading.event_at place (chronicle earlier.now))
+        (seen.env_of setup.now (wanted_of wanted.entry) (chronicle earlier.now))))) }
 {
     match before {
         Some(kept) => Ok(Some(kept)),
@@ -106,7 +110,10 @@ fn first_after(
     leaf: &Leaf,
     before: Option<usize>,
 ) -> Result<Option<usize>, AllocError>
-    ensures { IfOk result (λ found. before ≡ truth.first leaf.now (seen.seen setup.now (wanted_of wanted.entry) (chronicle earlier.now)) → found ≡ truth.first leaf.now (seen.seen setup.now (wanted_of wanted.entry) (entry_of next.now ∷ chronicle earlier.now))) }
+    ensures { IfOk result (λ found. before ≡ truth.first leaf.now
+        (seen.seen setup.now (wanted_of wanted.entry) (chronicle earlier.now))
+        → found ≡ truth.first leaf.now (seen.seen setup.now (wanted_of wanted.entry)
+        (entry_of next.now ∷ chronicle earlier.now))) }
 {
     match next {
         Record::Offered {
@@ -132,7 +139,8 @@ pub(crate) fn first(
     wanted: Wanted,
     leaf: &Leaf,
 ) -> Result<Option<usize>, AllocError>
-    ensures { IfOk result (λ found. found ≡ truth.first leaf.now (seen.seen setup.now (wanted_of wanted.entry) (chronicle records.now))) }
+    ensures { IfOk result (λ found. found ≡ truth.first leaf.now
+        (seen.seen setup.now (wanted_of wanted.entry) (chronicle records.now))) }
 {
     let mut found = None;
     for (place, next) in records.iter().enumerate() {
@@ -144,7 +152,8 @@ pub(crate) fn first(
 // The readings below ask of the current step alone, so they look back from the newest record, and stop where the step began.
 
 fn offered_by(next: &Record, wanted: Wanted) -> Option<bool>
-    ensures { (c : Chronicle) → seen.was_offered (wanted_of wanted.entry) (entry_of next.now ∷ c) ≡ unwrap_or result (seen.was_offered (wanted_of wanted.entry) c) }
+    ensures { (c : Chronicle) → seen.was_offered (wanted_of wanted.entry) (entry_of next.now ∷ c)
+        ≡ unwrap_or result (seen.was_offered (wanted_of wanted.entry) c) }
 {
     match next {
         Record::Given(_) => Some(false),
@@ -172,7 +181,8 @@ pub(crate) fn was_offered(records: &[Record], wanted: Wanted) -> bool
 }
 
 fn newborn_by(next: &Record, place: usize, instance: usize) -> Option<bool>
-    ensures { (c : Chronicle) → length c ≡ place → offer.is_newborn instance (entry_of next.now ∷ c) ≡ unwrap_or result (offer.is_newborn instance c) }
+    ensures { (c : Chronicle) → length c ≡ place
+        → offer.is_newborn instance (entry_of next.now ∷ c) ≡ unwrap_or result (offer.is_newborn instance c) }
 {
     match next {
         Record::Given(_) => Some(false),

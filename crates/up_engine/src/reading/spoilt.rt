@@ -9,7 +9,8 @@ use crate::record::Record;
 
 // The same after one record more.
 fn spoilt_after(earlier: &[Record], next: &Record, event: usize, before: bool) -> bool
-    ensures { before ≡ held.is_spoilt event (chronicle earlier.now) → result ≡ held.is_spoilt event (entry_of next.now ∷ chronicle earlier.now) }
+    ensures { before ≡ held.is_spoilt event (chronicle earlier.now)
+        → result ≡ held.is_spoilt event (entry_of next.now ∷ chronicle earlier.now) }
 {
     match next {
         Record::Released {

@@ -50,7 +50,8 @@ fn status_as(
     job: &Name,
     name: &str,
 ) -> Result<Text, AllocError>
-    ensures { IfOk result (λ text. text ≡ model.status_as (Some (record { job = job.now; instance = name.now })) instance (chronicle records.now)) }
+    ensures { IfOk result (λ text. text ≡ model.status_as
+        (Some (record { job = job.now; instance = name.now })) instance (chronicle records.now)) }
 {
     let who = who(alloc, job, name)?;
     let state = state_of(records, instance);
@@ -142,7 +143,8 @@ pub(crate) fn event_answer(alloc: Global, spoilt: bool) -> Result<Answer, AllocE
 }
 
 fn push_answer(answers: &mut Vec<Record>, request: usize, answer: Answer) -> Result<(), AllocError>
-    ensures { OnOk result (chronicle answers.new.items ≡ entry.Replied request answer ∷ chronicle answers.old.items) }
+    ensures { OnOk result (chronicle answers.new.items
+        ≡ entry.Replied request answer ∷ chronicle answers.old.items) }
 {
     answers.push(Record::Replied { request, answer })?;
     Ok(())
@@ -157,7 +159,9 @@ fn add_answer(
     failed: bool,
     told: &Text,
 ) -> Result<(), AllocError>
-    ensures { OnOk result (chronicle answers.new.items ≡ model.answering_one place (option_copied request.entry) failed told.now ++ chronicle answers.old.items) }
+    ensures { OnOk result (chronicle answers.new.items
+        ≡ model.answering_one place (option_copied request.entry) failed told.now
+        ++ chronicle answers.old.items) }
 {
     match request {
         Some(request) => {
@@ -178,7 +182,8 @@ pub(crate) fn answering(
     failed: bool,
     told: &Text,
 ) -> Result<Vec<Record>, AllocError>
-    ensures { IfOk result (λ answers. chronicle answers.items ≡ model.answering (map place_of holders.now) failed told.now (chronicle records.now)) }
+    ensures { IfOk result (λ answers. chronicle answers.items
+        ≡ model.answering (map place_of holders.now) failed told.now (chronicle records.now)) }
 {
     let mut answers = Vec::new(alloc);
     for key in holders {

@@ -3,7 +3,7 @@ use crate::conf::{Reading, read};
 use std::alloc::{AllocError, Global};
 use std::test::Fail;
 
-// A file with a piece that repeats, its size where that is limited, and what it is read as.
+// A file with a piece that repeats, its size if that is limited, and what it is read as.
 struct Large {
     name: &'static str,
     head: &'static [u8],
@@ -70,7 +70,7 @@ const LARGE: &'static [Large] = &[
         size: None,
         reading: Err((1, 16)),
     },
-    // Keys behind an unreadable stanza don't count.
+    // Keys after an unreadable stanza don't count.
     Large {
         name: "keys behind an unreadable stanza",
         head: b"task\nbogus\n",

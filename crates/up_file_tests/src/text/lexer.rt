@@ -456,7 +456,7 @@ fn takes(alloc: Global, lexer: &mut Lexer, step: Step) -> bool {
     }
 }
 
-// The place of the first step that a lexer doesn't take. Behind the last one is the end, but for a lexer that stays where it refuses.
+// The place of the first step that a lexer doesn't take. Behind the last one is the end, but for a lexer that stays if it refuses.
 fn first_other(alloc: Global, lexer: &mut Lexer, steps: &[Step]) -> Option<usize> {
     let mut refused = false;
     for (place, step) in steps.iter().enumerate() {
@@ -515,7 +515,7 @@ fn refuses_commands(rt: HostRuntime) {
     assert_eq!(rt; first_misread(rt.alloc(), REFUSED_COMMANDS), None);
 }
 
-// Texts, each with its first word and what stands behind it.
+// Texts, each with its first word and what stands after it.
 const WORDS: &'static [(&'static str, &'static str, &'static str)] = &[
     (" \ta \"b c", "a", " \"b c"),
     ("\"b c", "\"b", " c"),

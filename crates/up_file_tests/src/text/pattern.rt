@@ -362,7 +362,7 @@ const UNCLOSED_SETS: &'static [Case] = &[
     },
 ];
 
-// Each `[` before `:` here stands behind a backslash, or before one, or begins the set, or is outside of one.
+// Each `[` before `:` here stands after a backslash, or before one, or begins the set, or is outside of one.
 const BRACKETS_BEFORE_COLONS: &'static [Case] = &[
     Case {
         pattern: b"[a\\[:x]",
@@ -555,7 +555,7 @@ fn unclosed_sets_are_passed_once(rt: HostRuntime) -> Result<(), Fail> {
     Ok(())
 }
 
-// To read the item behind the star at each byte again would be quadratic too.
+// To read the item after the star at each byte again would be quadratic too.
 #[test]
 fn unclosed_sets_behind_a_star(rt: HostRuntime) -> Result<(), Fail> {
     let mut pattern: Vec<u8> = Vec::new(rt.alloc());

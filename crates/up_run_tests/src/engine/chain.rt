@@ -24,7 +24,7 @@ fn chain(alloc: Global, last: &str) -> Result<String, AllocError> {
     Ok(file)
 }
 
-// What is spawned where the chain is true by one event a leaf.
+// What is spawned if the chain is true by one event a leaf.
 fn spawn(alloc: Global, last: &str) -> Result<String, AllocError> {
     let events = leaves(alloc, " ", last)?;
     let text = format!(in alloc;

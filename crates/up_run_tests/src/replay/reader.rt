@@ -134,7 +134,7 @@ fn checks_of_many_files(rt: HostRuntime) -> Result<(), Fail> {
     Ok(())
 }
 
-// The folder of the example; `None` where its text is too long to be read.
+// The folder of the example; `None` if its text is too long to be read.
 fn distribution(alloc: Global) -> Result<Option<Folder>, AllocError> {
     let text = BUNDLE.as_bytes();
     if text.len() < 65_536 {

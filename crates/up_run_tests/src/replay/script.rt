@@ -116,7 +116,7 @@ const BAD: [Case; 9] = [
     },
 ];
 
-// A line that is no text ends what is read, and is bad itself where no step before it is.
+// A line that is no text ends what is read, and is bad itself if no step before it is.
 const NO_TEXT: [Case; 8] = [
     Case {
         bundle: b"%script\nturn\nclock \xff\nnonsense\n",
@@ -160,7 +160,7 @@ const NO_TEXT: [Case; 8] = [
     },
 ];
 
-// A comment has any bytes, also where the script is no text.
+// A comment has any bytes, also if the script is no text.
 const COMMENTS: [Case; 11] = [
     Case {
         bundle: b"%script\n# \xff\x00 \"\nrequest 1 version#\xff",

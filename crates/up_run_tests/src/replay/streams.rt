@@ -37,7 +37,7 @@ impl Read for Broken {
     }
 }
 
-// Takes at most three bytes a call, and fails for good where it holds `room` bytes.
+// Takes at most three bytes a call, and fails for good if it holds `room` bytes.
 #[derive(Drop)]
 struct Full {
     got: Vec<u8>,
@@ -125,7 +125,7 @@ fn writer_fails(rt: HostRuntime) {
     }
 }
 
-// A bundle of this start and so many empty lines behind it.
+// A bundle of this start and so many empty lines after it.
 fn check_long(
     rt: &(impl Abort + AllocGlobal),
     start: &[u8],

@@ -181,21 +181,21 @@ pub(crate) fn ends_token(text: &str, parens: bool) -> bool
         || (parens && begins_paren(text))
 }
 
-/// The blanks that the text begins with, and what stands behind them.
+/// The blanks that the text begins with, and what stands after them.
 pub(crate) fn split_blanks(text: &str) -> (&str, &str)
     ensures { Splits is_blank text.now result.0.now result.1.now }
 {
     text.split_at(blanks_len(text.as_bytes()))
 }
 
-/// The bytes that stand for themselves outside quotes, and what stands behind them.
+/// The bytes that stand for themselves outside quotes, and what stands after them.
 pub(crate) fn split_ordinary(text: &str, parens: bool) -> (&str, &str)
     ensures { Splits (is_ordinary parens) text.now result.0.now result.1.now }
 {
     text.split_at(ordinary_len(text.as_bytes(), parens))
 }
 
-/// The bytes that stand for themselves in a quoted piece and are no blanks, and what stands behind them.
+/// The bytes that stand for themselves in a quoted piece and are no blanks, and what stands after them.
 pub(crate) fn split_literal(text: &str, quote: u8) -> (&str, &str)
     requires { is_quote quote ≡ true }
     ensures { Splits (is_literal quote) text.now result.0.now result.1.now }
@@ -203,14 +203,14 @@ pub(crate) fn split_literal(text: &str, quote: u8) -> (&str, &str)
     text.split_at(literal_len(text.as_bytes(), quote))
 }
 
-/// The line without its line feed, and what stands behind it.
+/// The line without its line feed, and what stands after it.
 pub(crate) fn split_line(text: &str) -> (&str, &str)
     ensures { Splits is_in_line text.now result.0.now result.1.now }
 {
     text.split_at(line_len(text.as_bytes()))
 }
 
-/// The first byte, which is ASCII, and what stands behind it.
+/// The first byte, which is ASCII, and what stands after it.
 pub(crate) fn split_first(text: &str) -> (&str, &str)
     requires { begins is_low text.now ≡ true }
     ensures front { result.0.now ≡ take 1 text.now }
@@ -219,7 +219,7 @@ pub(crate) fn split_first(text: &str) -> (&str, &str)
     text.split_at(1)
 }
 
-/// The first character, and what stands behind it.
+/// The first character, and what stands after it.
 pub(crate) fn split_char(text: &str) -> (&str, &str)
     requires { 0 < length text.now }
     ensures { SplitsChar text.now result.0.now result.1.now }

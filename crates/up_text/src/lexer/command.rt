@@ -25,7 +25,7 @@ fn push_gap<'a>(out: &mut Draft, text: &'a str, line: u32) -> (u32, &'a str)
     (reached, behind)
 }
 
-// Appends a spelling and the gap behind it.
+// Appends a spelling and the gap after it.
 fn push_word<'a>(out: &mut Draft, text: &'a str, line: u32) -> Result<(u32, &'a str), TextFault>
     requires begins { ends_token false text.now ≡ false }
     requires in_range { line + length text.now < 2 ^ 32 }
@@ -40,7 +40,7 @@ fn push_word<'a>(out: &mut Draft, text: &'a str, line: u32) -> Result<(u32, &'a 
     Ok((line, rest))
 }
 
-/// Appends a command's text from behind its gap on, and gives the line and the text at its end.
+/// Appends a command's text from after its gap on, and gives the line and the text at its end.
 pub fn push_command<'a>(
     out: &mut Draft,
     text: &'a str,

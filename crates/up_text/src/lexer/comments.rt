@@ -7,8 +7,8 @@ ghost use Rattle.up_text.specs.Comments.{is_comment, unless_comment, mode_of, un
 use crate::lexer::bytes::{is_blank, is_quote};
 use std::alloc::{AllocError, Global};
 
-/// Where a byte stands: outside quotes and comments; in a comment; behind a backslash; between a backslash and a line end; in a piece
-/// quoted by this byte; behind a backslash there.
+/// Where a byte stands: outside quotes and comments; in a comment; after a backslash; between a backslash and a line end; in a piece
+/// quoted by this byte; after a backslash there.
 #[derive(Clone, Copy)]
 enum Standing {
     Outside,
@@ -26,7 +26,7 @@ fn begins_feed(bytes: &[u8]) -> bool
     bytes.first() == Some(&b'\n')
 }
 
-// Where the byte behind one outside quotes and comments stands.
+// Where the byte after one outside quotes and comments stands.
 #[tactic(auto, unfolding(crate::specs::Tokens::is_hash, crate::specs::Tokens::is_backslash))]
 fn after_outside(byte: u8, rest: &[u8]) -> Standing
     ensures { mode_of result ≡ unjoined (mode_outside false byte rest.now) }
@@ -48,7 +48,7 @@ fn after_outside(byte: u8, rest: &[u8]) -> Standing
     }
 }
 
-// Where the byte behind one in a piece quoted by `quote` stands.
+// Where the byte after one in a piece quoted by `quote` stands.
 #[tactic(auto, unfolding(crate::specs::Tokens::is_line_feed, crate::specs::Tokens::is_backslash))]
 fn after_quoted(quote: u8, byte: u8, rest: &[u8]) -> Standing
     ensures { mode_of result ≡ unjoined (mode_quoted quote false byte rest.now) }
@@ -111,7 +111,7 @@ fn keep(bytes: &mut Vec<u8>, standing: Standing, byte: u8) -> Result<(), AllocEr
     Ok(())
 }
 
-/// The text without its comments. The line ends behind them stay.
+/// The text without its comments. The line ends after them stay.
 #[tactic(auto, unfolding(crate::specs::Comments::without_comments), using(crate::proofs::Comments::one_byte))]
 pub fn without_comments(alloc: Global, text: &[u8]) -> Result<Vec<u8>, AllocError>
     ensures { IfOk result (λ bytes. bytes.items ≡ without_comments text.now) }

@@ -6,8 +6,8 @@ use std::alloc::Global;
 use std::marker::Model;
 use up_value::{Text, TextFault};
 
-/// A text under way. Where memory is refused it only keeps that in mind, so that what stands behind is still read, and a fault
-/// there comes before the want of memory.
+/// A text under way. Where memory is refused it only keeps that in mind, so that what stands after is still read, and a fault
+/// there comes before that memory ran out.
 #[derive(Debug, Drop)]
 pub struct Draft {
     text: String,
@@ -54,7 +54,7 @@ impl Draft {
     }
 }
 
-/// Appends a quote or a backslash where such are kept.
+/// Appends a quote or a backslash if such are kept.
 pub(crate) fn push_quoting(out: &mut Draft, part: &str, keep: bool)
     ensures { (bytes : List ℕ) → Holds out.old bytes → Holds out.new (bytes ++ (if keep then part.now else [])) }
 {

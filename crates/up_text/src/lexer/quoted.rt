@@ -27,7 +27,7 @@ fn begins_fold(text: &str) -> bool
     begins_feed(text) || begins_joint(text)
 }
 
-/// Appends the character behind a backslash, and gives what stands behind it, or nothing where the text ends at the backslash.
+/// Appends the character after a backslash, and gives what stands after it, or nothing if the text ends at the backslash.
 pub(crate) fn push_escape<'a>(out: &mut Draft, text: &'a str, keep: bool) -> Option<&'a str>
     requires { begins is_backslash text.now ≡ true }
     ensures { IsEscape keep text.now out.old out.new result }
@@ -80,7 +80,7 @@ fn push_line_end<'a>(out: &mut Draft, text: &'a str, joined: bool) -> &'a str
     }
 }
 
-// Appends one part of a quoted piece. Gives the line and the text behind it, and whether blanks there are joined with a line end.
+// Appends one part of a quoted piece. Gives the line and the text after it, and whether blanks there are joined with a line end.
 fn push_part<'a>(
     out: &mut Draft,
     text: &'a str,
@@ -117,7 +117,7 @@ fn push_part<'a>(
     Ok((line, rest, false))
 }
 
-/// Appends a quoted piece from behind its opening quote on, and gives the line and the text behind its closing quote.
+/// Appends a quoted piece from after its opening quote on, and gives the line and the text after its closing quote.
 pub(crate) fn push_quoted<'a>(
     out: &mut Draft,
     text: &'a str,

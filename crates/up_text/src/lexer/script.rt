@@ -47,7 +47,7 @@ fn is_end_line(line: &str) -> bool
     may_follow(third)
 }
 
-// The first line with its line feed, what stands behind it, and how many line feeds it has.
+// The first line with its line feed, what stands after it, and how many line feeds it has.
 fn split_line(text: &str) -> (&str, &str, u32)
     requires { 0 < length text.now }
     ensures { BeginsLine text.now result.0.now result.1.now result.2 }
@@ -61,7 +61,7 @@ fn split_line(text: &str) -> (&str, &str, u32)
     }
 }
 
-/// The script's lines, the text behind its end line and the line there, where there is an end line.
+/// The script's lines, the text after its end line and the line there, if there is an end line.
 pub(crate) fn find_end(text: &str, line: u32) -> Option<(&str, &str, u32)>
     requires { line + length text.now < 2 ^ 32 }
     ensures { MatchOption result (script_in (lines_of text.now) ≡ None) (λ end. EndsScript text.now line end.0.now end.1.now end.2) }

@@ -32,7 +32,7 @@ fn first_quote(text: &str) -> Option<u8>
     }
 }
 
-// Appends one part of a spelling: a character behind a backslash, a quoted piece, or bytes that stand for themselves.
+// Appends one part of a spelling: a character after a backslash, a quoted piece, or bytes that stand for themselves.
 fn push_piece<'a>(
     out: &mut Draft,
     text: &'a str,
@@ -66,7 +66,7 @@ fn push_piece<'a>(
     }
 }
 
-/// Appends the rest of a spelling, and gives the line and the text behind it. With `keep` its quotes and backslashes stay.
+/// Appends the rest of a spelling, and gives the line and the text after it. With `keep` its quotes and backslashes stay.
 pub(crate) fn push_spelling<'a>(
     out: &mut Draft,
     text: &'a str,
@@ -129,7 +129,7 @@ fn spell<'a>(
     Ok((token, reached, rest))
 }
 
-// The token that the text begins with, which is no parenthesis, and the line and the text behind it.
+// The token that the text begins with, which is no parenthesis, and the line and the text after it.
 fn read_word<'a>(
     alloc: Global,
     text: &'a str,
@@ -150,7 +150,7 @@ fn read_word<'a>(
     Ok((token, line, rest))
 }
 
-// How many parentheses are open behind this one.
+// How many parentheses are open after this one.
 fn open_behind(text: &str, depth: u32) -> u32
     requires { depth + length text.now < 2 ^ 32 }
     ensures { result ≡ open_at text.now depth }
@@ -162,7 +162,7 @@ fn open_behind(text: &str, depth: u32) -> u32
     }
 }
 
-/// The token that the text begins with, the line and the text behind it, and how many parentheses are open there.
+/// The token that the text begins with, the line and the text after it, and how many parentheses are open there.
 pub(crate) fn read_token<'a>(
     alloc: Global,
     text: &'a str,

@@ -20,7 +20,7 @@ fn word_len(bytes: &[u8]) -> usize
     bytes.iter().take_while(|byte| is_in_word(**byte)).count()
 }
 
-/// The first word of the text, which is empty where there is none, and what stands behind it. Spaces and tabs separate words; a quote
+/// The first word of the text, which is empty if there is none, and what stands after it. Spaces and tabs separate words; a quote
 /// or a backslash is a byte like any other, as in the line `end script` and in a command that needs no shell (init(5)).
 pub fn next_word(text: &str) -> (&str, &str)
     ensures begins { BeginsWord text.now result.0.now result.1.now }

@@ -1,5 +1,4 @@
-use Rattle.std.proofs.Common.{◌≡◌, ◌++◌, ap, ◌∙◌, arith}
-use Rattle.up_image.specs.Index.{leaf_places}
+use Rattle.std.proofs.Common.{arith}
 use Rattle.up_image.proofs.Places.{leaves_more}
 use Rattle.up_image.proofs.index.add_leaves.Goals as goal
 

@@ -2,7 +2,7 @@ use Rattle.std.proofs.Common.{◌≡◌, ◌++◌, take}
 use Rattle.up_image.specs.Index.{leaf_places}
 use Rattle.up_image.proofs.index.add_leaves.Given as goal
 
--- what was there, and behind it the leaves so far
+-- what was there, and after it the leaves so far
 abbrev pub invariant-loop-node : goal.invariant-loop-node
 invariant-loop-node l = record {
   counted : l.at ≡ l.node-index;

@@ -1,4 +1,4 @@
-use Rattle.std.proofs.Common.{◌≡◌, ◌∙◌, ap, length, arith}
+use Rattle.std.proofs.Common.{arith}
 use Rattle.up_image.proofs.Places.{run_split}
 use Rattle.up_image.proofs.index.split_run.Goals as goal
 

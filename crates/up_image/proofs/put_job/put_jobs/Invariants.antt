@@ -3,6 +3,6 @@ use Rattle.std.specs.List.{flat_map}
 use Rattle.up_image.specs.Image.{job_part}
 use Rattle.up_image.proofs.put_job.put_jobs.Given as goal
 
--- what was there, and behind it the jobs so far
+-- what was there, and after it the jobs so far
 abbrev pub invariant-loop-job : goal.invariant-loop-job
 invariant-loop-job l = l.out.items ≡ l.fn.out.items ++ flat_map job_part (take l.job-index l.jobs)

@@ -3,7 +3,7 @@ use Rattle.up_text.specs.Lexemes.{lexemes_of, split_ends, stanzas}
 use Rattle.up_replay.specs.Rows.{inputs_from, with_inputs}
 use Rattle.up_replay.proofs.script.text_inputs.Given as goal
 
--- what is left, behind the inputs so far, gives the whole
+-- what is left, after the inputs so far, gives the whole
 abbrev pub invariant-steps : goal.invariant-steps
 invariant-steps l = record {
   whole : with_inputs l.inputs.items (inputs_from l.line (split_ends (lexemes_of l.lexer))) ≡ inputs_from l.line (stanzas l.text);

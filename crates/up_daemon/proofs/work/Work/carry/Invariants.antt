@@ -1,6 +1,6 @@
-use Rattle.std.proofs.Common.{ℕ, [], ◌++◌, reverse}
+use Rattle.std.proofs.Common.{ℕ, reverse}
 use Rattle.up_daemon.specs.Dealing.{Phase, Deals}
-use Rattle.up_daemon.specs.Working.{KeepsAnswers, tape_of}
+use Rattle.up_daemon.specs.Working.{KeepsAnswers, Attended, tape_of}
 use Rattle.up_daemon.proofs.work.Work.carry.Given as goal
 
 abbrev pub invariant-loop-turn : goal.invariant-loop-turn
@@ -9,4 +9,5 @@ invariant-loop-turn g l = record {
   deals : (begun : ℕ) (phase : Phase)
       → Deals begun phase (tape_of l.fn.self (g.H.Host.entries l.fn.host) (g.H.Host.faults l.fn.host) (reverse l.fn.stack.items))
       → Deals begun phase (tape_of l.self (g.H.Host.entries l.host) (g.H.Host.faults l.host) (reverse l.stack.items));
+  attends : Attended l.fn.self l.self (reverse l.fn.stack.items) (reverse l.stack.items);
 }

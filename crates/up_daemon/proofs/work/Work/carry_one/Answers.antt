@@ -1,7 +1,9 @@
 use Rattle.std.proofs.Common.{◌∷◌, refl, reverse}
 use Rattle.up_model.specs.declared.output.Output.TheVariants as output
 use Rattle.up_daemon.specs.Dealing.{PassesEvent, PassesReply}
-use Rattle.up_daemon.specs.Working.{tape_of}
+use Rattle.up_daemon.specs.Attending.{Passes, Replies}
+use Rattle.up_daemon.specs.Peers.{peers_of}
+use Rattle.up_daemon.specs.Working.{tape_of, desk_of}
 use Rattle.up_daemon.proofs.Dealings.{deals_signal}
 use Rattle.up_daemon.proofs.work.Work.carry_one.Goals as goal
 
@@ -18,3 +20,21 @@ pub returns-in_ok-answer-in-Reply-clause-deals : goal.returns-in_ok-answer-in-Re
 returns-in_ok-answer-in-Reply-clause-deals g c begun phase deals =
     let left = reverse c.args.stack.now.items in
     PassesReply phase c.in-Reply.id c.in-Reply.answer left (tape_of c.args.self.now (g.H.Host.entries c.args.host.now) (g.H.Host.faults c.args.host.now) (output.Reply c.in-Reply.id c.in-Reply.answer ∷ left)) refl (rw c.in-Reply.is at deals)
+
+pub returns-in-Signal-clause-attends : goal.returns-in-Signal-clause-attends
+returns-in-Signal-clause-attends g c start part entries faults attends =
+    let left = reverse c.args.stack.now.items in
+    let order = output.Signal c.in-Signal.who c.in-Signal.pid c.in-Signal.signal in
+    Passes part order left (desk_of c.args.self.now entries faults (order ∷ left)) refl tt (rw c.in-Signal.is at attends)
+
+pub returns-in-Emitted-clause-attends : goal.returns-in-Emitted-clause-attends
+returns-in-Emitted-clause-attends g c start part entries faults attends =
+    let left = reverse c.args.stack.now.items in
+    let order = output.Emitted c.in-Emitted.event in
+    Passes part order left (desk_of c.args.self.now entries faults (order ∷ left)) refl tt (rw c.in-Emitted.is at attends)
+
+pub returns-in_ok-answer-in-Reply-clause-attends : goal.returns-in_ok-answer-in-Reply-clause-attends
+returns-in_ok-answer-in-Reply-clause-attends g c start part entries faults attends =
+    let left = reverse c.args.stack.now.items in
+    let order = output.Reply c.in-Reply.id c.in-Reply.answer in
+    Replies part c.in-Reply.id c.in-Reply.answer left (peers_of c.answer.new.self.list.items) (desk_of c.args.self.now entries faults (order ∷ left)) refl c.in_ok-answer-in-Reply.ensures (rw c.in-Reply.is at attends)

@@ -1,6 +1,8 @@
 use Rattle.std.proofs.Common.{[], refl}
+use Rattle.up_model.specs.declared.input.Input.TheVariants as input
+use Rattle.up_daemon.specs.Attending.{LettingIn, Feeds}
 use Rattle.up_daemon.specs.Dealing.{Polling, FindsEnd, FindsNone, PollFails}
-use Rattle.up_daemon.specs.Working.{tape_of}
+use Rattle.up_daemon.specs.Working.{desk_of, tape_of}
 use Rattle.up_daemon.proofs.work.Work.find_end.Goals as goal
 
 pub returns-in_ok-take-in-Ok-Some-clause-deals : goal.returns-in_ok-take-in-Ok-Some-clause-deals
@@ -17,3 +19,8 @@ returns-in-Ok-None-clause-deals g c begun deals =
 pub returns-in-Err-clause-deals : goal.returns-in-Err-clause-deals
 returns-in-Err-clause-deals g c begun deals =
     rw (c.in-Err.ensures.told.0, c.in-Err.ensures.told.1) (PollFails (tape_of c.args.self.now (g.H.Host.entries c.args.host.now) (g.H.Host.faults c.args.host.now) []) refl deals)
+
+pub returns-in_ok-take-in-Ok-Some-clause-attends : goal.returns-in_ok-take-in-Ok-Some-clause-attends
+returns-in_ok-take-in-Ok-Some-clause-attends g c start entries faults attends =
+    let end = c.in-Ok-Some.end in
+    c.in_ok-take-in-Ok-Some.ensures.attends start LettingIn entries faults (λ outputs. Feeds LettingIn (input.Ended end.0 end.1 end.2) outputs (desk_of c.args.self.now entries faults []) tt attends)

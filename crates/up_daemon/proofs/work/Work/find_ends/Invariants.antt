@@ -1,6 +1,7 @@
 use Rattle.std.proofs.Common.{ℕ, []}
+use Rattle.up_daemon.specs.Attending.{LettingIn}
 use Rattle.up_daemon.specs.Dealing.{Polling, Deals}
-use Rattle.up_daemon.specs.Working.{KeepsAnswers, tape_of}
+use Rattle.up_daemon.specs.Working.{KeepsAnswers, Leads, tape_of}
 use Rattle.up_daemon.proofs.work.Work.find_ends.Given as goal
 
 abbrev pub invariant-loop-turn : goal.invariant-loop-turn
@@ -9,4 +10,5 @@ invariant-loop-turn g l = record {
   deals : (begun : ℕ)
       → Deals begun Polling (tape_of l.fn.self (g.H.Host.entries l.fn.host) (g.H.Host.faults l.fn.host) [])
       → Deals begun Polling (tape_of l.self (g.H.Host.entries l.host) (g.H.Host.faults l.host) []);
+  attends : Leads LettingIn LettingIn l.fn.self l.self;
 }

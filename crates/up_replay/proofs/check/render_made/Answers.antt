@@ -1,5 +1,5 @@
 use Rattle.std.proofs.Common.{rules}
-use Rattle.up_replay.proofs.check.print_made.Goals as goal
+use Rattle.up_replay.proofs.check.render_made.Goals as goal
 
 pub returns-in_ok-push_counts-in-Ok : goal.returns-in_ok-push_counts-in-Ok
 returns-in_ok-push_counts-in-Ok c = search rules

@@ -1,7 +1,7 @@
 use Rattle.std.proofs.Common.{◌≡◌, ◌++◌, if◌then◌else◌, drop}
 use Rattle.std.specs.Prelude.{string_bytes}
 use Rattle.up_model.specs.Commands as model
-use Rattle.up_engine.proofs.status.joined.Given as goal
+use Rattle.up_engine.proofs.status.join_all.Given as goal
 
 -- what is left, after the lines so far, gives the whole
 abbrev pub invariant-loop-line : goal.invariant-loop-line

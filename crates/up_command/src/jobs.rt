@@ -1,0 +1,96 @@
+//! The jobs of a run: those of a folder or of an image.
+ghost use Rattle.std.specs.Prelude.{◌≡◌, IfOk, None};
+
+use crate::image::read_bytes;
+use crate::walk::{WalkError, walk};
+use std::alloc::{AllocError, Global};
+use std::fs;
+use std::io::ErrorKind;
+use std::rt::Files;
+use up_conf::Folder;
+use up_image::{CompileError, ImageError, Table, compile};
+use up_replay::{Printed, cannot_use, image_refused, render_folder};
+use up_text::{Env, Items};
+
+/// The jobs of a run, with what is printed before it; without a table there is no run.
+#[derive(Drop)]
+pub(crate) struct Jobs {
+    pub(crate) printed: Printed,
+    pub(crate) table: Option<Table>,
+}
+
+// What is printed in place of a run.
+fn no_run(printed: Result<Printed, AllocError>) -> Result<Jobs, AllocError>
+    ensures { IfOk result (λ jobs. jobs.table ≡ None) }
+{
+    let printed = printed?;
+    Ok(Jobs {
+        printed,
+        table: None,
+    })
+}
+
+// The jobs of a folder's files: its faults are printed, or why it is refused.
+fn folder_jobs(alloc: Global, folder: &Folder) -> Result<Jobs, AllocError> {
+    let read = Ok(Items::new(Vec::new(alloc)));
+    let printed = render_folder(alloc, folder, Env::new(alloc), "-", read)?;
+    match compile(alloc, folder) {
+        Ok((table, _)) => Ok(Jobs {
+            printed,
+            table: Some(table),
+        }),
+        Err(CompileError::Memory) => Err(AllocError),
+        Err(_) => no_run(Ok(printed)),
+    }
+}
+
+// The jobs of an image, for which nothing is printed, or why it is refused.
+fn image_jobs(alloc: Global, bytes: &[u8]) -> Result<Jobs, AllocError> {
+    match Table::from_bytes(alloc, bytes) {
+        Ok(table) => {
+            let text = Items::new(Vec::new(alloc));
+            Ok(Jobs {
+                printed: Printed { text, status: 0 },
+                table: Some(table),
+            })
+        }
+        Err(ImageError::Memory) => Err(AllocError),
+        Err(error) => no_run(image_refused(alloc, error)),
+    }
+}
+
+fn read_folder<R: Files + AllocGlobal + Clone + Drop>(
+    rt: &R,
+    dir: &str,
+) -> Result<Jobs, AllocError> {
+    match walk(rt, dir) {
+        Ok(folder) => folder_jobs(rt.alloc(), &folder),
+        Err(WalkError::Unusable(path)) => no_run(cannot_use(rt.alloc(), path.as_str())),
+        Err(WalkError::Memory) => Err(AllocError),
+    }
+}
+
+fn read_image<R: Files + AllocGlobal>(rt: &R, image: &str) -> Result<Jobs, AllocError> {
+    match read_bytes(rt, image)? {
+        Some(bytes) => image_jobs(rt.alloc(), bytes.as_slice()),
+        None => no_run(cannot_use(rt.alloc(), image)),
+    }
+}
+
+/// Reads the jobs of a run: what the path names is a folder of job files, or the file of an image.
+pub(crate) fn read_jobs<R: Files + AllocGlobal + Clone + Drop>(
+    rt: &R,
+    source: &str,
+) -> Result<Jobs, AllocError> {
+    match fs::metadata(rt, source) {
+        Ok(found) if found.is_dir() => read_folder(rt, source),
+        Ok(found) if found.is_file() => read_image(rt, source),
+        Ok(_) => no_run(cannot_use(rt.alloc(), source)),
+        Err(error) => {
+            if error.kind() == ErrorKind::OutOfMemory {
+                return Err(AllocError);
+            }
+            no_run(cannot_use(rt.alloc(), source))
+        }
+    }
+}

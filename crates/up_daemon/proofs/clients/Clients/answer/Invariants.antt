@@ -1,0 +1,10 @@
+use Rattle.std.proofs.Common.{◌≡◌, ◌≢◌, take, Some}
+use Rattle.std.specs.List.{AllByRecursion}
+use Rattle.up_daemon.specs.Peers.{peers_of}
+use Rattle.up_daemon.proofs.clients.Clients.answer.Given as goal
+
+abbrev pub invariant-loop-index : goal.invariant-loop-index
+invariant-loop-index l = record {
+  same : l.self.list.items ≡ l.fn.self.list.items;
+  others : AllByRecursion (λ peer. peer.unanswered ≢ Some l.id) (peers_of (take l.index l.fn.self.list.items));
+}

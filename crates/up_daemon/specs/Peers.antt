@@ -1,0 +1,52 @@
+-- What a round knows of a client.
+use Rattle.std.specs.Prelude.{◌++◌, ◌&&◌, ℕ, Bool, nat_lt, length, [], List, Option, None, Some, is_none, map}
+use Rattle.up_model.specs.Requests.{RequestValue}
+use Rattle.up_model.specs.declared.request.Answer.{Answer}
+use Rattle.up_wire.specs.Answers.{answer_frames}
+use Rattle.up_wire.specs.Frames.{Bytes}
+use Rattle.up_wire.specs.declared.fault.FrameFault.{FrameFault}
+use Rattle.up_daemon.specs.declared.clients.client.Client.{Client}
+
+-- a client: its number, the bytes of a frame that isn't whole yet, or the fault of one that was broken, the requests that haven't
+-- entered, the oldest first, the number of the one that entered and isn't answered, and the bytes that wait to be written
+pub record Peer : Type 0 where
+  pub number : ℕ
+  pub rest : Bytes
+  pub fault : Option FrameFault
+  pub waiting : List RequestValue
+  pub unanswered : Option ℕ
+  pub answers : Bytes
+
+abbrev pub peer_of : Client → Peer
+peer_of client =
+    record {
+      number = client.number;
+      rest = client.feed.rest;
+      fault = client.feed.fault;
+      waiting = client.waiting.items;
+      unanswered = client.unanswered;
+      answers = client.answers.items;
+    }
+
+abbrev pub peers_of : List Client → List Peer
+peers_of clients = map peer_of clients
+
+-- its next request may enter: it has one, and none before that is unanswered
+abbrev pub is_ready : Peer → Bool
+is_ready peer = is_none peer.unanswered && nat_lt 0 (length peer.waiting)
+
+-- a client that has just come
+abbrev pub newcomer : ℕ → Peer
+newcomer number = record { number = number; rest = []; fault = None; waiting = []; unanswered = None; answers = [] }
+
+-- more requests wait, and these bytes are not a whole frame yet
+abbrev pub heard : List RequestValue → Bytes → Peer → Peer
+heard requests rest peer = record peer { rest = rest; fault = None; waiting = peer.waiting ++ requests }
+
+-- a request entered under a number, and these still wait
+abbrev pub asked : ℕ → List RequestValue → Peer → Peer
+asked id waiting peer = record peer { waiting = waiting; unanswered = Some id }
+
+-- its request is answered, by frames after the bytes that wait
+abbrev pub answered : Answer → Peer → Peer
+answered answer peer = record peer { unanswered = None; answers = peer.answers ++ answer_frames answer }

@@ -1,0 +1,136 @@
+//! Whether inputs are the same.
+ghost use Rattle.std.specs.Prelude.{◌≡◌, ◌<◌, List, Some, true, length, slice_get, ℕ};
+
+use up_conf::Process;
+use up_model::{Command, Event, How, Input, Request, Who};
+use up_text::Env;
+
+// Whether the key and the value at a place are the same.
+fn same_pair(env: &Env, other: &Env, i: usize) -> bool
+    requires one { i < length env.now }
+    requires both { i < length other.now }
+    ensures { result ≡ true → (pair : List ℕ × List ℕ) × (slice_get env.now i ≡ Some pair)
+        × (slice_get other.now i ≡ Some pair) }
+{
+    let (key, value) = env.at(i);
+    let (other_key, other_value) = other.at(i);
+    key == other_key && value == other_value
+}
+
+#[tactic(auto, using(crate::proofs::Compared::found_further, crate::proofs::Compared::all_same))]
+fn same_env(env: &Env, other: &Env) -> bool
+    ensures { result ≡ true → env.now ≡ other.now }
+{
+    if env.len() != other.len() {
+        return false;
+    }
+    for i in 0..env.len() {
+        if !same_pair(env, other, i) {
+            return false;
+        }
+    }
+    true
+}
+
+fn same_event(event: &Event, other: &Event) -> bool
+    ensures { result ≡ true → event.now ≡ other.now }
+{
+    event.name.is(&other.name) && same_env(&event.vars, &other.vars)
+}
+
+fn same_who(who: &Who, other: &Who) -> bool
+    ensures { result ≡ true → who.now ≡ other.now }
+{
+    who.job.is(&other.job) && who.instance.is(other.instance.as_str())
+}
+
+fn same_command(command: Command, other: Command) -> bool
+    ensures { result ≡ true → command ≡ other }
+{
+    command == other
+}
+
+fn same_request(request: &Request, other: &Request) -> bool
+    ensures { result ≡ true → request.now ≡ other.now }
+{
+    same_command(request.command, other.command)
+        && request.wait == other.wait
+        && request.name.is(other.name.as_str())
+        && same_env(&request.vars, &other.vars)
+}
+
+fn same_process(process: Process, other: Process) -> bool
+    ensures { result ≡ true → process ≡ other }
+{
+    process == other
+}
+
+fn same_how(how: How, other: How) -> bool
+    ensures { result ≡ true → how ≡ other }
+{
+    how == other
+}
+
+fn same_input(input: &Input, other: &Input) -> bool
+    ensures { result ≡ true → input.now ≡ other.now }
+{
+    match (input, other) {
+        (Input::Emit(event), Input::Emit(its)) => same_event(event, its),
+        (
+            Input::Request { id, request },
+            Input::Request {
+                id: of,
+                request: its,
+            },
+        ) => { *id == *of && same_request(request, its) }
+        (
+            Input::Spawned { who, process, pid },
+            Input::Spawned {
+                who: of,
+                process: its,
+                pid: number,
+            },
+        ) => same_who(who, of) && same_process(*process, *its) && *pid == *number,
+        (
+            Input::Refused { who, process },
+            Input::Refused {
+                who: of,
+                process: its,
+            },
+        ) => { same_who(who, of) && same_process(*process, *its) }
+        (
+            Input::Ended { who, process, how },
+            Input::Ended {
+                who: of,
+                process: its,
+                how: end,
+            },
+        ) => same_who(who, of) && same_process(*process, *its) && same_how(*how, *end),
+        (Input::Clock(reading), Input::Clock(its)) => *reading == *its,
+        (Input::Turn, Input::Turn) => true,
+        _ => false,
+    }
+}
+
+fn input_at(inputs: &[Input], i: usize) -> &Input
+    requires { i < length inputs.now }
+    ensures { slice_get inputs.now i ≡ Some result.now }
+{
+    &inputs[i]
+}
+
+/// Whether both are the same inputs in the same order.
+#[tactic(auto, using(crate::proofs::Compared::one_further, crate::proofs::Compared::all_same))]
+pub(crate) fn same_inputs(inputs: &[Input], others: &[Input]) -> bool
+    ensures { result ≡ true → inputs.now ≡ others.now }
+{
+    if inputs.len() != others.len() {
+        return false;
+    }
+    for i in 0..inputs.len() {
+        if !same_input(input_at(inputs, i), input_at(others, i)) {
+            return false;
+        }
+    }
+    true
+}

@@ -1,0 +1,58 @@
+//! The lines of inputs.
+use std::alloc::{AllocError, Global};
+use std::test::Fail;
+use up_model::{Command, Input, Request};
+use up_replay::{script_inputs, script_lines};
+use up_text::{Env, Text};
+
+// A script in the form in which inputs are written, with each kind of input.
+static SCRIPT: &str =
+    "emit startup\nclock 18446744073709551615\nemit x A=\"b  c#$\\\"\\\\d'\u{e9}\t\" B=\"\"\nrequest 1 start a K=\"v\"\nrequest 2 stop --no-wait a\nrequest 3 restart a\nrequest 4 status a\nrequest 5 list\nrequest 6 emit --no-wait --no-wait\nrequest 7 reload a\nrequest 8 reload-configuration\nrequest 9 version\nturn\nspawned a \"\" main 4294967295\nturn 256\nrefused a \"i j\\\"\" pre-start\nended a \"\" post-start exit 255\nended a \"\" pre-stop signal TERM\nended a \"\" post-stop signal SYS\nclock 0\nturn 2\n";
+
+// The lines of a script's inputs.
+fn lines_of(alloc: Global, script: &str) -> Result<Option<Items>, AllocError> {
+    let Ok(inputs) = script_inputs(alloc, script.as_bytes(), 1)? else {
+        return Ok(None);
+    };
+    script_lines(alloc, inputs.as_slice())
+}
+
+type Items = up_text::Items<u8>;
+
+fn is_kept(alloc: Global) -> Result<bool, Fail> {
+    match lines_of(alloc, SCRIPT)? {
+        Some(lines) => Ok(lines.as_slice() == SCRIPT.as_bytes()),
+        None => Ok(false),
+    }
+}
+
+#[test]
+fn inputs_are_written_as_they_are_read(rt: HostRuntime) -> Result<(), Fail> {
+    assert_eq!(rt; is_kept(rt.alloc())?, true);
+    Ok(())
+}
+
+fn request(alloc: Global, name: &str, value: &str) -> Result<Vec<Input>, Fail> {
+    let mut vars = Env::new(alloc);
+    vars.set("K", value)?;
+    let mut inputs: Vec<Input> = Vec::new(alloc);
+    if let Some(request) = Request::new(Command::Start, true, Text::from_str(alloc, name)?, vars) {
+        inputs.push(Input::Request { id: 1, request })?;
+    }
+    Ok(inputs)
+}
+
+// Whether a script has a line for a request for this job with this value.
+fn is_written(alloc: Global, name: &str, value: &str) -> Result<bool, Fail> {
+    let inputs = request(alloc, name, value)?;
+    Ok(script_lines(alloc, inputs.as_slice())?.is_some())
+}
+
+// A line feed in quotes is read as a blank, and a name that is written as an option is read as one.
+#[test]
+fn what_no_line_says_is_not_written(rt: HostRuntime) -> Result<(), Fail> {
+    assert_eq!(rt; is_written(rt.alloc(), "a", "b c")?, true);
+    assert_eq!(rt; is_written(rt.alloc(), "a", "b\nc")?, false);
+    assert_eq!(rt; is_written(rt.alloc(), "--no-wait", "b c")?, false);
+    Ok(())
+}
