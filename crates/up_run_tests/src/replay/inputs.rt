@@ -9,9 +9,12 @@ use up_text::{Env, Text};
 static SCRIPT: &str =
     "emit startup\nclock 18446744073709551615\nemit x A=\"b  c#$\\\"\\\\d'\u{e9}\t\" B=\"\"\nrequest 1 start a K=\"v\"\nrequest 2 stop --no-wait a\nrequest 3 restart a\nrequest 4 status a\nrequest 5 list\nrequest 6 emit --no-wait --no-wait\nrequest 7 reload a\nrequest 8 reload-configuration\nrequest 9 version\nturn\nspawned a \"\" main 4294967295\nturn 256\nrefused a \"i j\\\"\" pre-start\nended a \"\" post-start exit 255\nended a \"\" pre-stop signal TERM\nended a \"\" post-stop signal SYS\nclock 0\nturn 2\n";
 
-// The lines of a script's inputs.
-fn lines_of(alloc: Global, script: &str) -> Result<Option<Items>, AllocError> {
-    let Ok(inputs) = script_inputs(alloc, script.as_bytes(), 1)? else {
+// The lines of a short script's inputs.
+fn lines_of(alloc: Global, script: &[u8]) -> Result<Option<Items>, AllocError> {
+    if script.len() > 1_000_000 {
+        return Ok(None);
+    }
+    let Ok(inputs) = script_inputs(alloc, script, 1)? else {
         return Ok(None);
     };
     script_lines(alloc, inputs.as_slice())
@@ -20,7 +23,7 @@ fn lines_of(alloc: Global, script: &str) -> Result<Option<Items>, AllocError> {
 type Items = up_text::Items<u8>;
 
 fn is_kept(alloc: Global) -> Result<bool, Fail> {
-    match lines_of(alloc, SCRIPT)? {
+    match lines_of(alloc, SCRIPT.as_bytes())? {
         Some(lines) => Ok(lines.as_slice() == SCRIPT.as_bytes()),
         None => Ok(false),
     }
