@@ -4,8 +4,14 @@
 #[cfg(test)]
 mod damage;
 #[cfg(test)]
+mod distribution;
+#[cfg(test)]
 mod folders;
 #[cfg(test)]
 mod images;
 #[cfg(test)]
+mod limits;
+#[cfg(test)]
 mod nodes;
+#[cfg(test)]
+mod walk;

@@ -8,6 +8,7 @@ pub mod lines;
 pub mod printed;
 pub mod replay;
 mod requests;
+mod reread;
 mod same;
 pub mod script;
 mod variables;

@@ -12,6 +12,7 @@ use crate::bundle::{Bundle, read_bundle};
 use crate::check::compile_outcome;
 use crate::lines::{push, push_decimal, push_step};
 use crate::printed::{Printed, cannot_use, push_faults, refused, status_of};
+use crate::reread::reread;
 use crate::script::script_inputs;
 use std::alloc::{AllocError, Global};
 use std::io;
@@ -112,6 +113,7 @@ fn play(
     let mut text: Vec<u8> = Vec::new(alloc);
     match read {
         Ok(inputs) => {
+            let table = reread(alloc, table)?;
             let steps = run(alloc, table, base, inputs.into_vec())?;
             let pushed = push_run(&mut text, report, steps.as_slice());
             drop(steps);
