@@ -193,6 +193,62 @@ fn children_that_end_at_once_have_one_end_each(rt: HostRuntime) -> Result<(), Fa
     try_many(&rt, &mut host)
 }
 
+// Starts so many children that sleep; the numbers of their processes.
+fn start_sleepers(rt: &HostRuntime, host: &mut System, count: u32) -> Result<Vec<u32>, Fail> {
+    let order = order_in(rt.alloc(), "/", &["/bin/sleep", "1000"], true)?;
+    let mut pids: Vec<u32> = Vec::new(rt.alloc());
+    for _ in 0..count {
+        pids.push(host.spawn(&order)?)?;
+    }
+    Ok(pids)
+}
+
+// How many polls find nothing before one finds an end.
+fn empty_polls(host: &mut System, most: u32) -> Result<u32, Fail> {
+    for count in 0..most {
+        if polled(host)?.is_some() {
+            return Ok(count);
+        }
+    }
+    Ok(most)
+}
+
+// Ends these children; how many ends by a signal come.
+fn end_all(rt: &HostRuntime, host: &mut System, pids: &[u32]) -> Result<u32, Fail> {
+    for pid in pids {
+        send(rt, host, *pid, 9)?;
+    }
+    let mut count = 0u32;
+    for _ in pids {
+        if next_end(rt, host)? == Some(How::Signal(9)) {
+            count = count.saturating_add(1);
+        }
+    }
+    Ok(count)
+}
+
+fn try_last_of_many(rt: &HostRuntime, host: &mut System) -> Result<(), Fail> {
+    let mut pids = start_sleepers(rt, host, 200)?;
+    let Some(last) = pids.pop() else {
+        return same("children", 0, 200);
+    };
+    send(rt, host, last, 9)?;
+    pause(rt, 1000);
+    same("polls before it is found", empty_polls(host, 100)?, 3)?;
+    same(
+        "ends of the others",
+        end_all(rt, host, pids.as_slice())?,
+        199,
+    )?;
+    same("no child is left", is_childless(rt)?, true)
+}
+
+#[test]
+fn an_end_among_many_is_found_by_the_fourth_poll(rt: HostRuntime) -> Result<(), Fail> {
+    let mut host = host_of(&rt)?;
+    try_last_of_many(&rt, &mut host)
+}
+
 // Whether a child runs the program of this name, once it does.
 fn is_running(rt: &HostRuntime, pid: u32, name: &str) -> Result<bool, Fail> {
     let path = format!(in rt.alloc(); "/proc/{pid}/comm")?;

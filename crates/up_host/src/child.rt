@@ -7,6 +7,12 @@ use std::os::unix::process::ExitStatusExt;
 use std::process::{Child, ExitStatus, OpenProcess};
 use up_model::{How, Process, Who};
 
+/// How many children a look is at, if there are so many.
+const LEAST_LOOKS: usize = 32;
+
+/// How many looks are at all children, if there are more.
+const PARTS: usize = 4;
+
 /// A process that was started and whose end was not reported.
 #[derive(Drop)]
 pub(crate) struct Running<P: OpenProcess> {
@@ -19,7 +25,7 @@ pub(crate) struct Running<P: OpenProcess> {
 pub(crate) enum Look {
     /// The child at the place of the next look has ended so.
     Ended(How),
-    /// No child has ended.
+    /// No child that was looked at has ended.
     Nothing,
     /// The system refused to tell of a child.
     Failed,
@@ -45,11 +51,18 @@ pub(crate) fn end_of(status: &ExitStatus) -> How
     }
 }
 
-/// Looks at the children from `next` on, up to one that has ended. Where none has, the next look begins at the first one.
+// The place before which a look ends that begins here: it is at a quarter of the children, but at 32 at least.
+fn look_end(count: usize, next: usize) -> usize {
+    next.saturating_add(LEAST_LOOKS.max(count.div_ceil(PARTS)))
+}
+
+/// Looks at some of the children from `next` on, up to one that has ended; the next look goes on from there, and after the last child from
+/// the first. So one that ends is found by the fourth look at the latest, and a look takes little time even among many.
 pub(crate) fn find_end<P: OpenProcess>(children: &mut [Running<P>], next: &mut usize) -> Look
     ensures { EndsWithin result next.new (length children.old) }
 {
-    while *next < children.len() {
+    let end = look_end(children.len(), *next);
+    while *next < end && *next < children.len() {
         match children[*next].child.try_wait() {
             Ok(Some(status)) => return Look::Ended(end_of(&status)),
             Ok(None) => *next += 1,
@@ -59,7 +72,9 @@ pub(crate) fn find_end<P: OpenProcess>(children: &mut [Running<P>], next: &mut u
             }
         }
     }
-    *next = 0;
+    if *next >= children.len() {
+        *next = 0;
+    }
     Look::Nothing
 }
 
