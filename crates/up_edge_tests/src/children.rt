@@ -234,7 +234,7 @@ fn try_last_of_many(rt: &HostRuntime, host: &mut System) -> Result<(), Fail> {
     };
     send(rt, host, last, 9)?;
     pause(rt, 1000);
-    same("polls before it is found", empty_polls(host, 100)?, 3)?;
+    same("polls before it is found", empty_polls(host, 100)?, 5)?;
     same(
         "ends of the others",
         end_all(rt, host, pids.as_slice())?,
@@ -244,7 +244,7 @@ fn try_last_of_many(rt: &HostRuntime, host: &mut System) -> Result<(), Fail> {
 }
 
 #[test]
-fn an_end_among_many_is_found_by_the_fourth_poll(rt: HostRuntime) -> Result<(), Fail> {
+fn an_end_among_many_is_found_by_the_sixth_poll(rt: HostRuntime) -> Result<(), Fail> {
     let mut host = host_of(&rt)?;
     try_last_of_many(&rt, &mut host)
 }

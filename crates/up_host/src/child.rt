@@ -8,10 +8,10 @@ use std::process::{Child, ExitStatus, OpenProcess};
 use up_model::{How, Process, Who};
 
 /// How many children a look is at, if there are so many.
-const LEAST_LOOKS: usize = 32;
+const LEAST_LOOKS: usize = 16;
 
 /// How many looks are at all children, if there are more.
-const PARTS: usize = 4;
+const PARTS: usize = 6;
 
 /// A process that was started and whose end was not reported.
 #[derive(Drop)]
@@ -51,13 +51,13 @@ pub(crate) fn end_of(status: &ExitStatus) -> How
     }
 }
 
-// The place before which a look ends that begins here: it is at a quarter of the children, but at 32 at least.
+// The place before which a look ends that begins here: it is at a sixth of the children, but at 16 at least.
 fn look_end(count: usize, next: usize) -> usize {
     next.saturating_add(LEAST_LOOKS.max(count.div_ceil(PARTS)))
 }
 
 /// Looks at some of the children from `next` on, up to one that has ended; the next look goes on from there, and after the last child from
-/// the first. So one that ends is found by the fourth look at the latest, and a look takes little time even among many.
+/// the first. So one that ends is found by the sixth look at the latest, and a look takes little time even among many.
 pub(crate) fn find_end<P: OpenProcess>(children: &mut [Running<P>], next: &mut usize) -> Look
     ensures { EndsWithin result next.new (length children.old) }
 {
