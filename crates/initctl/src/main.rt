@@ -5,6 +5,7 @@ use std::io::ErrorKind;
 use std::process::ExitCode;
 use std::rt::Env;
 use std::{env, io};
+use up_model::ExitStatus;
 
 // The words of the command line, the program's name first.
 fn words_of(rt: &(impl Env + AllocGlobal)) -> io::Result<Vec<String>> {
@@ -17,12 +18,12 @@ fn words_of(rt: &(impl Env + AllocGlobal)) -> io::Result<Vec<String>> {
 
 fn main(rt: HostRuntime) -> ExitCode {
     match words_of(&rt) {
-        Ok(words) => ExitCode::from(up_client::run(&rt, words.as_slice())),
+        Ok(words) => ExitCode::from(up_client::run(&rt, words.as_slice()).number()),
         Err(error) => {
             if error.kind() == ErrorKind::OutOfMemory {
-                ExitCode::from(4)
+                ExitCode::from(ExitStatus::Memory.number())
             } else {
-                ExitCode::from(2)
+                ExitCode::from(ExitStatus::Usage.number())
             }
         }
     }

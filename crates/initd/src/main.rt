@@ -7,6 +7,7 @@ use std::rt::Env;
 use std::{env, io};
 use up_command::answer::answer;
 use up_command::{print_refusal, read_words};
+use up_model::ExitStatus;
 
 // The words of the command line, the program's name first.
 fn words_of(rt: &(impl Env + AllocGlobal)) -> io::Result<Vec<String>> {
@@ -17,8 +18,8 @@ fn words_of(rt: &(impl Env + AllocGlobal)) -> io::Result<Vec<String>> {
     Ok(words)
 }
 
-// Does what the command line asks for, and gives the status.
-fn run(rt: &HostRuntime) -> io::Result<u8> {
+// Does what the command line asks for, and returns the status.
+fn run(rt: &HostRuntime) -> io::Result<ExitStatus> {
     let words = words_of(rt)?;
     match read_words(rt.alloc(), words.as_slice()) {
         Ok((asked, base)) => answer(rt, asked, base),
@@ -28,12 +29,12 @@ fn run(rt: &HostRuntime) -> io::Result<u8> {
 
 fn main(rt: HostRuntime) -> ExitCode {
     match run(&rt) {
-        Ok(status) => ExitCode::from(status),
+        Ok(status) => ExitCode::from(status.number()),
         Err(error) => {
             if error.kind() == ErrorKind::OutOfMemory {
-                ExitCode::from(4)
+                ExitCode::from(ExitStatus::Memory.number())
             } else {
-                ExitCode::from(3)
+                ExitCode::from(ExitStatus::Unusable.number())
             }
         }
     }

@@ -10,15 +10,18 @@ use Rattle.up_wire.specs.Answers.{answer_frames}
 
 -- the frame of the request that words are; or why there is none
 abbrev pub IsSent : {A : Type 0} → Result (Vec ℕ A) WireFault → Option RequestValue → Type 0
-IsSent (Ok frame) wanted = (request : RequestValue) × (wanted ≡ Some request) × (frame.items ≡ request_frame request)
-IsSent (Err FrameTooLarge) wanted = (request : RequestValue) × (wanted ≡ Some request) × (max_payload < length (payload_of request))
+IsSent (Ok frame) wanted = (request : RequestValue) × (wanted ≡ Some request)
+    × (frame.items ≡ request_frame request)
+IsSent (Err FrameTooLarge) wanted = (request : RequestValue) × (wanted ≡ Some request)
+    × (max_payload < length (payload_of request))
 IsSent (Err BadFrame) wanted = ⊥
 IsSent (Err BadWord) wanted = wanted ≡ None
 IsSent (Err Memory) wanted = Unit {0}
 
 -- the bytes begin with the frames of an answer
 abbrev pub BeginsWith : Bytes → Answer → Type 0
-BeginsWith bytes answer = (rest : Bytes) × (is_utf8 answer.text ≡ true) × (bytes ≡ answer_frames answer ++ rest)
+BeginsWith bytes answer = (rest : Bytes) × (is_utf8 answer.text ≡ true)
+    × (bytes ≡ answer_frames answer ++ rest)
 
 -- what was made of bytes: an answer that they begin with, or none yet, and these bytes are left
 abbrev pub Hears : Bytes → Bytes → Option Answer → Type 0

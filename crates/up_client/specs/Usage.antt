@@ -6,7 +6,12 @@ use Rattle.up_wire.specs.Usage.{usage}
 
 -- the option `--socket PATH`
 abbrev pub socket_rule : Rule
-socket_rule = record (new_rule (codes "socket")) { long = Some (codes "socket"); value_names = 1; action = Some Set }
+socket_rule = record (new_rule (codes "socket")) {
+  long = Some (codes "socket");
+  value_names = 1;
+  action =
+      Some Set;
+}
 
 -- the command line of `up_wire`, and the option
 abbrev pub client_usage : App

@@ -1,7 +1,7 @@
 //! What the client does: its words, its socket, what it prints and its status.
 ghost use Rattle.std.specs.Prelude.{◌≡◌, ◌⊎◌, [], true, false, None, IfOk, IfErr};
 ghost use Rattle.clap.specs.Words.{kind_of, rule_of, subcommand_rows_of};
-ghost use Rattle.up_wire.specs.declared.fault.WireFault.TheVariants as wire;
+ghost use Rattle.up_model.specs.declared.exit_status.ExitStatus.TheVariants as status;
 ghost use Rattle.up_wire.specs.Usage.{IsUsage};
 ghost use Rattle.up_wire.specs.Words.{request_matched};
 ghost use Rattle.up_client.specs.Asking.{IsSent};
@@ -11,24 +11,16 @@ ghost use Rattle.up_client.specs.Usage.{client_usage, socket_rule};
 use crate::talk::{TalkFault, talk};
 use clap::error::ErrorKind;
 use clap::{Arg, ArgAction, ArgMatches, Command, Error};
-use std::alloc::Global;
+use std::alloc::{AllocError, Global};
 use std::env;
 use std::io::Eprint;
 use std::net::Net;
 use std::os::unix::net::UnixStream;
 use std::rt::Env;
-use up_model::Answer;
+use up_model::{Answer, ExitStatus};
 use up_wire::{WireFault, command_line, request_of, write_request};
 
 const PROFILE: &str = "initctl (upstart profile 1)";
-
-const DONE: u8 = 0;
-
-const FAILED: u8 = 1;
-
-const USAGE: u8 = 2;
-
-const MEMORY: u8 = 4;
 
 fn socket<'a>(alloc: Global) -> Arg<'a>
     ensures rule { rule_of result ≡ socket_rule }
@@ -42,55 +34,54 @@ fn socket<'a>(alloc: Global) -> Arg<'a>
 }
 
 /// The command line of the program.
-pub fn with_socket<'a>(alloc: Global) -> Result<Command<'a>, WireFault>
-    ensures ok { IfOk result (IsUsage client_usage) }
-    ensures refused { IfErr result (λ fault. fault ≡ wire.Memory) }
+pub fn with_socket<'a>(alloc: Global) -> Result<Command<'a>, AllocError>
+    ensures { IfOk result (IsUsage client_usage) }
 {
     let command = command_line(alloc)?.arg(socket(alloc))?;
     Ok(command)
 }
 
 // Prints why a command line is refused, or the help that it asks for.
-fn print_refusal<R: Print + Eprint>(rt: &R, error: &Error) -> u8
+fn print_refusal<R: Print + Eprint>(rt: &R, error: &Error) -> ExitStatus
     ensures status { IsStatus result }
-    ensures memory { kind_of error.now ≡ ErrorKind.OutOfMemory → result ≡ MEMORY }
-    ensures usage { kind_of error.now ≡ ErrorKind.MissingRequiredArgument → result ≡ USAGE }
+    ensures memory { kind_of error.now ≡ ErrorKind.OutOfMemory → result ≡ status.Memory }
+    ensures usage { kind_of error.now ≡ ErrorKind.MissingRequiredArgument → result ≡ status.Usage }
 {
     match error.kind() {
-        ErrorKind::OutOfMemory => MEMORY,
+        ErrorKind::OutOfMemory => ExitStatus::Memory,
         ErrorKind::DisplayHelp | ErrorKind::DisplayVersion => match error.print(rt) {
-            Ok(()) => DONE,
-            Err(_) => FAILED,
+            Ok(()) => ExitStatus::Done,
+            Err(_) => ExitStatus::Failed,
         },
         _ => {
             let _ = error.print(rt);
-            USAGE
+            ExitStatus::Usage
         }
     }
 }
 
-fn fail<R: Eprint>(rt: &R, text: &str) -> u8
-    ensures { result ≡ FAILED }
+fn fail<R: Eprint>(rt: &R, text: &str) -> ExitStatus
+    ensures { result ≡ status.Failed }
 {
     let _ = eprintln!(rt; "initctl: {text}");
-    FAILED
+    ExitStatus::Failed
 }
 
-fn print_answer<R: Print + Eprint>(rt: &R, answer: &Answer) -> u8
+fn print_answer<R: Print + Eprint>(rt: &R, answer: &Answer) -> ExitStatus
     ensures outcome { IsOutcome result }
-    ensures failed { answer.now.ok ≡ false → result ≡ FAILED }
-    ensures quiet { answer.now.ok ≡ true → answer.now.text ≡ [] → result ≡ DONE }
+    ensures failed { answer.now.ok ≡ false → result ≡ status.Failed }
+    ensures quiet { answer.now.ok ≡ true → answer.now.text ≡ [] → result ≡ status.Done }
 {
     let text = answer.text.as_str();
     if !answer.ok {
         return fail(rt, text);
     }
     if text.is_empty() {
-        return DONE;
+        return ExitStatus::Done;
     }
     match println!(rt; "{text}") {
-        Ok(()) => DONE,
-        Err(_) => FAILED,
+        Ok(()) => ExitStatus::Done,
+        Err(_) => ExitStatus::Failed,
     }
 }
 
@@ -104,7 +95,7 @@ pub fn frame_of(alloc: Global, matches: &ArgMatches) -> Result<Vec<u8>, WireFaul
     Ok(frame)
 }
 
-fn ask<R: Net + Print + Eprint>(rt: &R, alloc: Global, socket: &str, frame: &[u8]) -> u8
+fn ask<R: Net + Print + Eprint>(rt: &R, alloc: Global, socket: &str, frame: &[u8]) -> ExitStatus
     ensures { IsAnswered result }
 {
     let Ok(mut stream) = UnixStream::connect(rt, socket) else {
@@ -113,22 +104,28 @@ fn ask<R: Net + Print + Eprint>(rt: &R, alloc: Global, socket: &str, frame: &[u8
     match talk(alloc, &mut stream, frame) {
         Ok(answer) => print_answer(rt, &answer),
         Err(TalkFault::Lost) => fail(rt, "Connection lost"),
-        Err(TalkFault::Memory) => MEMORY,
+        Err(TalkFault::Memory) => ExitStatus::Memory,
     }
 }
 
-fn act<R: Net + Print + Eprint>(rt: &R, alloc: Global, socket: &str, matches: &ArgMatches) -> u8
+fn act<R: Net + Print + Eprint>(
+    rt: &R,
+    alloc: Global,
+    socket: &str,
+    matches: &ArgMatches,
+) -> ExitStatus
     ensures status { IsAnswered result }
-    ensures bad { request_matched (subcommand_rows_of matches.now) ≡ None → (result ≡ FAILED) ⊎ (result ≡ MEMORY) }
+    ensures bad { request_matched (subcommand_rows_of matches.now) ≡ None → (result ≡ status.Failed)
+        ⊎ (result ≡ status.Memory) }
 {
     match frame_of(alloc, matches) {
         Ok(frame) => ask(rt, alloc, socket, &frame),
-        Err(WireFault::Memory) => MEMORY,
+        Err(WireFault::Memory) => ExitStatus::Memory,
         Err(_) => fail(rt, "Bad word"),
     }
 }
 
-fn no_socket<R: Print + Eprint>(rt: &R, command: &mut Command) -> u8
+fn no_socket<R: Print + Eprint>(rt: &R, command: &mut Command) -> ExitStatus
     ensures { IsStatus result }
 {
     match command.error(
@@ -136,28 +133,28 @@ fn no_socket<R: Print + Eprint>(rt: &R, command: &mut Command) -> u8
         "no socket: give --socket PATH or set INITCTL_SOCKET",
     ) {
         Ok(error) => print_refusal(rt, &error),
-        Err(_) => MEMORY,
+        Err(_) => ExitStatus::Memory,
     }
 }
 
-fn print_profile<R: Print>(rt: &R) -> u8
+fn print_profile<R: Print>(rt: &R) -> ExitStatus
     ensures { IsOutcome result }
 {
     match println!(rt; "{PROFILE}") {
-        Ok(()) => DONE,
-        Err(_) => FAILED,
+        Ok(()) => ExitStatus::Done,
+        Err(_) => ExitStatus::Failed,
     }
 }
 
 /// Does what the words ask for, the program's name first, and returns the status.
-pub fn run<R: Net + Print + Eprint + Env + AllocGlobal>(rt: &R, words: &[String]) -> u8
+pub fn run<R: Net + Print + Eprint + Env + AllocGlobal>(rt: &R, words: &[String]) -> ExitStatus
     ensures { IsStatus result }
 {
     if words.len() <= 1 {
         return print_profile(rt);
     }
     let Ok(mut command) = with_socket(rt.alloc()) else {
-        return MEMORY;
+        return ExitStatus::Memory;
     };
     let matches = match command.try_get_matches_from_mut(words) {
         Ok(matches) => matches,

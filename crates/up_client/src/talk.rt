@@ -32,7 +32,8 @@ fn fault_of(error: &io::Error) -> TalkFault {
 
 // The first of some answers.
 fn first_of(mut answers: Vec<Answer>) -> Option<Answer>
-    ensures { MatchOption result (answers.items ≡ []) (λ first. answers.items ≡ first ∷ drop 1 answers.items) }
+    ensures { MatchOption result (answers.items ≡ []) (λ first. answers.items
+        ≡ first ∷ drop 1 answers.items) }
 {
     if answers.is_empty() {
         return None;
@@ -42,7 +43,8 @@ fn first_of(mut answers: Vec<Answer>) -> Option<Answer>
 
 // The first answer that is whole after these bytes.
 fn take(feed: &mut AnswerFeed, piece: &[u8]) -> Result<Option<Answer>, TalkFault>
-    ensures { feed.old.fault ≡ None → IfOk result (λ found. (feed.new.fault ≡ None) × Hears (feed.old.rest ++ piece.now) feed.new.rest found) }
+    ensures { feed.old.fault ≡ None → IfOk result (λ found. (feed.new.fault ≡ None)
+        × Hears (feed.old.rest ++ piece.now) feed.new.rest found) }
 {
     match feed.feed(piece) {
         Ok(answers) => Ok(first_of(answers)),
@@ -57,7 +59,9 @@ fn read_once<S: Read>(
     buffer: &mut [u8],
     feed: &mut AnswerFeed,
 ) -> Result<Option<Answer>, TalkFault>
-    ensures { (bytes : Bytes) → S.remaining stream.old ≡ Some bytes → feed.old.fault ≡ None → IfOk result (λ found. (left : Bytes) × (S.remaining stream.new ≡ Some left) × (feed.new.fault ≡ None) × Hears (feed.old.rest ++ bytes) (feed.new.rest ++ left) found) }
+    ensures { (bytes : Bytes) → S.remaining stream.old ≡ Some bytes → feed.old.fault ≡ None
+        → IfOk result (λ found. (left : Bytes) × (S.remaining stream.new ≡ Some left)
+        × (feed.new.fault ≡ None) × Hears (feed.old.rest ++ bytes) (feed.new.rest ++ left) found) }
 {
     match stream.read(buffer) {
         Ok(0) => Err(TalkFault::Lost),

@@ -8,15 +8,17 @@ use Rattle.up_image.specs.Image.{IsImage}
 use Rattle.up_replay.specs.Bundle.{files_of, lines_of}
 use Rattle.up_replay.specs.Folders.{Checks, image_refusal_line, prints, unusable}
 use Rattle.up_replay.specs.Replay.{Plays}
-use Rattle.up_replay.specs.Rows.{script_inputs}
+use Rattle.up_replay.specs.ScriptSteps.{script_inputs}
 use Rattle.up_command.specs.declared.command.Asked.{Asked}
 use Rattle.up_command.specs.declared.command.Asked.TheVariants.{Bundle, Check, Compile, Replay, Run, Show}
 use Rattle.up_command.specs.declared.walk.WalkError.TheVariants.{Unusable}
 use Rattle.up_command.specs.Walk.{IsWalked, MayFail}
+use Rattle.up_model.specs.declared.exit_status.ExitStatus.{ExitStatus}
+use Rattle.up_model.specs.declared.exit_status.ExitStatus.TheVariants.{Done, Unusable, Memory}
 
 -- what can't be used is said
 abbrev pub IsUnusable : List ℕ → Printed → Type 0
-IsUnusable path made = made ≡ prints (unusable path) 3
+IsUnusable path made = made ≡ prints (unusable path) Unusable
 
 -- the folder, or a file of it, can't be used
 pub record CannotWalk (dir : List ℕ) (made : Printed) : Type 0 where
@@ -36,7 +38,7 @@ ChecksDir dir made = ChecksFiles made ⊎ CannotWalk dir made
 -- an image is refused, or a table has none
 pub record IsRefusedImage (made : Printed) : Type 0 where
   pub error : ImageError
-  pub says : made ≡ prints (image_refusal_line error) 3
+  pub says : made ≡ prints (image_refusal_line error) Unusable
 
 -- what is printed once a table was stored, or why it was not
 abbrev pub StoresTable : List ℕ → Printed → Printed → Type 0
@@ -55,7 +57,7 @@ HasImage image bundle = IsImage image (jobs_of (files_of (lines_of bundle)))
 
 -- what is printed is a bundle whose files define the table of this image
 abbrev pub ShowsImage : List ℕ → Printed → Type 0
-ShowsImage image made = HasImage image made.text × (made.status ≡ 0)
+ShowsImage image made = HasImage image made.text × (made.status ≡ Done)
 
 -- what is printed for an image, or why nothing of it is
 abbrev pub ShowsFile : List ℕ → Printed → Type 0
@@ -74,12 +76,13 @@ abbrev pub PlaysDir : List ℕ → List (List ℕ × List ℕ) → List ℕ → 
 PlaysDir dir base script made = PlaysFiles base script made ⊎ (CannotWalk dir made ⊎ IsUnusable script made)
 
 -- the status of something that may be printed, unless it can't be written or memory is refused
-abbrev pub EndsWith : (Printed → Type 0) → ℕ → Type 0
-EndsWith Says status = ((made : Printed) × Says made × (status ≡ made.status)) ⊎ ((status ≡ 3) ⊎ (status ≡ 4))
+abbrev pub EndsWith : (Printed → Type 0) → ExitStatus → Type 0
+EndsWith Says status = ((made : Printed) × Says made × (status ≡ made.status))
+    ⊎ ((status ≡ Unusable) ⊎ (status ≡ Memory))
 
 -- the status of what is asked for, with the base environment of a replay; that of a bundle rests on standard input, and that of a run on
 -- its rounds
-abbrev pub Answers : List (List ℕ × List ℕ) → Asked → ℕ → Type 0
+abbrev pub Answers : List (List ℕ × List ℕ) → Asked → ExitStatus → Type 0
 Answers base Bundle status = Unit {0}
 Answers base (Check dir) status = EndsWith (ChecksDir dir.now) status
 Answers base (Compile dir image) status = EndsWith (CompilesDir dir.now image.now) status

@@ -12,24 +12,25 @@ use std::io::{BufWriter, Eprint, Write};
 use std::net::Net;
 use std::process::Processes;
 use std::rt::{Clock, Files};
-use up_replay::replay::replay;
+use up_model::ExitStatus;
+use up_replay::replay::replay_bundle;
 use up_replay::{Printed, write_printed};
 use up_text::Env;
 
-// Replays standard input, and gives the status.
-fn replay_input(rt: &(impl Input + Print + AllocGlobal)) -> io::Result<u8> {
+// Replays standard input, and returns the status.
+fn replay_input(rt: &(impl Input + Print + AllocGlobal)) -> io::Result<ExitStatus> {
     let mut reader = rt.reader();
     let mut writer = BufWriter::new(rt.alloc(), io::writer(rt))?;
-    let status = replay(rt.alloc(), &mut reader, &mut writer);
+    let status = replay_bundle(rt.alloc(), &mut reader, &mut writer);
     writer.flush()?;
     Ok(status)
 }
 
-// Prints on standard output, and gives the status.
+// Prints on standard output, and returns the status.
 pub(crate) fn print(
     rt: &(impl Print + AllocGlobal),
     made: Result<Printed, AllocError>,
-) -> io::Result<u8>
+) -> io::Result<ExitStatus>
     ensures { IfOk result (EndsWith (λ found. made ≡ Ok found)) }
 {
     match made {
@@ -39,15 +40,15 @@ pub(crate) fn print(
             writer.flush()?;
             Ok(status)
         }
-        Err(_) => Ok(4),
+        Err(_) => Ok(ExitStatus::Memory),
     }
 }
 
-/// Does what is asked for, with a base environment for a replay, prints on standard output, and gives the status: that of what is
-/// printed, 3 if it can't be written, 4 if memory ran out. An error is that of the standard output, or memory ran out for its buffer.
+/// Does what is asked for, with a base environment for a replay, prints on standard output, and returns the status: that of what is
+/// printed, `Unusable` if it can't be written, `Memory` if memory ran out. An error is that of the standard output, or memory ran out for its buffer.
 pub fn answer<
     R: Files + Net + Processes + Clock + Input + Print + Eprint + AllocGlobal + Clone + Drop,
->(rt: &R, asked: Asked, base: Env) -> io::Result<u8>
+>(rt: &R, asked: Asked, base: Env) -> io::Result<ExitStatus>
     ensures { IfOk result (Answers base asked.entry) }
 {
     match asked {

@@ -1,6 +1,7 @@
 //! The command line of `initd`.
 ghost use Rattle.std.specs.Prelude.{◌≡◌, ◌≢◌, ◌⊎◌};
 ghost use Rattle.clap.specs.Words.{kind_of};
+ghost use Rattle.up_model.specs.declared.exit_status.ExitStatus.TheVariants as status;
 
 use crate::pace::MOST_PAUSE;
 use crate::run::Rounds;
@@ -9,6 +10,7 @@ use clap::error::ErrorKind;
 use clap::{Arg, ArgAction, ArgMatches, Command, Error, value_parser};
 use std::alloc::{AllocError, Global};
 use std::io::Eprint;
+use up_model::ExitStatus;
 use up_text::{Env, TextFault};
 
 /// What the program is asked for.
@@ -251,23 +253,25 @@ pub fn read_words<'a>(alloc: Global, words: &'a [String]) -> Result<(Asked<'a>, 
     }
 }
 
-/// Prints why a command line is refused, or the help that it asks for, and gives the status.
-pub fn print_refusal<R: Print + Eprint>(rt: &R, error: &Error) -> u8
-    ensures memory { kind_of error.now ≡ ErrorKind.OutOfMemory → result ≡ 4 }
+/// Prints why a command line is refused, or the help that it asks for, and returns the status.
+pub fn print_refusal<R: Print + Eprint>(rt: &R, error: &Error) -> ExitStatus
+    ensures memory { kind_of error.now ≡ ErrorKind.OutOfMemory → result ≡ status.Memory }
     ensures usage { kind_of error.now ≢ ErrorKind.OutOfMemory → kind_of error.now ≢ ErrorKind.DisplayHelp
-        → kind_of error.now ≢ ErrorKind.DisplayVersion → result ≡ 2 }
-    ensures help { kind_of error.now ≡ ErrorKind.DisplayHelp → (result ≡ 0) ⊎ (result ≡ 3) }
-    ensures version { kind_of error.now ≡ ErrorKind.DisplayVersion → (result ≡ 0) ⊎ (result ≡ 3) }
+        → kind_of error.now ≢ ErrorKind.DisplayVersion → result ≡ status.Usage }
+    ensures help { kind_of error.now ≡ ErrorKind.DisplayHelp → (result ≡ status.Done)
+        ⊎ (result ≡ status.Unusable) }
+    ensures version { kind_of error.now ≡ ErrorKind.DisplayVersion → (result ≡ status.Done)
+        ⊎ (result ≡ status.Unusable) }
 {
     match error.kind() {
-        ErrorKind::OutOfMemory => 4,
+        ErrorKind::OutOfMemory => ExitStatus::Memory,
         ErrorKind::DisplayHelp | ErrorKind::DisplayVersion => match error.print(rt) {
-            Ok(()) => 0,
-            Err(_) => 3,
+            Ok(()) => ExitStatus::Done,
+            Err(_) => ExitStatus::Unusable,
         },
         _ => {
             let _ = error.print(rt);
-            2
+            ExitStatus::Usage
         }
     }
 }

@@ -11,6 +11,7 @@ use std::rt::Files;
 use std::{fs, io};
 use up_conf::Folder;
 use up_image::{CompileError, ImageError, Table, compile, job_files};
+use up_model::ExitStatus;
 use up_replay::check::check;
 use up_replay::{Printed, cannot_use, image_refused, read_bundle};
 use up_text::Items;
@@ -177,7 +178,10 @@ fn show_table(
     }
     if has_image(alloc, text.as_slice(), bytes)? {
         let text = Items::new(text);
-        Ok(Printed { text, status: 0 })
+        Ok(Printed {
+            text,
+            status: ExitStatus::Done,
+        })
     } else {
         cannot_use(alloc, image)
     }

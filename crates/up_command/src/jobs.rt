@@ -9,6 +9,7 @@ use std::io::ErrorKind;
 use std::rt::Files;
 use up_conf::Folder;
 use up_image::{CompileError, ImageError, Table, compile};
+use up_model::ExitStatus;
 use up_replay::{Printed, cannot_use, image_refused, render_folder};
 use up_text::{Env, Items};
 
@@ -50,7 +51,10 @@ fn image_jobs(alloc: Global, bytes: &[u8]) -> Result<Jobs, AllocError> {
         Ok(table) => {
             let text = Items::new(Vec::new(alloc));
             Ok(Jobs {
-                printed: Printed { text, status: 0 },
+                printed: Printed {
+                    text,
+                    status: ExitStatus::Done,
+                },
                 table: Some(table),
             })
         }

@@ -16,7 +16,7 @@ use up_daemon::{Daemon, Door, SocketFault, UnixDoor};
 use up_engine::Engine;
 use up_host::{Host, RealHost};
 use up_image::Table;
-use up_model::{Event, Input};
+use up_model::{Event, ExitStatus, Input};
 use up_replay::cannot_use;
 use up_text::{Env, Name};
 
@@ -97,18 +97,18 @@ fn all_rounds<R: Print + Eprint + AllocGlobal, H: Host, W: Write + Drop>(
     door: &mut UnixDoor,
     rounds: Rounds,
     teller: &mut Teller<W>,
-) -> u8 {
+) -> ExitStatus {
     let mut pace = Pace::new(rounds.most_pause);
     for _ in 0..rounds.count {
         if !round(rt, daemon, (host, door), &mut pace, teller) {
-            return 4;
+            return ExitStatus::Memory;
         }
     }
-    0
+    ExitStatus::Done
 }
 
 // What can't be used is printed.
-fn unusable(rt: &(impl Print + AllocGlobal), path: &str) -> io::Result<u8> {
+fn unusable(rt: &(impl Print + AllocGlobal), path: &str) -> io::Result<ExitStatus> {
     print(rt, cannot_use(rt.alloc(), path))
 }
 
@@ -119,7 +119,7 @@ fn serve<R: Processes + Clock + Print + Eprint + AllocGlobal + Clone + Drop, W: 
     door: &mut UnixDoor,
     rounds: Rounds,
     teller: &mut Teller<W>,
-) -> io::Result<u8> {
+) -> io::Result<ExitStatus> {
     let inputs = first_inputs(rt.alloc())?;
     teller.note(rt, rt.alloc(), inputs.as_slice(), false);
     let mut daemon = started(rt.alloc(), table, inputs)?;
@@ -138,13 +138,13 @@ fn run_table<R, W: Write + Drop>(
     socket: &str,
     rounds: Rounds,
     teller: &mut Teller<W>,
-) -> io::Result<u8>
+) -> io::Result<ExitStatus>
 where
     R: Files + Net + Processes + Clock + Print + Eprint + AllocGlobal + Clone + Drop,
 {
     match UnixDoor::bind(rt, rt.alloc(), socket) {
         Ok(mut door) => serve(rt, table, &mut door, rounds, teller),
-        Err(SocketFault::Memory) => Ok(4),
+        Err(SocketFault::Memory) => Ok(ExitStatus::Memory),
         Err(_) => unusable(rt, socket),
     }
 }
@@ -167,7 +167,7 @@ fn run_jobs<R>(
     (source, socket): (&str, &str),
     rounds: Rounds,
     telling: Telling,
-) -> io::Result<u8>
+) -> io::Result<ExitStatus>
 where
     R: Files + Net + Processes + Clock + Print + Eprint + AllocGlobal + Clone + Drop,
 {
@@ -180,25 +180,29 @@ where
     run_table(rt, table, socket, rounds, &mut teller)
 }
 
-/// Reads the jobs of a folder or of an image, prints the faults of a folder's files, makes the socket, and does the rounds. Gives the
-/// status: 0; 1 if faults were printed; 3 if the folder or the image is refused, or one of them, the record, the socket or the output
-/// can't be used; 4 if memory ran out. Neither the socket nor the processes are touched at the end.
+/// Reads the jobs of a folder or of an image, prints the faults of a folder's files, makes the socket, and does the rounds. Returns the
+/// status: `Failed` if faults were printed; `Unusable` if the folder or the image is refused, or one of them, the record, the socket or
+/// the output can't be used; `Memory` if memory ran out. Neither the socket nor the processes are touched at the end.
 pub fn run_source<R: Files + Net + Processes + Clock + Print + Eprint + AllocGlobal + Clone + Drop>(
     rt: &R,
     source: &str,
     socket: &str,
     rounds: Rounds,
     telling: Telling,
-) -> io::Result<u8> {
+) -> io::Result<ExitStatus> {
     let jobs = read_jobs(rt, source)?;
     let found = print(rt, Ok(jobs.printed))?;
     match jobs.table {
         Some(table) => {
-            if found > 1 {
+            if found != ExitStatus::Done && found != ExitStatus::Failed {
                 return Ok(found);
             }
             let status = run_jobs(rt, table, (source, socket), rounds, telling)?;
-            Ok(status.max(found))
+            if status == ExitStatus::Done {
+                Ok(found)
+            } else {
+                Ok(status)
+            }
         }
         None => Ok(found),
     }

@@ -12,7 +12,7 @@ use Rattle.std.specs.List.Sorted.{IsSortedByClosure, IsStableByClosure}
 use Rattle.std.proofs.lemmas.List.Sorted.{ranks_by, answers_always}
 use denote.Param.Members.{Mut}
 use denote.Ref.{Bor}
-use Rattle.up_conf.specs.Order.{put_by, sorted_by, in_order}
+use Rattle.up_conf.specs.Order.{put_by, sort_by_order, in_order}
 
 -- no item is less than x
 abbrev NoneLess : {X : Type 0} → (X → X → Bool) → X → List X → Type 0
@@ -120,9 +120,9 @@ ascending-put_by less o x (y ∷ ys) up = by_case (less y x) refl (ascending-put
     by_case true e rest = (none_less-put_by less y x ys (o.one_way y x e) up.0, rest)
     by_case false e rest = ((e, none_less-lower less o x y ys e up.0), up)
 
-ascending-sorted_by : {X : Type 0} (less : X → X → Bool) → IsStrictWeakOrder less → (xs : List X) → Ascending less (sorted_by less xs)
-ascending-sorted_by less o [] = tt
-ascending-sorted_by less o (x ∷ xs) = ascending-put_by less o x (sorted_by less xs) (ascending-sorted_by less o xs)
+ascending-sort_by_order : {X : Type 0} (less : X → X → Bool) → IsStrictWeakOrder less → (xs : List X) → Ascending less (sort_by_order less xs)
+ascending-sort_by_order less o [] = tt
+ascending-sort_by_order less o (x ∷ xs) = ascending-put_by less o x (sort_by_order less xs) (ascending-sort_by_order less o xs)
 
 -- an item less than another doesn't tie what that one ties
 apart : {X : Type 0} (less : X → X → Bool) → IsStrictWeakOrder less → (w x y : X) → less y x ≡ true → ties less w y ≡ true → ties less w x ≡ true → ⊥
@@ -148,16 +148,16 @@ ties-put_by less o w x (y ∷ ys) = by_case (less y x) refl (ties-put_by less o 
     by_case true e rest = both (ties less w y) (ties less w x) refl refl e rest
     by_case false e rest = refl
 
-ties-sorted_by : {X : Type 0} (less : X → X → Bool) → IsStrictWeakOrder less → (w : X) (xs : List X) → filter (ties less w) (sorted_by less xs) ≡ filter (ties less w) xs
-ties-sorted_by less o w [] = refl
-ties-sorted_by less o w (x ∷ xs) =
-    ties-put_by less o w x (sorted_by less xs) ∙ ap (λ others. cond (ties less w x) (x ∷ others) others) (ties-sorted_by less o w xs)
+ties-sort_by_order : {X : Type 0} (less : X → X → Bool) → IsStrictWeakOrder less → (w : X) (xs : List X) → filter (ties less w) (sort_by_order less xs) ≡ filter (ties less w) xs
+ties-sort_by_order less o w [] = refl
+ties-sort_by_order less o w (x ∷ xs) =
+    ties-put_by less o w x (sort_by_order less xs) ∙ ap (λ others. cond (ties less w x) (x ∷ others) others) (ties-sort_by_order less o w xs)
 
 -- what a stable sort leaves
-pub sorted_by-from_sort : {X : Type 0} (less : X → X → Bool) → IsStrictWeakOrder less → (xs ys : List X) → IsSortedBy less ys → IsStableBy less xs ys → ys ≡ sorted_by less xs
-sorted_by-from_sort less o xs ys up stable =
-    same_from_ties less o ys (sorted_by less xs) (ascending-from_far less ys (sorted_far less o ys up)) (ascending-sorted_by less o xs)
-    (λ x. stable x ∙ sym (ties-sorted_by less o x xs))
+pub sort_by_order-from_sort : {X : Type 0} (less : X → X → Bool) → IsStrictWeakOrder less → (xs ys : List X) → IsSortedBy less ys → IsStableBy less xs ys → ys ≡ sort_by_order less xs
+sort_by_order-from_sort less o xs ys up stable =
+    same_from_ties less o ys (sort_by_order less xs) (ascending-from_far less ys (sorted_far less o ys up)) (ascending-sort_by_order less o xs)
+    (λ x. stable x ∙ sym (ties-sort_by_order less o x xs))
 
 -- what `sort_by` leaves, if its closure compares the keys
 pub in_order-from_sort_by : {X : Type 0} (key : X → List ℕ) {F : Type 0} (g : Mut F (Bor X × (Bor X × Unit {0})) Ordering) (f : F) (xs ys : List X)
@@ -166,4 +166,4 @@ pub in_order-from_sort_by : {X : Type 0} (key : X → List ℕ) {F : Type 0} (g 
 in_order-from_sort_by key g f xs ys answers stable sorted =
     let o = ranks_by nat_list_cmp_total key in
     let always = answers_always g (λ a r. is_lt r ≡ is_lt (slice_cmp nat_cmp (key a.0.now) (key a.1.0.now))) f (λ h a r h' called. ap is_lt (answers h a r h' called)) in
-    sorted_by-from_sort _ o xs ys (sorted _ o always) (stable _ o always)
+    sort_by_order-from_sort _ o xs ys (sorted _ o always) (stable _ o always)

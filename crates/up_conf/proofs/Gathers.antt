@@ -13,9 +13,9 @@ use denote.Ref.{Bor}
 use Rattle.up_stanza.specs.declared.setting.Setting.{Setting}
 use Rattle.up_stanza.specs.declared.stanza.Stanza.{Stanza}
 use Rattle.up_conf.specs.Gathering.{AreIndexed, place_in}
-use Rattle.up_conf.specs.Jobs.{added, put, summed}
+use Rattle.up_conf.specs.Jobs.{with_new_item, put, fold_stanzas}
 
-pub summed_both : {X : Type 0} (with : X → Stanza → X) (x : X) (xs ys : List Stanza) → summed with (summed with x xs) ys ≡ summed with x (xs ++ ys)
+pub summed_both : {X : Type 0} (with : X → Stanza → X) (x : X) (xs ys : List Stanza) → fold_stanzas with (fold_stanzas with x xs) ys ≡ fold_stanzas with x (xs ++ ys)
 summed_both with x [] ys = refl
 summed_both with x (y ∷ xs) ys = summed_both with (with x y) xs ys
 
@@ -121,17 +121,17 @@ any-there key other keys there = by_case (bytes_eq key other) refl
     by_case false differ = refl
 
 -- a key more is seen
-pub seen_more : (key other : List ℕ) (keys : List (List ℕ)) → list_any (bytes_eq other) (added bytes_eq keys key) ≡ cond (bytes_eq key other) true (list_any (bytes_eq other) keys)
+pub seen_more : (key other : List ℕ) (keys : List (List ℕ)) → list_any (bytes_eq other) (with_new_item bytes_eq keys key) ≡ cond (bytes_eq key other) true (list_any (bytes_eq other) keys)
 seen_more key other keys = by_case (list_any (bytes_eq key) keys) refl
   where
     by_case : (b : Bool) → list_any (bytes_eq key) keys ≡ b → list_any (bytes_eq other) (cond b keys (keys ++ key ∷ [])) ≡ cond (bytes_eq key other) true (list_any (bytes_eq other) keys)
     by_case true there = any-there key other keys there
     by_case false gone = any-last key other keys
 
-pub added_new : (keys : List (List ℕ)) (key : List ℕ) → not (list_any (bytes_eq key) keys) ≡ true → added bytes_eq keys key ≡ keys ++ key ∷ []
+pub added_new : (keys : List (List ℕ)) (key : List ℕ) → not (list_any (bytes_eq key) keys) ≡ true → with_new_item bytes_eq keys key ≡ keys ++ key ∷ []
 added_new keys key new = let gone : list_any (bytes_eq key) keys ≡ false = booleans.not-true _ new in rw gone refl
 
-pub added_old : (keys : List (List ℕ)) (key : List ℕ) → not (list_any (bytes_eq key) keys) ≡ false → added bytes_eq keys key ≡ keys
+pub added_old : (keys : List (List ℕ)) (key : List ℕ) → not (list_any (bytes_eq key) keys) ≡ false → with_new_item bytes_eq keys key ≡ keys
 added_old keys key old = by_case (list_any (bytes_eq key) keys) old
   where
     by_case : (b : Bool) → not b ≡ false → cond b keys (keys ++ key ∷ []) ≡ keys

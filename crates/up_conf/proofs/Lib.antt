@@ -4,4 +4,5 @@ pub mod Folders
 pub mod Gathers
 pub mod Lookups
 pub mod Meanings
+pub mod Overriding
 pub mod Reports

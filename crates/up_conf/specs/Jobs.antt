@@ -2,6 +2,7 @@
 use Rattle.std.specs.Prelude.{ℕ, Bool, true, false, ◌==◌, if◌then◌else◌, List, [], ◌∷◌, ◌++◌, Option, None, Some, unwrap_or}
 use Rattle.std.specs.List.{list_any}
 use Rattle.std.specs.Str.{bytes_eq}
+use Rattle.up_value.specs.Values.{Bytes}
 use Rattle.up_expr.specs.Trees.{Tree}
 use Rattle.up_stanza.specs.declared.action.Action.{Action}
 use Rattle.up_stanza.specs.declared.exit.Exit.{Exit}
@@ -22,9 +23,9 @@ last_or x says [] = x
 last_or x says (stanza ∷ stanzas) = last_or (unwrap_or (says stanza) x) says stanzas
 
 -- all that stanzas say of something, after this
-abbrev pub summed : {X : Type 0} → (X → Stanza → X) → X → List Stanza → X
-summed with x [] = x
-summed with x (stanza ∷ stanzas) = summed with (with x stanza) stanzas
+abbrev pub fold_stanzas : {X : Type 0} → (X → Stanza → X) → X → List Stanza → X
+fold_stanzas with x [] = x
+fold_stanzas with x (stanza ∷ stanzas) = fold_stanzas with (with x stanza) stanzas
 
 abbrev pub task_in : Stanza → Option Bool
 task_in Task = Some true
@@ -42,11 +43,11 @@ abbrev pub silent_in : Stanza → Option Bool
 silent_in (Console kind) = Some (is_silent kind)
 silent_in stanza = None
 
-abbrev pub instance_in : Stanza → Option (List ℕ)
+abbrev pub instance_in : Stanza → Option Bytes
 instance_in (Instance name) = Some name
 instance_in stanza = None
 
-abbrev pub dir_in : Stanza → Option (List ℕ)
+abbrev pub dir_in : Stanza → Option Bytes
 dir_in (Chdir dir) = Some dir
 dir_in stanza = None
 
@@ -96,22 +97,23 @@ stop_in stanza = None
 -- a key that is set again keeps its place and takes the new form
 abbrev pub put : Setting → List Setting → List Setting
 put setting [] = setting ∷ []
-put setting (other ∷ others) = if bytes_eq other.key setting.key then setting ∷ others else other ∷ put setting others
+put setting (other ∷ others) = if bytes_eq other.key setting.key then setting ∷ others
+    else other ∷ put setting others
 
 abbrev pub env_with : List Setting → Stanza → List Setting
 env_with settings (Env setting) = put setting settings
 env_with settings stanza = settings
 
 -- an item that isn't there yet goes last
-abbrev pub added : {X : Type 0} → (X → X → Bool) → List X → X → List X
-added same xs x = if list_any (same x) xs then xs else xs ++ x ∷ []
+abbrev pub with_new_item : {X : Type 0} → (X → X → Bool) → List X → X → List X
+with_new_item same xs x = if list_any (same x) xs then xs else xs ++ x ∷ []
 
-abbrev pub all_added : {X : Type 0} → (X → X → Bool) → List X → List X → List X
-all_added same xs [] = xs
-all_added same xs (y ∷ ys) = all_added same (added same xs y) ys
+abbrev pub with_new_items : {X : Type 0} → (X → X → Bool) → List X → List X → List X
+with_new_items same xs [] = xs
+with_new_items same xs (y ∷ ys) = with_new_items same (with_new_item same xs y) ys
 
-abbrev pub export_with : List (List ℕ) → Stanza → List (List ℕ)
-export_with keys (Export others) = all_added bytes_eq keys others
+abbrev pub export_with : List Bytes → Stanza → List Bytes
+export_with keys (Export others) = with_new_items bytes_eq keys others
 export_with keys stanza = keys
 
 abbrev pub same_exit : Exit → Exit → Bool
@@ -120,7 +122,7 @@ same_exit (exit.Signal signal) (exit.Signal other) = signal == other
 same_exit status signal = false
 
 abbrev pub normal_with : List Exit → Stanza → List Exit
-normal_with exits (NormalExit others) = all_added same_exit exits others
+normal_with exits (NormalExit others) = with_new_items same_exit exits others
 normal_with exits stanza = exits
 
 -- what stanzas make of a job
@@ -135,9 +137,9 @@ job_after job stanzas = record {
   limit = last_or job.limit limit_in stanzas;
   kill_signal = last_or job.kill_signal kill_signal_in stanzas;
   kill_timeout = last_or job.kill_timeout kill_timeout_in stanzas;
-  env = summed env_with job.env stanzas;
-  export = summed export_with job.export stanzas;
-  normal = summed normal_with job.normal stanzas;
+  env = fold_stanzas env_with job.env stanzas;
+  export = fold_stanzas export_with job.export stanzas;
+  normal = fold_stanzas normal_with job.normal stanzas;
   main = last_or job.main main_in stanzas;
   pre_start = last_or job.pre_start pre_start_in stanzas;
   post_start = last_or job.post_start post_start_in stanzas;
@@ -148,7 +150,7 @@ job_after job stanzas = record {
 }
 
 -- a job without stanzas: TERM, 5 seconds to the kill, 10 respawns in 5 seconds
-abbrev pub plain_job : List ℕ → JobDef
+abbrev pub plain_job : Bytes → JobDef
 plain_job name = record {
   name = name;
   task = false;
@@ -172,5 +174,5 @@ plain_job name = record {
 }
 
 -- the job of this name that stanzas define
-unfoldable pub job_of : List ℕ → List Stanza → JobDef
+unfoldable pub job_of : Bytes → List Stanza → JobDef
 job_of name stanzas = job_after (plain_job name) stanzas

@@ -12,4 +12,5 @@ IsFault spot (Some fault) = (spot ≡ Some (spot_of fault)) × (nat_le (number_o
 
 -- the faults at these places, with such codes
 abbrev pub AreFaults : List Spot → List Fault → Type 0
-AreFaults spots faults = (map spot_of faults ≡ spots) × (list_all (λ fault. nat_le (number_of fault.code) 16) faults ≡ true)
+AreFaults spots faults = (map spot_of faults ≡ spots)
+    × (list_all (λ fault. nat_le (number_of fault.code) 16) faults ≡ true)

@@ -8,7 +8,8 @@ ghost use Rattle.up_conf.specs.Outcomes.{AreFaults};
 use crate::folder::{File, Folder};
 use crate::job::JobDef;
 use crate::order::{sort_faults, sort_jobs};
-use crate::outcome::read_file;
+use crate::outcome::file_outcome;
+use crate::parsed::Overrides;
 use crate::paths::Paths;
 use crate::report::{Fault, Report};
 use std::alloc::{AllocError, Global};
@@ -21,8 +22,10 @@ fn keep(
     faults: &mut Vec<Fault>,
     outcome: Option<Result<JobDef, Fault>>,
 ) -> Result<(), AllocError>
-    ensures jobs { OnOk result (jobs.new.items ≡ jobs.old.items ++ option_to_list (option_and_then result_ok outcome)) }
-    ensures faults { OnOk result (faults.new.items ≡ faults.old.items ++ option_to_list (option_and_then result_err outcome)) }
+    ensures jobs { OnOk result (jobs.new.items
+        ≡ jobs.old.items ++ option_to_list (option_and_then result_ok outcome)) }
+    ensures faults { OnOk result (faults.new.items
+        ≡ faults.old.items ++ option_to_list (option_and_then result_err outcome)) }
 {
     match outcome {
         Some(Ok(job)) => jobs.push(job)?,
@@ -35,13 +38,15 @@ fn keep(
 // The jobs and the faults of files, in their order.
 fn read_files(alloc: Global, files: &[File]) -> Result<(Vec<JobDef>, Vec<Fault>), AllocError>
     ensures jobs { IfOk result (λ read. read.0.items ≡ filter_map (job_of_file files.now) files.now) }
-    ensures faults { IfOk result (λ read. AreFaults (filter_map (spot_of_file files.now) files.now) read.1.items) }
+    ensures faults { IfOk result (λ read. AreFaults
+        (filter_map (spot_of_file files.now) files.now) read.1.items) }
 {
     let paths = Paths::new(alloc, files)?;
+    let mut overrides = Overrides::new(alloc);
     let mut jobs: Vec<JobDef> = Vec::new(alloc);
     let mut faults: Vec<Fault> = Vec::new(alloc);
     for file in files {
-        let outcome = read_file(alloc, &paths, file)?;
+        let outcome = file_outcome(alloc, &paths, &mut overrides, file)?;
         keep(&mut jobs, &mut faults, outcome)?;
     }
     Ok((jobs, faults))

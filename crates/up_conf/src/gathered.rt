@@ -6,8 +6,9 @@ ghost use Rattle.std.specs.BTreeMap.{get_by};
 ghost use Rattle.std.specs.Cmp.Lexicographic.{slice_cmp};
 ghost use Rattle.std.specs.Ordering.{nat_cmp};
 ghost use Rattle.std.specs.Str.{bytes_eq};
+ghost use Rattle.up_value.specs.Values.{Bytes};
 ghost use Rattle.up_conf.specs.Gathering.{AreIndexed, AreSeen};
-ghost use Rattle.up_conf.specs.Jobs.{all_added, added, env_with, export_with, put, summed};
+ghost use Rattle.up_conf.specs.Jobs.{with_new_items, with_new_item, env_with, export_with, put, fold_stanzas};
 
 use crate::copies::copy_setting;
 use std::alloc::{AllocError, Global};
@@ -29,7 +30,10 @@ fn find(places: &Places, key: &str) -> Option<usize>
 
 // Notes where a key stands.
 fn index<'a>(places: &mut Places<'a>, key: &'a str, place: usize) -> Result<(), AllocError>
-    ensures { OnOk result ((other : List ℕ) → get_by (λ k. slice_cmp nat_cmp other k.now) places.new ≡ (if bytes_eq key.now other then Some place else get_by (λ k. slice_cmp nat_cmp other k.now) places.old)) }
+    ensures { OnOk result ((other : Bytes)
+        → get_by (λ k. slice_cmp nat_cmp other k.now) places.new
+        ≡ (if bytes_eq key.now other then Some place
+        else get_by (λ k. slice_cmp nat_cmp other k.now) places.old)) }
 {
     places.insert(key, place)?;
     Ok(())
@@ -50,7 +54,10 @@ fn add<'a>(
     setting: Setting,
 ) -> Result<(), AllocError>
     ensures settings { OnOk result (settings.new.items ≡ settings.old.items ++ setting ∷ []) }
-    ensures places { OnOk result ((other : List ℕ) → get_by (λ k. slice_cmp nat_cmp other k.now) places.new ≡ (if bytes_eq key.now other then Some (length settings.old.items) else get_by (λ k. slice_cmp nat_cmp other k.now) places.old)) }
+    ensures places { OnOk result ((other : Bytes)
+        → get_by (λ k. slice_cmp nat_cmp other k.now) places.new
+        ≡ (if bytes_eq key.now other then Some (length settings.old.items)
+        else get_by (λ k. slice_cmp nat_cmp other k.now) places.old)) }
 {
     index(places, key, settings.len())?;
     settings.push(setting)?;
@@ -102,7 +109,7 @@ fn put_stanzas<'a>(
     stanzas: &'a [Stanza],
 ) -> Result<(), AllocError>
     requires { AreIndexed places.old settings.old.items }
-    ensures put { OnOk result (settings.new.items ≡ summed env_with settings.old.items stanzas.now) }
+    ensures put { OnOk result (settings.new.items ≡ fold_stanzas env_with settings.old.items stanzas.now) }
     ensures indexed { OnOk result (AreIndexed places.new settings.new.items) }
 {
     for stanza in stanzas {
@@ -118,7 +125,7 @@ pub(crate) fn gather_env(
     conf: &[Stanza],
     over: &[Stanza],
 ) -> Result<Items<Setting>, AllocError>
-    ensures { IfOk result (λ env. env ≡ summed env_with [] (conf.now ++ over.now)) }
+    ensures { IfOk result (λ env. env ≡ fold_stanzas env_with [] (conf.now ++ over.now)) }
 {
     let mut settings: Vec<Setting> = Vec::new(alloc);
     let mut places: Places = BTreeMap::new(alloc);
@@ -129,8 +136,10 @@ pub(crate) fn gather_env(
 
 // Notes a key, and whether it is new.
 fn note<'a>(seen: &mut BTreeSet<&'a str>, key: &'a str) -> Result<bool, AllocError>
-    ensures new { IfOk result (λ new. (keys : List (List ℕ)) → AreSeen seen.old keys → new ≡ not (list_any (bytes_eq key.now) keys)) }
-    ensures seen { OnOk result ((keys : List (List ℕ)) → AreSeen seen.old keys → AreSeen seen.new (added bytes_eq keys key.now)) }
+    ensures new { IfOk result (λ new. (keys : List Bytes) → AreSeen seen.old keys
+        → new ≡ not (list_any (bytes_eq key.now) keys)) }
+    ensures seen { OnOk result ((keys : List Bytes) → AreSeen seen.old keys
+        → AreSeen seen.new (with_new_item bytes_eq keys key.now)) }
 {
     let new = seen.insert(key)?;
     Ok(new)
@@ -144,7 +153,7 @@ fn add_key<'a>(
     key: &'a str,
 ) -> Result<(), AllocError>
     requires { AreSeen seen.old keys.old.items }
-    ensures added { OnOk result (keys.new.items ≡ added bytes_eq keys.old.items key.now) }
+    ensures added { OnOk result (keys.new.items ≡ with_new_item bytes_eq keys.old.items key.now) }
     ensures seen { OnOk result (AreSeen seen.new keys.new.items) }
 {
     let new = note(seen, key)?;
@@ -162,7 +171,7 @@ fn add_keys<'a>(
     others: &'a [Text],
 ) -> Result<(), AllocError>
     requires { AreSeen seen.old keys.old.items }
-    ensures added { OnOk result (keys.new.items ≡ all_added bytes_eq keys.old.items others.now) }
+    ensures added { OnOk result (keys.new.items ≡ with_new_items bytes_eq keys.old.items others.now) }
     ensures seen { OnOk result (AreSeen seen.new keys.new.items) }
 {
     for other in others {
@@ -196,7 +205,7 @@ fn add_stanzas<'a>(
     stanzas: &'a [Stanza],
 ) -> Result<(), AllocError>
     requires { AreSeen seen.old keys.old.items }
-    ensures added { OnOk result (keys.new.items ≡ summed export_with keys.old.items stanzas.now) }
+    ensures added { OnOk result (keys.new.items ≡ fold_stanzas export_with keys.old.items stanzas.now) }
     ensures seen { OnOk result (AreSeen seen.new keys.new.items) }
 {
     for stanza in stanzas {
@@ -212,7 +221,7 @@ pub(crate) fn gather_export(
     conf: &[Stanza],
     over: &[Stanza],
 ) -> Result<Items<Text>, AllocError>
-    ensures { IfOk result (λ export. export ≡ summed export_with [] (conf.now ++ over.now)) }
+    ensures { IfOk result (λ export. export ≡ fold_stanzas export_with [] (conf.now ++ over.now)) }
 {
     let mut keys: Vec<Text> = Vec::new(alloc);
     let mut seen: BTreeSet<&str> = BTreeSet::new(alloc);

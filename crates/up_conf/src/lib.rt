@@ -13,6 +13,7 @@ pub mod meaning;
 mod order;
 mod outcome;
 mod outline;
+mod parsed;
 mod paths;
 pub mod report;
 

@@ -17,7 +17,8 @@ fn outline_of<'a>(
     conf: &'a [Stanza],
     over: &'a [Stanza],
 ) -> Result<Outline<'a>, AllocError>
-    ensures { IfOk result (λ outline. outline ≡ others_after (others_after (plain_job []) conf.now) over.now) }
+    ensures { IfOk result (λ outline. outline
+        ≡ others_after (others_after (plain_job []) conf.now) over.now) }
 {
     let outline = with_stanzas(plain_outline(alloc), conf)?;
     with_stanzas(outline, over)
@@ -38,7 +39,7 @@ fn define(alloc: Global, name: Name, conf: &[Stanza], over: &[Stanza]) -> Result
 
 /// The job of this name that stanzas define: the last of each kind counts, `env`, `export` and `normal exit` add up, and `manual`
 /// drops each `start on` before it.
-#[tactic(auto, using(crate::proofs::Meanings::none_behind))]
+#[tactic(auto, using(crate::proofs::Meanings::none_after))]
 pub fn job_of(alloc: Global, name: Name, stanzas: &Stanzas) -> Result<JobDef, AllocError>
     ensures { IfOk result (λ job. job ≡ job_of name stanzas.now) }
 {

@@ -1,14 +1,18 @@
 //! Reads the files of a folder, each with its override.
-ghost use Rattle.std.specs.Prelude.{◌≡◌, ◌++◌, [], IfOk, OnErr, true, None, Some, option_map, option_and_then, option_copied, if◌then◌else◌, string_bytes};
+ghost use Rattle.std.specs.Prelude.{◌≡◌, ◌++◌, ℕ, List, Result, [], IfOk, OnErr, true, unwrap_or, None, Some, option_map, option_and_then, option_copied, if◌then◌else◌, string_bytes};
 ghost use Rattle.std.specs.Result.{result_ok, result_err};
 ghost use Rattle.up_text.specs.Names.{is_name};
 ghost use Rattle.up_conf.specs.Folders.{bytes_at, has_conf, job_name, overridden_name, override_of, job_in, job_of_file, spot_in, spot_of_file};
 ghost use Rattle.up_conf.specs.Jobs.{job_of};
 ghost use Rattle.up_conf.specs.Outcomes.{IsFault};
+ghost use Rattle.up_stanza.specs.Confs.{conf_of};
+ghost use Rattle.up_stanza.specs.Reading.{IsConf};
+ghost use Rattle.up_stanza.specs.declared.stanza.Stanza.{Stanza};
 
 use crate::folder::File;
 use crate::job::JobDef;
 use crate::meaning::apply_override;
+use crate::parsed::Overrides;
 use crate::paths::Paths;
 use crate::report::Fault;
 use std::alloc::{AllocError, Global};
@@ -56,11 +60,12 @@ fn path_of(alloc: Global, name: &str, ending: &str) -> Result<String, AllocError
 // The bytes of a job's file with this ending.
 fn bytes_of<'a>(
     alloc: Global,
-    paths: &'a Paths,
+    paths: &Paths<'a>,
     name: &str,
     ending: &str,
 ) -> Result<Option<&'a [u8]>, AllocError>
-    ensures { IfOk result (λ found. option_map (λ bytes. bytes.now) found ≡ bytes_at (name.now ++ ending.now) paths.now) }
+    ensures { IfOk result (λ found. option_map (λ bytes. bytes.now) found
+        ≡ bytes_at (name.now ++ ending.now) paths.now) }
 {
     let path = path_of(alloc, name, ending)?;
     Ok(paths.bytes_at(path.as_str()))
@@ -68,7 +73,8 @@ fn bytes_of<'a>(
 
 // A file's fault, as it is reported.
 fn tell(path: &Text, fault: ConfFault) -> Result<Fault, AllocError>
-    ensures { IfOk result (λ told. IsFault (Some (record { path = path.now; line = fault.line })) (Some told)) }
+    ensures { IfOk result (λ told. IsFault (Some (record { path = path.now; line = fault.line }))
+        (Some told)) }
 {
     if fault.code.number() > MAX_NUMBER {
         return Err(AllocError);
@@ -86,47 +92,83 @@ fn no_stanzas(alloc: Global) -> Stanzas
     Items::new(Vec::new(alloc))
 }
 
-// The stanzas of a job's override.
-#[tactic(auto, unfolding(crate::specs::Folders::override_of))]
-fn read_override(alloc: Global, paths: &Paths, name: &str) -> Result<Stanzas, AllocError>
-    ensures { IfOk result (λ stanzas. stanzas ≡ override_of paths.now name.now) }
+// The job that its file's stanzas define, followed by those of its override, which counts for nothing if it is faulty.
+fn define_with(
+    alloc: Global,
+    name: Name,
+    stanzas: &Stanzas,
+    over: &Result<Stanzas, ConfFault>,
+) -> Result<JobDef, AllocError>
+    ensures { IfOk result (λ job. (conf : Result (List Stanza) ℕ) → IsConf conf over.now
+        → job ≡ job_of name (stanzas.now ++ unwrap_or (result_ok conf) [])) }
 {
-    let Some(bytes) = bytes_of(alloc, paths, name, ".override")? else {
-        return Ok(no_stanzas(alloc));
-    };
-    match read_bytes(alloc, bytes)? {
-        Ok(stanzas) => Ok(stanzas),
-        Err(_) => Ok(no_stanzas(alloc)),
+    match over {
+        Ok(over) => apply_override(alloc, name, stanzas, over),
+        Err(_) => {
+            let none = no_stanzas(alloc);
+            let job = apply_override(alloc, name, stanzas, &none);
+            drop(none);
+            job
+        }
     }
 }
 
-// The job that its file's stanzas define, followed by those of its override.
-fn define(alloc: Global, paths: &Paths, name: Name, stanzas: &Stanzas) -> Result<JobDef, AllocError>
-    ensures { IfOk result (λ job. job ≡ job_of name (stanzas.now ++ override_of paths.now name)) }
+// The job of these stanzas and an override with these bytes.
+fn define_over<'a>(
+    alloc: Global,
+    overrides: &mut Overrides<'a>,
+    key: &'a str,
+    bytes: &'a [u8],
+    name: Name,
+    stanzas: &Stanzas,
+) -> Result<JobDef, AllocError>
+    ensures { IfOk result (λ job. job
+        ≡ job_of name (stanzas.now ++ unwrap_or (result_ok (conf_of bytes.now)) [])) }
 {
-    match read_override(alloc, paths, name.as_str()) {
-        Ok(over) => {
-            let job = apply_override(alloc, name, stanzas, &over);
-            drop(over);
+    let over = overrides.take(alloc, key, bytes)?;
+    let job = define_with(alloc, name, stanzas, &over)?;
+    overrides.keep(key, bytes, over)?;
+    Ok(job)
+}
+
+// The job that its file's stanzas define, followed by those of its override.
+#[tactic(auto, unfolding(crate::specs::Folders::override_of))]
+fn define<'a>(
+    alloc: Global,
+    paths: &Paths<'a>,
+    overrides: &mut Overrides<'a>,
+    key: &'a str,
+    name: Name,
+    stanzas: &Stanzas,
+) -> Result<JobDef, AllocError>
+    ensures { IfOk result (λ job. job
+        ≡ job_of name (stanzas.now ++ override_of paths.now key.now)) }
+{
+    match bytes_of(alloc, paths, key, ".override")? {
+        Some(bytes) => define_over(alloc, overrides, key, bytes, name, stanzas),
+        None => {
+            let none = no_stanzas(alloc);
+            let job = apply_override(alloc, name, stanzas, &none);
+            drop(none);
             job
         }
-        Err(error) => Err(error),
     }
 }
 
 // What the file of a job says: the job, or the fault.
 #[tactic(auto, unfolding(crate::specs::Folders::job_in, crate::specs::Folders::line_in))]
-fn read_job(
+fn read_job<'a>(
     alloc: Global,
-    paths: &Paths,
+    paths: &Paths<'a>,
+    overrides: &mut Overrides<'a>,
     file: &File,
-    name: &str,
+    key: &'a str,
 ) -> Result<Result<JobDef, Fault>, AllocError>
-    requires { job_name file.now.path ≡ Some name.now }
-    ensures job { IfOk result (λ read. result_ok read ≡ job_in paths.now name.now file.now.bytes) }
+    requires { job_name file.now.path ≡ Some key.now }
+    ensures job { IfOk result (λ read. result_ok read ≡ job_in paths.now key.now file.now.bytes) }
     ensures fault { IfOk result (λ read. IsFault (spot_in file.now) (result_err read)) }
 {
-    let Some(name) = make_name(alloc, name)? else {
+    let Some(name) = make_name(alloc, key)? else {
         let fault = ConfFault {
             line: 1,
             code: FaultCode::BadName,
@@ -135,7 +177,7 @@ fn read_job(
     };
     match read_bytes(alloc, file.bytes.as_slice())? {
         Ok(stanzas) => {
-            let job = define(alloc, paths, name, &stanzas);
+            let job = define(alloc, paths, overrides, key, name, &stanzas);
             drop(stanzas);
             Ok(Ok(job?))
         }
@@ -143,47 +185,73 @@ fn read_job(
     }
 }
 
-// Whether a path overrides a job whose file is there.
-fn overrides(alloc: Global, paths: &Paths, path: &str) -> Result<bool, AllocError>
-    ensures { IfOk result (λ is. is ≡ has_conf paths.now (overridden_name path.now)) }
+// Whether a job's own file is there.
+fn has_conf(alloc: Global, paths: &Paths, name: &str) -> Result<bool, AllocError>
+    ensures { IfOk result (λ has. has ≡ has_conf paths.now (Some name.now)) }
 {
-    let Some(name) = overridden_name(path) else {
-        return Ok(false);
-    };
     let bytes = bytes_of(alloc, paths, name, ".conf")?;
     Ok(bytes.is_some())
 }
 
-// The fault of a file that stands for no job: of an override that is read.
-#[tactic(auto, unfolding(crate::specs::Folders::line_in))]
-fn read_other(alloc: Global, paths: &Paths, file: &File) -> Result<Option<Fault>, AllocError>
-    requires { job_name file.now.path ≡ None }
-    ensures { IfOk result (IsFault (spot_of_file paths.now file.now)) }
+// The fault of an override, if it has one.
+fn override_fault(
+    path: &Text,
+    read: &Result<Stanzas, ConfFault>,
+) -> Result<Option<Fault>, AllocError>
+    ensures { IfOk result (λ found. (conf : Result (List Stanza) ℕ) → IsConf conf read.now
+        → IsFault (option_map {T = ℕ} (λ line. record {
+          path = path.now;
+          line =
+              line;
+        }) (result_err conf)) found) }
 {
-    if !overrides(alloc, paths, file.path.as_str())? {
-        return Ok(None);
-    }
-    match read_bytes(alloc, file.bytes.as_slice())? {
+    match read {
         Ok(_) => Ok(None),
-        Err(fault) => Ok(Some(tell(&file.path, fault)?)),
+        Err(fault) => Ok(Some(tell(path, *fault)?)),
     }
 }
 
-/// What a file of a folder says: a job, a fault, or nothing.
-pub(crate) fn read_file(
+// The fault of a file that stands for no job: of an override that is read.
+#[tactic(auto, unfolding(crate::specs::Folders::line_in))]
+fn read_other<'a>(
     alloc: Global,
-    paths: &Paths,
-    file: &File,
+    paths: &Paths<'a>,
+    overrides: &mut Overrides<'a>,
+    file: &'a File,
+) -> Result<Option<Fault>, AllocError>
+    requires { job_name file.now.path ≡ None }
+    ensures { IfOk result (IsFault (spot_of_file paths.now file.now)) }
+{
+    let Some(name) = overridden_name(file.path.as_str()) else {
+        return Ok(None);
+    };
+    if !has_conf(alloc, paths, name)? {
+        return Ok(None);
+    }
+    let bytes = file.bytes.as_slice();
+    let read = overrides.take(alloc, name, bytes)?;
+    let fault = override_fault(&file.path, &read)?;
+    overrides.keep(name, bytes, read)?;
+    Ok(fault)
+}
+
+/// What a file of a folder says: a job, a fault, or nothing.
+pub(crate) fn file_outcome<'a>(
+    alloc: Global,
+    paths: &Paths<'a>,
+    overrides: &mut Overrides<'a>,
+    file: &'a File,
 ) -> Result<Option<Result<JobDef, Fault>>, AllocError>
     ensures job { IfOk result (λ read. option_and_then result_ok read ≡ job_of_file paths.now file.now) }
-    ensures fault { IfOk result (λ read. IsFault (spot_of_file paths.now file.now) (option_and_then result_err read)) }
+    ensures fault { IfOk result (λ read. IsFault (spot_of_file paths.now file.now)
+        (option_and_then result_err read)) }
 {
     match job_name(file.path.as_str()) {
         Some(name) => {
-            let read = read_job(alloc, paths, file, name)?;
+            let read = read_job(alloc, paths, overrides, file, name)?;
             Ok(Some(read))
         }
-        None => match read_other(alloc, paths, file)? {
+        None => match read_other(alloc, paths, overrides, file)? {
             Some(fault) => Ok(Some(Err(fault))),
             None => Ok(None),
         },

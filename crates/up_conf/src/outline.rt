@@ -3,7 +3,7 @@
 ghost use Rattle.std.specs.Prelude.{◌≡◌, ◌∷◌, [], IfOk, option_copied, unwrap_or};
 ghost use Rattle.std.specs.List.{list_any};
 ghost use Rattle.up_stanza.specs.declared.stanza.Stanza.TheVariants.{NormalExit, Runs};
-ghost use Rattle.up_conf.specs.Jobs.{added, all_added, is_silent, plain_job, same_exit};
+ghost use Rattle.up_conf.specs.Jobs.{with_new_item, with_new_items, is_silent, plain_job, same_exit};
 ghost use Rattle.up_conf.specs.Gathering.{others_after};
 
 use crate::both::both;
@@ -38,14 +38,14 @@ pub(crate) struct Outline<'a> {
 
 impl<'a> Model for Outline<'a> {
     ghost use Rattle.up_conf.specs.declared.job.JobDef.{JobDef};
-    ghost use Rattle.up_conf.specs.Gathering.{outlined};
+    ghost use Rattle.up_conf.specs.Gathering.{job_of_outline};
     ghost use Rattle.up_conf.specs.contracts.job.JobDef as job;
 
     ghost Value = { JobDef };
 
     ghost coded = { job.the_row.coded };
 
-    ghost view = { outlined };
+    ghost view = { job_of_outline };
 }
 
 fn is_silent(console: Console) -> bool
@@ -81,7 +81,7 @@ fn has_exit(exits: &[Exit], exit: &Exit) -> bool
 
 // Adds an exit, if it isn't there.
 fn add_exit(exits: Items<Exit>, exit: &Exit) -> Result<Items<Exit>, AllocError>
-    ensures { IfOk result (λ new. new ≡ added same_exit exits exit.now) }
+    ensures { IfOk result (λ new. new ≡ with_new_item same_exit exits exit.now) }
 {
     if has_exit(exits.as_slice(), exit) {
         return Ok(exits);
@@ -92,7 +92,7 @@ fn add_exit(exits: Items<Exit>, exit: &Exit) -> Result<Items<Exit>, AllocError>
 }
 
 fn add_exits(exits: Items<Exit>, others: &[Exit]) -> Result<Items<Exit>, AllocError>
-    ensures { IfOk result (λ new. new ≡ all_added same_exit exits others.now) }
+    ensures { IfOk result (λ new. new ≡ with_new_items same_exit exits others.now) }
 {
     let mut exits = exits;
     for other in others {

@@ -1,5 +1,6 @@
 //! Finds the files of a folder by their paths.
 ghost use Rattle.std.specs.Prelude.{◌≡◌, List, ℕ, IfOk, OnOk, option_map};
+ghost use Rattle.up_value.specs.Values.{Bytes};
 ghost use Rattle.up_conf.specs.Folders.{bytes_at};
 ghost use Rattle.up_conf.specs.Lookups.{found_at, also};
 
@@ -30,7 +31,8 @@ impl<'a> Model for Paths<'a> {
 
 // Adds a file, if none has its path.
 fn add<'a>(map: &mut BTreeMap<&'a str, &'a [u8]>, file: &'a File) -> Result<(), AllocError>
-    ensures { OnOk result ((path : List ℕ) → found_at path map.new ≡ also path file.now (found_at path map.old)) }
+    ensures { OnOk result ((path : Bytes)
+        → found_at path map.new ≡ also path file.now (found_at path map.old)) }
 {
     let path = file.path.as_str();
     if map.contains_key(path) {
@@ -44,7 +46,7 @@ fn add<'a>(map: &mut BTreeMap<&'a str, &'a [u8]>, file: &'a File) -> Result<(), 
 
 // The map of the files' bytes by their paths.
 fn map_of<'a>(alloc: Global, files: &'a [File]) -> Result<BTreeMap<&'a str, &'a [u8]>, AllocError>
-    ensures { IfOk result (λ map. (path : List ℕ) → found_at path map ≡ bytes_at path files.now) }
+    ensures { IfOk result (λ map. (path : Bytes) → found_at path map ≡ bytes_at path files.now) }
 {
     let mut map: BTreeMap<&str, &[u8]> = BTreeMap::new(alloc);
     for file in files {
@@ -62,7 +64,7 @@ impl<'a> Paths<'a> {
     }
 
     /// The bytes of the file with this path.
-    pub(crate) fn bytes_at(&self, path: &str) -> Option<&[u8]>
+    pub(crate) fn bytes_at(&self, path: &str) -> Option<&'a [u8]>
         ensures { option_map (λ bytes. bytes.now) result ≡ bytes_at path.now self.now }
     {
         match self.map.get(path) {

@@ -6,3 +6,4 @@ pub mod Seats
 pub mod Desks
 pub mod Numberings
 pub mod Wholes
+pub mod Endings

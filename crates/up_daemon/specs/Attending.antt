@@ -118,7 +118,16 @@ IsQueued id answer old new =
 -- A round that began with these clients and this count of faults.
 pub data Attends (start : Standing) : Part → Desk → Type 0 where
   -- the record is empty as the round begins
-  Opens : Attends start LettingIn (record { clients = start.clients; next = start.next; fed = []; gave = []; left = []; entries = []; faults = start.faults })
+  Opens : Attends start LettingIn (record {
+    clients = start.clients;
+    next = start.next;
+    fed = [];
+    gave =
+        [];
+    left = [];
+    entries = [];
+    faults = start.faults;
+  })
   -- while fewer than 64 are connected and one waits, it is let in; an accept that fails is left for the next round
   LetsIn : (number : ℕ) → (desk : Desk) → length desk.clients < most_clients → Attends start LettingIn desk
       → Attends start LettingIn (with_last (newcomer number) (with_entry (Accepted (Some number)) desk))
@@ -207,4 +216,13 @@ pub data Attends (start : Standing) : Part → Desk → Type 0 where
 abbrev pub AttendsWhole : Standing → List Input → List (List Output) → List Passed → Standing → Type 0
 AttendsWhole start fed gave entries end =
     Attends start (WritingTo [])
-    (record { clients = end.clients; next = end.next; fed = fed; gave = gave; left = []; entries = entries; faults = end.faults })
+    (record {
+      clients = end.clients;
+      next = end.next;
+      fed = fed;
+      gave = gave;
+      left = [];
+      entries =
+          entries;
+      faults = end.faults;
+    })

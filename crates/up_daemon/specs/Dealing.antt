@@ -1,6 +1,7 @@
 -- What a round does with its host, call by call: each input that it feeds is the answer of a call or a client's, each order is carried
 -- out at once and in order, and each call that succeeds is one entry of the record.
 use Rattle.std.specs.Prelude.{◌≡◌, ◌≤◌, ◌+◌, ◌⊎◌, ℕ, List, [], ◌∷◌, ◌++◌, None, Some}
+use Rattle.up_daemon.specs.declared.parts.TheConstants.{MOST_TURNS}
 use Rattle.up_stanza.specs.declared.process.Process.{Process}
 use Rattle.up_engine.specs.declared.engine.Engine.{Engine}
 use Rattle.up_engine.specs.Stands.{Stands}
@@ -31,7 +32,7 @@ pub data Phase : Type 0 where
 
 -- the most turns of a round
 abbrev pub most_turns : ℕ
-most_turns = 256
+most_turns = MOST_TURNS
 
 -- what a round did so far: the inputs that were fed and what was given for each, the host's record and its count of faults, and the
 -- orders that are left, the next one first
@@ -133,6 +134,13 @@ pub record DealsWhole (start : ℕ) (engine : Engine) (fed : List Input) (gave :
     (entries : List Happened)
     (faults : ℕ) : Type 0 where
   pub turns : ℕ
-  pub deals : Deals start (Turning turns) (record { fed = fed; gave = gave; entries = entries; faults = faults; left = [] })
+  pub deals : Deals start (Turning turns) (record {
+    fed = fed;
+    gave = gave;
+    entries = entries;
+    faults =
+        faults;
+    left = [];
+  })
   pub few : turns ≤ most_turns
   pub enough : (turns ≡ most_turns) ⊎ HasNoTurn engine

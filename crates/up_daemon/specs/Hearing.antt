@@ -1,5 +1,6 @@
 -- What is said and answered at one client.
 use Rattle.std.specs.Prelude.{◌≡◌, ◌≢◌, ◌++◌, ◌∷◌, ◌⊎◌, ◌≤◌, ℕ, Bool, true, false, List, [], length, take, drop, Option, None, Some, IfSome, MatchOption, ⊤}
+use Rattle.up_daemon.specs.declared.clients.client.TheConstants.{MOST_WAITING, MOST_READ}
 use Rattle.up_host.specs.Telling.{with_fault}
 use Rattle.up_model.specs.Requests.{RequestValue}
 use Rattle.up_model.specs.declared.request.Answer.{Answer}
@@ -37,11 +38,11 @@ Hears false piece old new = IsSame old new × IsBroken old.feed.fault (old.feed.
 
 -- a client with so many requests that haven't entered is not read
 abbrev pub most_waiting : ℕ
-most_waiting = 64
+most_waiting = MOST_WAITING
 
 -- the most bytes that one read takes
 abbrev pub most_read : ℕ
-most_read = 4096
+most_read = MOST_READ
 
 -- the oldest request enters under a number if none is unanswered
 abbrev pub Enters : ℕ → Option RequestValue → Client → Client → Type 0

@@ -32,3 +32,5 @@ pub mod Daemons
 pub mod Numbering
 -- Which clients a round reads on.
 pub mod Wholeness
+-- The numbers by which the loops of a round end.
+pub mod Ending

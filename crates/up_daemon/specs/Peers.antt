@@ -37,7 +37,15 @@ is_ready peer = is_none peer.unanswered && nat_lt 0 (length peer.waiting)
 
 -- a client that has just come
 abbrev pub newcomer : ℕ → Peer
-newcomer number = record { number = number; rest = []; fault = None; waiting = []; unanswered = None; answers = [] }
+newcomer number = record {
+  number = number;
+  rest = [];
+  fault = None;
+  waiting = [];
+  unanswered =
+      None;
+  answers = [];
+}
 
 -- more requests wait, and these bytes are not a whole frame yet
 abbrev pub heard : List RequestValue → Bytes → Peer → Peer

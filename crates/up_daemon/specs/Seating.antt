@@ -11,7 +11,12 @@ at_door entries faults desk = record desk { entries = entries; faults = faults }
 
 -- and these are the clients
 abbrev pub seen : List Client → List Passed → ℕ → Desk → Desk
-seen clients entries faults desk = record desk { clients = peers_of clients; entries = entries; faults = faults }
+seen clients entries faults desk = record desk {
+  clients = peers_of clients;
+  entries = entries;
+  faults =
+      faults;
+}
 
 -- this client is done with, if it stays
 abbrev pub with_stayer : Bool → Client → Desk → Desk

@@ -1,5 +1,6 @@
 -- Who is let in.
 use Rattle.std.specs.Prelude.{◌≡◌, ◌++◌, ◌∷◌, ◌⊎◌, ℕ, Bool, true, false, List, [], None, Some}
+use Rattle.up_daemon.specs.declared.clients.TheConstants.{MOST_CLIENTS}
 use Rattle.up_host.specs.Telling.{with_fault}
 use Rattle.up_daemon.specs.declared.clients.client.Client.{Client}
 use Rattle.up_daemon.specs.declared.passed.Passed.{Passed}
@@ -7,7 +8,7 @@ use Rattle.up_daemon.specs.declared.passed.Passed.TheVariants.{Accepted}
 
 -- the most clients that are connected
 abbrev pub most_clients : ℕ
-most_clients = 64
+most_clients = MOST_CLIENTS
 
 -- a client who has just come: nothing was said and nothing waits
 pub record IsNew (number : ℕ) (client : Client) : Type 0 where

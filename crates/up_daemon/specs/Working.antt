@@ -28,7 +28,14 @@ KeepsAnswers old new = (config : Configuration) (c : Chronicle) → Answers old 
 -- the round so far, with the host's record and count of faults, and the orders that are left
 abbrev pub tape_of : Work → List Happened → ℕ → List Output → Tape
 tape_of work entries faults left =
-    record { fed = work.log.fed.items; gave = work.log.gave.items; entries = entries; faults = faults; left = left }
+    record {
+      fed = work.log.fed.items;
+      gave = work.log.gave.items;
+      entries = entries;
+      faults = faults;
+      left =
+          left;
+    }
 
 -- an input was fed, and what was given for it was put on a stack of orders, whose last is the next
 pub record IsFed (given : Input) (old new : Work) (before after : List Output) : Type 0 where
@@ -94,4 +101,13 @@ NoneEnters work = AllByRecursion IsAtRest (peers_of work.clients.list.items) ⊎
 -- what a round did as it begins
 abbrev pub desk_at : Standing → Desk
 desk_at start =
-    record { clients = start.clients; next = start.next; fed = []; gave = []; left = []; entries = []; faults = start.faults }
+    record {
+      clients = start.clients;
+      next = start.next;
+      fed = [];
+      gave = [];
+      left = [];
+      entries =
+          [];
+      faults = start.faults;
+    }

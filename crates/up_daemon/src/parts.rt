@@ -1,5 +1,5 @@
 //! The parts of a round, in order.
-ghost use Rattle.std.specs.Prelude.{◌≡◌, ℕ, [], IfOk, OnOk, false};
+ghost use Rattle.std.specs.Prelude.{◌≡◌, ◌<◌, ℕ, [], IfOk, OnOk, true, false};
 ghost use Rattle.std.specs.Bool.{OnFalse};
 ghost use Rattle.up_daemon.specs.Attending.{Standing, Attends, LettingIn, TakingRequests, TakingTurns, WritingTo};
 ghost use Rattle.up_daemon.specs.Dealing.{Reading, Polling, Serving, Deals, DealsWhole};
@@ -15,6 +15,7 @@ use up_model::Input;
 const MOST_TURNS: u32 = 256;
 
 impl Work {
+    ghost use Rattle.up_daemon.specs.Ending.{ends_left, waiting_of};
     ghost use Rattle.up_daemon.specs.Working.{KeepsAnswers, IsUntouched, Leads, NoneEnters, desk_of, tape_of};
 
     /// Reads the clock once. A reading that fails is left for the next round.
@@ -42,6 +43,8 @@ impl Work {
             → Deals begun (phase_after found)
             (tape_of self.new (H.entries host.new) (H.faults host.new) [])) }
         ensures attends { OnOk result (Leads LettingIn LettingIn self.old self.new) }
+        ensures fewer { IfOk result (λ found. found ≡ true
+            → ends_left (H.living host.new) self.new [] < ends_left (H.living host.old) self.old []) }
     {
         match host.poll() {
             Ok(Some(end)) => {
@@ -54,7 +57,7 @@ impl Work {
         }
     }
 
-    /// Looks for ends until none is found. (Memory runs out long before the loop does.)
+    /// Looks for ends until none is found.
     pub(crate) fn find_ends<H: Host>(&mut self, host: &mut H) -> Result<(), AllocError>
         ensures answers { OnOk result (KeepsAnswers self.old self.new) }
         ensures deals { OnOk result ((begun : ℕ)
@@ -62,12 +65,8 @@ impl Work {
             → Deals begun Serving (tape_of self.new (H.entries host.new) (H.faults host.new) [])) }
         ensures attends { OnOk result (Leads LettingIn LettingIn self.old self.new) }
     {
-        for turn in 0..u64::MAX {
-            if !self.find_end(host)? {
-                return Ok(());
-            }
-        }
-        Err(AllocError)
+        while self.find_end(host)? {}
+        Ok(())
     }
 
     /// Lets clients in, and reads each once.
@@ -101,6 +100,7 @@ impl Work {
             → Deals begun Serving (tape_of self.new (H.entries host.new) (H.faults host.new) [])) }
         ensures attends { OnOk result (Leads TakingRequests TakingRequests self.old self.new) }
         ensures rest { IfOk result (λ served. served ≡ false → NoneEnters self.new) }
+        ensures fewer { IfOk result (λ served. served ≡ true → waiting_of self.new < waiting_of self.old) }
     {
         let id = self.next;
         let Some(following) = id.checked_add(1) else {
@@ -116,7 +116,7 @@ impl Work {
         }
     }
 
-    /// Lets requests enter until none may. (Memory runs out long before the loop does.)
+    /// Lets requests enter until none may.
     pub(crate) fn serve<H: Host>(&mut self, host: &mut H) -> Result<(), AllocError>
         ensures answers { OnOk result (KeepsAnswers self.old self.new) }
         ensures deals { OnOk result ((begun : ℕ)
@@ -124,12 +124,8 @@ impl Work {
             → Deals begun Serving (tape_of self.new (H.entries host.new) (H.faults host.new) [])) }
         ensures attends { OnOk result (Leads TakingRequests TakingTurns self.old self.new) }
     {
-        for turn in 0..u64::MAX {
-            if !self.serve_one(host)? {
-                return Ok(());
-            }
-        }
-        Err(AllocError)
+        while self.serve_one(host)? {}
+        Ok(())
     }
 
     /// Turns the queue of events until a turn would touch none, at most 256 times.

@@ -1,13 +1,15 @@
 //! The work of a daemon: an input is fed to the engine, and its orders are carried out.
-ghost use Rattle.std.specs.Prelude.{◌≡◌, ◌∷◌, ℕ, [], List, reverse, IfOk, OnOk, MatchOption};
+ghost use Rattle.std.specs.Prelude.{◌≡◌, ◌≤◌, ◌<◌, ◌+◌, ◌∷◌, ℕ, [], List, true, None, reverse, IfOk, OnOk, MatchOption};
 ghost use Rattle.up_daemon.specs.Answering.{IsAnswered};
 ghost use Rattle.up_daemon.specs.Attending as attending;
 ghost use Rattle.up_daemon.specs.Attending.{Standing, Part, Attends};
 ghost use Rattle.up_daemon.specs.declared.passed.Passed.{Passed};
 ghost use Rattle.up_daemon.specs.Dealing.{Phase, Deals, with_input, ran, ran_not};
 ghost use Rattle.up_daemon.specs.Working.{IsStarted, IsSent};
+ghost use Rattle.up_engine.specs.Stands.{left_of};
 ghost use Rattle.up_model.specs.Chronicle.{Chronicle};
 ghost use Rattle.up_model.specs.Configuration.{Configuration};
+ghost use Rattle.up_model.specs.Left.{is_calm, spawns};
 ghost use Rattle.up_model.specs.declared.output.Output.{Output};
 
 use crate::clients::Clients;
@@ -31,8 +33,10 @@ pub(crate) struct Work {
 
 // What the engine gives for an input: nothing if the input isn't expected. An engine that is down is refused as one without memory.
 fn outputs_of(alloc: Global, engine: &mut Engine, given: Input) -> Result<Vec<Output>, AllocError>
-    ensures { IfOk result (λ outputs. (config : Configuration) (c : Chronicle)
+    ensures answers { IfOk result (λ outputs. (config : Configuration) (c : Chronicle)
         → IsAnswered engine.old engine.new config c given outputs.items) }
+    ensures left { IfOk result (λ outputs. is_calm given ≡ true
+        → left_of engine.new + spawns outputs.items ≤ left_of engine.old) }
 {
     match engine.step(given) {
         Ok(outputs) => Ok(outputs),
@@ -64,8 +68,10 @@ fn answer_of(order: Order, pid: Option<u32>) -> Input
 
 // The host starts the process once, and the input is its answer.
 fn start<H: Host>(host: &mut H, order: Order) -> Input
-    ensures { IsStarted order result (H.entries host.old) (H.entries host.new) (H.faults host.old)
+    ensures started { IsStarted order result (H.entries host.old) (H.entries host.new) (H.faults host.old)
         (H.faults host.new) }
+    ensures calm { is_calm result ≡ true }
+    ensures lives { H.living host.new ≤ H.living host.old + 1 }
 {
     match host.spawn(&order) {
         Ok(pid) => answer_of(order, Some(pid)),
@@ -75,8 +81,9 @@ fn start<H: Host>(host: &mut H, order: Order) -> Input
 
 // The host sends the signal once.
 fn send<H: Host>(host: &mut H, who: &Who, pid: u32, signal: u8)
-    ensures { IsSent who.now pid signal (H.entries host.old) (H.entries host.new) (H.faults host.old)
+    ensures sent { IsSent who.now pid signal (H.entries host.old) (H.entries host.new) (H.faults host.old)
         (H.faults host.new) }
+    ensures lives { H.living host.new ≡ H.living host.old }
 {
     match host.signal(who, pid, signal) {
         Ok(()) => {}
@@ -85,12 +92,16 @@ fn send<H: Host>(host: &mut H, who: &Who, pid: u32, signal: u8)
 }
 
 impl Work {
+    ghost use Rattle.up_daemon.specs.Ending.{starts_left, ends_left, waiting_of, with_start};
     ghost use Rattle.up_daemon.specs.Working.{KeepsAnswers, IsFed, Attended, desk_of, tape_of};
 
     // Feeds one input, and puts what it gives on the stack of orders.
     fn feed(&mut self, given: Input, stack: &mut Vec<Output>) -> Result<(), AllocError>
         ensures answers { OnOk result (KeepsAnswers self.old self.new) }
         ensures fed { OnOk result (IsFed given self.old self.new stack.old.items stack.new.items) }
+        ensures left { OnOk result (is_calm given ≡ true
+            → starts_left self.new (reverse stack.new.items) ≤ starts_left self.old
+            (reverse stack.old.items)) }
     {
         let told = given.copy()?;
         let outputs = outputs_of(self.alloc, &mut self.engine, given)?;
@@ -114,49 +125,82 @@ impl Work {
             (reverse stack.new.items))) }
         ensures attends { OnOk result (Attended self.old self.new
             (Output.Spawn order ∷ reverse stack.old.items) (reverse stack.new.items)) }
+        ensures starts { OnOk result (starts_left self.new (reverse stack.new.items)
+            < starts_left self.old (Output.Spawn order ∷ reverse stack.old.items)) }
+        ensures ends { OnOk result (ends_left (H.living host.new) self.new (reverse stack.new.items)
+            ≤ ends_left (H.living host.old) self.old (Output.Spawn order ∷ reverse stack.old.items)) }
+        ensures waits { OnOk result (waiting_of self.new ≡ waiting_of self.old) }
     {
         let given = start(host, order);
         self.feed(given, stack)?;
         Ok(())
     }
 
-    // Carries one order out. A start is answered at once: its answer is the next input.
+    // Carries one order out, unless it is a start, which is handed back.
     fn carry_one<H: Host>(
         &mut self,
         host: &mut H,
         order: Output,
-        stack: &mut Vec<Output>,
-    ) -> Result<(), AllocError>
+    ) -> Result<Option<Order>, AllocError>
         ensures answers { OnOk result (KeepsAnswers self.old self.new) }
-        ensures deals { OnOk result ((begun : ℕ) (phase : Phase)
-            → Deals begun phase (tape_of self.old (H.entries host.old) (H.faults host.old)
-            (order ∷ reverse stack.old.items))
+        ensures deals { IfOk result (λ start. (begun : ℕ) (phase : Phase) (orders : List Output)
+            → Deals begun phase (tape_of self.old (H.entries host.old) (H.faults host.old) (order ∷ orders))
             → Deals begun phase (tape_of self.new (H.entries host.new) (H.faults host.new)
-            (reverse stack.new.items))) }
-        ensures attends { OnOk result (Attended self.old self.new (order ∷ reverse stack.old.items)
-            (reverse stack.new.items)) }
+            (with_start start orders))) }
+        ensures attends { IfOk result (λ start. (orders : List Output)
+            → Attended self.old self.new (order ∷ orders) (with_start start orders)) }
+        ensures starts { IfOk result (λ start. (orders : List Output)
+            → starts_left self.new (with_start start orders) ≡ starts_left self.old (order ∷ orders)) }
+        ensures lives { OnOk result (H.living host.new ≡ H.living host.old) }
+        ensures waits { OnOk result (waiting_of self.new ≡ waiting_of self.old) }
     {
         match order {
-            Output::Spawn(order) => {
-                self.carry_start(host, order, stack)?;
-                Ok(())
-            }
+            Output::Spawn(order) => Ok(Some(order)),
             Output::Signal { who, pid, signal } => {
                 send(host, &who, pid, signal);
-                Ok(())
+                Ok(None)
             }
             Output::Emitted(event) => {
                 drop(event);
-                Ok(())
+                Ok(None)
             }
             Output::Reply { id, answer } => {
                 self.clients.answer(id, &answer)?;
-                Ok(())
+                Ok(None)
             }
         }
     }
 
-    // Carries orders out until none is left, the last first. (Memory runs out long before the loop does.)
+    // Carries orders out, the last of the stack first, up to a start, which is handed back, or until none is left.
+    fn carry_to_start<H: Host>(
+        &mut self,
+        host: &mut H,
+        stack: &mut Vec<Output>,
+    ) -> Result<Option<Order>, AllocError>
+        ensures answers { OnOk result (KeepsAnswers self.old self.new) }
+        ensures deals { IfOk result (λ start. (begun : ℕ) (phase : Phase)
+            → Deals begun phase (tape_of self.old (H.entries host.old) (H.faults host.old)
+            (reverse stack.old.items))
+            → Deals begun phase (tape_of self.new (H.entries host.new) (H.faults host.new)
+            (with_start start (reverse stack.new.items)))) }
+        ensures attends { IfOk result (λ start. Attended self.old self.new (reverse stack.old.items)
+            (with_start start (reverse stack.new.items))) }
+        ensures starts { IfOk result (λ start. starts_left self.new
+            (with_start start (reverse stack.new.items))
+            ≡ starts_left self.old (reverse stack.old.items)) }
+        ensures lives { OnOk result (H.living host.new ≡ H.living host.old) }
+        ensures waits { OnOk result (waiting_of self.new ≡ waiting_of self.old) }
+        ensures whole { IfOk result (λ start. start ≡ None → stack.new.items ≡ []) }
+    {
+        while let Some(order) = stack.pop() {
+            if let Some(start) = self.carry_one(host, order)? {
+                return Ok(Some(start));
+            }
+        }
+        Ok(None)
+    }
+
+    // Carries orders out until none is left, the last first.
     fn carry<H: Host>(&mut self, host: &mut H, mut stack: Vec<Output>) -> Result<(), AllocError>
         ensures answers { OnOk result (KeepsAnswers self.old self.new) }
         ensures deals { OnOk result ((begun : ℕ) (phase : Phase)
@@ -164,14 +208,14 @@ impl Work {
             (reverse stack.items))
             → Deals begun phase (tape_of self.new (H.entries host.new) (H.faults host.new) [])) }
         ensures attends { OnOk result (Attended self.old self.new (reverse stack.items) []) }
+        ensures ends { OnOk result (ends_left (H.living host.new) self.new []
+            ≤ ends_left (H.living host.old) self.old (reverse stack.items)) }
+        ensures waits { OnOk result (waiting_of self.new ≡ waiting_of self.old) }
     {
-        for turn in 0..u64::MAX {
-            let Some(order) = stack.pop() else {
-                return Ok(());
-            };
-            self.carry_one(host, order, &mut stack)?;
+        while let Some(order) = self.carry_to_start(host, &mut stack)? {
+            self.carry_start(host, order, &mut stack)?;
         }
-        Err(AllocError)
+        Ok(())
     }
 
     /// Feeds one input, and carries out what comes of it.
@@ -185,6 +229,9 @@ impl Work {
             → ((outputs : List Output) → Attends begun part
             (attending.with_input given outputs (desk_of self.old entries faults [])))
             → Attends begun part (desk_of self.new entries faults [])) }
+        ensures ends { OnOk result (is_calm given ≡ true
+            → ends_left (H.living host.new) self.new [] ≤ ends_left (H.living host.old) self.old []) }
+        ensures waits { OnOk result (waiting_of self.new ≡ waiting_of self.old) }
     {
         let mut stack: Vec<Output> = Vec::new(self.alloc);
         self.feed(given, &mut stack)?;

@@ -5,7 +5,7 @@ use Rattle.up_engine.specs.declared.keys.InstanceKey.{InstanceKey}
 use Rattle.up_model.specs.Chronicle.{Chronicle, Entry, Signalled}
 use Rattle.up_model.specs.Clock.{kill, kill_due, overdue, all_overdue, killing}
 use Rattle.up_model.specs.Instances.{Instance, instances_of}
-use Rattle.up_model.specs.Tests.{entries_if}
+use Rattle.up_model.specs.Predicates.{entries_if}
 
 -- one more is sent KILL after the others
 pub killing_push : (places : List ℕ) (place : ℕ) → killing (places ++ place ∷ []) ≡ Signalled place kill true ∷ killing places

@@ -2,7 +2,7 @@
 use Rattle.std.proofs.Common.{◌≡◌, ℕ, false, true, Bool, List, [], ◌∷◌, ◌++◌, Option, None, Some, is_some, option_map, map, refl, sym, ◌∙◌, ap, append_assoc}
 use Rattle.up_engine.specs.Keys.{instance_at}
 use Rattle.up_model.specs.Chronicle.{Chronicle, Entry, Offered, Fired, StartOn, StopOn}
-use Rattle.up_model.specs.Tests.{or_else}
+use Rattle.up_model.specs.Predicates.{or_else}
 use Rattle.up_model.specs.Values.{Bytes}
 use Rattle.up_text.specs.Scripts.{is_filled}
 

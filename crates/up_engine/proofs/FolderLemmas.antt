@@ -14,7 +14,7 @@ use Rattle.up_stanza.specs.Confs.{conf_of}
 use Rattle.up_text.specs.Names.{is_name}
 use Rattle.up_conf.specs.Folders.{is_read, job_in, job_name, job_of_file, jobs_of, override_of, without_ending}
 use Rattle.up_conf.specs.Jobs.{job_of}
-use Rattle.up_conf.specs.Order.{in_order, is_below, put_by, sorted_by}
+use Rattle.up_conf.specs.Order.{in_order, is_below, put_by, sort_by_order}
 use Rattle.up_image.specs.Compiling.{has_twice, read_paths}
 use Rattle.up_image.proofs.Repeats.{bytes_eq-flip, or-false, or_parts}
 use Rattle.up_model.specs.Blocks.{AreFound}
@@ -141,9 +141,9 @@ none-put less name x (y ∷ ys) other none = let parts = or_parts _ _ none in by
     by_case false parts rest = or-false _ _ other (or-false _ _ parts.0 parts.1)
 
 none-sorted : (less : JobDef → JobDef → Bool) (name : List ℕ) (xs : List JobDef) → list_any (bytes_eq name) (map (λ (job : JobDef). job.name) xs) ≡ false
-    → list_any (bytes_eq name) (map (λ (job : JobDef). job.name) (sorted_by less xs)) ≡ false
+    → list_any (bytes_eq name) (map (λ (job : JobDef). job.name) (sort_by_order less xs)) ≡ false
 none-sorted less name [] none = refl
-none-sorted less name (x ∷ xs) none = let parts = or_parts _ _ none in none-put less name x (sorted_by less xs) parts.0 (none-sorted less name xs parts.1)
+none-sorted less name (x ∷ xs) none = let parts = or_parts _ _ none in none-put less name x (sort_by_order less xs) parts.0 (none-sorted less name xs parts.1)
 
 apart-put : (less : JobDef → JobDef → Bool) (x : JobDef) (xs : List JobDef) → list_any (bytes_eq x.name) (map (λ (job : JobDef). job.name) xs) ≡ false → has_twice (map (λ (job : JobDef). job.name) xs) ≡ false
     → has_twice (map (λ (job : JobDef). job.name) (put_by less x xs)) ≡ false
@@ -160,11 +160,11 @@ apart-put less x (y ∷ ys) none apart =
     by_case true parts others rest = or-false _ _ (none-put less y.name x ys (bytes_eq-flip y.name x.name ∙ parts.0) others.0) rest
     by_case false parts others rest = or-false _ _ (or-false _ _ parts.0 parts.1) (or-false _ _ others.0 others.1)
 
-apart-sorted : (less : JobDef → JobDef → Bool) (xs : List JobDef) → has_twice (map (λ (job : JobDef). job.name) xs) ≡ false → has_twice (map (λ (job : JobDef). job.name) (sorted_by less xs)) ≡ false
+apart-sorted : (less : JobDef → JobDef → Bool) (xs : List JobDef) → has_twice (map (λ (job : JobDef). job.name) xs) ≡ false → has_twice (map (λ (job : JobDef). job.name) (sort_by_order less xs)) ≡ false
 apart-sorted less [] apart = refl
 apart-sorted less (x ∷ xs) apart =
     let parts = or_parts _ _ apart in
-    apart-put less x (sorted_by less xs) (none-sorted less x.name xs parts.0) (apart-sorted less xs parts.1)
+    apart-put less x (sort_by_order less xs) (none-sorted less x.name xs parts.0) (apart-sorted less xs parts.1)
 
 -- jobs whose names are apart are found by their names
 found-more : (x : JobDef) (xs ys : List JobDef) → list_any (bytes_eq x.name) (map (λ (job : JobDef). job.name) ys) ≡ false → AllByRecursion (λ job. job_named job.name xs ≡ Some job) ys

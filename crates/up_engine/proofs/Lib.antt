@@ -7,11 +7,15 @@ pub mod EventLemmas
 pub mod ClockLemmas
 pub mod GroupLemmas
 pub mod HeldLemmas
+pub mod StandingLemmas
+pub mod CountLemmas
 pub mod MoveLemmas
 pub mod OfferLemmas
 pub mod OutputLemmas
 pub mod SetupLemmas
 pub mod QueueLemmas
+pub mod QueueSteps
 pub mod RunLemmas
 pub mod SeenLemmas
 pub mod SettleLemmas
+pub mod LeftLemmas

@@ -16,7 +16,7 @@ use Rattle.up_model.specs.Moves.{may_leave, move, move_of, move_in, move_first, 
 use Rattle.up_model.specs.Life.{entering}
 use Rattle.up_model.specs.Readings.{state_of, lives}
 use Rattle.up_model.specs.Replies.{releasing}
-use Rattle.up_model.specs.Tests.{entries_if, or_else}
+use Rattle.up_model.specs.Predicates.{entries_if, or_else}
 use Rattle.up_text.specs.Scripts.{is_filled}
 
 -- the jobs from one on

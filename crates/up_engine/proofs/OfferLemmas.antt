@@ -10,7 +10,7 @@ use Rattle.up_model.specs.Chronicle.{Chronicle, Entry, Offered, StartOn}
 use Rattle.up_model.specs.Configuration.{Configuration}
 use Rattle.up_model.specs.Instances.{Instance, instances_of, place_named}
 use Rattle.up_model.specs.Offers.{is_open, stop_offer, stop_offer_in, start_offer, offer_in, offer_first}
-use Rattle.up_model.specs.Tests.{entries_if, or_else}
+use Rattle.up_model.specs.Predicates.{entries_if, or_else}
 use Rattle.up_model.specs.Values.{Bytes}
 use Rattle.up_text.specs.Scripts.{is_filled}
 

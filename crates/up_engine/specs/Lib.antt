@@ -8,8 +8,10 @@ pub mod Records
 pub mod Requests
 -- The instances that the storing book keeps by their jobs.
 pub mod Groups
--- The queue of the storing book, as the model has it.
+-- The queue of the storing book: the live events by age, and what is held.
 pub mod Queues
+-- What is to be known of the events of the queue.
+pub mod Standings
 -- What an expression says of what it has seen, and what its sides say together.
 pub mod Verdicts
 -- What the storing book stands for.

@@ -10,6 +10,7 @@ use Rattle.up_engine.specs.declared.record.Record.TheVariants as record_of
 use Rattle.up_engine.specs.declared.record.Wanted.{Wanted}
 use Rattle.up_engine.specs.declared.record.Wanted.TheVariants as wanted
 use Rattle.up_model.specs.declared.output.Output.{Output}
+use Rattle.up_model.specs.declared.state.State.TheVariants as state
 use Rattle.up_model.specs.Chronicle as model
 
 abbrev pub expression_of : Expression → model.Expression
@@ -75,3 +76,14 @@ after_given (entry ∷ c) = after_given c
 abbrev pub is_given : Record → Bool
 is_given (record_of.Given given) = true
 is_given other = false
+
+-- whether an entry may change what expressions keep, what instances hold, or which instances there are
+abbrev pub changes_held : model.Entry → Bool
+changes_held (model.Offered its event) = true
+changes_held (model.Fired its taken) = true
+changes_held (model.Made job name) = true
+changes_held (model.Aimed instance goal environment holders) = true
+changes_held (model.Restarted instance holders) = true
+changes_held (model.Released instance failed) = true
+changes_held (model.Entered instance state.Waiting) = true
+changes_held entry = false

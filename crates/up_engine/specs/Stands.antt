@@ -1,5 +1,5 @@
 -- What an engine stands for: a chronicle of its jobs and its base environment. These are the only definitions that read its fields.
-use Rattle.std.specs.Prelude.{◌≡◌, ◌<◌, ℕ, Bool, true, false, List, length, take, is_some, Option, None, Some, Result, Ok, Err}
+use Rattle.std.specs.Prelude.{◌≡◌, ◌<◌, ◌≤◌, ◌+◌, ℕ, Bool, true, false, List, length, take, is_some, Option, None, Some, Result, Ok, Err}
 use Rattle.up_engine.specs.declared.engine.Engine.{Engine}
 use Rattle.up_engine.specs.declared.fault.StepError.{StepError}
 use Rattle.up_engine.specs.declared.fault.StepError.TheVariants.{NotExpected, Down, Memory}
@@ -12,10 +12,11 @@ use Rattle.up_model.specs.Answers.{after, is_expected, answer, next, answers, af
 use Rattle.up_model.specs.Chronicle.{Chronicle}
 use Rattle.up_model.specs.Configuration.{Configuration}
 use Rattle.up_model.specs.Due.{turn_event}
+use Rattle.up_model.specs.Left.{left, spawns}
 use Rattle.up_model.specs.Outputs.{outputs_of}
 use Rattle.up_model.specs.Queue.{queue}
 -- the one line that names the book in use
-use Rattle.up_engine.specs.Stored.{Stored as BookStands}
+use Rattle.up_engine.specs.Stored.{Stored as BookStands, past_of}
 
 -- the engine isn't down, and its book stands for this chronicle of this configuration
 pub record Stands (engine : Engine) (config : Configuration) (c : Chronicle) : Type 0 where
@@ -69,6 +70,18 @@ RunMeans (Ok run) engine config c inputs = StepsMean run.down run.steps engine c
 RunMeans (Err Memory) engine config c inputs = Stands engine config c
 RunMeans (Err Down) engine config c inputs = ⊥
 RunMeans (Err NotExpected) engine config c inputs = ⊥
+
+-- how many processes its instances may still order before they wait for an event
+abbrev pub left_of : Engine → ℕ
+left_of engine = left (past_of engine.book)
+
+-- What a step of an input that is no turn and no request leaves to be ordered: fewer, by at least the processes that it orders, and as
+-- many as before if the input wasn't expected.
+abbrev pub Spends : Result (List Output) StepError → (before after : ℕ) → Type 0
+Spends (Ok outputs) before after = after + spawns outputs ≤ before
+Spends (Err NotExpected) before after = after ≡ before
+Spends (Err Memory) before after = Unit {0}
+Spends (Err Down) before after = after ≡ before
 
 -- What is told of an engine that isn't down: this, or that memory ran out.
 abbrev pub TellsOf : {A : Type 0} → Result A StepError → A → Type 0

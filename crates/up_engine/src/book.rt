@@ -14,7 +14,7 @@ ghost use Rattle.up_model.specs.Clock as clock;
 ghost use Rattle.up_model.specs.Configuration.{Configuration};
 ghost use Rattle.up_model.specs.Due.{turn_event, telling};
 ghost use Rattle.up_model.specs.Held as held;
-ghost use Rattle.up_model.specs.Instances.{existing, instances_of};
+ghost use Rattle.up_model.specs.Instances.{all_instances, instances_of};
 ghost use Rattle.up_model.specs.Offers as offer;
 ghost use Rattle.up_model.specs.Outputs.{outputs_of};
 ghost use Rattle.up_model.specs.Queue as queue;
@@ -107,7 +107,7 @@ pub trait Book: Drop {
     fn awaits(&self, key: InstanceKey, process: Process) -> bool
         ensures { (mode : Mode) (config : Configuration) (c : Chronicle) (i : ℕ)
             → stands self.now mode config c
-            → instance_place self.now c key ≡ Some i → result ≡ read.awaited i process c };
+            → instance_place self.now c key ≡ Some i → result ≡ read.is_awaited i process c };
 
     /// Whether a process lives.
     fn lives(&self, key: InstanceKey, process: Process) -> bool
@@ -156,7 +156,7 @@ pub trait Book: Drop {
     /// No fewer than the instances that exist.
     fn most_instances(&self) -> usize
         ensures { (mode : Mode) (config : Configuration) (c : Chronicle) → stands self.now mode config c
-            → length (existing c) ≤ result };
+            → length (all_instances c) ≤ result };
 
     /// How many events haven't finished.
     fn live_events(&self) -> usize

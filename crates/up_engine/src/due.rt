@@ -103,8 +103,8 @@ fn take_refusal<B: Book>(
 {
     let its = who.copy()?;
     book.given(Input::Refused { who, process })?;
-    let judged = verdict_on(setup, book, &its, process, End::Refused);
-    conclude(book, judged)?;
+    let verdict_on_end = verdict_on(setup, book, &its, process, End::Refused);
+    conclude(book, verdict_on_end)?;
     Ok(())
 }
 
@@ -122,16 +122,20 @@ fn take_end<B: Book>(
 {
     let its = who.copy()?;
     book.given(Input::Ended { who, process, how })?;
-    let judged = verdict_on(setup, book, &its, process, End::Ended(how));
-    conclude(book, judged)?;
+    let verdict_on_end = verdict_on(setup, book, &its, process, End::Ended(how));
+    conclude(book, verdict_on_end)?;
     Ok(())
 }
 
 // The event that tells that another was spoilt, if it was.
-fn told_of<B: Book>(alloc: Global, book: &B, key: EventKey) -> Result<Option<Event>, AllocError>
+fn failed_event_of<B: Book>(
+    alloc: Global,
+    book: &B,
+    key: EventKey,
+) -> Result<Option<Event>, AllocError>
     ensures { IfOk result (λ told. (mode : Mode) (config : Configuration) (c : Chronicle) (e : ℕ)
         → B.stands book.now mode config c
-        → B.event_place book.now c key ≡ Some e → told ≡ model.told_of e c) }
+        → B.event_place book.now c key ≡ Some e → told ≡ model.failed_event_of e c) }
 {
     if !book.is_spoilt(key) {
         return Ok(None);
@@ -149,7 +153,7 @@ fn finish<B: Book>(alloc: Global, book: &mut B, key: EventKey) -> Result<(), All
         ++ entry.Given given_as.Turn ∷ c)) }
 {
     book.given(Input::Turn)?;
-    let told = told_of(alloc, book, key)?;
+    let told = failed_event_of(alloc, book, key)?;
     book.finish(key, told)?;
     Ok(())
 }

@@ -1,12 +1,14 @@
 //! The engine: one step for one input, and a run over a list of them.
-ghost use Rattle.std.specs.Prelude.{◌≡◌, List, ℕ, Ok, Err, [], length, is_some, IfOk, OnOk};
+ghost use Rattle.std.specs.Prelude.{◌≡◌, List, ℕ, true, Ok, Err, [], length, is_some, IfOk, OnOk};
 ghost use Rattle.up_engine.specs.Keys.{Resting};
 ghost use Rattle.up_engine.specs.Requests.{answer_of};
+ghost use Rattle.up_engine.specs.Stored.{IsSound};
 ghost use Rattle.up_model.specs.Answers as answer;
 ghost use Rattle.up_model.specs.Chronicle.{Chronicle};
 ghost use Rattle.up_model.specs.Commands as commands;
 ghost use Rattle.up_model.specs.Configuration.{Configuration};
 ghost use Rattle.up_model.specs.Due as due;
+ghost use Rattle.up_model.specs.Left.{is_calm};
 ghost use Rattle.up_model.specs.Outputs.{outputs_of};
 ghost use Rattle.up_model.specs.Queue as queue;
 
@@ -36,6 +38,7 @@ pub struct Engine {
     down: bool,
     live: usize,
     turns: bool,
+    ghost sound: { IsSound down setup book },
 }
 
 // One whole step.
@@ -72,7 +75,7 @@ fn status_of<B: Book>(
 }
 
 impl Engine {
-    ghost use Rattle.up_engine.specs.Stands.{result_map, Stands, DownAt, IsDown, StepMeans, AnswerMeans, RunMeans, TellsOf};
+    ghost use Rattle.up_engine.specs.Stands.{result_map, Stands, DownAt, IsDown, StepMeans, AnswerMeans, RunMeans, TellsOf, left_of, Spends};
 
     /// An engine to which nothing has happened. Each process gets its environment on top of `base`, of which each job gets a copy.
     pub fn new(alloc: Global, table: Table, base: Env) -> Result<Self, AllocError>
@@ -152,6 +155,8 @@ impl Engine {
     pub fn step(&mut self, given: Input) -> Result<Vec<Output>, StepError>
         ensures meaning { (config : Configuration) (c : Chronicle) → Stands self.old config c
             → StepMeans (result_map (λ outputs. outputs.items) result) self.new config c given }
+        ensures left { is_calm given ≡ true
+            → Spends (result_map (λ outputs. outputs.items) result) (left_of self.old) (left_of self.new) }
         ensures down { IsDown self.old → (result ≡ Err StepError.Down) × (self.new ≡ self.old) }
     {
         if self.down {

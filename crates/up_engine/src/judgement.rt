@@ -95,9 +95,15 @@ fn is_normal(exits: &[Exit], end: End) -> bool
 }
 
 // What an end does to an instance.
-fn judged<B: Book>(book: &B, job: &JobDef, key: InstanceKey, process: Process, end: End) -> Verdict
+fn verdict_on_end<B: Book>(
+    book: &B,
+    job: &JobDef,
+    key: InstanceKey,
+    process: Process,
+    end: End,
+) -> Verdict
     ensures { (mode : Mode) (config : Configuration) (c : Chronicle) (i : ℕ) → B.stands book.now mode config c
-        → B.instance_place book.now c key ≡ Some i → result ≡ model.judged job.now i process end c }
+        → B.instance_place book.now c key ≡ Some i → result ≡ model.verdict_on_end job.now i process end c }
 {
     let goal = book.goal(key);
     let state = book.state_of(key);
@@ -128,7 +134,7 @@ fn verdict_in<B: Book>(
         (end_of (Some job.now) (instance_named who.now c) process end c) c }
 {
     match instance_named(book, &who.job, who.instance.as_str()) {
-        Some(key) => Some((key, judged(book, job, key, process, end))),
+        Some(key) => Some((key, verdict_on_end(book, job, key, process, end))),
         None => None,
     }
 }
@@ -154,14 +160,14 @@ pub(crate) fn verdict_on<B: Book>(
 /// Carries out what was judged of the end of a process.
 pub(crate) fn conclude<B: Book>(
     book: &mut B,
-    judged: Option<(InstanceKey, Verdict)>,
+    verdict_on_end: Option<(InstanceKey, Verdict)>,
 ) -> Result<(), AllocError>
     ensures { OnOk result ((config : Configuration) (c : Chronicle) (entries : List EntryValue)
         → B.stands book.old Stepping config c
-        → Judges (B.instance_place book.old c) judged entries c
+        → Judges (B.instance_place book.old c) verdict_on_end entries c
         → B.stands book.new Stepping config (entries ++ c)) }
 {
-    match judged {
+    match verdict_on_end {
         Some((key, verdict)) => carry_out(book, key, verdict)?,
         None => {}
     }

@@ -2,6 +2,8 @@
 #![tactic(auto)]
 
 mod book;
+mod change;
+mod changes;
 mod due;
 mod engine;
 mod events;
@@ -15,6 +17,7 @@ mod life;
 mod moves;
 mod offers;
 mod outputs;
+mod placed;
 mod queue;
 mod reading;
 mod record;
@@ -31,5 +34,5 @@ mod truth;
 
 pub use engine::Engine;
 pub use fault::StepError;
-pub use laws::one_main;
+pub use laws::{left_as_told, one_main};
 pub use run::Run;

@@ -4,7 +4,7 @@ ghost use Rattle.std.specs.Option.{option_copied};
 ghost use Rattle.up_engine.specs.Keys.{is_waiting};
 ghost use Rattle.up_model.specs.Commands as commands;
 ghost use Rattle.up_model.specs.Moves as model;
-ghost use Rattle.up_model.specs.Tests as test;
+ghost use Rattle.up_model.specs.Predicates as test;
 
 use up_conf::Action;
 use up_model::{Goal, JobDef, Process, State};

@@ -12,7 +12,7 @@ ghost use Rattle.up_model.specs.Life as life;
 ghost use Rattle.up_model.specs.Moves as model;
 ghost use Rattle.up_model.specs.Readings as read;
 ghost use Rattle.up_model.specs.Replies as replies;
-ghost use Rattle.up_model.specs.Tests.{entries_if};
+ghost use Rattle.up_model.specs.Predicates.{entries_if};
 ghost use Rattle.up_stanza.specs.declared.process.Process.TheVariants as process;
 ghost use Rattle.up_text.specs.Scripts.{is_filled};
 
@@ -37,7 +37,7 @@ fn is_answered<B: Book>(book: &B, job: &JobDef, key: InstanceKey, process: Proce
 fn is_at_work<B: Book>(book: &B, key: InstanceKey, process: Process) -> bool
     ensures { (mode : Mode) (config : Configuration) (c : Chronicle) (i : ℕ) → B.stands book.now mode config c
         → B.instance_place book.now c key ≡ Some i
-        → result ≡ (read.awaited i process c || read.lives i process c) }
+        → result ≡ (read.is_awaited i process c || read.lives i process c) }
 {
     book.awaits(key, process) || book.lives(key, process)
 }
@@ -214,12 +214,14 @@ fn enter_with<B: Book>(
     ensures after { OnOk result ((c : Chronicle) (i : ℕ) → B.stands book.old Stepping setup.now c
         → B.instance_place book.old c slot.now.key ≡ Some i → is_waiting to ≡ false
         → B.stands book.new Stepping setup.now
-        (model.emitting job.now (model.who_of job.now (instance_at i slot.now.name)) i to table.emits (model.ordering job.now i table.orders ++ entry.Entered i to ∷ c)
+        (model.emitting job.now (model.who_of job.now (instance_at i slot.now.name)) i to table.emits
+        (model.ordering job.now i table.orders ++ entry.Entered i to ∷ c)
         ++ (model.ordering job.now i table.orders ++ entry.Entered i to ∷ c))) }
     ensures instances { OnOk result ((c : Chronicle) (i : ℕ) → B.stands book.old Stepping setup.now c
         → B.instance_place book.old c slot.now.key ≡ Some i → is_waiting to ≡ false
         → B.instance_place book.new
-        (model.emitting job.now (model.who_of job.now (instance_at i slot.now.name)) i to table.emits (model.ordering job.now i table.orders ++ entry.Entered i to ∷ c)
+        (model.emitting job.now (model.who_of job.now (instance_at i slot.now.name)) i to table.emits
+        (model.ordering job.now i table.orders ++ entry.Entered i to ∷ c)
         ++ (model.ordering job.now i table.orders ++ entry.Entered i to ∷ c)) slot.now.key ≡ Some i) }
 {
     book.enter(slot.key, to)?;
@@ -267,7 +269,8 @@ fn enter_waiting<B: Book>(
         → B.stands book.old Stepping config c
         → B.instance_place book.old c slot.now.key ≡ Some i
         → B.stands book.new Stepping config
-        (model.enter_whole job.now (model.who_of job.now (instance_at i slot.now.name)) i entered.Waiting (life.entering entered.Waiting from job.now.task) c ++ c)) }
+        (model.enter_whole job.now (model.who_of job.now (instance_at i slot.now.name)) i entered.Waiting
+        (life.entering entered.Waiting from job.now.task) c ++ c)) }
 {
     let event = job_event(alloc, book, job, slot, JobEvent::Stopped)?;
     book.leave(slot.key, event)?;

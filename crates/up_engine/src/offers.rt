@@ -19,11 +19,8 @@ use crate::keys::{EventKey, InstanceKey, Slot};
 use crate::life::is_start;
 use crate::setup::Setup;
 use std::alloc::{AllocError, Global};
-use up_model::{Goal, JobDef};
+use up_model::{Goal, JobDef, MAX_INSTANCES};
 use up_text::{Env, Expanded, Items, Name, Text, TextFault, expand};
-
-/// The most instances of one job.
-const MAX_INSTANCES: usize = 1_024;
 
 /// The goal becomes stop, with this environment and these holders.
 pub(crate) fn stop_of<B: Book>(
@@ -216,7 +213,12 @@ fn start_of<B: Book>(
         → B.stands book.old Stepping config c
         → map (B.event_place book.old c) holders ≡ map Some events
         → B.stands book.new Stepping config
-        (model.start_of (record { job = job.now; instance = name.now }) environment events (model_instances.instance_named (record { job = job.now; instance = name.now }) c) c ++ c)) }
+        (model.start_of (record {
+          job = job.now;
+          instance =
+              name.now;
+        }) environment events
+        (model_instances.instance_named (record { job = job.now; instance = name.now }) c) c ++ c)) }
 {
     match instance_named(book, job, name) {
         Some(key) => start_old(book, key, environment, holders)?,
@@ -287,8 +289,10 @@ fn start_fires<B: Book>(
 ) -> Result<(), AllocError>
     ensures { OnOk result ((c : Chronicle) → B.stands book.old Stepping setup.now c
         → B.stands book.new Stepping setup.now
-        (model.start_by setup.now job.now (taken job.now.start_on (seen setup.now (entry.StartOn job.now.name) c))
-        (entry.Fired (entry.StartOn job.now.name) (taken job.now.start_on (seen setup.now (entry.StartOn job.now.name) c)) ∷ c)
+        (model.start_by setup.now job.now
+        (taken job.now.start_on (seen setup.now (entry.StartOn job.now.name) c))
+        (entry.Fired (entry.StartOn job.now.name)
+        (taken job.now.start_on (seen setup.now (entry.StartOn job.now.name) c)) ∷ c)
         ++ entry.Fired (entry.StartOn job.now.name)
         (taken job.now.start_on (seen setup.now (entry.StartOn job.now.name) c)) ∷ c)) }
 {

@@ -29,11 +29,8 @@ use crate::texts::{
     too_many_instances, unknown_instance, version,
 };
 use std::alloc::{AllocError, Global};
-use up_model::{Answer, Command, Input, Request, Who};
+use up_model::{Answer, Command, Input, MAX_EVENTS, Request, Who};
 use up_text::{Env, Items, Text};
-
-/// How many events may be in the queue before one more is refused to a client.
-const MAX_EVENTS: usize = 32_768;
 
 // A request is refused.
 fn refuse<B: Book>(book: &mut B, text: Text) -> Result<(), AllocError>
@@ -107,7 +104,8 @@ fn start_who<B: Book>(
         → B.stands book.old Stepping config (entry.Given input ∷ c)
         → map (B.event_place book.old (entry.Given input ∷ c)) holders ≡ map Some places
         → B.stands book.new Stepping config
-        (model.entries_of (length c) (model.start_at places who.now (with_instance who.now environment) (model_instances.instance_named who.now (entry.Given input ∷ c)) (entry.Given input ∷ c))
+        (model.entries_of (length c) (model.start_at places who.now (with_instance who.now environment)
+        (model_instances.instance_named who.now (entry.Given input ∷ c)) (entry.Given input ∷ c))
         ++ entry.Given input ∷ c)) }
 {
     match start_refusal(alloc, book, who)? {
@@ -131,7 +129,8 @@ fn start<B: Book>(
         → B.stands book.old Stepping config (entry.Given input ∷ c)
         → map (B.event_place book.old (entry.Given input ∷ c)) holders ≡ map Some places
         → B.stands book.new Stepping config
-        (model.entries_of (length c) (model.start places (said_of target.entry) (entry.Given input ∷ c)) ++ entry.Given input ∷ c)) }
+        (model.entries_of (length c) (model.start places (said_of target.entry) (entry.Given input ∷ c))
+        ++ entry.Given input ∷ c)) }
 {
     match target {
         Target::Nobody(text) => {
@@ -161,7 +160,8 @@ fn stop_found<B: Book>(
         → B.instance_place book.old (entry.Given input ∷ c) key ≡ Some i
         → map (B.event_place book.old (entry.Given input ∷ c)) holders ≡ map Some places
         → B.stands book.new Stepping config
-        (model.entries_of (length c) (model.stop_at places vars who.now (Some i) (entry.Given input ∷ c)) ++ entry.Given input ∷ c)) }
+        (model.entries_of (length c) (model.stop_at places vars who.now (Some i) (entry.Given input ∷ c))
+        ++ entry.Given input ∷ c)) }
 {
     if is_start(book.goal(key)) {
         stop_of(book, key, vars, holders)?;
@@ -185,7 +185,8 @@ fn stop_who<B: Book>(
         → B.stands book.old Stepping config (entry.Given input ∷ c)
         → map (B.event_place book.old (entry.Given input ∷ c)) holders ≡ map Some places
         → B.stands book.new Stepping config
-        (model.entries_of (length c) (model.stop_at places vars who.now (model_instances.instance_named who.now (entry.Given input ∷ c)) (entry.Given input ∷ c))
+        (model.entries_of (length c) (model.stop_at places vars who.now
+        (model_instances.instance_named who.now (entry.Given input ∷ c)) (entry.Given input ∷ c))
         ++ entry.Given input ∷ c)) }
 {
     match instance_named(book, &who.job, who.instance.as_str()) {
@@ -211,7 +212,8 @@ fn stop<B: Book>(
         → B.stands book.old Stepping config (entry.Given input ∷ c)
         → map (B.event_place book.old (entry.Given input ∷ c)) holders ≡ map Some places
         → B.stands book.new Stepping config
-        (model.entries_of (length c) (model.stop places vars (said_of target.entry) (entry.Given input ∷ c)) ++ entry.Given input ∷ c)) }
+        (model.entries_of (length c) (model.stop places vars (said_of target.entry) (entry.Given input ∷ c))
+        ++ entry.Given input ∷ c)) }
 {
     match target {
         Target::Nobody(text) => {
@@ -244,7 +246,8 @@ fn restart_found<B: Book>(
         → B.instance_place book.old (entry.Given input ∷ c) key ≡ Some i
         → map (B.event_place book.old (entry.Given input ∷ c)) holders ≡ map Some places
         → B.stands book.new Stepping config
-        (model.entries_of (length c) (model.restart_at places who.now (Some i) (entry.Given input ∷ c)) ++ entry.Given input ∷ c)) }
+        (model.entries_of (length c) (model.restart_at places who.now (Some i) (entry.Given input ∷ c))
+        ++ entry.Given input ∷ c)) }
 {
     if is_running(book.state_of(key)) {
         book.release(key)?;
@@ -267,7 +270,8 @@ fn restart_who<B: Book>(
         → B.stands book.old Stepping config (entry.Given input ∷ c)
         → map (B.event_place book.old (entry.Given input ∷ c)) holders ≡ map Some places
         → B.stands book.new Stepping config
-        (model.entries_of (length c) (model.restart_at places who.now (model_instances.instance_named who.now (entry.Given input ∷ c)) (entry.Given input ∷ c))
+        (model.entries_of (length c) (model.restart_at places who.now
+        (model_instances.instance_named who.now (entry.Given input ∷ c)) (entry.Given input ∷ c))
         ++ entry.Given input ∷ c)) }
 {
     match instance_named(book, &who.job, who.instance.as_str()) {
@@ -291,7 +295,8 @@ fn restart<B: Book>(
         → B.stands book.old Stepping config (entry.Given input ∷ c)
         → map (B.event_place book.old (entry.Given input ∷ c)) holders ≡ map Some places
         → B.stands book.new Stepping config
-        (model.entries_of (length c) (model.restart places (said_of target.entry) (entry.Given input ∷ c)) ++ entry.Given input ∷ c)) }
+        (model.entries_of (length c) (model.restart places (said_of target.entry) (entry.Given input ∷ c))
+        ++ entry.Given input ∷ c)) }
 {
     match target {
         Target::Nobody(text) => {
@@ -316,7 +321,8 @@ fn emit<B: Book>(alloc: Global, book: &mut B, name: &str, vars: Env) -> Result<(
         (request : RequestValue) → B.stands book.old Stepping config (entry.Given input ∷ c)
         → request.name ≡ name.now → request.vars ≡ vars
         → B.stands book.new Stepping config
-        (model.entries_of (length c) (model.emit (length c) request (entry.Given input ∷ c)) ++ entry.Given input ∷ c)) }
+        (model.entries_of (length c) (model.emit (length c) request (entry.Given input ∷ c))
+        ++ entry.Given input ∷ c)) }
 {
     if book.live_events() < MAX_EVENTS {
         let event = event_of(alloc, name, vars)?;
@@ -341,7 +347,8 @@ fn change<B: Book>(
         → B.stands book.old Stepping setup.now (entry.Given input ∷ c)
         → B.event_place book.old (entry.Given input ∷ c) key ≡ Some (length c)
         → B.stands book.new Stepping setup.now
-        (model.entries_of (length c) (model.outcome_of setup.now (length c) request (entry.Given input ∷ c)) ++ entry.Given input ∷ c)) }
+        (model.entries_of (length c) (model.outcome_of setup.now (length c) request (entry.Given input ∷ c))
+        ++ entry.Given input ∷ c)) }
 {
     let Request {
         command,

@@ -1,10 +1,10 @@
 //! A book that stores all that happened: the plain program of the model, with which a cleverer one can be compared.
-ghost use Rattle.std.specs.Prelude.{◌≡◌, ℕ, true, List, ◌∷◌, [], map, length, OnOk, OnErr, IfOk, Some};
+ghost use Rattle.std.specs.Prelude.{◌≡◌, ℕ, true, ◌&&◌, not, List, ◌∷◌, [], map, length, OnOk, IfOk};
 ghost use Rattle.std.specs.Option.{option_copied};
 ghost use Rattle.up_engine.specs.Groups.{listed};
-ghost use Rattle.up_engine.specs.Keys.{Resting, Stepping};
-ghost use Rattle.up_engine.specs.Queues.{live_of};
+ghost use Rattle.up_engine.specs.Keys.{Mode, Resting, Stepping};
 ghost use Rattle.up_engine.specs.Records.{chronicle, entry_of, expression_of, place_of, event_key};
+ghost use Rattle.up_engine.specs.Standings.{standing_of, IsYoungestSpoilt};
 ghost use Rattle.up_model.specs.declared.input.Input.{Input as InputValue};
 ghost use Rattle.up_model.specs.declared.state.Goal.TheVariants.{Stop as goal_stop};
 ghost use Rattle.up_model.specs.declared.state.State.TheVariants.{Waiting as waiting};
@@ -18,11 +18,12 @@ ghost use Rattle.up_model.specs.Replies as replies;
 ghost use Rattle.up_model.specs.Values.{Bytes};
 
 use crate::book::Book;
+use crate::changes::{changes_held, update_queue, youngest_spoilt_after};
 use crate::groups::{Group, insert_slot, remove_everywhere, slots_of};
-use crate::held::turn_event;
+use crate::held::held_by_jobs;
 use crate::keys::{EventKey, InstanceKey, Live, Slot};
 use crate::outputs::outputs;
-use crate::queue::{mark_handled, remove};
+use crate::queue::Queue;
 use crate::reading::{answers, clock, environment, life, place, process, seen, spoilt, status};
 use crate::record::{Expression, Origin, Record, Wanted};
 use crate::setup::Setup;
@@ -46,25 +47,6 @@ fn push(records: &mut Vec<Record>, next: Record) -> Result<(), AllocError>
     ensures { OnOk result (chronicle records.new.items ≡ entry_of next ∷ chronicle records.old.items) }
 {
     records.push(next)?;
-    Ok(())
-}
-
-// The queue after one record more.
-fn update_queue(queue: &mut Vec<Live>, next: &Record, place: usize) -> Result<(), AllocError>
-    ensures { OnOk result ((c : Chronicle) → length c ≡ place → map live_of queue.old.items ≡ model.queue c
-        → map live_of queue.new.items ≡ model.queue (entry_of next.now ∷ c)) }
-{
-    match next {
-        Record::Queued { .. } => {
-            queue.push(Live {
-                key: EventKey { place },
-                handled: false,
-            })?;
-        }
-        Record::Handled(event) => mark_handled(queue, *event),
-        Record::Finished(event) => remove(queue, *event),
-        _ => {}
-    }
     Ok(())
 }
 
@@ -121,29 +103,45 @@ fn update_groups(
 fn add(
     alloc: Global,
     records: &mut Vec<Record>,
-    queue: &mut Vec<Live>,
+    queue: &mut Queue,
+    youngest_spoilt: usize,
     groups: &mut Vec<Group>,
     next: Record,
-) -> Result<(), AllocError>
+) -> Result<bool, AllocError>
     ensures stored { OnOk result (chronicle records.new.items ≡ entry_of next ∷ chronicle records.old.items) }
-    ensures queue { OnOk result (map live_of queue.old.items ≡ model.queue (chronicle records.old.items)
-        → map live_of queue.new.items ≡ model.queue (entry_of next ∷ chronicle records.old.items)) }
+    ensures events { OnOk result (IsYoungestSpoilt youngest_spoilt (chronicle records.old.items)
+        → queue.old.events ≡ map (standing_of (chronicle records.old.items))
+        (model.queue (chronicle records.old.items))
+        → queue.new.events ≡ map (standing_of (entry_of next ∷ chronicle records.old.items))
+        (model.queue (entry_of next ∷ chronicle records.old.items))) }
+    ensures kept { IfOk result (λ kept. kept ≡ true → queue.new.held ≡ queue.old.held) }
     ensures groups { OnOk result (((k : Bytes)
         → listed k groups.old.items ≡ instances_of k (chronicle records.old.items))
         → (k : Bytes) → listed k groups.new.items
         ≡ instances_of k (entry_of next ∷ chronicle records.old.items)) }
 {
     let place = count(records);
-    if let Err(error) = update_queue(queue, &next, place) {
-        drop(next);
-        return Err(error);
-    }
     if let Err(error) = update_groups(alloc, groups, &next, place) {
         drop(next);
         return Err(error);
     }
-    push(records, next)?;
-    Ok(())
+    match update_queue(queue, youngest_spoilt, records.as_slice(), &next) {
+        Ok(kept) => {
+            push(records, next)?;
+            Ok(kept)
+        }
+        Err(error) => {
+            drop(next);
+            Err(error)
+        }
+    }
+}
+
+// Whether what is held is known after one record more.
+fn is_still_counted(counted: bool, kept: bool, changes: bool) -> bool
+    ensures { result ≡ (counted && (kept && not changes)) }
+{
+    counted && kept && !changes
 }
 
 fn made_record(alloc: Global, job: &Name, name: &str) -> Result<Record, AllocError>
@@ -205,10 +203,12 @@ fn keys_of(alloc: Global, places: &[usize]) -> Result<Items<EventKey>, AllocErro
 pub struct StoringBook {
     alloc: Global,
     records: Vec<Record>,
-    queue: Vec<Live>,
+    queue: Queue,
+    // Whether what the queue holds was counted since the records changed it.
+    counted: bool,
+    // No event that was queued after this place was spoilt.
+    youngest_spoilt: usize,
     groups: Vec<Group>,
-    // The event that a turn would take, between two steps.
-    turn: Option<Live>,
 }
 
 impl StoringBook {
@@ -220,19 +220,33 @@ impl StoringBook {
     ghost use Rattle.up_model.specs.Seen as model_seen;
     ghost use Rattle.up_engine.specs.Verdicts.{verdict};
 
+    // One record more, between two steps or within one.
+    fn put(&mut self, next: Record) -> Result<(), AllocError>
+        ensures { OnOk result ((mode : Mode) (config : Configuration) (c : Chronicle)
+            → Stored self.old mode config c → Stored self.new Stepping config (entry_of next ∷ c)) }
+    {
+        let changes = changes_held(&next);
+        let youngest = youngest_spoilt_after(self.records.as_slice(), &next, self.youngest_spoilt);
+        let kept = add(
+            self.alloc,
+            &mut self.records,
+            &mut self.queue,
+            self.youngest_spoilt,
+            &mut self.groups,
+            next,
+        )?;
+        self.youngest_spoilt = youngest;
+        self.counted = is_still_counted(self.counted, kept, changes);
+        Ok(())
+    }
+
     // One record more.
     fn write(&mut self, next: Record) -> Result<(), AllocError>
         ensures { OnOk result ((config : Configuration) (c : Chronicle) (e : Entry)
             → Stored self.old Stepping config c → entry_of next ≡ e
             → Stored self.new Stepping config (e ∷ c)) }
     {
-        add(
-            self.alloc,
-            &mut self.records,
-            &mut self.queue,
-            &mut self.groups,
-            next,
-        )?;
+        self.put(next)?;
         Ok(())
     }
 
@@ -241,13 +255,27 @@ impl StoringBook {
         ensures { OnOk result ((config : Configuration) (c : Chronicle) → Stored self.old Resting config c
             → Stored self.new Stepping config (entry.Given input ∷ c)) }
     {
-        add(
+        self.put(Record::Given(input))?;
+        Ok(())
+    }
+
+    // What is held is counted, if that changed.
+    fn recount(&mut self, setup: &Setup) -> Result<(), AllocError>
+        ensures { OnOk result ((c : Chronicle) → Stored self.old Stepping setup.now c
+            → Stored self.new Resting setup.now c) }
+    {
+        if self.counted {
+            return Ok(());
+        }
+        let held = held_by_jobs(
             self.alloc,
-            &mut self.records,
-            &mut self.queue,
-            &mut self.groups,
-            Record::Given(input),
+            setup,
+            self.records.as_slice(),
+            self.groups.as_slice(),
+            setup.jobs(),
         )?;
+        self.queue.set_held(held.as_slice())?;
+        self.counted = true;
         Ok(())
     }
 
@@ -365,10 +393,10 @@ impl StoringBook {
     fn last_answer(&self) -> Result<Answer, AllocError>
         ensures { IfOk result (λ answer. (config : Configuration) (c : Chronicle)
             → Stored self.now Stepping config c
-            → answer ≡ record { ok = true; text = replies.status_if (replies.acted_on c) c }) }
+            → answer ≡ record { ok = true; text = replies.status_if (replies.request_instance c) c }) }
     {
         let records = self.records.as_slice();
-        let text = status::status_if(self.alloc, records, answers::acted_on(records))?;
+        let text = status::status_if(self.alloc, records, answers::request_instance(records))?;
         Ok(Answer { ok: true, text })
     }
 
@@ -413,13 +441,15 @@ impl Book for StoringBook {
 
     ghost instance_place = { stored.instance_place };
 
+    #[tactic(auto, using(crate::proofs::CountLemmas::held_none))]
     fn new(alloc: Global) -> Self {
         StoringBook {
             alloc,
             records: Vec::new(alloc),
-            queue: Vec::new(alloc),
+            queue: Queue::new(alloc),
+            counted: true,
+            youngest_spoilt: 0,
             groups: Vec::new(alloc),
-            turn: None,
         }
     }
 
@@ -465,7 +495,7 @@ impl Book for StoringBook {
     }
 
     fn awaits(&self, key: InstanceKey, process: Process) -> bool {
-        process::awaited(self.records.as_slice(), key.place, process)
+        process::is_awaited(self.records.as_slice(), key.place, process)
     }
 
     fn lives(&self, key: InstanceKey, process: Process) -> bool {
@@ -512,7 +542,7 @@ impl Book for StoringBook {
     }
 
     fn turn(&self) -> Option<Live> {
-        self.turn
+        self.queue.turn()
     }
 
     fn given(&mut self, input: Input) -> Result<EventKey, AllocError> {
@@ -715,13 +745,7 @@ impl Book for StoringBook {
     }
 
     fn rest(&mut self, setup: &Setup) -> Result<Vec<Output>, AllocError> {
-        self.turn = turn_event(
-            self.alloc,
-            setup,
-            self.records.as_slice(),
-            self.groups.as_slice(),
-            self.queue.as_slice(),
-        )?;
+        self.recount(setup)?;
         let found = outputs(self.alloc, setup, self.records.as_slice())?;
         Ok(found)
     }

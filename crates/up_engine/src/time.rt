@@ -5,7 +5,7 @@ ghost use Rattle.up_model.specs.Chronicle.{Chronicle};
 ghost use Rattle.up_model.specs.Clock as clock;
 ghost use Rattle.up_model.specs.Configuration.{Configuration};
 ghost use Rattle.up_model.specs.Instances.{Instance};
-ghost use Rattle.up_model.specs.Tests.{entries_if};
+ghost use Rattle.up_model.specs.Predicates.{entries_if};
 
 use crate::book::Book;
 use crate::keys::{InstanceKey, Slot};

@@ -1,9 +1,8 @@
 //! What an expression says of the events that it has seen.
-ghost use Rattle.std.specs.Prelude.{◌≡◌, ◌++◌, is_some, IfOk};
+ghost use Rattle.std.specs.Prelude.{◌≡◌, ◌++◌, is_some, IfOk, OnOk};
 ghost use Rattle.std.specs.Option.{option_to_list};
 ghost use Rattle.up_expr.specs.Trees.{tree_of};
 ghost use Rattle.up_expr.specs.Truth as truth;
-ghost use Rattle.up_model.specs.Held as held;
 ghost use Rattle.up_model.specs.Seen as seen;
 ghost use Rattle.up_engine.specs.Records.{wanted_of, chronicle};
 ghost use Rattle.up_engine.specs.Verdicts.{verdict_of_tree, verdict, both, either};
@@ -120,64 +119,59 @@ pub(crate) fn verdict_of(
     }
 }
 
-fn is_kept(found: Option<usize>, event: usize) -> bool
-    ensures { result ≡ held.has event (option_to_list found) }
+fn add_first(found: Option<usize>, kept: &mut Vec<usize>) -> Result<(), AllocError>
+    ensures { OnOk result (kept.new.items ≡ kept.old.items ++ option_to_list found) }
 {
-    match found {
-        Some(place) => place == event,
-        None => false,
+    if let Some(place) = found {
+        kept.push(place)?;
     }
+    Ok(())
 }
 
-// Whether one of the leaves keeps the event.
-#[tactic(auto, using(crate::proofs::HeldLemmas::has_append))]
-fn has_leaf_of(
+// The events that the leaves keep, from left to right.
+#[tactic(auto, using(crate::proofs::HeldLemmas::append_left))]
+fn add_leaves(
     alloc: Global,
     setup: &Setup,
     records: &[Record],
     wanted: Wanted,
     expr: &Expr,
-    event: usize,
-) -> Result<bool, AllocError>
-    ensures { IfOk result (λ keeps. keeps ≡ held.has event
-        (truth.kept (tree_of expr.now) (seen.seen setup.now (wanted_of wanted.entry)
-        (chronicle records.now)))) }
+    kept: &mut Vec<usize>,
+) -> Result<(), AllocError>
+    ensures { OnOk result (kept.new.items ≡ kept.old.items ++ truth.kept (tree_of expr.now)
+        (seen.seen setup.now (wanted_of wanted.entry) (chronicle records.now))) }
 {
     match expr {
         Expr::Leaf(leaf) => {
             let found = first(alloc, setup, records, wanted, leaf)?;
-            Ok(is_kept(found, event))
+            add_first(found, kept)?;
         }
         Expr::And(left, right) => {
-            let left = has_leaf_of(alloc, setup, records, wanted, left, event)?;
-            let right = has_leaf_of(alloc, setup, records, wanted, right, event)?;
-            Ok(left || right)
+            add_leaves(alloc, setup, records, wanted, left, kept)?;
+            add_leaves(alloc, setup, records, wanted, right, kept)?;
         }
         Expr::Or(left, right) => {
-            let left = has_leaf_of(alloc, setup, records, wanted, left, event)?;
-            let right = has_leaf_of(alloc, setup, records, wanted, right, event)?;
-            Ok(left || right)
+            add_leaves(alloc, setup, records, wanted, left, kept)?;
+            add_leaves(alloc, setup, records, wanted, right, kept)?;
         }
     }
+    Ok(())
 }
 
-/// Whether a leaf of the expression, if the job file has it, keeps the event.
-pub(crate) fn keeps(
+/// Adds the events that an expression keeps, if the job file has it: one for each leaf that keeps one.
+pub(crate) fn add_kept(
     alloc: Global,
     setup: &Setup,
     records: &[Record],
     wanted: Wanted,
     condition: &Option<Condition>,
-    event: usize,
-) -> Result<bool, AllocError>
-    ensures { IfOk result (λ keeps. keeps ≡ held.has event
-        (seen.kept condition.now (seen.seen setup.now (wanted_of wanted.entry) (chronicle records.now)))) }
+    kept: &mut Vec<usize>,
+) -> Result<(), AllocError>
+    ensures { OnOk result (kept.new.items ≡ kept.old.items ++ seen.kept condition.now
+        (seen.seen setup.now (wanted_of wanted.entry) (chronicle records.now))) }
 {
-    match condition {
-        Some(condition) => {
-            let keeps = has_leaf_of(alloc, setup, records, wanted, condition.expr(), event)?;
-            Ok(keeps)
-        }
-        None => Ok(false),
+    if let Some(condition) = condition {
+        add_leaves(alloc, setup, records, wanted, condition.expr(), kept)?;
     }
+    Ok(())
 }

@@ -3,7 +3,7 @@ use Rattle.std.proofs.Common.{◌≡◌, ◌==◌, Bool, true, false, List, [], 
 use Rattle.std.proofs.lemmas.Bool.{eqb-false}
 use Rattle.std.proofs.lemmas.Bool.Decides.{eqb_tells}
 use Rattle.up_event.specs.declared.live.LiveEvent.{LiveEvent}
-use Rattle.up_event.specs.LiveEvents.{is, named, or_later, AreDistinct, changed, without}
+use Rattle.up_event.specs.LiveEvents.{is, named, or_later, AreDistinct, with_change, without}
 use Rattle.up_model.specs.declared.event_id.EventId.{EventId}
 
 pub named_push : (lives : List LiveEvent) (live : LiveEvent) (id : EventId)
@@ -18,7 +18,7 @@ named_push (x ∷ xs) live id = by_case (is id x) (named_push xs live id)
 
 -- a change keeps ids, as that of each call does by `refl`
 pub named_changed : (id other : EventId) (change : LiveEvent → LiveEvent) (lives : List LiveEvent) → ((live : LiveEvent) → (change live).id ≡ live.id)
-    → named other (changed id change lives) ≡ (if id.key == other.key then option_map change (named other lives) else named other lives)
+    → named other (with_change id change lives) ≡ (if id.key == other.key then option_map change (named other lives) else named other lives)
 named_changed id other change [] keeps = none (id.key == other.key)
   where
     none : (b : Bool) → None ≡ cond b (option_map change None) (let absent : Option LiveEvent = None in absent)
@@ -26,8 +26,8 @@ named_changed id other change [] keeps = none (id.key == other.key)
     none false = refl
 named_changed id other change (x ∷ xs) keeps = by_case (is id x) refl (named_changed id other change xs keeps)
   where
-    by_case : (b : Bool) → is id x ≡ b → named other (changed id change xs) ≡ (if id.key == other.key then option_map change (named other xs) else named other xs)
-        → named other (cond b (change x ∷ xs) (x ∷ changed id change xs))
+    by_case : (b : Bool) → is id x ≡ b → named other (with_change id change xs) ≡ (if id.key == other.key then option_map change (named other xs) else named other xs)
+        → named other (cond b (change x ∷ xs) (x ∷ with_change id change xs))
         ≡ (if id.key == other.key then option_map change (named other (x ∷ xs)) else named other (x ∷ xs))
     by_case true e ih =
         let kept : (id.key == other.key) ≡ (x.id.key == other.key) = ap (λ k. k == other.key) (sym (eqb-true x.id.key id.key e)) in

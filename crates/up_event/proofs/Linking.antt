@@ -8,7 +8,7 @@ use Rattle.std.proofs.lemmas.Option.{IfSome_then}
 use Rattle.std.specs.Option.{option_or}
 use Rattle.slab.specs.Slab.{Slab, get, slab_len}
 use Rattle.up_event.specs.Links.{first, last_or, node_at, is_at, with_newer, with_older, with_live, end_without, walk, AreLinked}
-use Rattle.up_event.specs.LiveEvents.{is, named, AreDistinct, changed}
+use Rattle.up_event.specs.LiveEvents.{is, named, AreDistinct, with_change}
 use Rattle.up_event.proofs.Lists.{absent_parts, absent_middle, is_other}
 use Rattle.up_model.specs.declared.event_id.EventId.{EventId}
 
@@ -161,32 +161,32 @@ live_none at change key = by_case (at == key)
     by_case false = refl
 
 pub first_changed : (id : EventId) (change : LiveEvent → LiveEvent) (lives : List LiveEvent) → ((live : LiveEvent) → (change live).id ≡ live.id)
-    → first (changed id change lives) ≡ first lives
+    → first (with_change id change lives) ≡ first lives
 first_changed id change [] keeps = refl
 first_changed id change (live ∷ lives) keeps = by_case (is id live)
   where
-    by_case : (b : Bool) → first (cond b (change live ∷ lives) (live ∷ changed id change lives)) ≡ first (live ∷ lives)
+    by_case : (b : Bool) → first (cond b (change live ∷ lives) (live ∷ with_change id change lives)) ≡ first (live ∷ lives)
     by_case true = ap (λ (i : EventId). Some i.key) (keeps live)
     by_case false = refl
 
 pub last_changed : (older : Option ℕ) (id : EventId) (change : LiveEvent → LiveEvent) (lives : List LiveEvent) → ((live : LiveEvent) → (change live).id ≡ live.id)
-    → last_or older (changed id change lives) ≡ last_or older lives
+    → last_or older (with_change id change lives) ≡ last_or older lives
 last_changed older id change [] keeps = refl
 last_changed older id change (live ∷ lives) keeps = by_case (is id live) (last_changed (Some live.id.key) id change lives keeps)
   where
-    by_case : (b : Bool) → last_or (Some live.id.key) (changed id change lives) ≡ last_or (Some live.id.key) lives
-        → last_or older (cond b (change live ∷ lives) (live ∷ changed id change lives)) ≡ last_or (Some live.id.key) lives
+    by_case : (b : Bool) → last_or (Some live.id.key) (with_change id change lives) ≡ last_or (Some live.id.key) lives
+        → last_or older (cond b (change live ∷ lives) (live ∷ with_change id change lives)) ≡ last_or (Some live.id.key) lives
     by_case true ih = ap (λ (i : EventId). last_or (Some i.key) lives) (keeps live)
     by_case false ih = ih
 
 -- the nodes after a change of one event
 pub node_changed : (older : Option ℕ) (id : EventId) (change : LiveEvent → LiveEvent) (lives : List LiveEvent) (key : ℕ) → ((live : LiveEvent) → (change live).id ≡ live.id)
-    → node_at older (changed id change lives) key ≡ with_live id.key change key (node_at older lives key)
+    → node_at older (with_change id change lives) key ≡ with_live id.key change key (node_at older lives key)
 node_changed older id change [] key keeps = sym (live_none id.key change key)
 node_changed older id change (x ∷ xs) key keeps = by_case (is id x) refl (node_changed (Some x.id.key) id change xs key keeps)
   where
-    by_case : (b : Bool) → is id x ≡ b → node_at (Some x.id.key) (changed id change xs) key ≡ with_live id.key change key (node_at (Some x.id.key) xs key)
-        → node_at older (cond b (change x ∷ xs) (x ∷ changed id change xs)) key ≡ with_live id.key change key (node_at older (x ∷ xs) key)
+    by_case : (b : Bool) → is id x ≡ b → node_at (Some x.id.key) (with_change id change xs) key ≡ with_live id.key change key (node_at (Some x.id.key) xs key)
+        → node_at older (cond b (change x ∷ xs) (x ∷ with_change id change xs)) key ≡ with_live id.key change key (node_at older (x ∷ xs) key)
     by_case true e ih =
         elim (eqb_tells x.id.key key) [
           | inl same ↦

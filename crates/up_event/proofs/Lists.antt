@@ -1,7 +1,7 @@
 -- Laws of the list of live events.
 use Rattle.std.proofs.Common.{◌≡◌, Bool, true, false, List, [], ◌∷◌, ◌++◌, length, None, Some, suc, cond, refl, sym, ◌∙◌, ap, eqb-true, eq-eqb, ne_eqb}
 use Rattle.up_event.specs.declared.live.LiveEvent.{LiveEvent}
-use Rattle.up_event.specs.LiveEvents.{is, named, AreDistinct, changed, without}
+use Rattle.up_event.specs.LiveEvents.{is, named, AreDistinct, with_change, without}
 use Rattle.up_model.specs.declared.event_id.EventId.{EventId}
 
 -- what names none of them names neither the oldest nor one of the others
@@ -43,31 +43,31 @@ distinct_push (first ∷ lives) live d absent =
 
 -- a change keeps ids
 pub absent_changed : (id other : EventId) (change : LiveEvent → LiveEvent) (lives : List LiveEvent) → ((live : LiveEvent) → (change live).id ≡ live.id)
-    → named other lives ≡ None → named other (changed id change lives) ≡ None
+    → named other lives ≡ None → named other (with_change id change lives) ≡ None
 absent_changed id other change [] keeps absent = refl
 absent_changed id other change (live ∷ lives) keeps absent =
     let parts = absent_parts other live lives absent in
     by_case (is id live) parts.0 parts.1 (absent_changed id other change lives keeps parts.1)
   where
-    by_case : (b : Bool) → is other live ≡ false → named other lives ≡ None → named other (changed id change lives) ≡ None
-        → named other (cond b (change live ∷ lives) (live ∷ changed id change lives)) ≡ None
+    by_case : (b : Bool) → is other live ≡ false → named other lives ≡ None → named other (with_change id change lives) ≡ None
+        → named other (cond b (change live ∷ lives) (live ∷ with_change id change lives)) ≡ None
     by_case true differs later ih = absent_cons other (change live) lives (rw (keeps live) differs) later
-    by_case false differs later ih = absent_cons other live (changed id change lives) differs ih
+    by_case false differs later ih = absent_cons other live (with_change id change lives) differs ih
 
 pub distinct_changed : (id : EventId) (change : LiveEvent → LiveEvent) (lives : List LiveEvent) → ((live : LiveEvent) → (change live).id ≡ live.id)
-    → AreDistinct lives → AreDistinct (changed id change lives)
+    → AreDistinct lives → AreDistinct (with_change id change lives)
 distinct_changed id change [] keeps d = tt
 distinct_changed id change (live ∷ lives) keeps d = by_case (is id live) (distinct_changed id change lives keeps d.1)
   where
-    by_case : (b : Bool) → AreDistinct (changed id change lives) → AreDistinct (cond b (change live ∷ lives) (live ∷ changed id change lives))
+    by_case : (b : Bool) → AreDistinct (with_change id change lives) → AreDistinct (cond b (change live ∷ lives) (live ∷ with_change id change lives))
     by_case true ih = (rw (keeps live) d.0, d.1)
     by_case false ih = (absent_changed id live.id change lives keeps d.0, ih)
 
-pub length_changed : (id : EventId) (change : LiveEvent → LiveEvent) (lives : List LiveEvent) → length (changed id change lives) ≡ length lives
+pub length_changed : (id : EventId) (change : LiveEvent → LiveEvent) (lives : List LiveEvent) → length (with_change id change lives) ≡ length lives
 length_changed id change [] = refl
 length_changed id change (live ∷ lives) = by_case (is id live) (length_changed id change lives)
   where
-    by_case : (b : Bool) → length (changed id change lives) ≡ length lives → length (cond b (change live ∷ lives) (live ∷ changed id change lives)) ≡ length (live ∷ lives)
+    by_case : (b : Bool) → length (with_change id change lives) ≡ length lives → length (cond b (change live ∷ lives) (live ∷ with_change id change lives)) ≡ length (live ∷ lives)
     by_case true h = refl
     by_case false h = ap (λ n. suc n) h
 

@@ -6,7 +6,7 @@ use Rattle.slab.specs.Slab.{Slab, get, slab_len, ContainsKey}
 use Rattle.up_event.specs.declared.live.LiveEvent.{LiveEvent}
 use Rattle.up_event.specs.declared.nodes.Node.{Node}
 use Rattle.up_event.specs.Links.{after_push, after_removal, first, last_or, node_at, with_live, end_without, walk, AreLinked, Changes, IsNeighbour}
-use Rattle.up_event.specs.LiveEvents.{named, changed, without}
+use Rattle.up_event.specs.LiveEvents.{named, with_change, without}
 use Rattle.up_event.proofs.Lists.{split, distinct_push, distinct_changed, distinct_without, length_changed}
 use Rattle.up_event.proofs.Linking.{id_at, live_at, last_is_named, are_others, node_push, node_changed, node_without, first_changed, last_changed, first_push, last_append, node_middle, first_without, last_without, walk_linked, linked}
 use Rattle.up_model.specs.declared.event_id.EventId.{EventId}
@@ -57,10 +57,10 @@ has_named_key nodes oldest newest lives id P r h = has_key nodes oldest newest l
 -- after a change of one event
 pub changes : (old new : Slab Node) (oldest newest : Option ℕ) (lives : List LiveEvent) (id : EventId) (change : LiveEvent → LiveEvent)
     → ((live : LiveEvent) → (change live).id ≡ live.id) → Rests old oldest newest lives → Changes old new (with_live id.key change)
-    → Rests new oldest newest (changed id change lives)
+    → Rests new oldest newest (with_change id change lives)
 changes old new oldest newest lives id change keeps r h =
     let l = opened old oldest newest lives r in
-    at_rest new oldest newest (changed id change lives) (record {
+    at_rest new oldest newest (with_change id change lives) (record {
       each = λ key. h.nodes key ∙ ap (with_live id.key change key) (l.each key) ∙ sym (node_changed None id change lives key keeps);
       count = h.count ∙ l.count ∙ sym (length_changed id change lives);
       from = l.from ∙ sym (first_changed id change lives keeps);

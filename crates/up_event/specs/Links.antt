@@ -28,14 +28,17 @@ is_at (Some at) key = at == key
 
 -- the node at a key after the one at `at`, if any, got another newer neighbour
 abbrev pub with_newer : (at newer : Option ℕ) → ℕ → Option Node → Option Node
-with_newer at newer key node = if is_at at key then option_map {T = Node} (λ n. record n { newer = newer }) node else node
+with_newer at newer key node = if is_at at key
+    then option_map {T = Node} (λ n. record n { newer = newer }) node else node
 
 abbrev pub with_older : (at older : Option ℕ) → ℕ → Option Node → Option Node
-with_older at older key node = if is_at at key then option_map {T = Node} (λ n. record n { older = older }) node else node
+with_older at older key node = if is_at at key
+    then option_map {T = Node} (λ n. record n { older = older }) node else node
 
 -- the node at a key after a change of the event at `at`
 abbrev pub with_live : ℕ → (LiveEvent → LiveEvent) → ℕ → Option Node → Option Node
-with_live at change key node = if at == key then option_map {T = Node} (λ n. record n { live = change n.live }) node else node
+with_live at change key node = if at == key
+    then option_map {T = Node} (λ n. record n { live = change n.live }) node else node
 
 -- the node at a key after a push of this event, which comes after the newest one
 abbrev pub after_push : (newest : Option ℕ) → LiveEvent → ℕ → Option Node → Option Node

@@ -21,30 +21,31 @@ AreDistinct [] = Unit {0}
 AreDistinct (live ∷ lives) = (named live.id lives ≡ None) × AreDistinct lives
 
 -- an event that was just queued
-abbrev pub queued : EventId → Event → Option ℕ → LiveEvent
-queued id event waiter =
+abbrev pub new_live : EventId → Event → Option ℕ → LiveEvent
+new_live id event waiter =
     record { id = id; event = event; handled = false; holds = 0; spoilt = false; waiter = waiter }
 
 -- the list after a change of the one that an id names
-abbrev pub changed : EventId → (LiveEvent → LiveEvent) → List LiveEvent → List LiveEvent
-changed id change [] = []
-changed id change (live ∷ lives) = if is id live then change live ∷ lives else live ∷ changed id change lives
+abbrev pub with_change : EventId → (LiveEvent → LiveEvent) → List LiveEvent → List LiveEvent
+with_change id change [] = []
+with_change id change (live ∷ lives) = if is id live then change live ∷ lives
+    else live ∷ with_change id change lives
 
 -- the list without the one that an id names
 abbrev pub without : EventId → List LiveEvent → List LiveEvent
 without id [] = []
 without id (live ∷ lives) = if is id live then lives else live ∷ without id lives
 
-abbrev pub handled : LiveEvent → LiveEvent
-handled live = record live { handled = true }
+abbrev pub as_handled : LiveEvent → LiveEvent
+as_handled live = record live { handled = true }
 
 -- held once more
-abbrev pub held : LiveEvent → LiveEvent
-held live = record live { holds = live.holds + 1 }
+abbrev pub with_hold : LiveEvent → LiveEvent
+with_hold live = record live { holds = live.holds + 1 }
 
 -- held once less, and spoilt if that hold failed
-abbrev pub released : (failed : Bool) → LiveEvent → LiveEvent
-released failed live = record live { holds = live.holds - 1; spoilt = live.spoilt || failed }
+abbrev pub without_hold : (failed : Bool) → LiveEvent → LiveEvent
+without_hold failed live = record live { holds = live.holds - 1; spoilt = live.spoilt || failed }
 
 -- what is left to do for an event that finishes
 abbrev pub outcome_of : LiveEvent → Finished

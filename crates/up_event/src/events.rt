@@ -1,6 +1,6 @@
 //! The queue of live events.
 ghost use Rattle.std.specs.Prelude.{◌≡◌, ◌++◌, ◌∷◌, [], length, option_map, IfOk, IfSome, IsSomeAnd, OnErr, Some, None};
-ghost use Rattle.up_event.specs.LiveEvents.{named, AreDistinct, queued, changed, without, handled, held, released, outcome_of, next_turn, IsLive, IsHeld, MayBeHeld, MayFinish};
+ghost use Rattle.up_event.specs.LiveEvents.{named, AreDistinct, new_live, with_change, without, as_handled, with_hold, without_hold, outcome_of, next_turn, IsLive, IsHeld, MayBeHeld, MayFinish};
 
 use crate::live::{self, Finished, TurnKind};
 use crate::nodes::{self, Node};
@@ -61,9 +61,9 @@ impl Events {
 
     /// Adds an event, which is the newest, with the client that waits for it. Its id may be that of an event that finished.
     pub fn push(&mut self, event: Event, waiter: Option<u64>) -> Result<EventId, AllocError>
-        ensures pushed { IfOk result (λ id. self.new ≡ self.old ++ queued id event waiter ∷ []) }
+        ensures pushed { IfOk result (λ id. self.new ≡ self.old ++ new_live id event waiter ∷ []) }
         ensures fresh { IfOk result (λ id. named id self.old ≡ None) }
-        ensures live { IfOk result (λ id. named id self.new ≡ Some (queued id event waiter)) }
+        ensures live { IfOk result (λ id. named id self.new ≡ Some (new_live id event waiter)) }
         ensures refused { OnErr result (self.new ≡ self.old) }
         ensures distinct { AreDistinct self.new }
     {
@@ -94,7 +94,7 @@ impl Events {
     /// Notes that a turn took an event up.
     pub fn handled(&mut self, id: EventId)
         requires { IsLive id self.old }
-        ensures changed { self.new ≡ changed id handled self.old }
+        ensures changed { self.new ≡ with_change id as_handled self.old }
         ensures distinct { AreDistinct self.new }
     {
         nodes::handle(&mut self.nodes, id.key);
@@ -103,7 +103,7 @@ impl Events {
     /// Holds an event once more: until all its holds are released, it can't finish.
     pub fn hold(&mut self, id: EventId)
         requires { MayBeHeld id self.old }
-        ensures changed { self.new ≡ changed id held self.old }
+        ensures changed { self.new ≡ with_change id with_hold self.old }
         ensures distinct { AreDistinct self.new }
     {
         nodes::hold(&mut self.nodes, id.key);
@@ -112,7 +112,7 @@ impl Events {
     /// Releases one hold of an event.
     pub fn release(&mut self, id: EventId, failed: bool)
         requires { IsHeld id self.old }
-        ensures changed { self.new ≡ changed id (released failed) self.old }
+        ensures changed { self.new ≡ with_change id (without_hold failed) self.old }
         ensures distinct { AreDistinct self.new }
     {
         nodes::release(&mut self.nodes, id.key, failed);

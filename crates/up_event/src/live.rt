@@ -1,6 +1,6 @@
 //! A live event, and what becomes of it.
 ghost use Rattle.std.specs.Prelude.{◌≡◌};
-ghost use Rattle.up_event.specs.LiveEvents.{queued, turn_of, outcome_of};
+ghost use Rattle.up_event.specs.LiveEvents.{new_live, turn_of, outcome_of};
 
 use up_model::{Event, EventId};
 
@@ -39,8 +39,8 @@ pub struct Finished {
 }
 
 /// An event that nobody took up or held yet.
-pub(crate) fn queued(id: EventId, event: Event, waiter: Option<u64>) -> LiveEvent
-    ensures { result ≡ queued id event waiter }
+pub(crate) fn new_live(id: EventId, event: Event, waiter: Option<u64>) -> LiveEvent
+    ensures { result ≡ new_live id event waiter }
 {
     LiveEvent {
         id,

@@ -2,7 +2,7 @@
 ghost use Rattle.std.specs.Prelude.{◌≡◌, ℕ, ◌+◌, ◌<◌, ◌^◌, IfSome, IsSomeAnd, IfOk, OnOk, OnErr, Some};
 ghost use Rattle.slab.specs.Slab.{get, slab_len, ContainsKey};
 ghost use Rattle.up_event.specs.Links.{Changes, IsNeighbour, after_push, after_removal, end_without, with_live, with_newer, with_older};
-ghost use Rattle.up_event.specs.LiveEvents.{handled, held, queued, released};
+ghost use Rattle.up_event.specs.LiveEvents.{as_handled, with_hold, new_live, without_hold};
 
 use crate::live::{self, LiveEvent};
 use slab::Slab;
@@ -40,7 +40,7 @@ pub(crate) fn set_older(nodes: &mut Slab<Node>, at: Option<usize>, older: Option
 /// Notes that the event at a key was taken up.
 pub(crate) fn handle(nodes: &mut Slab<Node>, key: usize)
     requires { ContainsKey nodes.old key }
-    ensures { Changes nodes.old nodes.new (with_live key handled) }
+    ensures { Changes nodes.old nodes.new (with_live key as_handled) }
 {
     nodes[key].live.handled = true;
 }
@@ -48,7 +48,7 @@ pub(crate) fn handle(nodes: &mut Slab<Node>, key: usize)
 /// Counts one more hold of the event at a key.
 pub(crate) fn hold(nodes: &mut Slab<Node>, key: usize)
     requires { IsSomeAnd (get nodes.old key) (λ node. node.live.holds + 1 < 2 ^ 128) }
-    ensures { Changes nodes.old nodes.new (with_live key held) }
+    ensures { Changes nodes.old nodes.new (with_live key with_hold) }
 {
     nodes[key].live.holds += 1;
 }
@@ -56,7 +56,7 @@ pub(crate) fn hold(nodes: &mut Slab<Node>, key: usize)
 /// Counts one hold less of the event at a key.
 pub(crate) fn release(nodes: &mut Slab<Node>, key: usize, failed: bool)
     requires { IsSomeAnd (get nodes.old key) (λ node. 0 < node.live.holds) }
-    ensures { Changes nodes.old nodes.new (with_live key (released failed)) }
+    ensures { Changes nodes.old nodes.new (with_live key (without_hold failed)) }
 {
     let live = &mut nodes[key].live;
     live.holds -= 1;
@@ -73,7 +73,7 @@ pub(crate) fn append(
     requires { IfSome newest (ContainsKey nodes.old) }
     ensures was_vacant { IfOk result (λ id. get nodes.old id.key ≡ None) }
     ensures nodes { IfOk result (λ id. (key : ℕ) →
-        get nodes.new key ≡ after_push newest (queued id event waiter) key (get nodes.old key)) }
+        get nodes.new key ≡ after_push newest (new_live id event waiter) key (get nodes.old key)) }
     ensures count { OnOk result (slab_len nodes.new ≡ slab_len nodes.old + 1) }
     ensures refused { OnErr result (nodes.new ≡ record nodes.old { capacity = nodes.new.capacity }) }
 {
@@ -84,7 +84,7 @@ pub(crate) fn append(
     let id = EventId {
         key: nodes.vacant_key(),
     };
-    let live = live::queued(id, event, waiter);
+    let live = live::new_live(id, event, waiter);
     nodes.insert_reserved(Node {
         live,
         older: newest,

@@ -10,14 +10,14 @@ use Rattle.up_expr.specs.declared.expr.Leaf.{Leaf}
 use Rattle.up_expr.specs.Trees.{Tree, One}
 use Rattle.up_expr.specs.Syntax.{Syntax, Bare, Group, Joined, tokens_of, is_item, is_right, with_both, tree_in, depth}
 use Rattle.up_expr.specs.Values.{is_plainly, is_open, is_close, is_and, is_or, is_operator, is_symbol, leaf_of}
-use Rattle.up_expr.specs.Parsing.{Pending, Position, Before, Within, Behind, Parser, at, operand, whole, step, outcome, lengthened}
+use Rattle.up_expr.specs.Parsing.{Pending, Position, Before, Within, After, Parser, at, operand, whole, step, outcome, after_word}
 
 -- a parser that reads some tokens is then at this place, whatever comes
 abbrev pub Reaches : List Token → Parser → Parser → Type 0
 Reaches tokens from to = (later : List Token) → outcome (tokens ++ later) from ≡ outcome later to
 
 pub step_other : (token : Token) (outer : List Pending) (left : Pending) (position : Position) → is_symbol token ≡ false
-    → step token (at outer left position) ≡ lengthened outer left token position
+    → step token (at outer left position) ≡ after_word outer left token position
 step_other token outer left position none =
     let p = or_parts (is_open token || is_close token) (is_operator token) none in
     let q = or_parts (is_open token) (is_close token) p.0 in
@@ -99,7 +99,7 @@ reads_open : (token : Token) (outer : List Pending) (left : Pending) → is_open
 reads_open token outer left is room later = rw (is, lt-ltb (length outer) 256 room) refl
 
 reads_close : (token : Token) (outer : List Pending) (before left : Pending) (position : Position) (tree : Tree) → is_close token ≡ true
-    → whole left (operand position) ≡ Some tree → Reaches (token ∷ []) (at (before ∷ outer) left position) (at outer before (Behind tree))
+    → whole left (operand position) ≡ Some tree → Reaches (token ∷ []) (at (before ∷ outer) left position) (at outer before (After tree))
 reads_close token outer before left position tree is ends later = rw (close_no_open token is, is, ends) refl
 
 reads_operator : (token : Token) (outer : List Pending) (left : Pending) (position : Position) (tree : Tree) → is_operator token ≡ true
@@ -139,10 +139,10 @@ reads (Group opening inner closing) outer tree right says deep =
     let item : (left : Pending) → EndsItem (tokens_of (Group opening inner closing)) outer left tree = λ left.
     let ends = (reads inner (left ∷ outer) tree p.1 says (omega (arith, deep))).1 in
     record {
-      position = Behind tree;
-      reaches = then_reads (opening ∷ []) (tokens_of inner ++ closing ∷ []) (at outer left Before) (at (left ∷ outer) None Before) (at outer left (Behind tree))
+      position = After tree;
+      reaches = then_reads (opening ∷ []) (tokens_of inner ++ closing ∷ []) (at outer left Before) (at (left ∷ outer) None Before) (at outer left (After tree))
           (reads_open opening outer left q.0 (omega (arith, deep)))
-          (then_reads (tokens_of inner) (closing ∷ []) (at (left ∷ outer) None Before) (at (left ∷ outer) ends.left ends.position) (at outer left (Behind tree))
+          (then_reads (tokens_of inner) (closing ∷ []) (at (left ∷ outer) None Before) (at (left ∷ outer) ends.left ends.position) (at outer left (After tree))
           ends.reaches (reads_close closing outer left ends.left ends.position tree q.1 ends.whole));
       operand = refl;
     } in

@@ -6,7 +6,7 @@ use Rattle.up_text.specs.declared.token.Token.{Token}
 use Rattle.up_expr.specs.Trees.{Tree}
 use Rattle.up_expr.specs.Syntax.{Syntax, Bare, Group, Joined, tokens_of, is_item, is_right, tree_in, depth}
 use Rattle.up_expr.specs.Values.{is_open, is_close, is_operator}
-use Rattle.up_expr.specs.Parsing.{Pending, Position, Before, Within, Behind, Parser, at, operand, whole, opened, closed, lengthened, step, finished, onward, outcome}
+use Rattle.up_expr.specs.Parsing.{Pending, Position, Before, Within, After, Parser, at, operand, whole, after_opening, after_closing, after_word, step, finished, go_on, outcome}
 
 -- a right syntax of these tokens that says this tree, within so many parentheses
 pub record Reads (tokens : List Token) (tree : Tree) (around : ℕ) : Type 0 where
@@ -25,7 +25,7 @@ pub record ReadsItem (tokens : List Token) (tree : Tree) (around : ℕ) : Type 0
 abbrev pub ForPosition : ℕ → Position → List Token → Type 0
 ForPosition around Before tokens = tokens ≡ []
 ForPosition around (Within own) tokens = tokens ≡ own
-ForPosition around (Behind tree) tokens = ReadsItem tokens tree around
+ForPosition around (After tree) tokens = ReadsItem tokens tree around
 
 -- those for what stands before it
 abbrev pub ForLeft : ℕ → Pending → List Token → Type 0
@@ -57,7 +57,7 @@ operand_reads around (Within own) tokens tree few read is = record {
   reads = record { syntax = Bare own; text = sym read; right = refl; says = is; shallow = omega (arith, few) };
   item = refl;
 }
-operand_reads around (Behind own) tokens tree few read is = let same : own ≡ tree = cc in subst (λ t. ReadsItem tokens t around) same read
+operand_reads around (After own) tokens tree few read is = let same : own ≡ tree = cc in subst (λ t. ReadsItem tokens t around) same read
 
 -- a tree that ends here is read
 whole_reads : (around : ℕ) (left : Pending) (position : Position) (before own : List Token) (tree : Tree) → around ≤ 256 → ForLeft around left before → ForPosition around position own
@@ -87,7 +87,7 @@ Steps tokens token None = Unit {0}
 Steps tokens token (Some next) = HasRead (tokens ++ token ∷ []) next
 
 opened_reads : (tokens : List Token) (token : Token) (outer : List Pending) (left : Pending) (position : Position) → HasRead tokens (at outer left position) → is_open token ≡ true
-    → Steps tokens token (opened outer left position)
+    → Steps tokens token (after_opening outer left position)
 opened_reads tokens token outer left Before read is = by_case (nat_lt (length outer) 256) refl
   where
     by_case : (b : Bool) → nat_lt (length outer) 256 ≡ b → Steps tokens token (if b then Some (at (left ∷ outer) None Before) else None)
@@ -111,14 +111,14 @@ opened_reads tokens token outer left Before read is = by_case (nat_lt (length ou
     }
     by_case false full = tt
 opened_reads tokens token outer left (Within own) read is = tt
-opened_reads tokens token outer left (Behind tree) read is = tt
+opened_reads tokens token outer left (After tree) read is = tt
 
 regroup : (front own inner : List Token) (opening closing : Token) → ((front ++ (own ++ opening ∷ [])) ++ inner) ++ closing ∷ [] ≡ front ++ (own ++ opening ∷ (inner ++ closing ∷ []))
 regroup front own inner opening closing =
     append_assoc (front ++ (own ++ opening ∷ [])) inner (closing ∷ []) ∙ append_assoc front (own ++ opening ∷ []) (inner ++ closing ∷ []) ∙ ap (λ ts. front ++ ts) (append_assoc own (opening ∷ []) (inner ++ closing ∷ []))
 
 closed_reads : (tokens : List Token) (token : Token) (outer : List Pending) (left : Pending) (position : Position) → HasRead tokens (at outer left position) → is_close token ≡ true
-    → (found : Option Tree) → whole left (operand position) ≡ found → Steps tokens token (closed outer found)
+    → (found : Option Tree) → whole left (operand position) ≡ found → Steps tokens token (after_closing outer found)
 closed_reads tokens token [] left position read is found whole_is = tt
 closed_reads tokens token (before ∷ outer) left position read is None whole_is = tt
 closed_reads tokens token (before ∷ outer) left position read is (Some tree) whole_is =
@@ -161,7 +161,7 @@ operator_reads tokens token outer left position read is (Some tree) whole_is =
     }
 
 lengthened_reads : (tokens : List Token) (token : Token) (outer : List Pending) (left : Pending) (position : Position) → HasRead tokens (at outer left position)
-    → Steps tokens token (lengthened outer left token position)
+    → Steps tokens token (after_word outer left token position)
 lengthened_reads tokens token outer left Before read = record {
   around = read.around;
   before = read.before;
@@ -182,22 +182,22 @@ lengthened_reads tokens token outer left (Within own) read = record {
   for_position = refl;
   few = read.few;
 }
-lengthened_reads tokens token outer left (Behind tree) read = tt
+lengthened_reads tokens token outer left (After tree) read = tt
 
 step_reads : (tokens : List Token) (token : Token) (parser : Parser) → HasRead tokens parser → Steps tokens token (step token parser)
 step_reads tokens token parser read = by_open (is_open token) refl
   where
-    by_operator : (b : Bool) → is_operator token ≡ b → Steps tokens token (if b then option_map (λ tree. at parser.outer (Some (tree, token)) Before) (whole parser.left (operand parser.position)) else lengthened parser.outer parser.left token parser.position)
+    by_operator : (b : Bool) → is_operator token ≡ b → Steps tokens token (if b then option_map (λ tree. at parser.outer (Some (tree, token)) Before) (whole parser.left (operand parser.position)) else after_word parser.outer parser.left token parser.position)
     by_operator true is = operator_reads tokens token parser.outer parser.left parser.position read is (whole parser.left (operand parser.position)) refl
     by_operator false is = lengthened_reads tokens token parser.outer parser.left parser.position read
 
     by_close : (b : Bool) → is_close token ≡ b
-        → Steps tokens token (if b then closed parser.outer (whole parser.left (operand parser.position)) else (if is_operator token then option_map (λ tree. at parser.outer (Some (tree, token)) Before) (whole parser.left (operand parser.position)) else lengthened parser.outer parser.left token parser.position))
+        → Steps tokens token (if b then after_closing parser.outer (whole parser.left (operand parser.position)) else (if is_operator token then option_map (λ tree. at parser.outer (Some (tree, token)) Before) (whole parser.left (operand parser.position)) else after_word parser.outer parser.left token parser.position))
     by_close true is = closed_reads tokens token parser.outer parser.left parser.position read is (whole parser.left (operand parser.position)) refl
     by_close false is = by_operator (is_operator token) refl
 
     by_open : (b : Bool) → is_open token ≡ b
-        → Steps tokens token (if b then opened parser.outer parser.left parser.position else (if is_close token then closed parser.outer (whole parser.left (operand parser.position)) else (if is_operator token then option_map (λ tree. at parser.outer (Some (tree, token)) Before) (whole parser.left (operand parser.position)) else lengthened parser.outer parser.left token parser.position)))
+        → Steps tokens token (if b then after_opening parser.outer parser.left parser.position else (if is_close token then after_closing parser.outer (whole parser.left (operand parser.position)) else (if is_operator token then option_map (λ tree. at parser.outer (Some (tree, token)) Before) (whole parser.left (operand parser.position)) else after_word parser.outer parser.left token parser.position)))
     by_open true is = opened_reads tokens token parser.outer parser.left parser.position read is
     by_open false is = by_close (is_close token) refl
 
@@ -217,6 +217,6 @@ sound tokens (token ∷ later) parser tree read ends =
   where
     by_step : (found : Option Parser) → Steps tokens token found
         → ((next : Parser) → HasRead (tokens ++ token ∷ []) next → outcome later next ≡ Some tree → Reads ((tokens ++ token ∷ []) ++ later) tree 0)
-        → onward (λ next. outcome later next) found ≡ Some tree → Reads (tokens ++ token ∷ later) tree 0
+        → go_on (λ next. outcome later next) found ≡ Some tree → Reads (tokens ++ token ∷ later) tree 0
     by_step None steps more e = cc
     by_step (Some next) steps more e = subst (λ ts. Reads ts tree 0) (append_assoc tokens (token ∷ []) later) (more next steps e)

@@ -1,5 +1,6 @@
 -- An expression as a flat list of nodes in post-order, and what such a list says.
 use Rattle.std.specs.Prelude.{◌≡◌, ℕ, ◌+◌, ◌-◌, ◌≤◌, Bool, true, false, ◌&&◌, ◌||◌, List, [], ◌∷◌, ◌++◌, length, get_or, is_some}
+use Rattle.up_expr.specs.declared.flat.TheConstants.{MAX_NODES}
 use Rattle.up_expr.specs.declared.expr.Leaf.{Leaf}
 use Rattle.up_expr.specs.declared.node.Node.{Node}
 use Rattle.up_expr.specs.declared.node.Node.TheVariants as node
@@ -23,9 +24,11 @@ leaves_of (Either left right) = leaves_of left ++ leaves_of right
 abbrev pub nodes_of : ℕ → Tree → List Node
 nodes_of start (One leaf) = node.Leaf leaf ∷ []
 nodes_of start (Both left right) =
-    nodes_of start left ++ nodes_of (start + size left) right ++ node.And (start + size left - 1) (start + size left + size right - 1) ∷ []
+    nodes_of start left ++ nodes_of (start + size left) right
+    ++ node.And (start + size left - 1) (start + size left + size right - 1) ∷ []
 nodes_of start (Either left right) =
-    nodes_of start left ++ nodes_of (start + size left) right ++ node.Or (start + size left - 1) (start + size left + size right - 1) ∷ []
+    nodes_of start left ++ nodes_of (start + size left) right
+    ++ node.Or (start + size left - 1) (start + size left + size right - 1) ∷ []
 
 -- the leaves among nodes, in order
 abbrev pub leaves_in : List Node → List Leaf
@@ -53,6 +56,6 @@ nodes_hold nodes sights = get_or (truths [] sights nodes) (length nodes - 1) fal
 -- right are the tree's
 pub record IsFlat (nodes : List Node) (tree : Tree) : Type 0 where
   pub laid : nodes ≡ nodes_of 0 tree
-  pub few : length nodes ≤ 4095
+  pub few : length nodes ≤ MAX_NODES
   pub means : (sights : List Sight) → nodes_hold nodes sights ≡ holds tree sights
   pub leaves : leaves_in nodes ≡ leaves_of tree

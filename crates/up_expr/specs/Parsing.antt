@@ -1,8 +1,9 @@
 -- How a parser goes through the tokens of an expression, one after another.
-use Rattle.std.specs.Prelude.{ℕ, ◌+◌, nat_lt, List, [], ◌∷◌, ◌++◌, Option, None, Some, if◌then◌else◌, length, option_map}
+use Rattle.std.specs.Prelude.{ℕ, ◌+◌, Bool, nat_lt, nat_le, List, [], ◌∷◌, ◌++◌, Option, None, Some, if◌then◌else◌, length, option_map}
+use Rattle.up_expr.specs.declared.parse.TheConstants.{MAX_DEPTH, MAX_OPERATORS}
 use Rattle.up_text.specs.declared.token.Token.{Token}
 use Rattle.up_expr.specs.Trees.{Tree, One}
-use Rattle.up_expr.specs.Syntax.{joined}
+use Rattle.up_expr.specs.Syntax.{join_trees}
 use Rattle.up_expr.specs.Values.{is_open, is_close, is_operator, leaf_of}
 
 -- what stands before an operand: nothing, or a tree and an operator
@@ -13,7 +14,7 @@ Pending = Option (Tree × Token)
 pub data Position : Type 0 where
   Before : Position
   Within : (tokens : List Token) → Position
-  Behind : (tree : Tree) → Position
+  After : (tree : Tree) → Position
 
 -- what stands before each open parenthesis, the innermost first; what stands before the operand; and where the parser is
 pub record Parser : Type 0 where
@@ -28,35 +29,38 @@ at outer left position = record { outer = outer; left = left; position = positio
 abbrev pub operand : Position → Option Tree
 operand Before = None
 operand (Within tokens) = option_map One (leaf_of tokens)
-operand (Behind tree) = Some tree
+operand (After tree) = Some tree
 
 -- the tree that ends here: the operand, with what stands before it
 abbrev pub whole : Pending → Option Tree → Option Tree
 whole left None = None
 whole None (Some tree) = Some tree
-whole (Some before) (Some tree) = Some (joined before.1 before.0 tree)
+whole (Some before) (Some tree) = Some (join_trees before.1 before.0 tree)
 
-abbrev pub opened : List Pending → Pending → Position → Option Parser
-opened outer left Before = if nat_lt (length outer) 256 then Some (at (left ∷ outer) None Before) else None
-opened outer left (Within tokens) = None
-opened outer left (Behind tree) = None
+abbrev pub after_opening : List Pending → Pending → Position → Option Parser
+after_opening outer left Before = if nat_lt (length outer) MAX_DEPTH then Some (at (left ∷ outer) None Before)
+    else None
+after_opening outer left (Within tokens) = None
+after_opening outer left (After tree) = None
 
-abbrev pub closed : List Pending → Option Tree → Option Parser
-closed [] tree = None
-closed (left ∷ outer) tree = option_map (λ inner. at outer left (Behind inner)) tree
+abbrev pub after_closing : List Pending → Option Tree → Option Parser
+after_closing [] tree = None
+after_closing (left ∷ outer) tree = option_map (λ inner. at outer left (After inner)) tree
 
-abbrev pub lengthened : List Pending → Pending → Token → Position → Option Parser
-lengthened outer left token Before = Some (at outer left (Within (token ∷ [])))
-lengthened outer left token (Within tokens) = Some (at outer left (Within (tokens ++ token ∷ [])))
-lengthened outer left token (Behind tree) = None
+abbrev pub after_word : List Pending → Pending → Token → Position → Option Parser
+after_word outer left token Before = Some (at outer left (Within (token ∷ [])))
+after_word outer left token (Within tokens) = Some (at outer left (Within (tokens ++ token ∷ [])))
+after_word outer left token (After tree) = None
 
 -- one token more
 abbrev pub step : Token → Parser → Option Parser
 step token parser =
-    if is_open token then opened parser.outer parser.left parser.position
-    else (if is_close token then closed parser.outer (whole parser.left (operand parser.position))
-    else (if is_operator token then option_map (λ tree. at parser.outer (Some (tree, token)) Before) (whole parser.left (operand parser.position))
-    else lengthened parser.outer parser.left token parser.position))
+    if is_open token then after_opening parser.outer parser.left parser.position
+    else (if is_close token then after_closing parser.outer (whole parser.left (operand parser.position))
+    else (if is_operator token
+    then option_map (λ tree. at parser.outer (Some (tree, token)) Before)
+    (whole parser.left (operand parser.position))
+    else after_word parser.outer parser.left token parser.position))
 
 -- the tree that is whole at the end, if no parenthesis is open
 abbrev pub finished : List Pending → Option Tree → Option Tree
@@ -66,14 +70,14 @@ finished (left ∷ outer) tree = None
 abbrev pub end_of : Parser → Option Tree
 end_of parser = finished parser.outer (whole parser.left (operand parser.position))
 
-abbrev pub onward : (Parser → Option Tree) → Option Parser → Option Tree
-onward go None = None
-onward go (Some next) = go next
+abbrev pub go_on : (Parser → Option Tree) → Option Parser → Option Tree
+go_on go None = None
+go_on go (Some next) = go next
 
 -- the tree that these tokens end
 abbrev pub outcome : List Token → Parser → Option Tree
 outcome [] parser = end_of parser
-outcome (token ∷ tokens) parser = onward (λ next. outcome tokens next) (step token parser)
+outcome (token ∷ tokens) parser = go_on (λ next. outcome tokens next) (step token parser)
 
 -- a parser before the first token
 abbrev pub begin : Parser
@@ -83,3 +87,7 @@ begin = at [] None Before
 abbrev pub operators : List Token → ℕ
 operators [] = 0
 operators (token ∷ tokens) = if is_operator token then operators tokens + 1 else operators tokens
+
+-- so few operators that the tree has at most 2,048 leaves
+abbrev pub has_few_operators : List Token → Bool
+has_few_operators tokens = nat_le (operators tokens) MAX_OPERATORS

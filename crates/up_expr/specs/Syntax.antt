@@ -4,6 +4,7 @@
 --     expr = item, then any number of: ("and" or "or") item
 --     item = "(" expr ")" or leaf
 use Rattle.std.specs.Prelude.{◌≡◌, ℕ, ◌+◌, ◌≤◌, Bool, true, false, ◌&&◌, max, List, [], ◌∷◌, ◌++◌, Option, None, Some, if◌then◌else◌, option_map}
+use Rattle.up_expr.specs.declared.parse.TheConstants.{MAX_OPERATORS, MAX_DEPTH}
 use Rattle.up_text.specs.declared.token.Token.{Token}
 use Rattle.up_expr.specs.Trees.{Tree, One, Both, Either}
 use Rattle.up_expr.specs.Values.{is_open, is_close, is_and, is_operator, leaf_of}
@@ -29,17 +30,18 @@ is_item other = true
 abbrev pub is_right : Syntax → Bool
 is_right (Bare tokens) = true
 is_right (Group opening inner closing) = is_open opening && is_close closing && is_right inner
-is_right (Joined left operator right) = is_operator operator && is_item right && is_right left && is_right right
+is_right (Joined left operator right) =
+    is_operator operator && is_item right && is_right left && is_right right
 
 -- what an operator makes of two trees
-abbrev pub joined : Token → Tree → Tree → Tree
-joined operator left right = if is_and operator then Both left right else Either left right
+abbrev pub join_trees : Token → Tree → Tree → Tree
+join_trees operator left right = if is_and operator then Both left right else Either left right
 
 -- both of two, if there are both
 abbrev pub with_both : Token → Option Tree → Option Tree → Option Tree
 with_both operator None right = None
 with_both operator (Some left) None = None
-with_both operator (Some left) (Some right) = Some (joined operator left right)
+with_both operator (Some left) (Some right) = Some (join_trees operator left right)
 
 -- the tree that it says
 abbrev pub tree_in : Syntax → Option Tree
@@ -64,5 +66,5 @@ pub record Writes (tokens : List Token) (tree : Tree) : Type 0 where
   pub written : tokens_of syntax ≡ tokens
   pub right : is_right syntax ≡ true
   pub says : tree_in syntax ≡ Some tree
-  pub few : leaves syntax ≤ 2048
-  pub shallow : depth syntax ≤ 256
+  pub few : leaves syntax ≤ MAX_OPERATORS + 1
+  pub shallow : depth syntax ≤ MAX_DEPTH

@@ -19,28 +19,47 @@ node true left right = Both left right
 node false left right = Either left right
 
 -- the trees that nodes make of those so far, the newest first
-abbrev pub grown : List (Leaf ⊎ Bool) → List Tree → List Tree
-grown [] trees = trees
-grown (inl leaf ∷ later) trees = grown later (One leaf ∷ trees)
-grown (inr both ∷ later) (right ∷ left ∷ trees) = grown later (node both left right ∷ trees)
-grown (inr both ∷ later) [] = grown later []
-grown (inr both ∷ later) (one ∷ []) = grown later (one ∷ [])
+abbrev pub trees_after : List (Leaf ⊎ Bool) → List Tree → List Tree
+trees_after [] trees = trees
+trees_after (inl leaf ∷ later) trees = trees_after later (One leaf ∷ trees)
+trees_after (inr both ∷ later) (right ∷ left ∷ trees) = trees_after later (node both left right ∷ trees)
+trees_after (inr both ∷ later) [] = trees_after later []
+trees_after (inr both ∷ later) (one ∷ []) = trees_after later (one ∷ [])
 
 abbrev pub newest : List Tree → Tree
 newest [] = One (record { event = []; values = [] })
 newest (tree ∷ trees) = tree
 
 abbrev pub tree_from : List (Leaf ⊎ Bool) → Tree
-tree_from all = newest (grown all [])
+tree_from all = newest (trees_after all [])
 
-grown-nodes : (tree : Tree) (later : List (Leaf ⊎ Bool)) (trees : List Tree) → grown (nodes tree ++ later) trees ≡ grown later (tree ∷ trees)
-grown-nodes (One leaf) later trees = refl
-grown-nodes (Both left right) later trees = rw (append_assoc (nodes left) (nodes right ++ inr true ∷ []) later, append_assoc (nodes right) (inr true ∷ []) later, grown-nodes left (nodes right ++ inr true ∷ later) trees, grown-nodes right (inr true ∷ later) (left ∷ trees)) refl
-grown-nodes (Either left right) later trees = rw (append_assoc (nodes left) (nodes right ++ inr false ∷ []) later, append_assoc (nodes right) (inr false ∷ []) later, grown-nodes left (nodes right ++ inr false ∷ later) trees, grown-nodes right (inr false ∷ later) (left ∷ trees)) refl
+trees_after-nodes : (tree : Tree) (later : List (Leaf ⊎ Bool)) (trees : List Tree)
+    → trees_after (nodes tree ++ later) trees ≡ trees_after later (tree ∷ trees)
+trees_after-nodes (One leaf) later trees = refl
+trees_after-nodes (Both left right) later trees =
+    rw (
+      append_assoc (nodes left) (nodes right ++ inr true ∷ []) later,
+      append_assoc (nodes right) (inr true
+          ∷ []) later,
+      trees_after-nodes left (nodes right ++ inr true
+          ∷ later) trees,
+      trees_after-nodes right (inr true ∷ later) (left ∷ trees),
+    ) refl
+trees_after-nodes (Either left right) later trees =
+    rw (
+      append_assoc (nodes left) (nodes right ++ inr false
+          ∷ []) later,
+      append_assoc (nodes right) (inr false ∷ []) later,
+      trees_after-nodes left (nodes right
+          ++ inr false ∷ later) trees,
+      trees_after-nodes right (inr false ∷ later) (left ∷ trees),
+    ) refl
 
 pub tree_from-nodes : (tree : Tree) → tree_from (nodes tree) ≡ tree
-tree_from-nodes tree = ap (λ ns. tree_from ns) (sym (append-nil (nodes tree))) ∙ ap newest (grown-nodes tree [] [])
+tree_from-nodes tree = ap (λ ns. tree_from ns) (sym (append-nil (nodes tree)))
+    ∙ ap newest (trees_after-nodes tree [] [])
 
 -- a tree is stored as its nodes
 abbrev pub tree_code : Coded Tree
-tree_code = code_by (List (Leaf ⊎ Bool)) (coded_list (coded⊎ leaf.the_row.coded coded_bool)) nodes tree_from tree_from-nodes
+tree_code = code_by (List (Leaf ⊎ Bool))
+    (coded_list (coded⊎ leaf.the_row.coded coded_bool)) nodes tree_from tree_from-nodes

@@ -1,5 +1,6 @@
 //! Lays an expression out as a flat list of nodes.
 ghost use Rattle.std.specs.Prelude.{◌≡◌, ◌+◌, ◌-◌, ◌++◌, ◌∷◌, [], ◌<◌, ◌≤◌, IfOk, IfErr, OnOk, length};
+ghost use Rattle.up_expr.specs.declared.flat.TheConstants.{MAX_NODES};
 ghost use Rattle.up_expr.specs.Flat.{IsFlat, nodes_of, size};
 ghost use Rattle.up_expr.specs.Trees.{tree_of};
 ghost use Rattle.up_expr.specs.declared.flat.FlatFault.TheVariants.{ImageTooLarge};
@@ -47,8 +48,8 @@ fn push(nodes: &mut Vec<Node>, node: Node) -> Result<(), AllocError>
 fn push_node(nodes: &mut Vec<Node>, node: Node) -> Result<u16, FlatFault>
     ensures pushed { OnOk result (nodes.new.items ≡ nodes.old.items ++ node ∷ []) }
     ensures place { IfOk result (λ place. place ≡ length nodes.old.items) }
-    ensures few { OnOk result (length nodes.new.items ≤ 4095) }
-    ensures refused { IfErr result (λ fault. fault ≡ ImageTooLarge → 4095 ≤ length nodes.old.items) }
+    ensures few { OnOk result (length nodes.new.items ≤ MAX_NODES) }
+    ensures refused { IfErr result (λ fault. fault ≡ ImageTooLarge → MAX_NODES ≤ length nodes.old.items) }
 {
     let place = nodes.len();
     if place >= MAX_NODES {
@@ -61,10 +62,12 @@ fn push_node(nodes: &mut Vec<Node>, node: Node) -> Result<u16, FlatFault>
 // Appends the nodes of an expression and returns the place of the last one.
 #[cycle(flattener)]
 fn append_nodes(alloc: Global, expr: &Expr, nodes: &mut Vec<Node>) -> Result<u16, FlatFault>
-    ensures appended { OnOk result (nodes.new.items ≡ nodes.old.items ++ nodes_of (length nodes.old.items) (tree_of expr.now)) }
+    ensures appended { OnOk result (nodes.new.items
+        ≡ nodes.old.items ++ nodes_of (length nodes.old.items) (tree_of expr.now)) }
     ensures place { IfOk result (λ place. place ≡ length nodes.old.items + size (tree_of expr.now) - 1) }
-    ensures few { OnOk result (length nodes.new.items ≤ 4095) }
-    ensures refused { IfErr result (λ fault. fault ≡ ImageTooLarge → 4095 < length nodes.old.items + size (tree_of expr.now)) }
+    ensures few { OnOk result (length nodes.new.items ≤ MAX_NODES) }
+    ensures refused { IfErr result (λ fault. fault ≡ ImageTooLarge
+        → MAX_NODES < length nodes.old.items + size (tree_of expr.now)) }
 {
     match expr {
         Expr::Leaf(leaf) => {
@@ -106,7 +109,7 @@ fn append_nodes(alloc: Global, expr: &Expr, nodes: &mut Vec<Node>) -> Result<u16
 /// `ImageTooLarge` only if it has more than 4,095 nodes.
 pub fn flatten(alloc: Global, expr: &Expr) -> Result<Nodes, FlatFault>
     ensures flat { IfOk result (λ nodes. IsFlat nodes (tree_of expr.now)) }
-    ensures refused { IfErr result (λ fault. fault ≡ ImageTooLarge → 4095 < size (tree_of expr.now)) }
+    ensures refused { IfErr result (λ fault. fault ≡ ImageTooLarge → MAX_NODES < size (tree_of expr.now)) }
 {
     let mut nodes = Vec::new(alloc);
     match append_nodes(alloc, expr, &mut nodes) {

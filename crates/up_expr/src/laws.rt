@@ -10,12 +10,15 @@ ghost use Rattle.up_expr.specs.Truth.{Sight, first, holds, taken};
 
 /// Tokens write one tree at most, however they are cut into parts.
 pub fn one_tree()
-    ensures { (tokens : List Token) (tree other : Tree) → Writes tokens tree → Writes tokens other → tree ≡ other }
+    ensures { (tokens : List Token) (tree other : Tree) → Writes tokens tree → Writes tokens other
+        → tree ≡ other }
 {}
 
 /// A leaf has a first event if it matches some event.
 pub fn leaf_true()
-    ensures { (leaf : Leaf) (sights : List Sight) → is_some (first leaf sights) ≡ list_any (λ sight. matches leaf sight.name sight.vars sight.env) sights }
+    ensures { (leaf : Leaf) (sights : List Sight)
+        → is_some (first leaf sights)
+        ≡ list_any (λ sight. matches leaf sight.name sight.vars sight.env) sights }
 {}
 
 /// An expression is false if no event is taken, and only then.

@@ -8,13 +8,12 @@ ghost use Rattle.up_expr.specs.Values.{is_positional};
 
 use crate::expr::{Leaf, Test};
 use crate::fault::ExprFault;
-use std::alloc::Global;
+use std::alloc::{AllocError, Global};
 use up_text::{Env, Expanded, Name, Text, TextFault, expand, glob, supported};
 
 // The pattern that a value is after its expansion, if it is one.
-fn pattern_of(alloc: Global, value: &Text, env: &Env) -> Result<Option<Text>, ExprFault>
+fn pattern_of(alloc: Global, value: &Text, env: &Env) -> Result<Option<Text>, AllocError>
     ensures pattern { IfOk result (λ pattern. pattern ≡ pattern_of (expand value.now env.now)) }
-    ensures memory { OnErr result (result ≡ Err Memory) }
 {
     match expand(alloc, value.as_str(), env) {
         Ok(Expanded::Text(text)) => {
@@ -26,7 +25,7 @@ fn pattern_of(alloc: Global, value: &Text, env: &Env) -> Result<Option<Text>, Ex
         }
         Ok(Expanded::Unset(_)) => Ok(None),
         Err(TextFault::BadExpansion) => Ok(None),
-        Err(_) => Err(ExprFault::Memory),
+        Err(_) => Err(AllocError),
     }
 }
 
@@ -74,9 +73,9 @@ fn value_meets(
     value: &Text,
     env: &Env,
     found: Option<&str>,
-) -> Result<bool, ExprFault>
-    ensures holds { IfOk result (λ holds. holds ≡ meets (pattern_of (expand value.now env.now)) (option_map (λ text. text.now) found.entry)) }
-    ensures memory { OnErr result (result ≡ Err Memory) }
+) -> Result<bool, AllocError>
+    ensures holds { IfOk result (λ holds. holds
+        ≡ meets (pattern_of (expand value.now env.now)) (option_map (λ text. text.now) found.entry)) }
 {
     let pattern = pattern_of(alloc, value, env)?;
     Ok(meets(&pattern, found))
@@ -88,9 +87,9 @@ fn value_misses(
     value: &Text,
     env: &Env,
     found: Option<&str>,
-) -> Result<bool, ExprFault>
-    ensures holds { IfOk result (λ holds. holds ≡ misses (pattern_of (expand value.now env.now)) (option_map (λ text. text.now) found.entry)) }
-    ensures memory { OnErr result (result ≡ Err Memory) }
+) -> Result<bool, AllocError>
+    ensures holds { IfOk result (λ holds. holds
+        ≡ misses (pattern_of (expand value.now env.now)) (option_map (λ text. text.now) found.entry)) }
 {
     let pattern = pattern_of(alloc, value, env)?;
     Ok(misses(&pattern, found))
@@ -103,9 +102,8 @@ fn test_holds(
     k: usize,
     vars: &Env,
     env: &Env,
-) -> Result<bool, ExprFault>
+) -> Result<bool, AllocError>
     ensures holds { IfOk result (λ holds. holds ≡ test_holds vars.now env.now k test.now) }
-    ensures memory { OnErr result (result ≡ Err Memory) }
 {
     match test {
         Test::Place(value) => value_meets(alloc, value, env, nth_value(vars, k)),
@@ -124,9 +122,8 @@ fn is_positional(test: &Test) -> bool
 }
 
 // Whether all tests hold, if the first positional value is for the first variable.
-fn tests_hold(alloc: Global, tests: &[Test], vars: &Env, env: &Env) -> Result<bool, ExprFault>
+fn tests_hold(alloc: Global, tests: &[Test], vars: &Env, env: &Env) -> Result<bool, AllocError>
     ensures holds { IfOk result (λ holds. holds ≡ tests_hold vars.now env.now 0 tests.now) }
-    ensures memory { OnErr result (result ≡ Err Memory) }
 {
     let mut k = 0;
     for test in tests {
@@ -153,7 +150,7 @@ pub fn leaf_matches(
     ensures memory { OnErr result (result ≡ Err Memory) }
 {
     if name.is(&leaf.event) {
-        tests_hold(alloc, leaf.values.as_slice(), vars, env)
+        Ok(tests_hold(alloc, leaf.values.as_slice(), vars, env)?)
     } else {
         Ok(false)
     }

@@ -94,7 +94,8 @@ fn read_values(alloc: Global, tokens: &[Token]) -> Result<Items<Test>, ExprFault
 
 // The fault of a leaf whose event has no name: of its name, or of its values.
 fn fault_of(fault: TextFault, others: &[Token]) -> ExprFault
-    ensures memory { fault ≡ text.Memory → IsFaultOf (values.are_values (values.values_of others.now)) result }
+    ensures memory { fault ≡ text.Memory
+        → IsFaultOf (values.are_values (values.values_of others.now)) result }
     ensures other { (fault ≡ text.Memory → ⊥) → result ≡ Memory → ⊥ }
 {
     match fault {

@@ -1,7 +1,7 @@
 //! Reads an expression from its tokens.
 ghost use Rattle.std.specs.Prelude.{◌≡◌, ◌≤◌, ◌<◌, ◌+◌, ◌∷◌, List, ℕ, Some, None, IfErr, IfOk, OnErr, MatchOption, true, false, length, drop};
 ghost use Rattle.std.specs.List.{list_any};
-ghost use Rattle.up_expr.specs.Parsing.{Pending, at, Before, Behind, outcome, operators, begin};
+ghost use Rattle.up_expr.specs.Parsing.{Pending, at, Before, After, outcome, operators, begin};
 ghost use Rattle.up_text.specs.Lists.{begins};
 ghost use Rattle.up_expr.specs.Syntax.{Writes};
 ghost use Rattle.up_expr.specs.Trees.{Tree, One};
@@ -25,13 +25,13 @@ const MAX_DEPTH: usize = 256;
 const MAX_OPERATORS: usize = 2_047;
 
 // The trees with the operator between them.
-fn joined(
+fn join_trees(
     alloc: Global,
     left: Condition,
     operator: &Token,
     right: Condition,
 ) -> Result<Condition, AllocError>
-    ensures { IfOk result (λ both. both ≡ Rattle.up_expr.specs.Syntax.joined operator.now left right) }
+    ensures { IfOk result (λ both. both ≡ Rattle.up_expr.specs.Syntax.join_trees operator.now left right) }
 {
     let left = Box::new(alloc, left.into_expr())?;
     let right = Box::new(alloc, right.into_expr())?;
@@ -50,11 +50,12 @@ fn join(
     operator: &Token,
     right: Option<Condition>,
 ) -> Option<Condition>
-    ensures { (l r : Tree) → Keeps left l → Keeps right r → Keeps result (Rattle.up_expr.specs.Syntax.joined operator.now l r) }
+    ensures { (l r : Tree) → Keeps left l → Keeps right r
+        → Keeps result (Rattle.up_expr.specs.Syntax.join_trees operator.now l r) }
 {
     match left {
         Some(left) => match right {
-            Some(right) => match joined(alloc, left, operator, right) {
+            Some(right) => match join_trees(alloc, left, operator, right) {
                 Ok(both) => Some(both),
                 Err(_) => None,
             },
@@ -67,7 +68,8 @@ fn join(
 // The leaf that the tokens write, unless memory is refused.
 fn keep_leaf(alloc: Global, tokens: &[Token]) -> Result<Option<Condition>, ExprFault>
     requires { list_any values.is_symbol tokens.now ≡ false }
-    ensures read { IfOk result (λ kept. (leaf : Leaf) × (values.leaf_of tokens.now ≡ Some leaf) × Keeps kept (One leaf)) }
+    ensures read { IfOk result (λ kept. (leaf : Leaf) × (values.leaf_of tokens.now ≡ Some leaf)
+        × Keeps kept (One leaf)) }
     ensures refused { OnErr result (values.leaf_of tokens.now ≡ None) }
     ensures fault { IfErr result (λ fault. fault ≡ Memory → ⊥) }
 {
@@ -81,40 +83,47 @@ fn keep_leaf(alloc: Global, tokens: &[Token]) -> Result<Option<Condition>, ExprF
 // The leaf in front, and what stands after it.
 fn read_operand(alloc: Global, tokens: &[Token]) -> Result<(Option<Condition>, &[Token]), ExprFault>
     requires { begins values.is_open tokens.now ≡ false }
-    ensures read { IfOk result (λ found. (tree : Tree) × Keeps found.0 tree × ((outer : List Pending) (left : Pending) → outcome tokens.now (at outer left Before) ≡ outcome found.1.now (at outer left (Behind tree)))) }
-    ensures refused { OnErr result ((outer : List Pending) (left : Pending) → outcome tokens.now (at outer left Before) ≡ None) }
+    ensures read { IfOk result (λ found. (tree : Tree) × Keeps found.0 tree
+        × ((outer : List Pending) (left : Pending)
+        → outcome tokens.now (at outer left Before) ≡ outcome found.1.now (at outer left (After tree)))) }
+    ensures refused { OnErr result ((outer : List Pending) (left : Pending)
+        → outcome tokens.now (at outer left Before) ≡ None) }
     ensures fault { IfErr result (λ fault. fault ≡ Memory → ⊥) }
     ensures shorter { IfOk result (λ found. length found.1.now < length tokens.now) }
 {
-    let (own, behind) = tokens.split_at(leaf_len(tokens));
+    let (own, after) = tokens.split_at(leaf_len(tokens));
     match keep_leaf(alloc, own) {
-        Ok(leaf) => Ok((leaf, behind)),
+        Ok(leaf) => Ok((leaf, after)),
         Err(fault) => Err(fault),
     }
 }
 
 // The opening parenthesis in front, if one comes, and what stands after it.
-fn behind_open(tokens: &[Token]) -> Option<(&Token, &[Token])>
-    ensures { MatchOption result (begins values.is_open tokens.now ≡ false) (λ found. (tokens.now ≡ found.0.now ∷ found.1.now) × (values.is_open found.0.now ≡ true)) }
+fn after_open(tokens: &[Token]) -> Option<(&Token, &[Token])>
+    ensures { MatchOption result (begins values.is_open tokens.now
+        ≡ false) (λ found. (tokens.now ≡ found.0.now ∷ found.1.now) × (values.is_open found.0.now ≡ true)) }
 {
     tokens.split_first().filter(|(token, _)| is_open(token))
 }
 
 // What stands after a closing parenthesis, which must come.
-fn behind_close(tokens: &[Token]) -> Result<&[Token], ExprFault>
-    ensures ok { IfOk result (λ behind. (begins values.is_close tokens.now ≡ true) × (behind.now ≡ drop 1 tokens.now) × (0 < length tokens.now)) }
+fn after_close(tokens: &[Token]) -> Result<&[Token], ExprFault>
+    ensures ok { IfOk result (λ after. (begins values.is_close tokens.now ≡ true)
+        × (after.now ≡ drop 1 tokens.now) × (0 < length tokens.now)) }
     ensures refused { OnErr result (begins values.is_close tokens.now ≡ false) }
     ensures fault { IfErr result (λ fault. fault ≡ Memory → ⊥) }
 {
     match tokens.split_first() {
-        Some((token, behind)) if is_close(token) => Ok(behind),
+        Some((token, after)) if is_close(token) => Ok(after),
         _ => Err(ExprFault::BadExpression),
     }
 }
 
 // What stands after the operator in front, if one comes.
-fn behind_operator(tokens: &[Token]) -> Option<(&Token, &[Token])>
-    ensures { MatchOption result (begins values.is_operator tokens.now ≡ false) (λ found. (tokens.now ≡ found.0.now ∷ found.1.now) × (values.is_operator found.0.now ≡ true)) }
+fn after_operator(tokens: &[Token]) -> Option<(&Token, &[Token])>
+    ensures { MatchOption result (begins values.is_operator tokens.now
+        ≡ false) (λ found. (tokens.now ≡ found.0.now ∷ found.1.now)
+        × (values.is_operator found.0.now ≡ true)) }
 {
     tokens.split_first().filter(|(token, _)| is_operator(token))
 }
@@ -126,20 +135,23 @@ fn parse_item(
     tokens: &[Token],
     depth: usize,
 ) -> Result<(Option<Condition>, &[Token]), ExprFault>
-    ensures read { IfOk result (λ found. (tree : Tree) × Keeps found.0 tree × ((outer : List Pending) (left : Pending) → length outer ≡ depth → outcome tokens.now (at outer left Before) ≡ outcome found.1.now (at outer left (Behind tree)))) }
-    ensures refused { OnErr result ((outer : List Pending) (left : Pending) → length outer ≡ depth → outcome tokens.now (at outer left Before) ≡ None) }
+    ensures read { IfOk result (λ found. (tree : Tree) × Keeps found.0 tree
+        × ((outer : List Pending) (left : Pending) → length outer ≡ depth
+        → outcome tokens.now (at outer left Before) ≡ outcome found.1.now (at outer left (After tree)))) }
+    ensures refused { OnErr result ((outer : List Pending) (left : Pending) → length outer ≡ depth
+        → outcome tokens.now (at outer left Before) ≡ None) }
     ensures fault { IfErr result (λ fault. fault ≡ Memory → ⊥) }
     ensures shorter { IfOk result (λ found. length found.1.now < length tokens.now) }
 {
-    let Some((_, inner)) = behind_open(tokens) else {
+    let Some((_, inner)) = after_open(tokens) else {
         return read_operand(alloc, tokens);
     };
     if depth >= MAX_DEPTH {
         return Err(ExprFault::TooLarge);
     }
     match parse_items(alloc, inner, depth + 1) {
-        Ok((tree, rest)) => match behind_close(rest) {
-            Ok(behind) => Ok((tree, behind)),
+        Ok((tree, rest)) => match after_close(rest) {
+            Ok(after) => Ok((tree, after)),
             Err(fault) => Err(fault),
         },
         Err(fault) => Err(fault),
@@ -153,9 +165,12 @@ fn parse_items(
     tokens: &[Token],
     depth: usize,
 ) -> Result<(Option<Condition>, &[Token]), ExprFault>
-    ensures read { IfOk result (λ found. (tree : Tree) × Keeps found.0 tree × ((outer : List Pending) → length outer ≡ depth → outcome tokens.now (at outer None Before) ≡ outcome found.1.now (at outer None (Behind tree)))) }
+    ensures read { IfOk result (λ found. (tree : Tree) × Keeps found.0 tree
+        × ((outer : List Pending) → length outer ≡ depth
+        → outcome tokens.now (at outer None Before) ≡ outcome found.1.now (at outer None (After tree)))) }
     ensures ended { IfOk result (λ found. begins values.is_operator found.1.now ≡ false) }
-    ensures refused { OnErr result ((outer : List Pending) → length outer ≡ depth → outcome tokens.now (at outer None Before) ≡ None) }
+    ensures refused { OnErr result ((outer : List Pending) → length outer ≡ depth
+        → outcome tokens.now (at outer None Before) ≡ None) }
     ensures fault { IfErr result (λ fault. fault ≡ Memory → ⊥) }
     ensures shorter { IfOk result (λ found. length found.1.now < length tokens.now) }
 {
@@ -163,8 +178,8 @@ fn parse_items(
         Ok(found) => found,
         Err(fault) => return Err(fault),
     };
-    'operators: while let Some((operator, behind)) = behind_operator(rest) {
-        match parse_item(alloc, behind, depth) {
+    'operators: while let Some((operator, after)) = after_operator(rest) {
+        match parse_item(alloc, after, depth) {
             Ok((right, others)) => {
                 tree = join(alloc, tree, operator, right);
                 rest = others;
@@ -190,7 +205,8 @@ fn operators(tokens: &[Token]) -> usize
 
 // The expression that all tokens write, however many operators it has; nothing if memory was refused.
 fn parse_all(alloc: Global, tokens: &[Token]) -> Result<Option<Condition>, ExprFault>
-    ensures read { IfOk result (λ kept. (tree : Tree) × Keeps kept tree × (outcome tokens.now begin ≡ Some tree)) }
+    ensures read { IfOk result (λ kept. (tree : Tree) × Keeps kept tree
+        × (outcome tokens.now begin ≡ Some tree)) }
     ensures refused { OnErr result (outcome tokens.now begin ≡ None) }
     ensures fault { IfErr result (λ fault. fault ≡ Memory → ⊥) }
 {
@@ -211,7 +227,8 @@ fn parse_all(alloc: Global, tokens: &[Token]) -> Result<Option<Condition>, ExprF
 pub fn parse_expr(alloc: Global, tokens: &[Token]) -> Result<Condition, ExprFault>
     ensures tree { IfOk result (λ tree. Writes tokens.now tree) }
     ensures memory { IfErr result (λ fault. fault ≡ Memory → (tree : Tree) × Writes tokens.now tree) }
-    ensures refused { IfErr result (λ fault. (fault ≡ Memory → ⊥) → (tree : Tree) → Writes tokens.now tree → ⊥) }
+    ensures refused { IfErr result (λ fault. (fault ≡ Memory → ⊥) → (tree : Tree) → Writes tokens.now tree
+        → ⊥) }
 {
     if operators(tokens) > MAX_OPERATORS {
         return Err(ExprFault::TooLarge);

@@ -14,14 +14,18 @@ use up_text::{Text, is_expandable, supported};
 
 // The parts of a text before and after its first =, if it has one.
 fn split_value(text: &str) -> Option<(&str, &str)>
-    ensures { MatchOption result (values.has_equals text.now ≡ false) (λ parts. (values.has_equals text.now ≡ true) × (parts.0.now ≡ before_first is_equals text.now) × (parts.1.now ≡ after_first is_equals text.now)) }
+    ensures { MatchOption result (values.has_equals text.now
+        ≡ false) (λ parts. (values.has_equals text.now ≡ true)
+        × (parts.0.now ≡ before_first is_equals text.now) × (parts.1.now ≡ after_first is_equals text.now)) }
 {
     text.split_once('=')
 }
 
 // The key of KEY!, if the text is that.
 fn negated_key(text: &str) -> Option<&str>
-    ensures { MatchOption result (values.is_negated_key text.now ≡ false) (λ key. (values.is_negated_key text.now ≡ true) × (key.now ≡ take (length text.now - 1) text.now)) }
+    ensures { MatchOption result (values.is_negated_key text.now
+        ≡ false) (λ key. (values.is_negated_key text.now ≡ true)
+        × (key.now ≡ take (length text.now - 1) text.now)) }
 {
     match text.strip_suffix("!") {
         Some(key) => { if is_key(key) { Some(key) } else { None } }

@@ -14,6 +14,7 @@ AreCopies Failed found = ⊤
 
 -- an end is the next one of the script and that of a process that lives
 abbrev pub IsFound : ℕ → List (Option (Who × Process × How)) → ℕ → Found → Type 0
-IsFound living ends next (End told end) = (0 < living) × (slice_get ends next ≡ Some (Some end)) × (told ≡ end)
+IsFound living ends next (End told end) =
+    (0 < living) × (slice_get ends next ≡ Some (Some end)) × (told ≡ end)
 IsFound living ends next Nothing = ⊤
 IsFound living ends next Failed = 0 < living

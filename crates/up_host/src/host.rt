@@ -24,22 +24,26 @@ pub trait Host {
 
     /// Starts a process, whose number is returned.
     fn spawn(&mut self, order: &Order) -> Result<u32, HostFault>
-        ensures told { Tells (λ pid. Spawned order.now pid) (entries self.old) (faults self.old) result (entries self.new) (faults self.new) }
+        ensures told { Tells (λ pid. Spawned order.now pid) (entries self.old) (faults self.old) result
+            (entries self.new) (faults self.new) }
         ensures lives { LivesAfterSpawn (living self.old) result (living self.new) };
 
     /// One end of a process that was not reported before, if one is found.
     fn poll(&mut self) -> Result<Option<(Who, Process, How)>, HostFault>
-        ensures told { Tells Polled (entries self.old) (faults self.old) result (entries self.new) (faults self.new) }
+        ensures told { Tells Polled (entries self.old) (faults self.old) result (entries self.new)
+            (faults self.new) }
         ensures lives { LivesAfterPoll (living self.old) result (living self.new) };
 
     /// Sends a signal to a process.
     fn signal(&mut self, who: &Who, pid: u32, signal: u8) -> Result<(), HostFault>
-        ensures told { Tells (λ _. Signalled who.now pid signal) (entries self.old) (faults self.old) result (entries self.new) (faults self.new) }
+        ensures told { Tells (λ _. Signalled who.now pid signal) (entries self.old) (faults self.old) result
+            (entries self.new) (faults self.new) }
         ensures lives { living self.new ≡ living self.old };
 
     /// A reading of the clock, in milliseconds.
     fn now(&mut self) -> Result<u64, HostFault>
-        ensures told { Tells Now (entries self.old) (faults self.old) result (entries self.new) (faults self.new) }
+        ensures told { Tells Now (entries self.old) (faults self.old) result (entries self.new)
+            (faults self.new) }
         ensures lives { living self.new ≡ living self.old };
 
     /// How many calls have failed.

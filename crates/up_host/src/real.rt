@@ -95,7 +95,8 @@ impl<R: Processes> RealHost<R> {
 
     // Starts the process of an order as one more child.
     fn start(&mut self, order: &Order) -> Option<u32>
-        ensures children { length self.new.children.items ≡ length self.old.children.items + (if is_some result then 1 else 0) }
+        ensures children { length self.new.children.items
+            ≡ length self.old.children.items + (if is_some result then 1 else 0) }
         ensures journal { self.new.journal ≡ self.old.journal }
     {
         if self.children.reserve(1).is_err() {
@@ -123,8 +124,10 @@ impl<R: Processes> RealHost<R> {
     fn take_end(&mut self, place: usize, how: How) -> Option<(End, End)>
         requires { place < length self.old.children.items }
         ensures equal { IfSome result (λ ends. ends.0 ≡ ends.1) }
-        ensures child { IfSome result (λ ends. HoldsAt (λ running. ends.1 ≡ (running.who, running.process, how)) self.old.children.items place) }
-        ensures children { length self.new.children.items + (if is_some result then 1 else 0) ≡ length self.old.children.items }
+        ensures child { IfSome result (λ ends. HoldsAt (λ running. ends.1
+            ≡ (running.who, running.process, how)) self.old.children.items place) }
+        ensures children { length self.new.children.items + (if is_some result then 1 else 0)
+            ≡ length self.old.children.items }
         ensures journal { self.new.journal ≡ self.old.journal }
     {
         let running = &self.children[place];

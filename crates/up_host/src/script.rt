@@ -81,7 +81,8 @@ impl ScriptHost {
 
     // The number of the next process, which lives from now on.
     fn start(&mut self) -> Option<u32>
-        ensures pid { IfSome result (λ pid. slice_get self.old.script.pids.items self.old.next_pid ≡ Some pid) }
+        ensures pid { IfSome result (λ pid. slice_get self.old.script.pids.items self.old.next_pid
+            ≡ Some pid) }
         ensures living { self.new.living ≡ self.old.living + (if is_some result then 1 else 0) }
         ensures journal { self.new.journal ≡ self.old.journal }
     {

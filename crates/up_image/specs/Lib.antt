@@ -8,6 +8,10 @@ pub mod Image
 pub mod Compiling
 -- The numbers and names of errors of images.
 pub mod ImageErrors
+-- Which jobs a job file with its override can give.
+pub mod Giving
+-- What stands first in bytes, and the bytes after it.
+pub mod Finding
 -- When bytes are read as a table, and why they are refused.
 pub mod Reading
 -- Why a folder isn't compiled.

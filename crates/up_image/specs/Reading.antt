@@ -1,13 +1,11 @@
 -- When bytes are read as a table, and why they are refused.
-use Rattle.std.specs.Prelude.{◌≡◌, ◌⊎◌, ℕ, ◌==◌, nat_lt, not, if◌then◌else◌, List, take, drop, length, Option, None, Some, Result, Ok, Err, codes}
+use Rattle.std.specs.Prelude.{◌≡◌, ℕ, ◌==◌, true, nat_lt, not, if◌then◌else◌, List, take, drop, length, Option, None, Some, Result, Ok, Err, codes}
 use Rattle.std.specs.Str.{bytes_eq}
 use Rattle.byteorder.specs.Endian.{big_number}
-use Rattle.up_conf.specs.declared.folder.File.{File}
 use Rattle.up_conf.specs.declared.job.JobDef.{JobDef}
-use Rattle.up_conf.specs.declared.report.Fault.{Fault}
 use Rattle.up_image.specs.declared.image_error.ImageError.{ImageError}
-use Rattle.up_image.specs.declared.image_error.ImageError.TheVariants.{BadMagic, BadVersion, Truncated, Trailing, BadTable, Memory}
-use Rattle.up_image.specs.Compiling.{Compiles}
+use Rattle.up_image.specs.declared.image_error.ImageError.TheVariants.{ImageTooLarge, BadMagic, BadVersion, Truncated, Trailing, BadTable, Memory}
+use Rattle.up_image.specs.Giving.{can_all_be_given}
 use Rattle.up_image.specs.Image.{IsImage}
 
 -- how long an image says that it is
@@ -24,12 +22,22 @@ head_error bytes =
     else (if nat_lt (claimed_length bytes) (length bytes) then Some Trailing
     else None))))
 
--- a table that some folder of job files is compiled to
-abbrev pub IsGiven : List JobDef → Type 0
-IsGiven jobs = (files : List File) × ((report : List Fault) × Compiles files jobs report)
+-- bytes are no image of jobs that files can give
+abbrev pub HasNoTable : List ℕ → Type 0
+HasNoTable bytes = (jobs : List JobDef) → IsImage bytes jobs → can_all_be_given jobs ≡ true → ⊥
+
+-- why bytes with a right head are refused
+abbrev pub Refuses : List ℕ → ImageError → Type 0
+Refuses bytes BadTable = HasNoTable bytes
+Refuses bytes Memory = Unit {0}
+Refuses bytes BadMagic = ⊥
+Refuses bytes BadVersion = ⊥
+Refuses bytes Truncated = ⊥
+Refuses bytes Trailing = ⊥
+Refuses bytes ImageTooLarge = ⊥
 
 -- what reading bytes may answer, by what is wrong with their head
 abbrev pub ReadsImage : List ℕ → Option ImageError → Result (List JobDef) ImageError → Type 0
 ReadsImage bytes (Some error) result = result ≡ Err error
-ReadsImage bytes None (Ok jobs) = IsImage bytes jobs × IsGiven jobs
-ReadsImage bytes None (Err error) = (error ≡ BadTable) ⊎ (error ≡ Memory)
+ReadsImage bytes None (Ok jobs) = IsImage bytes jobs × (can_all_be_given jobs ≡ true)
+ReadsImage bytes None (Err error) = Refuses bytes error

@@ -152,9 +152,9 @@ fn runs_of(alloc: Global, places: &[Place]) -> Result<Vec<&[Place]>, AllocError>
 {
     let mut runs: Vec<&[Place]> = Vec::new(alloc);
     let mut rest = places;
-    'runs: while let Some((run, behind)) = split_run(rest) {
+    'runs: while let Some((run, after)) = split_run(rest) {
         runs.push(run)?;
-        rest = behind;
+        rest = after;
     }
     Ok(runs)
 }

@@ -1,24 +1,25 @@
 //! Reads a table from bytes.
 //!
-//! What the bytes say is written as the files of jobs, and these are compiled. The table is taken only if its image is the bytes: so
-//! the order of the jobs, the places of nodes and the index need no look of their own, and each table is one that files define.
-ghost use Rattle.std.specs.Prelude.{◌≡◌, ◌≤◌, IfOk, OnOk, None, codes, drop, length, take};
+//! The table that is found is taken only if files can give its jobs and its image is the bytes: so the places of nodes and the index
+//! need no look of their own.
+ghost use Rattle.std.specs.Prelude.{◌≡◌, ◌≤◌, IfErr, IfOk, OnOk, None, codes, drop, length, take, true, false};
 ghost use Rattle.std.specs.Str.{bytes_eq};
 ghost use Rattle.byteorder.specs.Endian.{big_number};
 ghost use Rattle.up_image.specs.Image.{IsImage};
-ghost use Rattle.up_image.specs.Reading.{IsGiven, ReadsImage, claimed_length, head_error};
+ghost use Rattle.up_image.specs.Giving.{can_all_be_given};
+ghost use Rattle.up_image.specs.Reading.{HasNoTable, ReadsImage, claimed_length, head_error};
+ghost use Rattle.up_image.specs.declared.unread.Unread.TheVariants.{BadTable};
 
-use crate::compiling::compile;
+use crate::giving::can_all_be_given;
 use crate::image::{HEAD, MAX_IMAGE, VERSION, write_image};
 use crate::image_error::ImageError;
-use crate::job_text::folder_of;
-use crate::refusal::CompileError;
 use crate::table::Table;
 use crate::take_job::take_jobs;
 use crate::unread::Unread;
 use byteorder::{BigEndian, ByteOrder};
 use std::alloc::Global;
 use up_conf::JobDef;
+use up_text::Items;
 
 /// How an image begins.
 const MAGIC: &[u8; 4] = b"UPTB";
@@ -42,6 +43,7 @@ fn claimed_length(bytes: &[u8]) -> u32
 // How many jobs an image says that it has.
 fn job_count(bytes: &[u8]) -> u16
     requires { 12 ≤ length bytes.now }
+    ensures { result ≡ big_number 2 (drop 6 bytes.now) }
 {
     BigEndian::read_u16(&bytes[6..])
 }
@@ -77,23 +79,10 @@ fn head_error(bytes: &[u8]) -> Option<ImageError>
     None
 }
 
-// The table of the files that define these jobs.
-fn compiled(alloc: Global, jobs: &[JobDef]) -> Result<Table, Unread>
-    ensures { IfOk result IsGiven }
-{
-    let folder = folder_of(alloc, jobs)?;
-    match compile(alloc, &folder) {
-        Ok((table, _report)) => Ok(table),
-        Err(CompileError::Memory) => Err(Unread::Memory),
-        Err(CompileError::SameName) => Err(Unread::BadTable),
-        Err(CompileError::TooManyJobs) => Err(Unread::BadTable),
-        Err(CompileError::ImageTooLarge) => Err(Unread::BadTable),
-    }
-}
-
 // Refuses jobs that have another image than these bytes.
 fn check_image(alloc: Global, jobs: &[JobDef], bytes: &[u8]) -> Result<(), Unread>
-    ensures { OnOk result (IsImage bytes.now jobs.now) }
+    ensures image { OnOk result (IsImage bytes.now jobs.now) }
+    ensures refused { IfErr result (λ unread. unread ≡ BadTable → IsImage bytes.now jobs.now → ⊥) }
 {
     match write_image(alloc, jobs) {
         Ok(image) => {
@@ -103,24 +92,61 @@ fn check_image(alloc: Global, jobs: &[JobDef], bytes: &[u8]) -> Result<(), Unrea
                 Err(Unread::BadTable)
             }
         }
-        Err(ImageError::Memory) => Err(Unread::Memory),
-        Err(_) => Err(Unread::BadTable),
+        Err(ImageError::ImageTooLarge) => Err(Unread::BadTable),
+        Err(_) => Err(Unread::Memory),
     }
 }
 
-// The table whose image these bytes are, if their head is right.
-fn read_body(alloc: Global, bytes: &[u8]) -> Result<Table, Unread>
+// Refuses jobs that no files give.
+fn check_given(alloc: Global, jobs: &[JobDef]) -> Result<(), Unread>
+    ensures given { OnOk result (can_all_be_given jobs.now ≡ true) }
+    ensures refused { IfErr result (λ unread. unread ≡ BadTable → can_all_be_given jobs.now ≡ false) }
+{
+    if can_all_be_given(alloc, jobs)? {
+        return Ok(());
+    }
+    Err(Unread::BadTable)
+}
+
+// The bytes after the head.
+fn after_head(bytes: &[u8]) -> &[u8]
     requires { 12 ≤ length bytes.now }
-    ensures image { IfOk result (λ table. IsImage bytes.now table) }
-    ensures given { IfOk result IsGiven }
+    ensures { result.now ≡ drop 12 bytes.now }
+{
+    &bytes[HEAD..]
+}
+
+// The jobs that were found, if files can give them and these bytes are their image.
+fn checked(alloc: Global, jobs: Vec<JobDef>, bytes: &[u8]) -> Result<Items<JobDef>, Unread>
+    ensures found { IfOk result (λ found. found ≡ jobs.items) }
+    ensures image { OnOk result (IsImage bytes.now jobs.items) }
+    ensures given { OnOk result (can_all_be_given jobs.items ≡ true) }
+    ensures refused { IfErr result (λ unread. unread ≡ BadTable → IsImage bytes.now jobs.items
+        → can_all_be_given jobs.items ≡ true → ⊥) }
+{
+    check_given(alloc, jobs.as_slice())?;
+    check_image(alloc, jobs.as_slice(), bytes)?;
+    Ok(Items::new(jobs))
+}
+
+// The jobs whose image these bytes are, if their head is right.
+#[tactic(auto, using(crate::proofs::Readings::no_jobs))]
+fn read_body(alloc: Global, bytes: &[u8]) -> Result<Items<JobDef>, Unread>
+    requires { 12 ≤ length bytes.now }
+    ensures image { IfOk result (λ jobs. IsImage bytes.now jobs) }
+    ensures given { IfOk result (λ jobs. can_all_be_given jobs ≡ true) }
+    ensures refused { IfErr result (λ unread. unread ≡ BadTable → HasNoTable bytes.now) }
 {
     if bytes.len() > MAX_IMAGE {
         return Err(Unread::BadTable);
     }
-    let jobs = take_jobs(alloc, &bytes[HEAD..], job_count(bytes))?;
-    let table = compiled(alloc, jobs.as_slice())?;
-    check_image(alloc, table.as_slice(), bytes)?;
-    Ok(table)
+    match take_jobs(alloc, after_head(bytes), job_count(bytes)) {
+        Ok((jobs, _index)) => match checked(alloc, jobs, bytes) {
+            Ok(jobs) => Ok(jobs),
+            Err(unread) => Err(unread),
+        },
+        Err(unread) => Err(unread),
+    }
 }
 
 /// The table whose image these bytes are. Refused by what is wrong with their head, else with `BadTable` or `Memory`.
@@ -130,7 +156,7 @@ pub(crate) fn read_image(alloc: Global, bytes: &[u8]) -> Result<Table, ImageErro
     match head_error(bytes) {
         Some(error) => Err(error),
         None => match read_body(alloc, bytes) {
-            Ok(table) => Ok(table),
+            Ok(jobs) => Ok(Table::new(jobs)),
             Err(Unread::BadTable) => Err(ImageError::BadTable),
             Err(Unread::Memory) => Err(ImageError::Memory),
         },

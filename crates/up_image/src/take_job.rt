@@ -1,30 +1,68 @@
 //! Reads jobs.
+ghost use Rattle.std.specs.Prelude.{◌≡◌, [], option_map};
+ghost use Rattle.up_image.specs.Finding.{Reads, events_at, items_at, job_at, job_by, lists_at, number_at, numbers_at, processes_at, texts_at};
 
+use crate::job_parts::{Events, Lists, Numbers, Processes, Texts};
 use crate::take::{push, take_byte, take_four, take_name, take_text, take_texts};
 use crate::take_lists::{signal_of, take_action, take_exits, take_settings};
 use crate::take_nodes::take_condition;
 use crate::unread::Unread;
 use std::alloc::Global;
 use up_conf::JobDef;
-use up_stanza::{Action, Limit};
+use up_stanza::{Limit, Signal};
 
-fn take_limit(bytes: &[u8]) -> Result<(Limit, &[u8]), Unread> {
+#[tactic(auto, unfolding(crate::specs::Finding::texts_at))]
+fn take_own_texts(alloc: Global, bytes: &[u8]) -> Result<(Texts, &[u8]), Unread>
+    ensures { Reads (λ x. (x.0, x.1.now)) result (texts_at bytes.now) }
+{
+    let (name, rest) = take_name(alloc, bytes)?;
+    let (flags, rest) = take_byte(rest)?;
+    let (instance, rest) = take_text(alloc, rest)?;
+    let (dir, rest) = take_text(alloc, rest)?;
+    let texts = Texts {
+        name,
+        flags,
+        instance,
+        dir,
+    };
+    Ok((texts, rest))
+}
+
+#[tactic(auto, unfolding(crate::specs::Finding::numbers_at))]
+fn take_numbers(bytes: &[u8]) -> Result<(Numbers, &[u8]), Unread>
+    ensures { Reads (λ x. (x.0, x.1.now)) result (numbers_at bytes.now) }
+{
     let (count, rest) = take_four(bytes)?;
     let (interval, rest) = take_four(rest)?;
-    Ok((Limit { count, interval }, rest))
+    let (kill_signal, rest) = take_byte(rest)?;
+    let (kill_timeout, rest) = take_four(rest)?;
+    let numbers = Numbers {
+        limit: Limit { count, interval },
+        kill_signal,
+        kill_timeout,
+    };
+    Ok((numbers, rest))
 }
 
-// The five processes of a job, main first.
-#[derive(Drop)]
-struct Processes {
-    main: Option<Action>,
-    pre_start: Option<Action>,
-    post_start: Option<Action>,
-    pre_stop: Option<Action>,
-    post_stop: Option<Action>,
+#[tactic(auto, unfolding(crate::specs::Finding::lists_at))]
+fn take_lists(alloc: Global, bytes: &[u8]) -> Result<(Lists, &[u8]), Unread>
+    ensures { Reads (λ x. (x.0, x.1.now)) result (lists_at bytes.now) }
+{
+    let (env, rest) = take_settings(alloc, bytes)?;
+    let (export, rest) = take_texts(alloc, rest)?;
+    let (normal, rest) = take_exits(alloc, rest)?;
+    let lists = Lists {
+        env,
+        export,
+        normal,
+    };
+    Ok((lists, rest))
 }
 
-fn take_processes(alloc: Global, bytes: &[u8]) -> Result<(Processes, &[u8]), Unread> {
+#[tactic(auto, unfolding(crate::specs::Finding::processes_at))]
+fn take_processes(alloc: Global, bytes: &[u8]) -> Result<(Processes, &[u8]), Unread>
+    ensures { Reads (λ x. (x.0, x.1.now)) result (processes_at bytes.now) }
+{
     let (main, rest) = take_action(alloc, bytes)?;
     let (pre_start, rest) = take_action(alloc, rest)?;
     let (post_start, rest) = take_action(alloc, rest)?;
@@ -40,60 +78,80 @@ fn take_processes(alloc: Global, bytes: &[u8]) -> Result<(Processes, &[u8]), Unr
     Ok((processes, rest))
 }
 
-fn take_job(alloc: Global, bytes: &[u8]) -> Result<(JobDef, &[u8]), Unread> {
-    let (name, rest) = take_name(alloc, bytes)?;
-    let (flags, rest) = take_byte(rest)?;
-    let (instance, rest) = take_text(alloc, rest)?;
-    let (dir, rest) = take_text(alloc, rest)?;
-    let (limit, rest) = take_limit(rest)?;
-    let (number, rest) = take_byte(rest)?;
-    let kill_signal = signal_of(number)?;
-    let (kill_timeout, rest) = take_four(rest)?;
-    let (env, rest) = take_settings(alloc, rest)?;
-    let (export, rest) = take_texts(alloc, rest)?;
-    let (normal, rest) = take_exits(alloc, rest)?;
-    let (processes, rest) = take_processes(alloc, rest)?;
-    let (start_on, rest) = take_condition(alloc, rest)?;
+#[tactic(auto, unfolding(crate::specs::Finding::events_at))]
+fn take_events(alloc: Global, bytes: &[u8]) -> Result<(Events, &[u8]), Unread>
+    ensures { Reads (λ x. (x.0, x.1.now)) result (events_at bytes.now) }
+{
+    let (start_on, rest) = take_condition(alloc, bytes)?;
     let (stop_on, rest) = take_condition(alloc, rest)?;
-    let Processes {
-        main,
-        pre_start,
-        post_start,
-        pre_stop,
-        post_stop,
-    } = processes;
-    let job = JobDef {
-        name,
-        task: flags & 1 != 0,
-        respawn: flags & 2 != 0,
-        silent: flags & 4 != 0,
-        instance,
-        dir,
-        limit,
-        kill_signal,
-        kill_timeout,
-        env,
-        export,
-        normal,
-        main,
-        pre_start,
-        post_start,
-        pre_stop,
-        post_stop,
-        start_on,
-        stop_on,
-    };
-    Ok((job, rest))
+    Ok((Events { start_on, stop_on }, rest))
+}
+
+// The job of these parts.
+fn job_of(
+    texts: Texts,
+    numbers: Numbers,
+    signal: Signal,
+    lists: Lists,
+    processes: Processes,
+    events: Events,
+) -> JobDef
+    ensures { result ≡ job_by texts numbers signal lists processes events }
+{
+    JobDef {
+        name: texts.name,
+        task: texts.flags & 1 != 0,
+        respawn: texts.flags & 2 != 0,
+        silent: texts.flags & 4 != 0,
+        instance: texts.instance,
+        dir: texts.dir,
+        limit: numbers.limit,
+        kill_signal: signal,
+        kill_timeout: numbers.kill_timeout,
+        env: lists.env,
+        export: lists.export,
+        normal: lists.normal,
+        main: processes.main,
+        pre_start: processes.pre_start,
+        post_start: processes.post_start,
+        pre_stop: processes.pre_stop,
+        post_stop: processes.post_stop,
+        start_on: events.start_on,
+        stop_on: events.stop_on,
+    }
+}
+
+#[tactic(auto, unfolding(crate::specs::Finding::job_at))]
+fn take_job(alloc: Global, bytes: &[u8]) -> Result<(JobDef, &[u8]), Unread>
+    ensures { Reads (λ x. (x.0, x.1.now)) result (job_at bytes.now) }
+{
+    let (texts, rest) = take_own_texts(alloc, bytes)?;
+    let (numbers, rest) = take_numbers(rest)?;
+    let signal = signal_of(numbers.kill_signal)?;
+    let (lists, rest) = take_lists(alloc, rest)?;
+    let (processes, rest) = take_processes(alloc, rest)?;
+    let (events, rest) = take_events(alloc, rest)?;
+    Ok((
+        job_of(texts, numbers, signal, lists, processes, events),
+        rest,
+    ))
 }
 
 /// The first so many jobs. What stands after them is left to the caller.
-pub(crate) fn take_jobs(alloc: Global, bytes: &[u8], count: u16) -> Result<Vec<JobDef>, Unread> {
-    let mut jobs = Vec::new(alloc);
+#[tactic(auto, using(crate::proofs::Counting::items_left))]
+pub(crate) fn take_jobs(
+    alloc: Global,
+    bytes: &[u8],
+    count: u16,
+) -> Result<(Vec<JobDef>, &[u8]), Unread>
+    ensures { Reads (λ x. (x.0.items, x.1.now)) result (items_at job_at count [] bytes.now) }
+{
     let mut rest = bytes;
-    'jobs: for _ in 0..count {
-        let (job, behind) = take_job(alloc, rest)?;
+    let mut jobs = Vec::new(alloc);
+    for i in 0..count {
+        let (job, after) = take_job(alloc, rest)?;
         push(&mut jobs, job)?;
-        rest = behind;
+        rest = after;
     }
-    Ok(jobs)
+    Ok((jobs, rest))
 }

@@ -65,8 +65,8 @@ fn read_paths(alloc: Global, files: &[File]) -> Result<Vec<&[u8]>, AllocError>
     Ok(paths)
 }
 
-// Whether one of the texts stands twice.
-fn has_twice(alloc: Global, texts: &[&[u8]]) -> Result<bool, AllocError>
+/// Whether one of the texts stands twice.
+pub(crate) fn has_twice(alloc: Global, texts: &[&[u8]]) -> Result<bool, AllocError>
     ensures { IfOk result (λ twice. twice ≡ has_twice (map (λ text. text.now) texts.now)) }
 {
     let mut seen: BTreeSet<&[u8]> = BTreeSet::new(alloc);

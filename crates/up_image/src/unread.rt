@@ -12,6 +12,11 @@ pub(crate) enum Unread {
 }
 
 impl From<AllocError> for Unread {
+    ghost use Rattle.std.specs.Prelude.{◌≡◌};
+    ghost use Rattle.up_image.specs.declared.unread.Unread.TheVariants.{Memory};
+
+    ghost from_gives = { λ _ unread. unread ≡ Memory };
+
     fn from(_: AllocError) -> Unread {
         Unread::Memory
     }

@@ -144,3 +144,71 @@ fn a_cut_image_of_many_jobs_is_refused(rt: HostRuntime) -> Result<(), Fail> {
     assert_eq!(rt; first_whole(rt.alloc(), image.as_slice()), image.len());
     Ok(())
 }
+
+// Appends a word of so many bytes.
+fn push_word(bytes: &mut Vec<u8>, len: u32) -> Result<(), Fail> {
+    for _ in 0..len {
+        bytes.push(b'x')?;
+    }
+    Ok(())
+}
+
+// The image of one job whose second word has so many bytes. The length of the image stands at 8, and the word after its own at 61.
+fn with_long_word(alloc: Global, len: u32) -> Result<Vec<u8>, Fail> {
+    let mut bytes: Vec<u8> = Vec::new(alloc);
+    for (place, byte) in STARTUP_IMAGE.iter().enumerate() {
+        match place {
+            8 => bytes.extend_from_slice(&len.saturating_add(111).to_be_bytes())?,
+            61 => bytes.extend_from_slice(&len.to_be_bytes())?,
+            65 => push_word(&mut bytes, len)?,
+            9 | 10 | 11 | 62 | 63 | 64 => {}
+            _ => bytes.push(*byte)?,
+        }
+    }
+    Ok(bytes)
+}
+
+// No job file with such a word is read, but one could have it.
+#[test]
+fn a_word_longer_than_files_is_read(rt: HostRuntime) -> Result<(), Fail> {
+    let one = with_long_word(rt.alloc(), 1)?;
+    assert!(rt; one.as_slice() == STARTUP_IMAGE);
+    let image = with_long_word(rt.alloc(), 3_000_000)?;
+    let second = again(rt.alloc(), image.as_slice())?;
+    assert!(rt; second.as_slice() == image.as_slice());
+    Ok(())
+}
+
+// Whether each of these bytes at a place of an image is refused.
+fn all_refused(alloc: Global, image: &[u8], place: usize, bytes: &[u8]) -> Result<bool, Fail> {
+    for byte in bytes {
+        if with_byte(alloc, image, place, *byte)? != Some(ImageError::BadTable) {
+            return Ok(false);
+        }
+    }
+    Ok(true)
+}
+
+// The word `x` of the job stands at 65, and the name of its event from 77 on.
+#[test]
+fn texts_that_no_file_gives_are_refused(rt: HostRuntime) -> Result<(), Fail> {
+    assert!(rt; all_refused(rt.alloc(), STARTUP_IMAGE, 65, b"\0\t\n #$;'\"\\()~")?);
+    assert!(rt; all_refused(rt.alloc(), STARTUP_IMAGE, 77, b"\0\t\n #$='\"\\()")?);
+    assert_eq!(rt; with_byte(rt.alloc(), STARTUP_IMAGE, 65, b'y')?, None);
+    Ok(())
+}
+
+/// A job of the shell.
+const SHELL: &'static [(&'static str, &'static [u8])] = &[("a.conf", b"exec /a 'b' c\n")];
+
+// What the shell gets is `exec /a 'b' c`, from 50 on. With a line feed for the `c` it is a script.
+#[test]
+fn commands_that_do_not_read_as_themselves_are_refused(rt: HostRuntime) -> Result<(), Fail> {
+    let image = image_of(rt.alloc(), SHELL)?;
+    assert_eq!(rt; refusal(rt.alloc(), image.as_slice()), None);
+    assert!(rt; all_refused(rt.alloc(), image.as_slice(), 62, b" \t\0#\\'\"")?);
+    assert!(rt; all_refused(rt.alloc(), image.as_slice(), 55, b" \t\n\0#'\"")?);
+    assert_eq!(rt; with_byte(rt.alloc(), image.as_slice(), 62, b'd')?, None);
+    assert_eq!(rt; with_byte(rt.alloc(), image.as_slice(), 62, b'\n')?, None);
+    Ok(())
+}

@@ -9,7 +9,7 @@ use Rattle.std.proofs.lemmas.Cmp.{nat_list_cmp_total}
 use Rattle.std.proofs.lemmas.Map.Text.{is_eq-slice_cmp}
 use Rattle.std.proofs.lemmas.Slice.Eq.{bytes_eq-Decides}
 use Rattle.up_conf.specs.Order.{is_below}
-use Rattle.up_job.specs.Named.{named, position, put, replaced, without, IsBelowAll, AreInOrder}
+use Rattle.up_job.specs.Named.{named, position, put, with_replacement, without, IsBelowAll, AreInOrder}
 use Rattle.up_model.specs.Values.{Bytes}
 
 less_of : (o : Ordering) → is_lt o ≡ true → o ≡ Less
@@ -161,12 +161,12 @@ module _ {X : Type 0} (key : X → Bytes) where
           absurd (true≢false (sym (subst IsSome (absent_from name x xs order.0 below same) some)))
 
   pub replaced_at : (name : Bytes) (y : X) (xs : List X) → AreInOrder key xs → IsSome (named key name xs)
-      → set xs (position key name xs) y ≡ replaced key name y xs
+      → set xs (position key name xs) y ≡ with_replacement key name y xs
   replaced_at name y [] order there = absurd (true≢false (sym there))
   replaced_at name y (x ∷ xs) order there = by_case (replaced_at name y xs order.1) (is_below (key x) name) refl (bytes_eq (key x) name) refl there
     where
-      by_case : (IsSome (named key name xs) → set xs (position key name xs) y ≡ replaced key name y xs) → (b : Bool) → is_below (key x) name ≡ b → (e : Bool) → bytes_eq (key x) name ≡ e → IsSome (cond e (Some x) (named key name xs))
-          → set (x ∷ xs) (cond b (position key name xs + 1) 0) y ≡ cond e (y ∷ xs) (x ∷ replaced key name y xs)
+      by_case : (IsSome (named key name xs) → set xs (position key name xs) y ≡ with_replacement key name y xs) → (b : Bool) → is_below (key x) name ≡ b → (e : Bool) → bytes_eq (key x) name ≡ e → IsSome (cond e (Some x) (named key name xs))
+          → set (x ∷ xs) (cond b (position key name xs + 1) 0) y ≡ cond e (y ∷ xs) (x ∷ with_replacement key name y xs)
       by_case ih true below true same some = absurd (true≢false (sym same ∙ below_not_same (key x) name below))
       by_case ih true below false same some =
           ap (λ n. set (x ∷ xs) n y) (add-one (position key name xs)) ∙ ap (λ rest. x ∷ rest) (ih some)
@@ -244,19 +244,19 @@ module _ {X : Type 0} (key : X → Bytes) where
       by_case ih true = order.1
       by_case ih false = (below_all_without (key x) name xs order.0, ih)
 
-  below_all_replaced : (k name : Bytes) (y : X) (xs : List X) → key y ≡ name → IsBelowAll key k xs → IsBelowAll key k (replaced key name y xs)
+  below_all_replaced : (k name : Bytes) (y : X) (xs : List X) → key y ≡ name → IsBelowAll key k xs → IsBelowAll key k (with_replacement key name y xs)
   below_all_replaced k name y [] its b = tt
   below_all_replaced k name y (x ∷ xs) its b = by_case (below_all_replaced k name y xs its b.1) (bytes_eq (key x) name) refl
     where
-      by_case : (IsBelowAll key k (replaced key name y xs)) → (c : Bool) → bytes_eq (key x) name ≡ c → IsBelowAll key k (cond c (y ∷ xs) (x ∷ replaced key name y xs))
+      by_case : (IsBelowAll key k (with_replacement key name y xs)) → (c : Bool) → bytes_eq (key x) name ≡ c → IsBelowAll key k (cond c (y ∷ xs) (x ∷ with_replacement key name y xs))
       by_case ih true same = (subst (λ n. is_below k n ≡ true) (same_bytes (key x) name same ∙ sym its) b.0, b.1)
       by_case ih false same = (b.0, ih)
 
-  pub order_replaced : (name : Bytes) (y : X) (xs : List X) → key y ≡ name → AreInOrder key xs → AreInOrder key (replaced key name y xs)
+  pub order_replaced : (name : Bytes) (y : X) (xs : List X) → key y ≡ name → AreInOrder key xs → AreInOrder key (with_replacement key name y xs)
   order_replaced name y [] its order = tt
   order_replaced name y (x ∷ xs) its order = by_case (order_replaced name y xs its order.1) (bytes_eq (key x) name) refl
     where
-      by_case : (AreInOrder key (replaced key name y xs)) → (c : Bool) → bytes_eq (key x) name ≡ c → AreInOrder key (cond c (y ∷ xs) (x ∷ replaced key name y xs))
+      by_case : (AreInOrder key (with_replacement key name y xs)) → (c : Bool) → bytes_eq (key x) name ≡ c → AreInOrder key (cond c (y ∷ xs) (x ∷ with_replacement key name y xs))
       by_case ih true same = (subst (λ n. IsBelowAll key n xs) (same_bytes (key x) name same ∙ sym its) order.0, order.1)
       by_case ih false same = (below_all_replaced (key x) name y xs its order.0, ih)
 
@@ -276,11 +276,11 @@ module _ {X : Type 0} (key : X → Bytes) where
       by_case true h = omega arith
       by_case false h = omega (arith, h)
 
-  pub length_replaced : (name : Bytes) (y : X) (xs : List X) → length (replaced key name y xs) ≡ length xs
+  pub length_replaced : (name : Bytes) (y : X) (xs : List X) → length (with_replacement key name y xs) ≡ length xs
   length_replaced name y [] = refl
   length_replaced name y (x ∷ xs) = by_case (bytes_eq (key x) name) (length_replaced name y xs)
     where
-      by_case : (c : Bool) → length (replaced key name y xs) ≡ length xs → length (cond c (y ∷ xs) (x ∷ replaced key name y xs)) ≡ length (x ∷ xs)
+      by_case : (c : Bool) → length (with_replacement key name y xs) ≡ length xs → length (cond c (y ∷ xs) (x ∷ with_replacement key name y xs)) ≡ length (x ∷ xs)
       by_case true h = refl
       by_case false h = ap suc h
 
@@ -306,7 +306,7 @@ module _ {X : Type 0} (key : X → Bytes) where
 
   -- what names find after the one of a name was replaced
   pub named_replaced : (k name : Bytes) (y : X) (xs : List X) → key y ≡ name → IsSome (named key name xs)
-      → named key k (replaced key name y xs) ≡ cond (bytes_eq name k) (Some y) (named key k xs)
+      → named key k (with_replacement key name y xs) ≡ cond (bytes_eq name k) (Some y) (named key k xs)
   named_replaced k name y [] its there = absurd (true≢false (sym there))
   named_replaced k name y (x ∷ xs) its there = by_case (named_replaced k name y xs its) (bytes_eq (key x) name) refl there
     where
@@ -322,8 +322,8 @@ module _ {X : Type 0} (key : X → Bytes) where
       here true e same = refl
       here false e same = rw (subst (λ n. bytes_eq n k ≡ false) (sym (same_bytes (key x) name same)) e) refl
 
-      by_case : (IsSome (named key name xs) → named key k (replaced key name y xs) ≡ cond (bytes_eq name k) (Some y) (named key k xs)) → (c : Bool) → bytes_eq (key x) name ≡ c → IsSome (cond c (Some x) (named key name xs))
-          → named key k (cond c (y ∷ xs) (x ∷ replaced key name y xs)) ≡ cond (bytes_eq name k) (Some y) (named key k (x ∷ xs))
+      by_case : (IsSome (named key name xs) → named key k (with_replacement key name y xs) ≡ cond (bytes_eq name k) (Some y) (named key k xs)) → (c : Bool) → bytes_eq (key x) name ≡ c → IsSome (cond c (Some x) (named key name xs))
+          → named key k (cond c (y ∷ xs) (x ∷ with_replacement key name y xs)) ≡ cond (bytes_eq name k) (Some y) (named key k (x ∷ xs))
       by_case ih true same some = rw its (here (bytes_eq name k) refl same)
       by_case ih false same some =
           ap (λ rest. cond (bytes_eq (key x) k) (Some x) rest) (ih some) ∙ apart (bytes_eq (key x) k) refl (bytes_eq name k) refl same

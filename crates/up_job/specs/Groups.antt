@@ -9,15 +9,16 @@ use Rattle.up_model.specs.Values.{Bytes}
 abbrev pub job_of : Group → Bytes
 job_of group = group.job
 
-abbrev pub row_of : Option Group → List Instance
-row_of None = []
-row_of (Some group) = group.row
+abbrev pub list_of : Option Group → List Instance
+list_of None = []
+list_of (Some group) = group.instance_list
 
 -- the instances of a job
 abbrev pub instances_in : Bytes → List Group → List Instance
-instances_in job groups = row_of (named job_of job groups)
+instances_in job groups = list_of (named job_of job groups)
 
 -- the instances of one job changed so, and those of no other job
 abbrev pub Changes : Bytes → (List Instance → List Instance) → List Group → List Group → Type 0
 Changes job change old new =
-    (other : Bytes) → instances_in other new ≡ (if bytes_eq job other then change (instances_in other old) else instances_in other old)
+    (other : Bytes) → instances_in other new
+    ≡ (if bytes_eq job other then change (instances_in other old) else instances_in other old)

@@ -1,5 +1,6 @@
 -- What a contract sees of the instances: for each job a list of them, in byte order of their names.
 use Rattle.std.specs.Prelude.{ℕ, ◌≤◌, ◌==◌, List, [], Option, None, length, if◌then◌else◌}
+use Rattle.up_model.specs.declared.limits.TheConstants.{MAX_INSTANCES}
 use Rattle.up_job.specs.declared.fault.JobFault.{JobFault}
 use Rattle.up_job.specs.declared.fault.JobFault.TheVariants.{Full, Memory}
 use Rattle.up_job.specs.declared.instance.Instance.{Instance}
@@ -39,7 +40,8 @@ with_instance instance instances = by_name.put name_of instance instances
 
 -- another life for the instance of this name
 abbrev pub with_life : Bytes → Life → List Instance → List Instance
-with_life name life instances = by_name.replaced name_of name (record { name = name; life = life }) instances
+with_life name life instances =
+    by_name.with_replacement name_of name (record { name = name; life = life }) instances
 
 -- the instances but the one of this name
 abbrev pub without : Bytes → List Instance → List Instance
@@ -47,12 +49,12 @@ without name instances = by_name.without name_of name instances
 
 -- how many instances a job may have
 abbrev pub limit : ℕ
-limit = 1024
+limit = MAX_INSTANCES
 
 -- why a job with these instances gets no other one
 abbrev pub refusal : List Instance → JobFault
 refusal instances = if length instances == limit then Full else Memory
 
 -- in byte order of names, no two the same, and no more than a job may have
-abbrev pub IsRow : List Instance → Type 0
-IsRow instances = by_name.AreInOrder name_of instances × (length instances ≤ limit)
+abbrev pub IsInstanceList : List Instance → Type 0
+IsInstanceList instances = by_name.AreInOrder name_of instances × (length instances ≤ limit)

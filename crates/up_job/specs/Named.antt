@@ -19,9 +19,10 @@ abbrev pub put : {X : Type 0} → (X → Bytes) → X → List X → List X
 put key x xs = put_by (λ y z. is_below (key y) (key z)) x xs
 
 -- another one in place of the first one of this name
-abbrev pub replaced : {X : Type 0} → (X → Bytes) → Bytes → X → List X → List X
-replaced key name y [] = []
-replaced key name y (x ∷ xs) = if bytes_eq (key x) name then y ∷ xs else x ∷ replaced key name y xs
+abbrev pub with_replacement : {X : Type 0} → (X → Bytes) → Bytes → X → List X → List X
+with_replacement key name y [] = []
+with_replacement key name y (x ∷ xs) = if bytes_eq (key x) name then y ∷ xs
+    else x ∷ with_replacement key name y xs
 
 -- all but the first one of this name
 abbrev pub without : {X : Type 0} → (X → Bytes) → Bytes → List X → List X

@@ -3,12 +3,12 @@ ghost use Rattle.std.specs.Prelude.{◌≡◌, ◌+◌, ◌<◌, ◌≤◌, [], 
 ghost use Rattle.std.specs.Option.{option_copied};
 ghost use Rattle.up_conf.specs.Order.{is_below};
 ghost use Rattle.up_job.specs.Groups.{job_of, instances_in, Changes};
-ghost use Rattle.up_job.specs.InstanceLists.{limit, named, new_instance, refusal, with_instance, with_life, without, IsRow};
+ghost use Rattle.up_job.specs.InstanceLists.{limit, named, new_instance, refusal, with_instance, with_life, without, IsInstanceList};
 ghost use Rattle.up_job.specs.Named as by_name;
 
 use crate::fault::JobFault;
 use crate::instance::{Instance, Life};
-use crate::row::Row;
+use crate::instance_list::InstanceList;
 use std::alloc::{AllocError, Global};
 use std::marker::Model;
 use up_text::Name;
@@ -17,7 +17,7 @@ use up_text::Name;
 #[derive(Drop)]
 pub struct Group {
     pub(crate) job: Name,
-    pub(crate) row: Row,
+    pub(crate) instance_list: InstanceList,
 }
 
 /// The instances of all jobs: for each job a list of them, in byte order of their names.
@@ -71,11 +71,12 @@ fn place(groups: &[Group], job: &Name) -> Result<usize, usize>
 }
 
 fn group_of(alloc: Global, job: &Name, instance: &str) -> Result<Group, AllocError>
-    ensures { IfOk result (λ group. group ≡ record { job = job.now; row = new_instance instance.now ∷ [] }) }
+    ensures { IfOk result (λ group. group
+        ≡ record { job = job.now; instance_list = new_instance instance.now ∷ [] }) }
 {
     let job = job.copy()?;
-    let row = Row::with(alloc, instance)?;
-    Ok(Group { job, row })
+    let instance_list = InstanceList::with(alloc, instance)?;
+    Ok(Group { job, instance_list })
 }
 
 // Makes the first instance of a job.
@@ -83,7 +84,8 @@ fn add_group(groups: &mut Vec<Group>, job: &Name, instance: &str) -> Result<(), 
     requires order { by_name.AreInOrder job_of groups.old.items }
     requires absent { by_name.named job_of job.now groups.old.items ≡ None }
     ensures order { OnOk result (by_name.AreInOrder job_of groups.new.items) }
-    ensures added { OnOk result (Changes job.now (with_instance (new_instance instance.now)) groups.old.items groups.new.items) }
+    ensures added { OnOk result (Changes job.now
+        (with_instance (new_instance instance.now)) groups.old.items groups.new.items) }
     ensures unchanged { OnErr result (groups.new.items ≡ groups.old.items) }
 {
     let group = group_of(*groups.allocator(), job, instance)?;
@@ -98,13 +100,14 @@ fn add_to(groups: &mut Vec<Group>, job: &Name, instance: &str) -> Result<(), Job
     requires there { IsSome (by_name.named job_of job.now groups.old.items) }
     requires absent { named instance.now (instances_in job.now groups.old.items) ≡ None }
     ensures order { by_name.AreInOrder job_of groups.new.items }
-    ensures added { OnOk result (Changes job.now (with_instance (new_instance instance.now)) groups.old.items groups.new.items) }
+    ensures added { OnOk result (Changes job.now
+        (with_instance (new_instance instance.now)) groups.old.items groups.new.items) }
     ensures fits { OnOk result (length (instances_in job.now groups.old.items) < limit) }
     ensures refused { IfErr result (λ fault. fault ≡ refusal (instances_in job.now groups.old.items)) }
     ensures unchanged { OnErr result (groups.new.items ≡ groups.old.items) }
 {
     let at = position(groups.as_slice(), job);
-    groups[at].row.add(instance)
+    groups[at].instance_list.add(instance)
 }
 
 fn take(groups: &mut Vec<Group>, job: &Name, instance: &str) -> Instance
@@ -115,7 +118,7 @@ fn take(groups: &mut Vec<Group>, job: &Name, instance: &str) -> Instance
     ensures rest { Changes job.now (without instance.now) groups.old.items groups.new.items }
 {
     let at = position(groups.as_slice(), job);
-    groups[at].row.remove(instance)
+    groups[at].instance_list.remove(instance)
 }
 
 // Gives an instance another life, and returns the one that it had.
@@ -123,11 +126,12 @@ fn exchange(groups: &mut Vec<Group>, job: &Name, instance: &str, life: Life) -> 
     requires order { by_name.AreInOrder job_of groups.old.items }
     requires there { IsSome (named instance.now (instances_in job.now groups.old.items)) }
     ensures order { by_name.AreInOrder job_of groups.new.items }
-    ensures before { named instance.now (instances_in job.now groups.old.items) ≡ Some (record { name = instance.now; life = result }) }
+    ensures before { named instance.now (instances_in job.now groups.old.items)
+        ≡ Some (record { name = instance.now; life = result }) }
     ensures after { Changes job.now (with_life instance.now life) groups.old.items groups.new.items }
 {
     let at = position(groups.as_slice(), job);
-    groups[at].row.change(instance, life)
+    groups[at].instance_list.change(instance, life)
 }
 
 impl Instances {
@@ -143,10 +147,10 @@ impl Instances {
     /// The instances of a job.
     pub fn of(&self, job: &Name) -> &[Instance]
         ensures list { result.now ≡ instances_in job.now self.now }
-        ensures row { IsRow result.now }
+        ensures instance_list { IsInstanceList result.now }
     {
         match place(self.groups.as_slice(), job) {
-            Ok(at) => self.groups[at].row.as_slice(),
+            Ok(at) => self.groups[at].instance_list.as_slice(),
             Err(_) => &[],
         }
     }
@@ -156,7 +160,7 @@ impl Instances {
         ensures { option_copied result ≡ named instance.now (instances_in job.now self.now) }
     {
         match place(self.groups.as_slice(), job) {
-            Ok(at) => self.groups[at].row.find(instance),
+            Ok(at) => self.groups[at].instance_list.find(instance),
             Err(_) => None,
         }
     }
@@ -165,7 +169,8 @@ impl Instances {
     /// for memory; a refusal changes nothing.
     pub fn add(&mut self, job: &Name, instance: &str) -> Result<(), JobFault>
         requires { named instance.now (instances_in job.now self.old) ≡ None }
-        ensures added { OnOk result (Changes job.now (with_instance (new_instance instance.now)) self.old self.new) }
+        ensures added { OnOk result (Changes job.now
+            (with_instance (new_instance instance.now)) self.old self.new) }
         ensures fits { OnOk result (length (instances_in job.now self.old) < limit) }
         ensures refused { IfErr result (λ fault. fault ≡ refusal (instances_in job.now self.old)) }
         ensures unchanged { OnErr result (self.new ≡ self.old) }
@@ -182,7 +187,8 @@ impl Instances {
     /// Gives an instance another life, and returns the one that it had. Its name stays, and so do all other instances.
     pub fn change(&mut self, job: &Name, instance: &str, next: Life) -> Life
         requires { IsSome (named instance.now (instances_in job.now self.old)) }
-        ensures before { named instance.now (instances_in job.now self.old) ≡ Some (record { name = instance.now; life = result }) }
+        ensures before { named instance.now (instances_in job.now self.old)
+            ≡ Some (record { name = instance.now; life = result }) }
         ensures after { Changes job.now (with_life instance.now next) self.old self.new }
     {
         exchange(&mut self.groups, job, instance, next)

@@ -2,7 +2,7 @@
 ghost use Rattle.std.specs.Prelude.{◌≡◌, ◌&&◌, ◌||◌, if◌then◌else◌, Some};
 ghost use Rattle.up_model.specs.declared.failure.Verdict.TheVariants as verdict;
 ghost use Rattle.up_model.specs.Judgement as model;
-ghost use Rattle.up_model.specs.Tests.{is_start};
+ghost use Rattle.up_model.specs.Predicates.{is_start};
 ghost use Rattle.up_stanza.specs.declared.process.Process.TheVariants as process;
 
 use up_model::{Cause, End, Failure, Goal, How, Process, State, Verdict};
@@ -46,7 +46,8 @@ fn respawned(may: bool) -> Verdict
 }
 
 fn stopped_or_failed(how: How, normal: bool) -> Verdict
-    ensures { result ≡ (if model.is_success how || normal then verdict.Stop else verdict.Fail (model.failure_of process.Main (Some how))) }
+    ensures { result ≡ (if model.is_success how || normal then verdict.Stop
+        else verdict.Fail (model.failure_of process.Main (Some how))) }
 {
     if is_success(how) || normal {
         Verdict::Stop

@@ -4,9 +4,9 @@
 mod entry;
 mod fault;
 mod instance;
+mod instance_list;
 mod instances;
 mod judgement;
-mod row;
 mod state;
 
 pub use entry::entering;

@@ -24,12 +24,12 @@ use Rattle.up_model.specs.Blocks.{IsPatient}
 use Rattle.up_model.specs.Chronicle.{Chronicle, Entry, Given, Queued, Handled, Offered, Fired, Finished, Made, Aimed, Failed, Entered, Ordered, Signalled, Outside, Entering, Spoilt, StartOn, StopOn}
 use Rattle.up_model.specs.Clock.{is_killed, kill_due, overdue, all_overdue, has_passed, kill_moment, now, milliseconds, kill, killing}
 use Rattle.up_model.specs.Configuration.{Configuration, job_named}
-use Rattle.up_model.specs.Due.{due, end_of, telling, told_of, finishing, turn_event, turn_of, effect}
+use Rattle.up_model.specs.Due.{due, end_of, telling, failed_event_of, finishing, turn_event, turn_of, effect}
 use Rattle.up_model.specs.Environments.{env_of_job, instance_name}
 use Rattle.up_model.specs.Events.{events_at, events_env, with_instance, stopped_by}
 use Rattle.up_model.specs.Held.{is_spoilt}
 use Rattle.up_model.specs.Instances.{Instance, instances_of, instance_named}
-use Rattle.up_model.specs.Judgement.{end_itself, keep_failure, fail, carry_out, judged}
+use Rattle.up_model.specs.Judgement.{end_itself, keep_failure, fail, carry_out, verdict_on_end}
 use Rattle.up_model.specs.Life.{wait_in, entering}
 use Rattle.up_model.specs.Moves.{has_process, job_event, emitting, ordering, enter, enter_whole, is_over, may_leave, next_of, who_of, move, move_of, move_in, move_first}
 use Rattle.up_model.specs.Offers.{is_open, stop_of, stop_by, stop_offer, stop_offer_in, max_instances, start_of, who_called, start_who, start_by, start_offer, offer_in, offer_first, offering, offer_next}
@@ -38,7 +38,7 @@ use Rattle.up_model.specs.Readings.{goal, state_of, failure, holders, is_blockin
 use Rattle.up_model.specs.Commands.{outcome_of, entries_of}
 use Rattle.up_model.specs.Replies.{releasing, waiter, answering_waiter, unanswered, answering_last}
 use Rattle.up_model.specs.Seen.{seen, holds, taken, was_offered}
-use Rattle.up_model.specs.Tests.{is_start, entries_if, or_else}
+use Rattle.up_model.specs.Predicates.{is_start, entries_if, or_else}
 use Rattle.up_model.specs.Values.{Bindings}
 use Rattle.up_model.specs.Work.{work, settle}
 use Rattle.up_model.proofs.ReplyLaws.{Allows, releasing-all, answering_waiter-all, answering_hurried-all, start_of-all, stop_of-all, outcome-all}
@@ -348,7 +348,7 @@ carry_out-idle p (verdict.Fail its) c = fail-idle p its c
 end_of-idle : (its_job : Option JobDef) (o : Option ℕ) (process : Process) (its : End) (c : Chronicle) → AllByRecursion IsIdle (end_of its_job o process its c)
 end_of-idle None o process its c = tt
 end_of-idle (Some job) None process its c = tt
-end_of-idle (Some job) (Some p) process its c = carry_out-idle p (judged job p process its c) c
+end_of-idle (Some job) (Some p) process its c = carry_out-idle p (verdict_on_end job p process its c) c
 
 -- these instances wait for no event
 abbrev AreFree : Chronicle → List ℕ → Type 0
@@ -400,7 +400,7 @@ telling-idle spoilt (Some told) = (tt, tt)
 
 finishing-idle : (event : ℕ) (c : Chronicle) → AllByRecursion IsIdle (finishing event c)
 finishing-idle event c =
-    all-append IsIdle (telling event (told_of event c)) (answering_waiter (waiter event c) (is_spoilt event c) ++ Finished event ∷ []) (telling-idle event (told_of event c))
+    all-append IsIdle (telling event (failed_event_of event c)) (answering_waiter (waiter event c) (is_spoilt event c) ++ Finished event ∷ []) (telling-idle event (failed_event_of event c))
     (all-append IsIdle (answering_waiter (waiter event c) (is_spoilt event c)) (Finished event ∷ [])
     (answering_waiter-all IsIdle (λ request answer. tt) (waiter event c) (is_spoilt event c)) (tt, tt))
 

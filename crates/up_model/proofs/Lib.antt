@@ -12,3 +12,5 @@ pub mod TurnLaws
 pub mod BlockLaws
 pub mod NameLaws
 pub mod MainLaws
+pub mod LeftSums
+pub mod LeftLaws

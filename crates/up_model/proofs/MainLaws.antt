@@ -29,21 +29,21 @@ use Rattle.up_model.specs.Chronicle.{Chronicle, Entry, Given, Queued, Handled, O
 use Rattle.up_model.specs.Clock.{all_overdue, kill, killing}
 use Rattle.up_model.specs.Commands.{Refused, Done, Target, Nobody, Concerns, refusal, target_of, start_at, start, holders_of, outcome_by, outcome_of, entries_of}
 use Rattle.up_model.specs.Configuration.{Configuration, job_named}
-use Rattle.up_model.specs.Due.{due, end_of, telling, told_of, finishing, turn_event, turn_of, effect}
+use Rattle.up_model.specs.Due.{due, end_of, telling, failed_event_of, finishing, turn_event, turn_of, effect}
 use Rattle.up_model.specs.Environments.{env_of_job, instance_name}
 use Rattle.up_model.specs.Events.{events_at, events_env, with_instance, stopped_by}
 use Rattle.up_model.specs.Held.{is_spoilt}
 use Rattle.up_model.specs.Instances.{Instance, instances_of, instance_named}
-use Rattle.up_model.specs.Judgement.{end_itself, keep_failure, fail, carry_out, judged}
+use Rattle.up_model.specs.Judgement.{end_itself, keep_failure, fail, carry_out, verdict_on_end}
 use Rattle.up_model.specs.Life.{next_state, wait_in, entering}
 use Rattle.up_model.specs.Moves.{has_process, emitting, ordering, enter, enter_whole, is_over, may_leave, next_of, who_of, move, move_of, move_in, move_first}
 use Rattle.up_model.specs.Offers.{is_open, stop_of, stop_by, stop_offer, stop_offer_in, max_instances, start_of, who_called, start_who, start_by, start_offer, offer_in, offer_first, offering, offer_next}
 use Rattle.up_model.specs.Queue.{Live, queue}
-use Rattle.up_model.specs.Readings.{goal, state_of, failure, holders, made_at, speaks_of, awaited, pid_of, lives}
+use Rattle.up_model.specs.Readings.{goal, state_of, failure, holders, made_at, speaks_of, is_awaited, pid_of, lives}
 use Rattle.up_model.specs.Replies.{releasing, waiter, answering_waiter, unanswered, answering_last}
 use Rattle.up_model.specs.Requests.{RequestValue}
 use Rattle.up_model.specs.Seen.{seen, holds, taken, was_offered}
-use Rattle.up_model.specs.Tests.{same_process, same_who, is_start, entries_if, or_else}
+use Rattle.up_model.specs.Predicates.{same_process, same_who, is_start, entries_if, or_else}
 use Rattle.up_model.specs.Values.{Bytes, Bindings}
 use Rattle.up_model.specs.Work.{work, settle}
 use Rattle.up_model.proofs.BlockLaws.{five, and-left}
@@ -71,7 +71,7 @@ has_main (Some job) = has_process job process.Main
 -- job has one
 record Fits (config : Configuration) (job : Bytes) (p : ℕ) (c : Chronicle) : Type 0 where
   alive : lives p process.Main c ≡ true → may_live (state_of p c) ≡ true
-  asked : awaited p process.Main c ≡ true → (state_of p c ≡ Spawned) × (has_main (job_named job config.jobs) ≡ true)
+  asked : is_awaited p process.Main c ≡ true → (state_of p c ≡ Spawned) × (has_main (job_named job config.jobs) ≡ true)
 
 -- each instance is found by its name, these things are so of each, and none ordered its main while that lived
 record Keeps (config : Configuration) (c : Chronicle) : Type 0 where
@@ -127,7 +127,7 @@ stills-keep config [] c still keeps = keeps
 stills-keep config (e ∷ es) c still keeps = still-keeps config e (es ++ c) still.0 (stills-keep config es c still.1 keeps)
 
 -- an instance whose main isn't awaited enters a state in which main may live if it lives
-entered-keeps : (config : Configuration) (p : ℕ) (to : State) (c : Chronicle) → awaited p process.Main c ≡ false → (lives p process.Main c ≡ true → may_live to ≡ true)
+entered-keeps : (config : Configuration) (p : ℕ) (to : State) (c : Chronicle) → is_awaited p process.Main c ≡ false → (lives p process.Main c ≡ true → may_live to ≡ true)
     → Keeps config c → Keeps config (Entered p to ∷ c)
 entered-keeps config p to c idle may keeps = record {
   single = entered-singles p to c keeps.single;
@@ -143,11 +143,11 @@ entered-keeps config p to c idle may keeps = record {
     alive-now q so before true same = may (subst (λ its. lives its process.Main c ≡ true) (sym (eqb-true p q same)) so)
     alive-now q so before false differs = before so
 
-    asked-now : (who : Who) (q : ℕ) → awaited q process.Main c ≡ true
-        → (awaited q process.Main c ≡ true → (state_of q c ≡ Spawned) × (has_main (job_named who.job config.jobs) ≡ true)) → (b : Bool) → (p == q) ≡ b
+    asked-now : (who : Who) (q : ℕ) → is_awaited q process.Main c ≡ true
+        → (is_awaited q process.Main c ≡ true → (state_of q c ≡ Spawned) × (has_main (job_named who.job config.jobs) ≡ true)) → (b : Bool) → (p == q) ≡ b
         → ((if b then to else state_of q c) ≡ Spawned) × (has_main (job_named who.job config.jobs) ≡ true)
     asked-now who q so before true same =
-        let no : awaited q process.Main c ≡ false = subst (λ its. awaited its process.Main c ≡ false) (eqb-true p q same) idle in
+        let no : is_awaited q process.Main c ≡ false = subst (λ its. is_awaited its process.Main c ≡ false) (eqb-true p q same) idle in
         absurd (cc)
     asked-now who q so before false differs = before so
 
@@ -160,7 +160,7 @@ other-keeps config p its c other keeps = record {
   lone = keeps.lone;
 }
   where
-    by_case : (q : ℕ) (b : Bool) → (if b && false then true else awaited q process.Main c) ≡ true → awaited q process.Main c ≡ true
+    by_case : (q : ℕ) (b : Bool) → (if b && false then true else is_awaited q process.Main c) ≡ true → is_awaited q process.Main c ≡ true
     by_case q true so = so
     by_case q false so = so
 
@@ -180,7 +180,7 @@ main-keeps config its p c there here has gone keeps = record {
   lone = (gone, keeps.lone);
 }
   where
-    by_case : (who : Who) (q : ℕ) → instance_named who c ≡ Some q → (b : Bool) → (p == q) ≡ b → (if b && true then true else awaited q process.Main c) ≡ true
+    by_case : (who : Who) (q : ℕ) → instance_named who c ≡ Some q → (b : Bool) → (p == q) ≡ b → (if b && true then true else is_awaited q process.Main c) ≡ true
         → (state_of q c ≡ Spawned) × (has_main (job_named who.job config.jobs) ≡ true)
     by_case who q found true same so =
         let place : p ≡ q = eqb-true p q same in
@@ -205,7 +205,7 @@ made-keeps config job name c none keeps = record {
     by_alive who q found false differs so = (keeps.fits who q (made-found who job name q c differs found)).alive so
 
     by_asked : (who : Who) (q : ℕ) → instance_named who (Made job name ∷ c) ≡ Some q → (b : Bool) → (length c == q) ≡ b
-        → (if b then false else awaited q process.Main c) ≡ true → (state_of q c ≡ Spawned) × (has_main (job_named who.job config.jobs) ≡ true)
+        → (if b then false else is_awaited q process.Main c) ≡ true → (state_of q c ≡ Spawned) × (has_main (job_named who.job config.jobs) ≡ true)
     by_asked who q found true same so = cc
     by_asked who q found false differs so = (keeps.fits who q (made-found who job name q c differs found)).asked so
 
@@ -235,14 +235,14 @@ spawned-keeps config who its pid c expected keeps = record {
   lone = keeps.lone;
 }
   where
-    asked-then : (q : ℕ) (b : Bool) → (if b then false else awaited q process.Main c) ≡ true → awaited q process.Main c ≡ true
+    asked-then : (q : ℕ) (b : Bool) → (if b then false else is_awaited q process.Main c) ≡ true → is_awaited q process.Main c ≡ true
     asked-then q true so = cc
     asked-then q false so = so
 
     spoken : (other : Who) (q : ℕ) → instance_named other c ≡ Some q → who ≡ other → its ≡ process.Main → may_live (state_of q c) ≡ true
     spoken other q found name main =
         let there : instance_named who c ≡ Some q = subst (λ who. instance_named who c ≡ Some q) (sym name) found in
-        let so : awaited q process.Main c ≡ true = subst (λ its. awaited q its c ≡ true) main (subst (λ o. awaits o its c ≡ true) there expected) in
+        let so : is_awaited q process.Main c ≡ true = subst (λ its. is_awaited q its c ≡ true) main (subst (λ o. awaits o its c ≡ true) there expected) in
         ap may_live ((keeps.fits other q found).asked so).0
 
     by_case : (other : Who) (q : ℕ) → instance_named other c ≡ Some q → (b : Bool) → (same_who who other && same_process its process.Main) ≡ b
@@ -269,7 +269,7 @@ refused-keeps config who its c keeps = record {
   lone = keeps.lone;
 }
   where
-    by_case : (q : ℕ) (b : Bool) → (if b then false else awaited q process.Main c) ≡ true → awaited q process.Main c ≡ true
+    by_case : (q : ℕ) (b : Bool) → (if b then false else is_awaited q process.Main c) ≡ true → is_awaited q process.Main c ≡ true
     by_case q true so = cc
     by_case q false so = so
 
@@ -355,14 +355,14 @@ not-both false b e f h = cc
 
 -- an instance that may leave its state doesn't await main
 leave-idle : (config : Configuration) (job : JobDef) (p : ℕ) (c : Chronicle) → job_named job.name config.jobs ≡ Some job → Fits config job.name p c
-    → may_leave job p c ≡ true → awaited p process.Main c ≡ false
-leave-idle config job p c found fits may = by_case (awaited p process.Main c) refl
+    → may_leave job p c ≡ true → is_awaited p process.Main c ≡ false
+leave-idle config job p c found fits may = by_case (is_awaited p process.Main c) refl
   where
-    by_case : (b : Bool) → awaited p process.Main c ≡ b → b ≡ false
+    by_case : (b : Bool) → is_awaited p process.Main c ≡ b → b ≡ false
     by_case true so =
         let spawned : (state_of p c ≡ Spawned) × (has_main (job_named job.name config.jobs) ≡ true) = fits.asked so in
         let has : has_process job process.Main ≡ true = subst (λ o. has_main o ≡ true) found spawned.1 in
-        absurd (not-both (has_process job process.Main) (awaited p process.Main c) has so (subst (λ from. is_over job p (wait_in from) c ≡ true) spawned.0 may))
+        absurd (not-both (has_process job process.Main) (is_awaited p process.Main c) has so (subst (λ from. is_over job p (wait_in from) c ≡ true) spawned.0 may))
     by_case false so = refl
 
 -- the order for another process
@@ -579,7 +579,7 @@ carry_out-still p (verdict.Fail its) c = fail-still p its c
 end_of-still : (its_job : Option JobDef) (o : Option ℕ) (its : Process) (how : End) (c : Chronicle) → AllByRecursion IsStill (end_of its_job o its how c)
 end_of-still None o its how c = tt
 end_of-still (Some job) None its how c = tt
-end_of-still (Some job) (Some p) its how c = carry_out-still p (judged job p its how c) c
+end_of-still (Some job) (Some p) its how c = carry_out-still p (verdict_on_end job p its how c) c
 
 -- so are the timer's signals, and what a turn does
 killing-still : (places : List ℕ) → AllByRecursion IsStill (killing places)
@@ -592,7 +592,7 @@ telling-still spoilt (Some told) = (tt, tt)
 
 finishing-still : (event : ℕ) (c : Chronicle) → AllByRecursion IsStill (finishing event c)
 finishing-still event c =
-    all-append IsStill (telling event (told_of event c)) (answering_waiter (waiter event c) (is_spoilt event c) ++ Finished event ∷ []) (telling-still event (told_of event c))
+    all-append IsStill (telling event (failed_event_of event c)) (answering_waiter (waiter event c) (is_spoilt event c) ++ Finished event ∷ []) (telling-still event (failed_event_of event c))
     (all-append IsStill (answering_waiter (waiter event c) (is_spoilt event c)) (Finished event ∷ [])
     (answering_waiter-all IsStill (λ request answer. tt) (waiter event c) (is_spoilt event c)) (tt, tt))
 

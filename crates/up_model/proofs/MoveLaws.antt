@@ -12,17 +12,17 @@ use Rattle.up_model.specs.declared.state.State.{State}
 use Rattle.up_model.specs.declared.state.State.TheVariants.{Waiting, Starting, PostStart, Running, PreStop, Stopping}
 use Rattle.up_model.specs.declared.who.Who.{Who}
 use Rattle.up_model.specs.Chronicle.{Chronicle, Entry, Given, Queued, Offered, Made, Aimed, Released, Entered, Ordered, Signalled, Replied, Entering, Expression, StartOn, StopOn}
-use Rattle.up_model.specs.Instances.{Instance, without_instance, instances_of, existing}
+use Rattle.up_model.specs.Instances.{Instance, without_instance, instances_of, all_instances}
 use Rattle.up_model.specs.Life.{next_state, wait_in, entering}
 use Rattle.up_model.specs.Moves.{has_process, emitting, ordering, enter, enter_whole, is_over, may_leave, next_of, who_of, move}
 use Rattle.up_model.specs.Offers.{is_newborn, is_open}
 use Rattle.up_model.specs.Readings.{goal, state_of, is_blocking, blocker, lives}
 use Rattle.up_model.specs.Replies.{releasing}
 use Rattle.up_model.specs.Seen.{was_offered}
-use Rattle.up_model.specs.Tests.{is_start, entries_if}
+use Rattle.up_model.specs.Predicates.{is_start, entries_if}
 use Rattle.up_model.specs.Values.{Bytes}
 use Rattle.up_model.specs.Work.{moves, moves_at, offer_work, instance_work, work_in, start_work}
-use Rattle.up_model.proofs.Places.{count, existing-older, instances-exist}
+use Rattle.up_model.proofs.Places.{count, all_instances-older, instances-exist}
 use Rattle.up_model.proofs.ReplyLaws.{releasing-all}
 use Rattle.up_model.proofs.Sparing.{same-append, all-append, all-if, all-weaker, IsOf, spared-works}
 use Rattle.up_model.proofs.Sums.{IsSpared, sum-less, gone-less}
@@ -47,13 +47,13 @@ whole-fewer false = omega arith
 
 -- what the count of moves asks of an instance that may leave its state: in waiting that it is to start, and in starting and stopping that
 -- its event has finished
-abbrev Leaves : Goal → State → (blocked : Bool) → Type 0
+abbrev pub Leaves : Goal → State → (blocked : Bool) → Type 0
 Leaves aim Waiting blocked = is_start aim ≡ true
 Leaves aim Starting blocked = not blocked ≡ true
 Leaves aim Stopping blocked = not blocked ≡ true
 Leaves aim from blocked = Unit {0}
 
-leaves : (job : JobDef) (p : ℕ) (from : State) (c : Chronicle) → is_over job p (wait_in from) c ≡ true → Leaves (goal p c) from (is_some (blocker p c))
+pub leaves : (job : JobDef) (p : ℕ) (from : State) (c : Chronicle) → is_over job p (wait_in from) c ≡ true → Leaves (goal p c) from (is_some (blocker p c))
 leaves job p Waiting c over = over
 leaves job p Starting c over = over
 leaves job p Stopping c over = over
@@ -79,7 +79,7 @@ moves-fewer Start from blocked has_main lives may = omega arith
 moves-fewer Stop from blocked has_main lives may = omega arith
 
 -- an entry of a move of an instance, but for the one that it enters a state
-abbrev IsBeside : ℕ → Entry → Type 0
+abbrev pub IsBeside : ℕ → Entry → Type 0
 IsBeside p (Queued (Entering instance entered) event) = instance ≡ p
 IsBeside p (Released instance failed) = Unit {0}
 IsBeside p (Ordered instance process) = Unit {0}
@@ -88,12 +88,12 @@ IsBeside p (Replied request answer) = Unit {0}
 IsBeside p entry = ⊥
 
 -- an entry of a move of an instance
-abbrev IsMove : ℕ → Entry → Type 0
+abbrev pub IsMove : ℕ → Entry → Type 0
 IsMove p (Entered instance entered) = instance ≡ p
 IsMove p entry = IsBeside p entry
 
 -- which is due
-move-is_of : (job : Bytes) (p : ℕ) (e : Entry) → IsMove p e → IsOf job p e
+pub move-is_of : (job : Bytes) (p : ℕ) (e : Entry) → IsMove p e → IsOf job p e
 move-is_of job p (Queued (Entering instance entered) event) is = is
 move-is_of job p (Released instance failed) is = is
 move-is_of job p (Entered instance entered) is = is
@@ -111,7 +111,7 @@ beside-is_move p (Replied request answer) is = is
 beside-is_move p e is = absurd is
 
 -- it leaves goals alone
-move-goal : (p q : ℕ) (e : Entry) (c : Chronicle) → IsMove p e → goal q (e ∷ c) ≡ goal q c
+pub move-goal : (p q : ℕ) (e : Entry) (c : Chronicle) → IsMove p e → goal q (e ∷ c) ≡ goal q c
 move-goal p q (Aimed i aim environment its) c is = absurd is
 move-goal p q e c is = refl
 
@@ -133,10 +133,10 @@ beside-state p q (Entered i entered) c is = absurd is
 beside-state p q e c is = refl
 
 -- and the instances
-beside-existing : (p : ℕ) (e : Entry) (c : Chronicle) → IsBeside p e → existing (e ∷ c) ≡ existing c
-beside-existing p (Made job name) c is = absurd is
-beside-existing p (Entered i entered) c is = absurd is
-beside-existing p e c is = refl
+beside-all_instances : (p : ℕ) (e : Entry) (c : Chronicle) → IsBeside p e → all_instances (e ∷ c) ≡ all_instances c
+beside-all_instances p (Made job name) c is = absurd is
+beside-all_instances p (Entered i entered) c is = absurd is
+beside-all_instances p e c is = refl
 
 emitting-beside : (job : JobDef) (who : Who) (p : ℕ) (to : State) (kind : Option JobEvent) (c : Chronicle) → AllByRecursion (IsBeside p) (emitting job who p to kind c)
 emitting-beside job who p to None c = tt
@@ -176,13 +176,13 @@ enter-is job who p to entry c =
     ap (λ es. es ++ c) (four (entries_if entry.releases (releasing p false (enter job who p to entry c ++ c))) (entries_if (entry.kills && lives p Main c) (Signalled p job.kill_signal false ∷ [])) (emitted job who p to entry c) (ordering job p entry.orders) (Entered p to ∷ []))
     ∙ append_assoc (beside job who p to entry c) (Entered p to ∷ []) c
 
-enter-moves : (job : JobDef) (who : Who) (p : ℕ) (to : State) (entry : table.Entry) (c : Chronicle) → AllByRecursion (IsMove p) (enter_whole job who p to entry c)
+pub enter-moves : (job : JobDef) (who : Who) (p : ℕ) (to : State) (entry : table.Entry) (c : Chronicle) → AllByRecursion (IsMove p) (enter_whole job who p to entry c)
 enter-moves job who p to entry c =
     subst (AllByRecursion (IsMove p)) (sym (four (entries_if entry.releases (releasing p false (enter job who p to entry c ++ c))) (entries_if (entry.kills && lives p Main c) (Signalled p job.kill_signal false ∷ [])) (emitted job who p to entry c) (ordering job p entry.orders) (Entered p to ∷ [])))
     (all-append (IsMove p) (beside job who p to entry c) (Entered p to ∷ []) (all-weaker (IsBeside p) (IsMove p) (beside-is_move p) (beside job who p to entry c) (beside-all job who p to entry c)) (refl, tt))
 
 -- the instance is then in that state
-enter-state : (job : JobDef) (who : Who) (p : ℕ) (to : State) (entry : table.Entry) (c : Chronicle) → state_of p (enter_whole job who p to entry c ++ c) ≡ to
+pub enter-state : (job : JobDef) (who : Who) (p : ℕ) (to : State) (entry : table.Entry) (c : Chronicle) → state_of p (enter_whole job who p to entry c ++ c) ≡ to
 enter-state job who p to entry c =
     ap (state_of p) (enter-is job who p to entry c)
     ∙ same-append (state_of p) (IsBeside p) (beside-state p p) (beside job who p to entry c) (Entered p to ∷ c) (beside-all job who p to entry c)
@@ -198,22 +198,22 @@ enter-blocker job who p from to c Start = refl
 enter-blocker job who p from to c Stop = refl
 
 -- whether an instance is gone on entering a state
-abbrev is_waiting : State → Bool
+abbrev pub is_waiting : State → Bool
 is_waiting Waiting = true
 is_waiting other = false
 
-entered-existing : (p : ℕ) (to : State) (c : Chronicle)
-    → existing (Entered p to ∷ c) ≡ (if is_waiting to then without_instance p (existing c) else existing c)
-entered-existing p Waiting c = refl
-entered-existing p to c = refl
+entered-all_instances : (p : ℕ) (to : State) (c : Chronicle)
+    → all_instances (Entered p to ∷ c) ≡ (if is_waiting to then without_instance p (all_instances c) else all_instances c)
+entered-all_instances p Waiting c = refl
+entered-all_instances p to c = refl
 
 -- an instance is gone when it entered waiting, and else stays
-enter-existing : (job : JobDef) (who : Who) (p : ℕ) (to : State) (entry : table.Entry) (c : Chronicle)
-    → existing (enter_whole job who p to entry c ++ c) ≡ (if is_waiting to then without_instance p (existing c) else existing c)
-enter-existing job who p to entry c =
-    ap existing (enter-is job who p to entry c)
-    ∙ same-append existing (IsBeside p) (beside-existing p) (beside job who p to entry c) (Entered p to ∷ c) (beside-all job who p to entry c)
-    ∙ entered-existing p to c
+pub enter-all_instances : (job : JobDef) (who : Who) (p : ℕ) (to : State) (entry : table.Entry) (c : Chronicle)
+    → all_instances (enter_whole job who p to entry c ++ c) ≡ (if is_waiting to then without_instance p (all_instances c) else all_instances c)
+enter-all_instances job who p to entry c =
+    ap all_instances (enter-is job who p to entry c)
+    ∙ same-append all_instances (IsBeside p) (beside-all_instances p) (beside job who p to entry c) (Entered p to ∷ c) (beside-all job who p to entry c)
+    ∙ entered-all_instances p to c
 
 -- entries about a job and an instance of it, by which no job's `start on` has more to be offered, and the instances and this job's together
 -- have less work
@@ -221,13 +221,13 @@ pub record Lessens (offers : Bool) (job : Bytes) (c es : List Entry) : Type 0 wh
   pub place : ℕ
   pub of : AllByRecursion (IsOf job place) es
   pub each : (k : Bytes) → start_work offers k (es ++ c) ≤ start_work offers k c
-  pub less : work_in offers (existing (es ++ c)) (es ++ c) + start_work offers job (es ++ c) < work_in offers (existing c) c + start_work offers job c
+  pub less : work_in offers (all_instances (es ++ c)) (es ++ c) + start_work offers job (es ++ c) < work_in offers (all_instances c) c + start_work offers job c
 
 -- the work that is left of the instances when one of them has moved
 moved-less : (offers : Bool) (p : ℕ) (gone : Bool) (c d : Chronicle) → IsSpared offers p c d → instance_work offers p d < instance_work offers p c
-    → 0 < count p (existing c) → work_in offers (if gone then without_instance p (existing c) else existing c) d < work_in offers (existing c) c
-moved-less offers p true c d spared fewer there = gone-less offers p c d (existing c) spared (existing-older c) (omega (arith, fewer)) there
-moved-less offers p false c d spared fewer there = sum-less offers p c d (existing c) spared (existing-older c) fewer there
+    → 0 < count p (all_instances c) → work_in offers (if gone then without_instance p (all_instances c) else all_instances c) d < work_in offers (all_instances c) c
+moved-less offers p true c d spared fewer there = gone-less offers p c d (all_instances c) spared (all_instances-older c) (omega (arith, fewer)) there
+moved-less offers p false c d spared fewer there = sum-less offers p c d (all_instances c) spared (all_instances-older c) fewer there
 
 -- a move leaves the job of its instance less to do
 pub move-lessens : (offers : Bool) (job : JobDef) (x : Instance) (c : Chronicle) → 0 < count x.place (instances_of job.name c) → may_leave job x.place c ≡ true
@@ -280,5 +280,5 @@ move-lessens offers job x c there may = record {
     start : (k : Bytes) → start_work offers k d ≡ start_work offers k c
     start k = ap (λ b. offer_work offers (not b)) (same-append (was_offered (StartOn k)) (IsMove p) (move-offered p (StartOn k)) es c all)
 
-    now : work_in offers (existing d) d ≡ work_in offers (if is_waiting to then without_instance p (existing c) else existing c) d
-    now = ap (λ xs. work_in offers xs d) (enter-existing job (who_of job x) p to (entering to from job.task) c)
+    now : work_in offers (all_instances d) d ≡ work_in offers (if is_waiting to then without_instance p (all_instances c) else all_instances c) d
+    now = ap (λ xs. work_in offers xs d) (enter-all_instances job (who_of job x) p to (entering to from job.task) c)

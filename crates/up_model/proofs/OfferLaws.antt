@@ -10,16 +10,16 @@ use Rattle.up_model.specs.Chronicle.{Chronicle, Entry, Given, Offered, Fired, Ma
 use Rattle.up_model.specs.Configuration.{Configuration}
 use Rattle.up_model.specs.Environments.{env_of_job, instance_name}
 use Rattle.up_model.specs.Events.{events_at, events_env, with_instance, stopped_by}
-use Rattle.up_model.specs.Instances.{instances_of, existing, instance_named}
+use Rattle.up_model.specs.Instances.{instances_of, all_instances, instance_named}
 use Rattle.up_model.specs.Offers.{is_newborn, is_open, stop_of, stop_by, stop_offer, max_instances, start_of, who_called, start_who, start_by, start_offer}
 use Rattle.up_model.specs.Readings.{goal, state_of, blocker}
 use Rattle.up_model.specs.Replies.{releasing}
 use Rattle.up_model.specs.Seen.{seen, holds, taken, was_offered}
-use Rattle.up_model.specs.Tests.{is_start, entries_if}
+use Rattle.up_model.specs.Predicates.{is_start, entries_if}
 use Rattle.up_model.specs.Values.{Bytes, Bindings}
 use Rattle.up_model.specs.Work.{offer_work, instance_work, work_in, start_work}
 use Rattle.up_model.proofs.MoveLaws.{moves-few, Lessens}
-use Rattle.up_model.proofs.Places.{bytes_same, bytes_refl, count, count-older, existing-older, existing-once, instances-exist}
+use Rattle.up_model.proofs.Places.{bytes_same, bytes_refl, count, count-older, all_instances-older, all_instances-once, instances-exist}
 use Rattle.up_model.proofs.ReplyLaws.{releasing-all}
 use Rattle.up_model.proofs.Sparing.{same-append, all-append, all-if, all-weaker, either, IsOf, spared-works, spared-starts}
 use Rattle.up_model.proofs.Sums.{IsSpared, sum-same, sum-less, sum-more}
@@ -42,10 +42,10 @@ stop-is_of job p (Replied request answer) is = is
 stop-is_of job p e is = absurd is
 
 -- it leaves the instances alone
-stop-existing : (p : ℕ) (e : Entry) (c : Chronicle) → IsStop p e → existing (e ∷ c) ≡ existing c
-stop-existing p (Made job name) c is = absurd is
-stop-existing p (Entered i entered) c is = absurd is
-stop-existing p e c is = refl
+stop-all_instances : (p : ℕ) (e : Entry) (c : Chronicle) → IsStop p e → all_instances (e ∷ c) ≡ all_instances c
+stop-all_instances p (Made job name) c is = absurd is
+stop-all_instances p (Entered i entered) c is = absurd is
+stop-all_instances p e c is = refl
 
 -- and what was offered to the jobs
 stop-start : (p : ℕ) (k : Bytes) (e : Entry) (c : Chronicle) → IsStop p e → was_offered (StartOn k) (e ∷ c) ≡ was_offered (StartOn k) c
@@ -80,7 +80,7 @@ stop_offer-lessens config job p event c there left = record {
   place = p;
   of = all-weaker (IsStop p) (IsOf job.name p) (stop-is_of job.name p) es all;
   each = λ k. omega (arith, start k);
-  less = omega (arith, start job.name, now, sum-less true p c d (existing c) spared (existing-older c) fewer (omega (arith, there, instances-exist p job.name c)));
+  less = omega (arith, start job.name, now, sum-less true p c d (all_instances c) spared (all_instances-older c) fewer (omega (arith, there, instances-exist p job.name c)));
 }
   where
     sights : List Sight
@@ -135,8 +135,8 @@ stop_offer-lessens config job p event c there left = record {
     start : (k : Bytes) → start_work true k d ≡ start_work true k c
     start k = ap (λ b. offer_work true (not b)) (same-append (was_offered (StartOn k)) (IsStop p) (stop-start p k) es c all)
 
-    now : work_in true (existing d) d ≡ work_in true (existing c) d
-    now = ap (λ xs. work_in true xs d) (same-append existing (IsStop p) (stop-existing p) es c all)
+    now : work_in true (all_instances d) d ≡ work_in true (all_instances c) d
+    now = ap (λ xs. work_in true xs d) (same-append all_instances (IsStop p) (stop-all_instances p) es c all)
 
 -- an entry of an offer to a job's `start on`, if it has the instance
 abbrev IsStart : Bytes → ℕ → Entry → Type 0
@@ -156,10 +156,10 @@ start-is_of job p (Replied request answer) is = is
 start-is_of job p e is = absurd is
 
 -- it leaves the instances alone
-start-existing : (job : Bytes) (p : ℕ) (e : Entry) (c : Chronicle) → IsStart job p e → existing (e ∷ c) ≡ existing c
-start-existing job p (Made its name) c is = absurd is
-start-existing job p (Entered i entered) c is = absurd is
-start-existing job p e c is = refl
+start-all_instances : (job : Bytes) (p : ℕ) (e : Entry) (c : Chronicle) → IsStart job p e → all_instances (e ∷ c) ≡ all_instances c
+start-all_instances job p (Made its name) c is = absurd is
+start-all_instances job p (Entered i entered) c is = absurd is
+start-all_instances job p e c is = refl
 
 -- which of them were made in this step
 start-newborn : (job : Bytes) (p q : ℕ) (e : Entry) (c : Chronicle) → IsStart job p e → is_newborn q (e ∷ c) ≡ is_newborn q c
@@ -187,7 +187,7 @@ starts-each job p k es c of offered = by_case (bytes_eq job k) refl
 
 -- the instances have less than six more to do, and the `start on` six less
 starts-lessens : (job : Bytes) (p : ℕ) (es c : List Entry) → AllByRecursion (IsOf job p) es → was_offered (StartOn job) (es ++ c) ≡ true
-    → was_offered (StartOn job) c ≡ false → work_in true (existing (es ++ c)) (es ++ c) < work_in true (existing c) c + 6 → Lessens true job c es
+    → was_offered (StartOn job) c ≡ false → work_in true (all_instances (es ++ c)) (es ++ c) < work_in true (all_instances c) c + 6 → Lessens true job c es
 starts-lessens job p es c of offered left few = record {
   place = p;
   of = of;
@@ -207,20 +207,20 @@ offer_with name event true events does = (does ++ Fired (StartOn name) events �
 offer_with name event false events does = Offered (StartOn name) event ∷ []
 
 -- an offer to a job's `start on` that leaves the instances alone
-start-idle : (name : Bytes) (es c : List Entry) → AllByRecursion (IsOf name (suc (suc (length c)))) es → existing (es ++ c) ≡ existing c
+start-idle : (name : Bytes) (es c : List Entry) → AllByRecursion (IsOf name (suc (suc (length c)))) es → all_instances (es ++ c) ≡ all_instances c
     → was_offered (StartOn name) (es ++ c) ≡ true → was_offered (StartOn name) c ≡ false → Lessens true name c es
 start-idle name es c of same offered left = starts-lessens name p es c of offered left (omega (arith, now, sums))
   where
     p : ℕ
     p = suc (suc (length c))
 
-    young : count p (existing c) ≡ 0
-    young = count-older p (length c) (existing c) (existing-older c) (omega arith)
+    young : count p (all_instances c) ≡ 0
+    young = count-older p (length c) (all_instances c) (all_instances-older c) (omega arith)
 
-    sums : work_in true (existing c) (es ++ c) ≡ work_in true (existing c) c
-    sums = sum-same true p c (es ++ c) (existing c) (λ q. spared-works true name p q es c of) (existing-older c) young
+    sums : work_in true (all_instances c) (es ++ c) ≡ work_in true (all_instances c) c
+    sums = sum-same true p c (es ++ c) (all_instances c) (λ q. spared-works true name p q es c of) (all_instances-older c) young
 
-    now : work_in true (existing (es ++ c)) (es ++ c) ≡ work_in true (existing c) (es ++ c)
+    now : work_in true (all_instances (es ++ c)) (es ++ c) ≡ work_in true (all_instances c) (es ++ c)
     now = ap (λ xs. work_in true xs (es ++ c)) same
 
 -- one that doesn't fire
@@ -272,12 +272,12 @@ start-aims name event p events environment c left = starts-lessens name p es c o
         ap (λ b. not (b || was_offered (StopOn p) d)) (same-append (is_newborn p) (IsStart name p) (start-newborn name p p) es c all)
         ∙ ap (λ b. not (is_newborn p c || b)) (same-append (was_offered (StopOn p)) (IsStart name p) (start-stop name p p) es c all)
 
-    few : work_in true (existing d) d < work_in true (existing c) c + 6
+    few : work_in true (all_instances d) d < work_in true (all_instances c) c + 6
     few =
         let moves = moves-few (goal p d) (state_of p d) (is_some (blocker p d)) in
         let stop : offer_work true (is_open p d) ≡ offer_work true (is_open p c) = ap (offer_work true) same in
-        let now : work_in true (existing d) d ≡ work_in true (existing c) d = ap (λ xs. work_in true xs d) (same-append existing (IsStart name p) (start-existing name p) es c all) in
-        let more = sum-more true p c d (existing c) (λ q. spared-works true name p q es c of) (existing-older c) (omega (arith, moves, stop)) (existing-once p c) in
+        let now : work_in true (all_instances d) d ≡ work_in true (all_instances c) d = ap (λ xs. work_in true xs d) (same-append all_instances (IsStart name p) (start-all_instances name p) es c all) in
+        let more = sum-more true p c d (all_instances c) (λ q. spared-works true name p q es c of) (all_instances-older c) (omega (arith, moves, stop)) (all_instances-once p c) in
         omega (arith, now, more)
 
 -- one that makes an instance
@@ -288,8 +288,8 @@ start-makes name its event events environment c left = starts-lessens name p es 
     p : ℕ
     p = suc (suc (length c))
 
-    young : count p (existing c) ≡ 0
-    young = count-older p (length c) (existing c) (existing-older c) (omega arith)
+    young : count p (all_instances c) ≡ 0
+    young = count-older p (length c) (all_instances c) (all_instances-older c) (omega arith)
 
     es : List Entry
     es = Aimed p Start environment events ∷ Made name its ∷ Fired (StartOn name) events ∷ Offered (StartOn name) event ∷ []
@@ -297,12 +297,12 @@ start-makes name its event events environment c left = starts-lessens name p es 
     of : AllByRecursion (IsOf name p) es
     of = (refl, (refl, (tt, (refl, tt))))
 
-    few : work_in true (existing (es ++ c)) (es ++ c) < work_in true (existing c) c + 6
+    few : work_in true (all_instances (es ++ c)) (es ++ c) < work_in true (all_instances c) c + 6
     few =
         let moves = moves-few (goal p (es ++ c)) (state_of p (es ++ c)) (is_some (blocker p (es ++ c))) in
         let newborn : is_newborn p (es ++ c) ≡ true = rw (eq-eqb p p refl) refl in
         let shut : offer_work true (is_open p (es ++ c)) ≡ 0 = ap (λ b. offer_work true (not (b || was_offered (StopOn p) (es ++ c)))) newborn in
-        let same = sum-same true p c (es ++ c) (existing c) (λ q. spared-works true name p q es c of) (existing-older c) young in
+        let same = sum-same true p c (es ++ c) (all_instances c) (λ q. spared-works true name p q es c of) (all_instances-older c) young in
         omega (arith, moves, shut, same)
 
 -- whatever instance a start concerns, the offer leaves the job less to do

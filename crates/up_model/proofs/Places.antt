@@ -5,7 +5,7 @@ use Rattle.std.proofs.lemmas.Slice.Eq.{bytes_eq-Decides}
 use Rattle.std.specs.List.{AllByRecursion}
 use Rattle.up_model.specs.declared.state.State.TheVariants as state
 use Rattle.up_model.specs.Chronicle.{Chronicle, Made, Entered}
-use Rattle.up_model.specs.Instances.{Instance, is_before, with_instance, without_instance, instances_of, existing}
+use Rattle.up_model.specs.Instances.{Instance, is_before, with_instance, without_instance, instances_of, all_instances}
 use Rattle.up_model.specs.Values.{Bytes}
 
 -- equal texts
@@ -93,12 +93,12 @@ older-suc n [] all = tt
 older-suc n (x ∷ xs) all = (omega (arith, all.0), older-suc n xs all.1)
 
 -- instances are older than the end of the chronicle
-pub existing-older : (c : Chronicle) → AreOlder (length c) (existing c)
-existing-older [] = tt
-existing-older (Made job name ∷ c) = (omega arith, older-suc (length c) (existing c) (existing-older c))
-existing-older (Entered i state.Waiting ∷ c) =
-    older-suc (length c) (without_instance i (existing c)) (all-without (λ x. x.place < length c) i (existing c) (existing-older c))
-existing-older (entry ∷ c) = older-suc (length c) (existing c) (existing-older c)
+pub all_instances-older : (c : Chronicle) → AreOlder (length c) (all_instances c)
+all_instances-older [] = tt
+all_instances-older (Made job name ∷ c) = (omega arith, older-suc (length c) (all_instances c) (all_instances-older c))
+all_instances-older (Entered i state.Waiting ∷ c) =
+    older-suc (length c) (without_instance i (all_instances c)) (all-without (λ x. x.place < length c) i (all_instances c) (all_instances-older c))
+all_instances-older (entry ∷ c) = older-suc (length c) (all_instances c) (all_instances-older c)
 
 -- a younger place isn't among them
 pub count-older : (p n : ℕ) (xs : List Instance) → AreOlder n xs → n ≤ p → count p xs ≡ 0
@@ -109,17 +109,17 @@ count-older p n (x ∷ xs) all h =
     rw other (omega (arith, rest))
 
 -- so each stands there once
-pub existing-once : (p : ℕ) (c : Chronicle) → count p (existing c) ≤ 1
-existing-once p [] = omega arith
-existing-once p (Made job name ∷ c) = by_case (length c == p) refl (existing-once p c)
+pub all_instances-once : (p : ℕ) (c : Chronicle) → count p (all_instances c) ≤ 1
+all_instances-once p [] = omega arith
+all_instances-once p (Made job name ∷ c) = by_case (length c == p) refl (all_instances-once p c)
   where
-    by_case : (here : Bool) → (length c == p) ≡ here → count p (existing c) ≤ 1 → one_if here + count p (existing c) ≤ 1
+    by_case : (here : Bool) → (length c == p) ≡ here → count p (all_instances c) ≤ 1 → one_if here + count p (all_instances c) ≤ 1
     by_case true e once =
-        let none = count-older p (length c) (existing c) (existing-older c) (omega (arith, eqb-true (length c) p e)) in
+        let none = count-older p (length c) (all_instances c) (all_instances-older c) (omega (arith, eqb-true (length c) p e)) in
         omega (arith, none)
     by_case false e once = omega (arith, once)
-existing-once p (Entered i state.Waiting ∷ c) = omega (arith, count-without p i (existing c), existing-once p c)
-existing-once p (entry ∷ c) = existing-once p c
+all_instances-once p (Entered i state.Waiting ∷ c) = omega (arith, count-without p i (all_instances c), all_instances-once p c)
+all_instances-once p (entry ∷ c) = all_instances-once p c
 
 -- those of a list that stand in another still do without one
 count-both : (p i : ℕ) (xs ys : List Instance) → count p xs ≤ count p ys → count p (without_instance i xs) ≤ count p (without_instance i ys)
@@ -130,26 +130,26 @@ count-both p i xs ys h = by_case (p == i) refl
     by_case false e = omega (arith, h, count-stays p i xs e, count-stays p i ys e)
 
 -- the instances of a job exist
-pub instances-exist : (p : ℕ) (job : Bytes) (c : Chronicle) → count p (instances_of job c) ≤ count p (existing c)
+pub instances-exist : (p : ℕ) (job : Bytes) (c : Chronicle) → count p (instances_of job c) ≤ count p (all_instances c)
 instances-exist p job [] = omega arith
 instances-exist p job (Made other name ∷ c) = by_case (bytes_eq other job) (instances-exist p job c)
   where
     made : Instance
     made = record { place = length c; name = name }
 
-    by_case : (b : Bool) → count p (instances_of job c) ≤ count p (existing c)
-        → count p (if b then with_instance made (instances_of job c) else instances_of job c) ≤ one_if (length c == p) + count p (existing c)
+    by_case : (b : Bool) → count p (instances_of job c) ≤ count p (all_instances c)
+        → count p (if b then with_instance made (instances_of job c) else instances_of job c) ≤ one_if (length c == p) + count p (all_instances c)
     by_case true ih = omega (arith, count-with p made (instances_of job c), ih)
     by_case false ih = omega (arith, ih)
-instances-exist p job (Entered i state.Waiting ∷ c) = count-both p i (instances_of job c) (existing c) (instances-exist p job c)
+instances-exist p job (Entered i state.Waiting ∷ c) = count-both p i (instances_of job c) (all_instances c) (instances-exist p job c)
 instances-exist p job (entry ∷ c) = instances-exist p job c
 
 -- there are no more than entries
-pub existing-few : (c : Chronicle) → length (existing c) ≤ length c
-existing-few [] = omega arith
-existing-few (Made job name ∷ c) = omega (arith, existing-few c)
-existing-few (Entered i state.Waiting ∷ c) = omega (arith, fewer i (existing c), existing-few c)
-existing-few (entry ∷ c) = omega (arith, existing-few c)
+pub all_instances-few : (c : Chronicle) → length (all_instances c) ≤ length c
+all_instances-few [] = omega arith
+all_instances-few (Made job name ∷ c) = omega (arith, all_instances-few c)
+all_instances-few (Entered i state.Waiting ∷ c) = omega (arith, fewer i (all_instances c), all_instances-few c)
+all_instances-few (entry ∷ c) = omega (arith, all_instances-few c)
 
 -- each instance of a list is counted there
 counted : (xs all : List Instance) → ((p : ℕ) → count p xs ≤ count p all) → AllByRecursion (λ x. 0 < count x.place all) xs

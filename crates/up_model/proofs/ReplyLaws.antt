@@ -19,7 +19,7 @@ use Rattle.up_model.specs.Queue.{queue}
 use Rattle.up_model.specs.Readings.{goal, state_of, holders}
 use Rattle.up_model.specs.Replies.{status_of, request_at, answering_one, answering, releasing, answering_waiter, answering_hurried}
 use Rattle.up_model.specs.Requests.{RequestValue}
-use Rattle.up_model.specs.Tests.{is_start}
+use Rattle.up_model.specs.Predicates.{is_start}
 use Rattle.up_model.specs.Values.{Bytes, Bindings}
 use Rattle.up_model.proofs.Sparing.{all-append, all-if}
 

@@ -6,7 +6,7 @@ use Rattle.up_model.specs.Chronicle.{Chronicle, Entry, Given, Queued, Handled, O
 use Rattle.up_model.specs.Offers.{is_newborn, offering}
 use Rattle.up_model.specs.Readings.{goal, state_of, blocker}
 use Rattle.up_model.specs.Seen.{was_offered}
-use Rattle.up_model.specs.Tests.{entries_if}
+use Rattle.up_model.specs.Predicates.{entries_if}
 use Rattle.up_model.specs.Values.{Bytes}
 use Rattle.up_model.specs.Work.{instance_work}
 use Rattle.up_model.proofs.Places.{older-other}
@@ -57,17 +57,17 @@ other_way : (p q : ℕ) → (q == p) ≡ false → (p == q) ≡ false
 other_way p q h = ne_eqb p q (λ e. eqb-false q p h (sym e))
 
 -- such an entry leaves the goal of another instance alone
-spared-goal : (job : Bytes) (p q : ℕ) (e : Entry) (c : Chronicle) → IsOf job p e → (q == p) ≡ false → goal q (e ∷ c) ≡ goal q c
+pub spared-goal : (job : Bytes) (p q : ℕ) (e : Entry) (c : Chronicle) → IsOf job p e → (q == p) ≡ false → goal q (e ∷ c) ≡ goal q c
 spared-goal job p q (Aimed i aim environment its) c of h = rw of (rw (other_way p q h) refl)
 spared-goal job p q e c of h = refl
 
 -- its state
-spared-state : (job : Bytes) (p q : ℕ) (e : Entry) (c : Chronicle) → IsOf job p e → (q == p) ≡ false → state_of q (e ∷ c) ≡ state_of q c
+pub spared-state : (job : Bytes) (p q : ℕ) (e : Entry) (c : Chronicle) → IsOf job p e → (q == p) ≡ false → state_of q (e ∷ c) ≡ state_of q c
 spared-state job p q (Entered i entered) c of h = rw of (rw (other_way p q h) refl)
 spared-state job p q e c of h = refl
 
 -- the event that it waits for
-spared-blocker : (job : Bytes) (p q : ℕ) (e : Entry) (c : Chronicle) → IsOf job p e → (q == p) ≡ false → blocker q (e ∷ c) ≡ blocker q c
+pub spared-blocker : (job : Bytes) (p q : ℕ) (e : Entry) (c : Chronicle) → IsOf job p e → (q == p) ≡ false → blocker q (e ∷ c) ≡ blocker q c
 spared-blocker job p q (Queued (Entering i entered) event) c of h = rw of (rw (other_way p q h) refl)
 spared-blocker job p q (Finished event) c of h = absurd of
 spared-blocker job p q e c of h = refl

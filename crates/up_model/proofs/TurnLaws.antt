@@ -19,11 +19,11 @@ use Rattle.up_model.specs.Readings.{goal, failure, holders}
 use Rattle.up_model.specs.Queue.{Live, with_handled, without_event, queue}
 use Rattle.up_model.specs.Held.{is_held, is_spoilt}
 use Rattle.up_model.specs.Instances.{instance_named}
-use Rattle.up_model.specs.Judgement.{end_itself, keep_failure, fail, carry_out, judged}
+use Rattle.up_model.specs.Judgement.{end_itself, keep_failure, fail, carry_out, verdict_on_end}
 use Rattle.up_model.specs.Commands.{outcome_of, entries_of}
 use Rattle.up_model.specs.Replies.{releasing, waiter, answering_waiter}
-use Rattle.up_model.specs.Tests.{is_start, entries_if}
-use Rattle.up_model.specs.Due.{due, end_of, telling, told_of, finishing, turn_event, turn_of, effect}
+use Rattle.up_model.specs.Predicates.{is_start, entries_if}
+use Rattle.up_model.specs.Due.{due, end_of, telling, failed_event_of, finishing, turn_event, turn_of, effect}
 use Rattle.up_model.specs.Values.{Bytes}
 use Rattle.up_model.specs.Work.{work, settle}
 use Rattle.up_model.specs.Answers.{after, next, is_expected, after_all}
@@ -146,7 +146,7 @@ turn-keeps config c (Some live) found keeps = by_case live.handled refl
     d = Given input.Turn ∷ c
 
     told : List Entry
-    told = telling live.place (told_of live.place d)
+    told = telling live.place (failed_event_of live.place d)
 
     answers : List Entry
     answers = answering_waiter (waiter live.place d) (is_spoilt live.place d)
@@ -155,7 +155,7 @@ turn-keeps config c (Some live) found keeps = by_case live.handled refl
         → Keeps config ((if b then finishing live.place d else Handled live.place ∷ []) ++ d)
     by_case true handled =
         subst (Keeps config) (sym (append_assoc told (answers ++ Finished live.place ∷ []) d ∙ ap (λ rest. told ++ rest) (append_assoc answers (Finished live.place ∷ []) d)))
-        (quiets-keep config told (answers ++ Finished live.place ∷ d) (telling-quiet live.place (told_of live.place d))
+        (quiets-keep config told (answers ++ Finished live.place ∷ d) (telling-quiet live.place (failed_event_of live.place d))
         (quiets-keep config answers (Finished live.place ∷ d) (answering_waiter-all IsQuiet (λ request answer. tt) (waiter live.place d) (is_spoilt live.place d))
         (finished-keeps config live.place d (here ∙ ap (λ b. Some b) handled)
         (held-given config live.place input.Turn c ∙ turn_event-held config (queue c) c live found handled) keeps)))
@@ -212,7 +212,7 @@ carry_out-quiet instance (verdict.Fail its) c = fail-quiet instance its c
 end_of-quiet : (its_job : Option JobDef) (o : Option ℕ) (process : Process) (its : End) (c : List Entry) → AllByRecursion IsQuiet (end_of its_job o process its c)
 end_of-quiet None o process its c = tt
 end_of-quiet (Some job) None process its c = tt
-end_of-quiet (Some job) (Some instance) process its c = carry_out-quiet instance (judged job instance process its c) c
+end_of-quiet (Some job) (Some instance) process its c = carry_out-quiet instance (verdict_on_end job instance process its c) c
 
 -- so is that the timer kills
 killing-quiet : (instances : List ℕ) → AllByRecursion IsQuiet (killing instances)

@@ -5,14 +5,14 @@ use Rattle.up_conf.specs.declared.job.JobDef.{JobDef}
 use Rattle.up_model.specs.Chronicle.{Chronicle, Entry, Given, Replied, StartOn}
 use Rattle.up_model.specs.Configuration.{Configuration}
 use Rattle.up_model.specs.Due.{due}
-use Rattle.up_model.specs.Instances.{Instance, instances_of, existing}
+use Rattle.up_model.specs.Instances.{Instance, instances_of, all_instances}
 use Rattle.up_model.specs.Moves.{may_leave, move, move_of, move_in, move_first}
 use Rattle.up_model.specs.Offers.{is_open, stop_offer, stop_offer_in, start_offer, offer_in, offer_first, offering, offer_next}
 use Rattle.up_model.specs.Readings.{goal, state_of, blocker}
-use Rattle.up_model.specs.Replies.{asked, was_answered, unless_answered, unanswered, acted_on, status_if, answering_hurried, answering_last}
+use Rattle.up_model.specs.Replies.{asked, was_answered, unless_answered, unanswered, request_instance, status_if, answering_hurried, answering_last}
 use Rattle.up_model.specs.declared.request.Answer.{Answer}
 use Rattle.up_model.specs.Seen.{was_offered}
-use Rattle.up_model.specs.Tests.{entries_if, or_else}
+use Rattle.up_model.specs.Predicates.{entries_if, or_else}
 use Rattle.up_model.specs.Values.{Bytes}
 use Rattle.up_model.specs.Work.{offer_work, instance_work, work_in, start_work, starts_work, answer_work, work}
 use Rattle.up_model.proofs.MoveLaws.{moves-few, Lessens, move-lessens}
@@ -27,7 +27,7 @@ pub record Lowers (offers : Bool) (jobs : List JobDef) (c es : List Entry) : Typ
   pub place : ℕ
   pub of : AllByRecursion (IsOf whose place) es
   pub each : (k : Bytes) → start_work offers k (es ++ c) ≤ start_work offers k c
-  pub less : work_in offers (existing (es ++ c)) (es ++ c) + starts_work offers jobs (es ++ c) < work_in offers (existing c) c + starts_work offers jobs c
+  pub less : work_in offers (all_instances (es ++ c)) (es ++ c) + starts_work offers jobs (es ++ c) < work_in offers (all_instances c) c + starts_work offers jobs c
 
 no_more : (offers : Bool) (jobs : List JobDef) (c d : Chronicle) → ((k : Bytes) → start_work offers k d ≤ start_work offers k c)
     → starts_work offers jobs d ≤ starts_work offers jobs c
@@ -161,7 +161,7 @@ unfolding work
 lowers-falls config c es lowers = (record { whose = lowers.whose; place = lowers.place; of = lowers.of }, omega (arith, same, lowers.less, answers))
   where
     total : Bool → Chronicle → ℕ
-    total offers d = work_in offers (existing d) d + starts_work offers config.jobs d
+    total offers d = work_in offers (all_instances d) d + starts_work offers config.jobs d
 
     same : total (is_some (offering (es ++ c))) (es ++ c) ≡ total (is_some (offering c)) (es ++ c)
     same = ap (λ event. total (is_some event) (es ++ c)) (spared-offerings lowers.whose lowers.place es c lowers.of)
@@ -192,10 +192,10 @@ last-falls config c = by_request (asked c) refl
     by_answer request false some unsaid = inr (record { whose = []; place = 0; of = (tt, tt) }, omega (arith, works, starts, one, gone))
       where
         answer : Answer
-        answer = record { ok = true; text = status_if (acted_on c) c }
+        answer = record { ok = true; text = status_if (request_instance c) c }
 
-        works : work_in offers (existing c) (Replied request answer ∷ c) ≡ work_in offers (existing c) c
-        works = works-replied offers (existing c) request answer c
+        works : work_in offers (all_instances c) (Replied request answer ∷ c) ≡ work_in offers (all_instances c) c
+        works = works-replied offers (all_instances c) request answer c
 
         starts : starts_work offers config.jobs (Replied request answer ∷ c) ≡ starts_work offers config.jobs c
         starts = starts-replied offers config.jobs request answer c
@@ -253,7 +253,7 @@ answer-bounded None = omega arith
 answer-bounded (Some request) = omega arith
 
 -- so is all that can be due
-pub work-bounded : (config : Configuration) (c : Chronicle) → work config c ≤ 11 * length (existing c) + 6 * length config.jobs + 1
+pub work-bounded : (config : Configuration) (c : Chronicle) → work config c ≤ 11 * length (all_instances c) + 6 * length config.jobs + 1
 unfolding work
 work-bounded config c =
-    omega (arith, instances-bounded (is_some (offering c)) (existing c) c, starts-bounded (is_some (offering c)) config.jobs c, answer-bounded (unanswered c))
+    omega (arith, instances-bounded (is_some (offering c)) (all_instances c) c, starts-bounded (is_some (offering c)) config.jobs c, answer-bounded (unanswered c))

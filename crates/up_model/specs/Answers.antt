@@ -10,7 +10,7 @@ use Rattle.up_model.specs.Configuration.{Configuration}
 use Rattle.up_model.specs.Due.{effect}
 use Rattle.up_model.specs.Instances.{instance_named}
 use Rattle.up_model.specs.Outputs.{outputs_of}
-use Rattle.up_model.specs.Readings.{awaited, lives}
+use Rattle.up_model.specs.Readings.{is_awaited, lives}
 use Rattle.up_model.specs.Work.{work, settle}
 
 -- the chronicle after an input: its effect, and then what is due until nothing is
@@ -20,7 +20,7 @@ after config c given = let d = effect config given c ++ c in settle (work config
 -- whether there is an instance, and it awaits the answer for a process
 abbrev pub awaits : Option ℕ → Process → Chronicle → Bool
 awaits None its c = false
-awaits (Some instance) its c = awaited instance its c
+awaits (Some instance) its c = is_awaited instance its c
 
 -- whether there is an instance, and its process lives
 abbrev pub has_living : Option ℕ → Process → Chronicle → Bool
@@ -36,7 +36,8 @@ is_expected given c = true
 
 -- the answer to one input after a chronicle
 abbrev pub answer : Configuration → Chronicle → Input → Step
-answer config c given = if is_expected given c then step.Gave (outputs_of config (after config c given)) else step.NotExpected
+answer config c given = if is_expected given c then step.Gave (outputs_of config (after config c given))
+    else step.NotExpected
 
 -- the chronicle after one input; an input that isn't expected is no part of the history
 abbrev pub next : Configuration → Chronicle → Input → Chronicle

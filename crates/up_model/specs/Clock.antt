@@ -10,7 +10,7 @@ use Rattle.up_model.specs.declared.state.State.TheVariants as state
 use Rattle.up_model.specs.Chronicle.{Chronicle, Entry, Given, Respawned, Entered, Signalled}
 use Rattle.up_model.specs.Instances.{Instance, instances_of}
 use Rattle.up_model.specs.Readings.{state_of, lives}
-use Rattle.up_model.specs.Tests.{entries_if}
+use Rattle.up_model.specs.Predicates.{entries_if}
 
 -- what the clock reads: the greatest reading so far, and 0 before the first
 abbrev pub now : Chronicle → ℕ
@@ -25,7 +25,8 @@ milliseconds seconds = seconds * 1000
 abbrev pub respawns : (instance : ℕ) → (today span : ℕ) → Chronicle → ℕ
 respawns instance today span [] = 0
 respawns instance today span (Respawned other moment ∷ c) =
-    if (other == instance) && nat_lt (today - moment) span then respawns instance today span c + 1 else respawns instance today span c
+    if (other == instance) && nat_lt (today - moment) span then respawns instance today span c + 1
+    else respawns instance today span c
 respawns instance today span (entry ∷ c) = respawns instance today span c
 
 -- a limit of which one number is 0 is none
@@ -41,8 +42,10 @@ may_respawn limit instance c =
 abbrev pub kill_moment : ℕ → Chronicle → Option ℕ
 kill_moment instance [] = None
 kill_moment instance (Entered other entered ∷ c) = if other == instance then None else kill_moment instance c
-kill_moment instance (Signalled other signal true ∷ c) = if other == instance then None else kill_moment instance c
-kill_moment instance (Signalled other signal false ∷ c) = if other == instance then Some (now c) else kill_moment instance c
+kill_moment instance (Signalled other signal true ∷ c) =
+    if other == instance then None else kill_moment instance c
+kill_moment instance (Signalled other signal false ∷ c) =
+    if other == instance then Some (now c) else kill_moment instance c
 kill_moment instance (entry ∷ c) = kill_moment instance c
 
 -- whether so much time has passed since a moment
@@ -60,12 +63,14 @@ is_dying instance c = is_killed (state_of instance c) && lives instance Main c
 
 -- whether the timer is to kill main of an instance
 abbrev pub kill_due : JobDef → ℕ → Chronicle → Bool
-kill_due job instance c = is_dying instance c && has_passed (kill_moment instance c) (now c) (milliseconds job.kill_timeout)
+kill_due job instance c = is_dying instance c
+    && has_passed (kill_moment instance c) (now c) (milliseconds job.kill_timeout)
 
 -- the instances of a job of which that is so, in order
 abbrev pub overdue : JobDef → List Instance → Chronicle → List ℕ
 overdue job [] c = []
-overdue job (instance ∷ instances) c = entries_if (kill_due job instance.place c) (instance.place ∷ []) ++ overdue job instances c
+overdue job (instance ∷ instances) c = entries_if (kill_due job instance.place c) (instance.place ∷ [])
+    ++ overdue job instances c
 
 -- those of all jobs
 abbrev pub all_overdue : List JobDef → Chronicle → List ℕ

@@ -1,5 +1,6 @@
 -- What each request does (initctl(8)). Its refusals are tried in the order in which they stand, and change nothing.
 use Rattle.std.specs.Prelude.{ℕ, nat_lt, Bool, true, false, List, [], ◌∷◌, ◌++◌, Option, None, Some, codes, if◌then◌else◌, length}
+use Rattle.up_model.specs.declared.limits.TheConstants.{MAX_EVENTS}
 use Rattle.up_conf.specs.declared.job.JobDef.{JobDef}
 use Rattle.up_text.specs.Bindings.{set_all}
 use Rattle.up_text.specs.Expansion.{Expansion, Expands, Lacks, Malformed, expand}
@@ -20,7 +21,7 @@ use Rattle.up_model.specs.Readings.{goal, state_of}
 use Rattle.up_model.specs.Replies.{status_of, releasing}
 use Rattle.up_model.specs.Requests.{RequestValue, not_supported}
 use Rattle.up_model.specs.Status.{who_name}
-use Rattle.up_model.specs.Tests.{is_start}
+use Rattle.up_model.specs.Predicates.{is_start}
 use Rattle.up_model.specs.Values.{Bytes, Bindings}
 
 -- what comes of a request
@@ -40,7 +41,8 @@ pub data Target : Type 0 where
   Concerns : (job : JobDef) → (who : Who) → (environment : Bindings) → Target
 
 abbrev pub target_as : JobDef → Bindings → Expansion → Target
-target_as job environment (Expands name) = Concerns job (record { job = job.name; instance = name }) environment
+target_as job environment (Expands name) =
+    Concerns job (record { job = job.name; instance = name }) environment
 target_as job environment (Lacks key) = Nobody (codes "Unknown parameter: " ++ key)
 target_as job environment Malformed = Nobody (codes "Unknown parameter: " ++ job.instance)
 
@@ -50,7 +52,8 @@ request_env config job vars = set_all (env_of_job config job.name) vars
 
 abbrev pub target_in : Configuration → (name : Bytes) → Option JobDef → (vars : Bindings) → Target
 target_in config name None vars = Nobody (codes "Unknown job: " ++ name)
-target_in config name (Some job) vars = target_as job (request_env config job vars) (expand job.instance (request_env config job vars))
+target_in config name (Some job) vars =
+    target_as job (request_env config job vars) (expand job.instance (request_env config job vars))
 
 -- the job of this name, and the instance whose name these variables give
 abbrev pub target_of : Configuration → (name : Bytes) → (vars : Bindings) → Target
@@ -63,7 +66,8 @@ refusal text who = Refused (text ++ who_name who)
 -- `start`: an instance whose goal is stop, or a new one if the job may have one more, gets the goal start
 abbrev pub start_at : (holders : List ℕ) → Who → Bindings → Option ℕ → Chronicle → Outcome
 start_at holders who environment None c =
-    if nat_lt (length (instances_of who.job c)) max_instances then Done (start_of who environment holders None c)
+    if nat_lt (length (instances_of who.job c)) max_instances
+    then Done (start_of who environment holders None c)
     else Refused (codes "Too many instances: " ++ who.job)
 start_at holders who environment (Some instance) c =
     if is_start (goal instance c) then refusal (codes "Job is already running: ") who
@@ -71,13 +75,15 @@ start_at holders who environment (Some instance) c =
 
 abbrev pub start : (holders : List ℕ) → Target → Chronicle → Outcome
 start holders (Nobody text) c = Refused text
-start holders (Concerns job who environment) c = start_at holders who (with_instance who environment) (instance_named who c) c
+start holders (Concerns job who environment) c =
+    start_at holders who (with_instance who environment) (instance_named who c) c
 
 -- `stop`: an instance whose goal is start gets the goal stop, with the request's variables for pre-stop and post-stop
 abbrev pub stop_at : (holders : List ℕ) → (vars : Bindings) → Who → Option ℕ → Chronicle → Outcome
 stop_at holders vars who None c = refusal (codes "Unknown instance: ") who
 stop_at holders vars who (Some instance) c =
-    if is_start (goal instance c) then Done (stop_of instance vars holders c) else refusal (codes "Job has already been stopped: ") who
+    if is_start (goal instance c) then Done (stop_of instance vars holders c)
+    else refusal (codes "Job has already been stopped: ") who
 
 abbrev pub stop : (holders : List ℕ) → (vars : Bindings) → Target → Chronicle → Outcome
 stop holders vars (Nobody text) c = Refused text
@@ -104,7 +110,8 @@ stopped_text job = job ++ codes " stop/waiting"
 
 -- `status`: the status text of an instance; a job that has no `instance` stanza is told of without one
 abbrev pub status_at : JobDef → Who → Option ℕ → Chronicle → Outcome
-status_at job who None c = if is_filled job.instance then refusal (codes "Unknown instance: ") who else Told (stopped_text job.name)
+status_at job who None c = if is_filled job.instance then refusal (codes "Unknown instance: ") who
+    else Told (stopped_text job.name)
 status_at job who (Some instance) c = Told (status_of instance c)
 
 abbrev pub status : Target → Chronicle → Outcome
@@ -140,12 +147,13 @@ listing config c = joined_lines (list_lines config.jobs c)
 
 -- how many events may be in the queue before one more is refused to a client
 abbrev pub max_events : ℕ
-max_events = 32768
+max_events = MAX_EVENTS
 
 -- `emit`: an event goes to the end of the queue
 abbrev pub emit : (given : ℕ) → RequestValue → Chronicle → Outcome
 emit given request c =
-    if nat_lt (length (queue c)) max_events then Done (Queued (Outside given) (record { name = request.name; vars = request.vars }) ∷ [])
+    if nat_lt (length (queue c)) max_events
+    then Done (Queued (Outside given) (record { name = request.name; vars = request.vars }) ∷ [])
     else Refused (codes "Too many events")
 
 -- what a version is told as
@@ -159,15 +167,19 @@ holders_of given false = []
 
 -- what comes of a request that is given at a place
 abbrev pub outcome_by : Command → Configuration → (given : ℕ) → RequestValue → Chronicle → Outcome
-outcome_by command.Start config given request c = start (holders_of given request.wait) (target_of config request.name request.vars) c
-outcome_by command.Stop config given request c = stop (holders_of given request.wait) request.vars (target_of config request.name request.vars) c
-outcome_by command.Restart config given request c = restart (holders_of given request.wait) (target_of config request.name request.vars) c
+outcome_by command.Start config given request c =
+    start (holders_of given request.wait) (target_of config request.name request.vars) c
+outcome_by command.Stop config given request c =
+    stop (holders_of given request.wait) request.vars (target_of config request.name request.vars) c
+outcome_by command.Restart config given request c =
+    restart (holders_of given request.wait) (target_of config request.name request.vars) c
 outcome_by command.Status config given request c = status (target_of config request.name request.vars) c
 outcome_by command.List config given request c = Told (listing config c)
 outcome_by command.Emit config given request c = emit given request c
 outcome_by command.Version config given request c = Told version_text
 outcome_by command.Reload config given request c = Refused (not_supported command.Reload)
-outcome_by command.ReloadConfiguration config given request c = Refused (not_supported command.ReloadConfiguration)
+outcome_by command.ReloadConfiguration config given request c =
+    Refused (not_supported command.ReloadConfiguration)
 
 abbrev pub outcome_of : Configuration → (given : ℕ) → RequestValue → Chronicle → Outcome
 outcome_of config given request c = outcome_by request.command config given request c

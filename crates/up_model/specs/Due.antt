@@ -15,24 +15,26 @@ use Rattle.up_model.specs.Configuration.{Configuration, job_named}
 use Rattle.up_model.specs.Events.{failure_of_event}
 use Rattle.up_model.specs.Held.{is_held, is_spoilt}
 use Rattle.up_model.specs.Instances.{instance_named}
-use Rattle.up_model.specs.Judgement.{judged, carry_out}
+use Rattle.up_model.specs.Judgement.{verdict_on_end, carry_out}
 use Rattle.up_model.specs.Moves.{move_first}
 use Rattle.up_model.specs.Offers.{offering, offer_next}
 use Rattle.up_model.specs.Queue.{Live, queue}
 use Rattle.up_model.specs.Readings.{event_at}
 use Rattle.up_model.specs.Replies.{waiter, answering_waiter, answering_last}
-use Rattle.up_model.specs.Tests.{or_else}
+use Rattle.up_model.specs.Predicates.{or_else}
 
 -- what is due: the first instance that may leave its state moves; else the event of this step is offered to the next expression; else
 -- the client is answered that asked for this step and doesn't wait
 unfoldable pub due : Configuration → Chronicle → List Entry
-due config c = or_else (move_first config.jobs c) (or_else (offer_next config (offering c) c) (answering_last c))
+due config c =
+    or_else (move_first config.jobs c) (or_else (offer_next config (offering c) c) (answering_last c))
 
 -- what the end or the refusal of a process does, if its job is there and its instance exists
 abbrev pub end_of : Option JobDef → Option ℕ → Process → End → Chronicle → List Entry
 end_of None instance process end c = []
 end_of (Some job) None process end c = []
-end_of (Some job) (Some instance) process end c = carry_out instance (judged job instance process end c) c
+end_of (Some job) (Some instance) process end c =
+    carry_out instance (verdict_on_end job instance process end c) c
 
 -- the event of a turn: the oldest that is unhandled, or handled and not held
 abbrev pub turn_event : Configuration → List Live → Chronicle → Option Live
@@ -46,13 +48,14 @@ telling spoilt None = []
 telling spoilt (Some told) = Queued (Spoilt spoilt) told ∷ []
 
 -- the event that tells that another was spoilt, if it was
-abbrev pub told_of : ℕ → Chronicle → Option Event
-told_of event c = if is_spoilt event c then failure_of_event (event_at event c) else None
+abbrev pub failed_event_of : ℕ → Chronicle → Option Event
+failed_event_of event c = if is_spoilt event c then failure_of_event (event_at event c) else None
 
 -- an event leaves the queue; the client that waits for it is answered, and if it was spoilt, another event tells so
 abbrev pub finishing : (event : ℕ) → Chronicle → List Entry
 finishing event c =
-    telling event (told_of event c) ++ (answering_waiter (waiter event c) (is_spoilt event c) ++ Finished event ∷ [])
+    telling event (failed_event_of event c)
+    ++ (answering_waiter (waiter event c) (is_spoilt event c) ++ Finished event ∷ [])
 
 -- a turn handles an unhandled event, and finishes a handled one
 abbrev pub turn_of : Option Live → Chronicle → List Entry
@@ -63,13 +66,19 @@ turn_of (Some live) c = if live.handled then finishing live.place c else Handled
 unfoldable pub effect : Configuration → Input → Chronicle → List Entry
 effect config (input.Emit event) c = Queued (Outside (length c)) event ∷ Given (input.Emit event) ∷ []
 effect config (input.Request id request) c =
-    let d = Given (input.Request id request) ∷ c in entries_of (length c) (outcome_of config (length c) request d) ++ Given (input.Request id request) ∷ []
+    let d = Given (input.Request id request) ∷ c in
+    entries_of (length c) (outcome_of config (length c) request d) ++ Given (input.Request id request)
+    ∷ []
 effect config (input.Spawned who process pid) c = Given (input.Spawned who process pid) ∷ []
 effect config (input.Refused who process) c =
     let d = Given (input.Refused who process) ∷ c in
-    end_of (job_named who.job config.jobs) (instance_named who c) process end.Refused d ++ Given (input.Refused who process) ∷ []
+    end_of (job_named who.job config.jobs) (instance_named who c) process end.Refused d
+    ++ Given (input.Refused who process) ∷ []
 effect config (input.Ended who process how) c =
     let d = Given (input.Ended who process how) ∷ c in
-    end_of (job_named who.job config.jobs) (instance_named who c) process (end.Ended how) d ++ Given (input.Ended who process how) ∷ []
-effect config (input.Clock reading) c = killing (all_overdue config.jobs (Given (input.Clock reading) ∷ c)) ++ Given (input.Clock reading) ∷ []
-effect config input.Turn c = turn_of (turn_event config (queue c) c) (Given input.Turn ∷ c) ++ Given input.Turn ∷ []
+    end_of (job_named who.job config.jobs) (instance_named who c) process (end.Ended how) d
+    ++ Given (input.Ended who process how) ∷ []
+effect config (input.Clock reading) c =
+    killing (all_overdue config.jobs (Given (input.Clock reading) ∷ c)) ++ Given (input.Clock reading) ∷ []
+effect config input.Turn c = turn_of (turn_event config (queue c) c) (Given input.Turn ∷ c)
+    ++ Given input.Turn ∷ []

@@ -20,7 +20,8 @@ with_value key (Some value) environment = set_in key value environment
 abbrev pub with_settings : (base : Bindings) → List Setting → Bindings → Bindings
 with_settings base [] environment = environment
 with_settings base (setting ∷ settings) environment =
-    with_settings base settings (with_value setting.key (setting_value base setting.key setting.value) environment)
+    with_settings base settings (with_value setting.key
+    (setting_value base setting.key setting.value) environment)
 
 -- the environment of a job: the base, and what its file sets
 abbrev pub job_env : (base : Bindings) → JobDef → Bindings

@@ -44,7 +44,8 @@ ending (Some (how.Signal signal)) = (codes "EXIT_SIGNAL", signal_text signal) �
 -- how a life went (stopping(7), stopped(7))
 abbrev pub result : Option Failure → Bindings
 result None = (codes "RESULT", codes "ok") ∷ []
-result (Some failure) = (codes "RESULT", codes "failed") ∷ (codes "PROCESS", cause_name failure.cause) ∷ ending failure.how
+result (Some failure) = (codes "RESULT", codes "failed") ∷ (codes "PROCESS", cause_name failure.cause)
+    ∷ ending failure.how
 
 -- an exported key that the environment has, unless a variable has the key
 abbrev pub with_export : (key : Bytes) → Option Bytes → Bindings → Bindings
@@ -54,7 +55,8 @@ with_export key (Some value) vars = if is_some (value_of key vars) then vars els
 -- the exported keys that the environment in force has, after what an event says already (init(5), "export")
 abbrev pub with_exports : Bindings → List Bytes → Bindings → Bindings
 with_exports environment [] vars = vars
-with_exports environment (key ∷ keys) vars = with_exports environment keys (with_export key (value_of key environment) vars)
+with_exports environment (key ∷ keys) vars =
+    with_exports environment keys (with_export key (value_of key environment) vars)
 
 -- what an event of an instance's life says by itself: which instance it is about, and how its life went that may have failed
 abbrev pub life_event : JobEvent → Who → Option Failure → Event
@@ -65,7 +67,11 @@ life_event kind.Stopped who failure = record { name = codes "stopped"; vars = ab
 
 -- the event, with the keys that the job exports
 abbrev pub exporting : Bindings → List Bytes → Event → Event
-exporting environment keys event = record { name = event.name; vars = with_exports environment keys event.vars }
+exporting environment keys event = record {
+  name = event.name;
+  vars =
+      with_exports environment keys event.vars;
+}
 
 abbrev pub with_event : Option Event → List Event → List Event
 with_event None events = events
@@ -93,7 +99,8 @@ names_of (event ∷ events) = event.name ++ more_names events
 
 -- the environment of a start by these events, on top of that of the job (init(5), "Job environment")
 abbrev pub events_env : Bindings → List Event → Bindings
-events_env environment events = set_in (codes "UPSTART_EVENTS") (names_of events) (collected environment events)
+events_env environment events =
+    set_in (codes "UPSTART_EVENTS") (names_of events) (collected environment events)
 
 -- and with the instance that it starts
 abbrev pub with_instance : Who → Bindings → Bindings
@@ -113,4 +120,5 @@ tells_failure event = ends_with nat_eq event.name (codes "/failed")
 abbrev pub failure_of_event : Option Event → Option Event
 failure_of_event None = None
 failure_of_event (Some event) =
-    if tells_failure event then None else Some (record { name = event.name ++ codes "/failed"; vars = event.vars })
+    if tells_failure event then None
+    else Some (record { name = event.name ++ codes "/failed"; vars = event.vars })

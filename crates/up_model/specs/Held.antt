@@ -15,12 +15,14 @@ held_by config job instance c = kept job.stop_on (seen config (StopOn instance) 
 -- the same of several instances
 abbrev pub held_by_instances : Configuration → JobDef → List Instance → Chronicle → List ℕ
 held_by_instances config job [] c = []
-held_by_instances config job (instance ∷ instances) c = held_by config job instance.place c ++ held_by_instances config job instances c
+held_by_instances config job (instance ∷ instances) c =
+    held_by config job instance.place c ++ held_by_instances config job instances c
 
 -- what a job holds: the events that its `start on` keeps, and what its instances hold
 abbrev pub held_by_job : Configuration → JobDef → Chronicle → List ℕ
 held_by_job config job c =
-    kept job.start_on (seen config (StartOn job.name) c) ++ held_by_instances config job (instances_of job.name c) c
+    kept job.start_on (seen config (StartOn job.name) c)
+    ++ held_by_instances config job (instances_of job.name c) c
 
 -- what jobs hold, each event as often as it is held
 abbrev pub held_by_jobs : Configuration → List JobDef → Chronicle → List ℕ
@@ -37,5 +39,6 @@ is_held config event c = has event (held_by_jobs config config.jobs c)
 -- whether an instance that held an event let it go as failed
 abbrev pub is_spoilt : ℕ → Chronicle → Bool
 is_spoilt event [] = false
-is_spoilt event (Released instance true ∷ c) = if has event (holders instance c) then true else is_spoilt event c
+is_spoilt event (Released instance true ∷ c) =
+    if has event (holders instance c) then true else is_spoilt event c
 is_spoilt event (entry ∷ c) = is_spoilt event c

@@ -23,27 +23,30 @@ with_instance instance instances = put_by is_before instance instances
 abbrev pub without_instance : ℕ → List Instance → List Instance
 without_instance place [] = []
 without_instance place (instance ∷ instances) =
-    if instance.place == place then without_instance place instances else instance ∷ without_instance place instances
+    if instance.place == place then without_instance place instances
+    else instance ∷ without_instance place instances
 
 -- the instances of a job, in byte order of their names
 abbrev pub instances_of : Bytes → Chronicle → List Instance
 instances_of job [] = []
 instances_of job (Made other name ∷ c) =
-    if bytes_eq other job then with_instance (record { place = length c; name = name }) (instances_of job c) else instances_of job c
+    if bytes_eq other job then with_instance (record { place = length c; name = name }) (instances_of job c)
+    else instances_of job c
 instances_of job (Entered instance state.Waiting ∷ c) = without_instance instance (instances_of job c)
 instances_of job (entry ∷ c) = instances_of job c
 
 -- the instances of all jobs, newest first
-abbrev pub existing : Chronicle → List Instance
-existing [] = []
-existing (Made job name ∷ c) = record { place = length c; name = name } ∷ existing c
-existing (Entered instance state.Waiting ∷ c) = without_instance instance (existing c)
-existing (entry ∷ c) = existing c
+abbrev pub all_instances : Chronicle → List Instance
+all_instances [] = []
+all_instances (Made job name ∷ c) = record { place = length c; name = name } ∷ all_instances c
+all_instances (Entered instance state.Waiting ∷ c) = without_instance instance (all_instances c)
+all_instances (entry ∷ c) = all_instances c
 
 -- where the one of this name was made
 abbrev pub place_named : Bytes → List Instance → Option ℕ
 place_named name [] = None
-place_named name (instance ∷ instances) = if bytes_eq instance.name name then Some instance.place else place_named name instances
+place_named name (instance ∷ instances) =
+    if bytes_eq instance.name name then Some instance.place else place_named name instances
 
 -- where the instance that is known outside by these names was made, if it exists
 abbrev pub instance_named : Who → Chronicle → Option ℕ

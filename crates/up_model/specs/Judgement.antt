@@ -24,7 +24,7 @@ use Rattle.up_model.specs.Chronicle.{Chronicle, Entry, Aimed, Respawned, Failed}
 use Rattle.up_model.specs.Clock.{now, may_respawn}
 use Rattle.up_model.specs.Readings as read
 use Rattle.up_model.specs.Replies.{releasing}
-use Rattle.up_model.specs.Tests.{is_start, entries_if}
+use Rattle.up_model.specs.Predicates.{is_start, entries_if}
 
 -- the failure of a process
 abbrev pub failure_of : Process → Option How → Failure
@@ -51,7 +51,8 @@ judge_main its task respawn normal may =
 
 -- the end of another process whose failure counts: pre-start or post-stop
 abbrev pub judge_other : Process → How → Verdict
-judge_other process its = if is_success its then verdict.Note else verdict.Fail (failure_of process (Some its))
+judge_other process its = if is_success its then verdict.Note
+    else verdict.Fail (failure_of process (Some its))
 
 -- the states in which the end of main is judged
 abbrev pub is_judged_in : State → Bool
@@ -84,18 +85,20 @@ is_normal exits Refused = false
 is_normal exits (Ended how) = list_any (same_exit (exit_of how)) exits
 
 -- what an end does to an instance of a job
-abbrev pub judged : JobDef → ℕ → Process → End → Chronicle → Verdict
-judged job instance process end c =
+abbrev pub verdict_on_end : JobDef → ℕ → Process → End → Chronicle → Verdict
+verdict_on_end job instance process end c =
     judge (read.goal instance c) (read.state_of instance c) process end
     job.task job.respawn (is_normal job.normal end) (may_respawn job.limit instance c)
 
 -- the goal becomes stop, if it is start; the holders stay
 abbrev pub end_itself : ℕ → Chronicle → List Entry
-end_itself instance c = entries_if (is_start (read.goal instance c)) (Aimed instance goal.Stop [] (read.holders instance c) ∷ [])
+end_itself instance c =
+    entries_if (is_start (read.goal instance c)) (Aimed instance goal.Stop [] (read.holders instance c) ∷ [])
 
 -- a failure is kept, and the holders are released as failed
 abbrev pub keep_failure : ℕ → Failure → Chronicle → List Entry
-keep_failure instance failure c = releasing instance true (Failed instance failure ∷ c) ++ Failed instance failure ∷ []
+keep_failure instance failure c = releasing instance true (Failed instance failure ∷ c)
+    ++ Failed instance failure ∷ []
 
 -- an instance fails: its goal becomes stop, and the failure is kept if it is the first since the last start
 abbrev pub fail : ℕ → Failure → Chronicle → List Entry

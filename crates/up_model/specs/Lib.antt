@@ -9,7 +9,7 @@ pub mod Environments
 -- The chronicle.
 pub mod Chronicle
 -- Tests on the values of a run, which compute.
-pub mod Tests
+pub mod Predicates
 -- Readings of the chronicle.
 pub mod Readings
 -- The instances that exist.
@@ -52,3 +52,7 @@ pub mod Answers
 pub mod Laws
 -- What the laws say of what instances do.
 pub mod Blocks
+-- The numbers by which the programs end (initd(8) and initctl(8), EXIT STATUS).
+pub mod ExitStatuses
+-- How many processes the instances may still order before they wait for an event.
+pub mod Left

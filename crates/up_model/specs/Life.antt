@@ -76,7 +76,15 @@ is_pre_stop other = false
 
 -- entering a state without anything else
 abbrev pub plain : Entry
-plain = record { orders = None; emits = None; releases = false; refreshes = false; kills = false; removes = false }
+plain = record {
+  orders = None;
+  emits = None;
+  releases = false;
+  refreshes = false;
+  kills = false;
+  removes =
+      false;
+}
 
 -- what entering a state does, coming from another: which process is ordered, which event of the job is emitted, whether the holders
 -- are released, the pending environment comes into force, a living main is sent its signal, and the instance is removed
@@ -87,7 +95,11 @@ entering Starting from task = record plain { emits = Some event.Starting; refres
 entering PreStart from task = record plain { orders = Some process.PreStart }
 entering Spawned from task = record plain { orders = Some process.Main }
 entering PostStart from task = record plain { orders = Some process.PostStart }
-entering Running from task = record plain { emits = if is_pre_stop from then None else Some event.Started; releases = not task }
+entering Running from task = record plain {
+  emits =
+      if is_pre_stop from then None else Some event.Started;
+  releases = not task;
+}
 entering PreStop from task = record plain { orders = Some process.PreStop }
 entering Stopping from task = record plain { emits = Some event.Stopping }
 entering Killed from task = record plain { kills = true }

@@ -14,9 +14,9 @@ use Rattle.up_model.specs.Chronicle.{Chronicle, Entry, Queued, Entered, Ordered,
 use Rattle.up_model.specs.Events.{life_event, exporting}
 use Rattle.up_model.specs.Instances.{Instance, instances_of}
 use Rattle.up_model.specs.Life.{Wait, ForStart, ForEvent, ForAnswer, ForProcess, ForChange, ForMain, wait_in, next_state, entering}
-use Rattle.up_model.specs.Readings.{goal, state_of, was_restarted, env, failure, blocker, awaited, lives}
+use Rattle.up_model.specs.Readings.{goal, state_of, was_restarted, env, failure, blocker, is_awaited, lives}
 use Rattle.up_model.specs.Replies.{releasing}
-use Rattle.up_model.specs.Tests.{is_start, entries_if, or_else}
+use Rattle.up_model.specs.Predicates.{is_start, entries_if, or_else}
 
 -- what a process of a job runs
 abbrev pub action_of : JobDef → Process → Option Action
@@ -35,12 +35,14 @@ who_of job instance = record { job = job.name; instance = instance.name }
 
 -- an event of an instance's life, with the keys that its job exports (starting(7), started(7), stopping(7), stopped(7))
 abbrev pub job_event : JobDef → Who → ℕ → JobEvent → Chronicle → Event
-job_event job who instance kind c = exporting (env instance c) job.export (life_event kind who (failure instance c))
+job_event job who instance kind c =
+    exporting (env instance c) job.export (life_event kind who (failure instance c))
 
 -- the event that is emitted on entering a state
 abbrev pub emitting : JobDef → Who → ℕ → State → Option JobEvent → Chronicle → List Entry
 emitting job who instance to None c = []
-emitting job who instance to (Some kind) c = Queued (Entering instance to) (job_event job who instance kind c) ∷ []
+emitting job who instance to (Some kind) c =
+    Queued (Entering instance to) (job_event job who instance kind c) ∷ []
 
 -- the process that is ordered, if the job has it
 abbrev pub ordering : JobDef → ℕ → Option Process → List Entry
@@ -64,10 +66,12 @@ enter_whole job who instance to entry c =
 abbrev pub is_over : JobDef → ℕ → Wait → Chronicle → Bool
 is_over job instance ForStart c = is_start (goal instance c)
 is_over job instance ForEvent c = not (is_some (blocker instance c))
-is_over job instance (ForAnswer its) c = not (has_process job its) || not (awaited instance its c)
-is_over job instance (ForProcess its) c = not (has_process job its) || not (awaited instance its c || lives instance its c)
+is_over job instance (ForAnswer its) c = not (has_process job its) || not (is_awaited instance its c)
+is_over job instance (ForProcess its) c =
+    not (has_process job its) || not (is_awaited instance its c || lives instance its c)
 is_over job instance ForChange c =
-    not (is_start (goal instance c)) || was_restarted instance c || (has_process job process.Main && not (lives instance process.Main c))
+    not (is_start (goal instance c)) || was_restarted instance c
+    || (has_process job process.Main && not (lives instance process.Main c))
 is_over job instance ForMain c = not (lives instance process.Main c)
 
 abbrev pub may_leave : JobDef → ℕ → Chronicle → Bool
@@ -75,13 +79,16 @@ may_leave job instance c = is_over job instance (wait_in (state_of instance c)) 
 
 -- the state that an instance enters next
 abbrev pub next_of : JobDef → ℕ → Chronicle → State
-next_of job instance c = next_state (goal instance c) (state_of instance c) (has_process job process.Main) (lives instance process.Main c)
+next_of job instance c =
+    next_state (goal instance c) (state_of instance c) (has_process job process.Main)
+    (lives instance process.Main c)
 
 -- an instance moves on
 abbrev pub move : JobDef → Instance → Chronicle → List Entry
 move job instance c =
     let to = next_of job instance.place c in
-    enter_whole job (who_of job instance) instance.place to (entering to (state_of instance.place c) job.task) c
+    enter_whole job (who_of job instance) instance.place to
+    (entering to (state_of instance.place c) job.task) c
 
 -- the move of an instance, if it may leave its state
 abbrev pub move_of : JobDef → Instance → Chronicle → List Entry

@@ -1,6 +1,7 @@
 -- How the event of a turn is offered to the expressions, and what one does that fires (init(5), "start on" and "stop on").
 -- Each of these is a list of entries to be put before the chronicle, newest first.
 use Rattle.std.specs.Prelude.{ℕ, nat_lt, Bool, true, false, not, ◌||◌, ◌==◌, List, [], ◌∷◌, ◌++◌, Option, None, Some, if◌then◌else◌, length}
+use Rattle.up_model.specs.declared.limits.TheConstants.{MAX_INSTANCES}
 use Rattle.up_conf.specs.declared.job.JobDef.{JobDef}
 use Rattle.up_model.specs.declared.state.Goal.TheVariants.{Start, Stop}
 use Rattle.up_model.specs.declared.who.Who.{Who}
@@ -12,7 +13,7 @@ use Rattle.up_model.specs.Instances.{Instance, instances_of, instance_named}
 use Rattle.up_model.specs.Readings.{goal}
 use Rattle.up_model.specs.Replies.{releasing}
 use Rattle.up_model.specs.Seen.{seen, holds, taken, was_offered}
-use Rattle.up_model.specs.Tests.{is_start, entries_if, or_else}
+use Rattle.up_model.specs.Predicates.{is_start, entries_if, or_else}
 use Rattle.up_model.specs.Values.{Bytes, Bindings}
 
 -- whether an instance was made in this step
@@ -28,7 +29,8 @@ stop_of instance environment holders c = Aimed instance Stop environment holders
 
 -- the goal becomes stop, by events that its expression took, if it is start
 abbrev pub stop_by : ℕ → List ℕ → Chronicle → List Entry
-stop_by instance events c = entries_if (is_start (goal instance c)) (stop_of instance (stopped_by (events_at events c)) events c)
+stop_by instance events c =
+    entries_if (is_start (goal instance c)) (stop_of instance (stopped_by (events_at events c)) events c)
 
 -- an instance's `stop on` is offered the event, and fires if it is true then
 abbrev pub stop_offer : Configuration → JobDef → ℕ → (event : ℕ) → Chronicle → List Entry
@@ -36,7 +38,8 @@ stop_offer config job instance event c =
     let offered = Offered (StopOn instance) event ∷ c in
     let sights = seen config (StopOn instance) offered in
     let events = taken job.stop_on sights in
-    entries_if (holds job.stop_on sights) (stop_by instance events (Fired (StopOn instance) events ∷ offered) ++ Fired (StopOn instance) events ∷ [])
+    entries_if (holds job.stop_on sights) (stop_by instance events (Fired (StopOn instance) events ∷ offered)
+    ++ Fired (StopOn instance) events ∷ [])
     ++ Offered (StopOn instance) event ∷ []
 
 -- whether an instance's `stop on` is still to be offered the event of this step: an instance that it made isn't offered it
@@ -47,19 +50,22 @@ is_open instance c = not (is_newborn instance c || was_offered (StopOn instance)
 abbrev pub stop_offer_in : Configuration → JobDef → List Instance → (event : ℕ) → Chronicle → List Entry
 stop_offer_in config job [] event c = []
 stop_offer_in config job (instance ∷ instances) event c =
-    or_else (entries_if (is_open instance.place c) (stop_offer config job instance.place event c)) (stop_offer_in config job instances event c)
+    or_else (entries_if (is_open instance.place c) (stop_offer config job instance.place event c))
+    (stop_offer_in config job instances event c)
 
 -- how many instances a job may have
 abbrev pub max_instances : ℕ
-max_instances = 1024
+max_instances = MAX_INSTANCES
 
 -- the goal becomes start, with this environment and these holders: of the instance, if its goal is stop, or of a new one, if the job
 -- may have one more
 abbrev pub start_of : Who → Bindings → (holders : List ℕ) → Option ℕ → Chronicle → List Entry
 start_of who environment holders None c =
-    entries_if (nat_lt (length (instances_of who.job c)) max_instances) (Aimed (length c) Start environment holders ∷ Made who.job who.instance ∷ [])
+    entries_if (nat_lt (length (instances_of who.job c)) max_instances)
+    (Aimed (length c) Start environment holders ∷ Made who.job who.instance ∷ [])
 start_of who environment holders (Some instance) c =
-    entries_if (not (is_start (goal instance c))) (Aimed instance Start environment holders ∷ releasing instance false c)
+    entries_if (not (is_start (goal instance c))) (Aimed instance Start environment holders
+    ∷ releasing instance false c)
 
 -- the instance of a job that a start or a command concerns, if its name expands
 abbrev pub who_called : (job : Bytes) → Option Bytes → Option Who
@@ -68,7 +74,8 @@ who_called job (Some name) = Some (record { job = job; instance = name })
 
 abbrev pub start_who : Bindings → (holders : List ℕ) → Option Who → Chronicle → List Entry
 start_who environment holders None c = []
-start_who environment holders (Some who) c = start_of who (with_instance who environment) holders (instance_named who c) c
+start_who environment holders (Some who) c =
+    start_of who (with_instance who environment) holders (instance_named who c) c
 
 -- a start by events that the job's expression took
 abbrev pub start_by : Configuration → JobDef → List ℕ → Chronicle → List Entry
@@ -97,7 +104,8 @@ offer_in config job event c =
 -- the same, job by job
 abbrev pub offer_first : Configuration → List JobDef → (event : ℕ) → Chronicle → List Entry
 offer_first config [] event c = []
-offer_first config (job ∷ jobs) event c = or_else (offer_in config job event c) (offer_first config jobs event c)
+offer_first config (job ∷ jobs) event c =
+    or_else (offer_in config job event c) (offer_first config jobs event c)
 
 -- the event that this step handles
 abbrev pub offering : Chronicle → Option ℕ

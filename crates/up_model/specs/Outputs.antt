@@ -29,7 +29,15 @@ dir_of (byte ∷ dir) = byte ∷ dir
 abbrev pub order_for : JobDef → Who → Process → Option Action → Bindings → List Output
 order_for job who its None environment = []
 order_for job who its (Some action) environment =
-    output.Spawn (record { who = who; process = its; argv = argv_of action; dir = dir_of job.dir; silent = job.silent; env = environment }) ∷ []
+    output.Spawn (record {
+      who = who;
+      process = its;
+      argv = argv_of action;
+      dir = dir_of job.dir;
+      silent =
+          job.silent;
+      env = environment;
+    }) ∷ []
 
 -- the order for a process of an instance, by its job
 abbrev pub order_by : Option JobDef → Who → Process → Bindings → List Output
@@ -56,9 +64,12 @@ reply_of (Some id) answer = output.Reply id answer ∷ []
 unfoldable pub outputs_of : Configuration → Chronicle → List Output
 outputs_of config [] = []
 outputs_of config (Given input ∷ c) = []
-outputs_of config (Ordered instance its ∷ c) = outputs_of config c ++ order_of config (made_at instance c) its (process_env instance its c)
-outputs_of config (Signalled instance signal by_timer ∷ c) = outputs_of config c ++ signal_of (made_at instance c) signal (pid_of instance Main c)
-outputs_of config (Queued (Entering instance state) event ∷ c) = outputs_of config c ++ output.Emitted event ∷ []
+outputs_of config (Ordered instance its ∷ c) =
+    outputs_of config c ++ order_of config (made_at instance c) its (process_env instance its c)
+outputs_of config (Signalled instance signal by_timer ∷ c) =
+    outputs_of config c ++ signal_of (made_at instance c) signal (pid_of instance Main c)
+outputs_of config (Queued (Entering instance state) event ∷ c) =
+    outputs_of config c ++ output.Emitted event ∷ []
 outputs_of config (Queued (Spoilt spoilt) event ∷ c) = outputs_of config c ++ output.Emitted event ∷ []
 outputs_of config (Replied request answer ∷ c) = outputs_of config c ++ reply_of (id_at request c) answer
 outputs_of config (entry ∷ c) = outputs_of config c

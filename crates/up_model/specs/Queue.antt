@@ -13,12 +13,14 @@ live_at place handled = record { place = place; handled = handled }
 -- the queue, with the event marked as handled
 abbrev pub with_handled : ℕ → List Live → List Live
 with_handled event [] = []
-with_handled event (live ∷ queue) = if live.place == event then live_at live.place true ∷ with_handled event queue else live ∷ with_handled event queue
+with_handled event (live ∷ queue) = if live.place == event then live_at live.place true
+    ∷ with_handled event queue else live ∷ with_handled event queue
 
 -- the queue without the event
 abbrev pub without_event : ℕ → List Live → List Live
 without_event event [] = []
-without_event event (live ∷ queue) = if live.place == event then without_event event queue else live ∷ without_event event queue
+without_event event (live ∷ queue) = if live.place == event then without_event event queue
+    else live ∷ without_event event queue
 
 -- the events that were queued and have not finished, by age
 abbrev pub queue : Chronicle → List Live

@@ -12,7 +12,7 @@ use Rattle.up_model.specs.declared.state.State.{State}
 use Rattle.up_model.specs.declared.state.State.TheVariants as state
 use Rattle.up_model.specs.declared.who.Who.{Who}
 use Rattle.up_model.specs.Chronicle.{Chronicle, Entry, Given, Queued, Finished, Made, Aimed, Restarted, Released, Failed, Entered, Ordered, Entering}
-use Rattle.up_model.specs.Tests.{same_process, same_who}
+use Rattle.up_model.specs.Predicates.{same_process, same_who}
 use Rattle.up_model.specs.Values.{Bindings}
 
 -- the entry at a place
@@ -59,27 +59,33 @@ state_of instance (entry ∷ c) = state_of instance c
 -- whether a restart of an instance was taken since it entered its state
 abbrev pub was_restarted : ℕ → Chronicle → Bool
 was_restarted instance [] = false
-was_restarted instance (Restarted other its ∷ c) = if other == instance then true else was_restarted instance c
-was_restarted instance (Entered other entered ∷ c) = if other == instance then false else was_restarted instance c
+was_restarted instance (Restarted other its ∷ c) =
+    if other == instance then true else was_restarted instance c
+was_restarted instance (Entered other entered ∷ c) =
+    if other == instance then false else was_restarted instance c
 was_restarted instance (entry ∷ c) = was_restarted instance c
 
 -- the environment that goes with the last start
 abbrev pub pending_env : ℕ → Chronicle → Bindings
 pending_env instance [] = []
-pending_env instance (Aimed other Start environment its ∷ c) = if other == instance then environment else pending_env instance c
+pending_env instance (Aimed other Start environment its ∷ c) =
+    if other == instance then environment else pending_env instance c
 pending_env instance (entry ∷ c) = pending_env instance c
 
 -- the environment in force: the one that was pending when starting was entered last (init(5), "Job environment")
 abbrev pub env : ℕ → Chronicle → Bindings
 env instance [] = []
-env instance (Entered other state.Starting ∷ c) = if other == instance then pending_env instance c else env instance c
+env instance (Entered other state.Starting ∷ c) =
+    if other == instance then pending_env instance c else env instance c
 env instance (entry ∷ c) = env instance c
 
 -- what the last stop adds for the processes that come after it; nothing if the goal is start
 abbrev pub stop_env : ℕ → Chronicle → Bindings
 stop_env instance [] = []
-stop_env instance (Aimed other Start environment its ∷ c) = if other == instance then [] else stop_env instance c
-stop_env instance (Aimed other Stop environment its ∷ c) = if other == instance then environment else stop_env instance c
+stop_env instance (Aimed other Start environment its ∷ c) =
+    if other == instance then [] else stop_env instance c
+stop_env instance (Aimed other Stop environment its ∷ c) =
+    if other == instance then environment else stop_env instance c
 stop_env instance (entry ∷ c) = stop_env instance c
 
 -- whether a process gets that too
@@ -90,7 +96,8 @@ has_stop_env other = false
 
 -- the environment of a process (init(5), "Job environment")
 abbrev pub process_env : ℕ → Process → Chronicle → Bindings
-process_env instance process c = if has_stop_env process then set_all (env instance c) (stop_env instance c) else env instance c
+process_env instance process c = if has_stop_env process then set_all (env instance c) (stop_env instance c)
+    else env instance c
 
 -- why an instance failed since it entered starting last: the first failure is kept, and a later one doesn't replace it
 abbrev pub failure : ℕ → Chronicle → Option Failure
@@ -133,16 +140,17 @@ speaks_of (Some its) process who named = same_who who its && same_process named 
 
 -- whether a process of an instance was ordered and not answered since. It is asked of instances that exist, of which no two have
 -- one name
-abbrev pub awaited : ℕ → Process → Chronicle → Bool
-awaited instance process [] = false
-awaited instance process (Made job name ∷ c) = if length c == instance then false else awaited instance process c
-awaited instance process (Ordered other its ∷ c) =
-    if (other == instance) && same_process its process then true else awaited instance process c
-awaited instance process (Given (input.Spawned who its pid) ∷ c) =
-    if speaks_of (made_at instance c) process who its then false else awaited instance process c
-awaited instance process (Given (input.Refused who its) ∷ c) =
-    if speaks_of (made_at instance c) process who its then false else awaited instance process c
-awaited instance process (entry ∷ c) = awaited instance process c
+abbrev pub is_awaited : ℕ → Process → Chronicle → Bool
+is_awaited instance process [] = false
+is_awaited instance process (Made job name ∷ c) =
+    if length c == instance then false else is_awaited instance process c
+is_awaited instance process (Ordered other its ∷ c) =
+    if (other == instance) && same_process its process then true else is_awaited instance process c
+is_awaited instance process (Given (input.Spawned who its pid) ∷ c) =
+    if speaks_of (made_at instance c) process who its then false else is_awaited instance process c
+is_awaited instance process (Given (input.Refused who its) ∷ c) =
+    if speaks_of (made_at instance c) process who its then false else is_awaited instance process c
+is_awaited instance process (entry ∷ c) = is_awaited instance process c
 
 -- the number of a living process of an instance: it was spawned and has not ended since
 abbrev pub pid_of : ℕ → Process → Chronicle → Option ℕ

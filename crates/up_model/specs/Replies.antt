@@ -32,7 +32,8 @@ pid_if instance (Some its) c = pid_of instance its c
 abbrev pub status_as : Option Who → ℕ → Chronicle → Bytes
 status_as None instance c = []
 status_as (Some who) instance c =
-    status_text who (goal instance c) (state_of instance c) (pid_of instance process.Main c) (pid_if instance (own_process (state_of instance c)) c)
+    status_text who (goal instance c) (state_of instance c) (pid_of instance process.Main c)
+    (pid_if instance (own_process (state_of instance c)) c)
 
 -- the status text of the instance that was made at a place
 abbrev pub status_of : ℕ → Chronicle → Bytes
@@ -66,11 +67,13 @@ answering_one place (Some request) failed told = Replied place (answer_to reques
 -- the answers to those of the holders that are requests
 abbrev pub answering : (holders : List ℕ) → (failed : Bool) → Bytes → Chronicle → List Entry
 answering [] failed told c = []
-answering (place ∷ places) failed told c = answering places failed told c ++ answering_one place (request_at place c) failed told
+answering (place ∷ places) failed told c =
+    answering places failed told c ++ answering_one place (request_at place c) failed told
 
 -- an instance lets its holders go, and clients that waited for it are answered
 abbrev pub releasing : ℕ → (failed : Bool) → Chronicle → List Entry
-releasing instance failed c = answering (holders instance c) failed (status_of instance c) c ++ Released instance failed ∷ []
+releasing instance failed c = answering (holders instance c) failed (status_of instance c) c
+    ++ Released instance failed ∷ []
 
 abbrev pub if_waits : ℕ → Option RequestValue → Option ℕ
 if_waits place None = None
@@ -116,12 +119,12 @@ abbrev pub unanswered : Chronicle → Option ℕ
 unanswered c = unless_answered (asked c) c
 
 -- the instance that this step's request acted on
-abbrev pub acted_on : Chronicle → Option ℕ
-acted_on [] = None
-acted_on (Given given ∷ c) = None
-acted_on (Aimed instance aim environment its ∷ c) = Some instance
-acted_on (Restarted instance its ∷ c) = Some instance
-acted_on (entry ∷ c) = acted_on c
+abbrev pub request_instance : Chronicle → Option ℕ
+request_instance [] = None
+request_instance (Given given ∷ c) = None
+request_instance (Aimed instance aim environment its ∷ c) = Some instance
+request_instance (Restarted instance its ∷ c) = Some instance
+request_instance (entry ∷ c) = request_instance c
 
 abbrev pub status_if : Option ℕ → Chronicle → Bytes
 status_if None c = []
@@ -129,7 +132,8 @@ status_if (Some instance) c = status_of instance c
 
 abbrev pub answering_hurried : Option ℕ → Chronicle → List Entry
 answering_hurried None c = []
-answering_hurried (Some request) c = Replied request (record { ok = true; text = status_if (acted_on c) c }) ∷ []
+answering_hurried (Some request) c =
+    Replied request (record { ok = true; text = status_if (request_instance c) c }) ∷ []
 
 -- a step ends with the answer to a client that didn't wait
 abbrev pub answering_last : Chronicle → List Entry

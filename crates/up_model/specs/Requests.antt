@@ -48,4 +48,5 @@ are_none name vars = false
 
 -- a command that stands alone has an empty name and no variables, and any other names a job or an event; only some may not wait
 abbrev pub is_request : Command → Bool → List ℕ → List (List ℕ × List ℕ) → Bool
-is_request command wait name vars = (wait || may_wait command) && (if is_alone command then are_none name vars else is_name name)
+is_request command wait name vars = (wait || may_wait command)
+    && (if is_alone command then are_none name vars else is_name name)

@@ -34,7 +34,8 @@ seen config expression (Offered other place ∷ c) =
     if same_expression other expression
     then seen config expression c ++ sight_of place (event_at place c) (env_of config expression c)
     else seen config expression c
-seen config expression (Fired other taken ∷ c) = if same_expression other expression then [] else seen config expression c
+seen config expression (Fired other taken ∷ c) =
+    if same_expression other expression then [] else seen config expression c
 seen config expression (entry ∷ c) = seen config expression c
 
 -- the events that an expression keeps, if the job file has the expression: the first of each leaf that has one
@@ -56,5 +57,6 @@ taken (Some tree) sights = truth.taken tree sights
 abbrev pub was_offered : Expression → Chronicle → Bool
 was_offered expression [] = false
 was_offered expression (Given input ∷ c) = false
-was_offered expression (Offered other place ∷ c) = if same_expression other expression then true else was_offered expression c
+was_offered expression (Offered other place ∷ c) =
+    if same_expression other expression then true else was_offered expression c
 was_offered expression (entry ∷ c) = was_offered expression c

@@ -58,9 +58,11 @@ abbrev pub processes_text : State → Option ℕ → Option ℕ → List ℕ
 processes_text its None None = []
 processes_text its None (Some own) = process_text (without_main its) own
 processes_text its (Some main) None = process_text (Some (codes ", process ")) main
-processes_text its (Some main) (Some own) = process_text (Some (codes ", process ")) main ++ process_text (beside_main its) own
+processes_text its (Some main) (Some own) =
+    process_text (Some (codes ", process ")) main ++ process_text (beside_main its) own
 
 -- an instance, its goal and state, and its living processes
 unfoldable pub status_text : Who → Goal → State → Option ℕ → Option ℕ → List ℕ
 status_text who its_goal its_state main own =
-    who_name who ++ codes " " ++ goal_name its_goal ++ codes "/" ++ state_name its_state ++ processes_text its_state main own
+    who_name who ++ codes " " ++ goal_name its_goal ++ codes "/" ++ state_name its_state
+    ++ processes_text its_state main own

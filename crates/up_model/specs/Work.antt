@@ -8,7 +8,7 @@ use Rattle.up_model.specs.declared.state.State.TheVariants.{Waiting, Starting, P
 use Rattle.up_model.specs.Chronicle.{Chronicle, StartOn}
 use Rattle.up_model.specs.Configuration.{Configuration}
 use Rattle.up_model.specs.Due.{due}
-use Rattle.up_model.specs.Instances.{Instance, existing}
+use Rattle.up_model.specs.Instances.{Instance, all_instances}
 use Rattle.up_model.specs.Offers.{is_open, offering}
 use Rattle.up_model.specs.Readings.{goal, state_of, blocker}
 use Rattle.up_model.specs.Replies.{unanswered}
@@ -70,7 +70,9 @@ answer_work (Some request) = 1
 
 -- how many things can be due one after another, at most
 unfoldable pub work : Configuration → Chronicle → ℕ
-work config c = work_in (is_some (offering c)) (existing c) c + starts_work (is_some (offering c)) config.jobs c + answer_work (unanswered c)
+work config c =
+    work_in (is_some (offering c)) (all_instances c) c + starts_work
+    (is_some (offering c)) config.jobs c + answer_work (unanswered c)
 
 -- what is due is done, so many times
 unfoldable pub settle : ℕ → Configuration → Chronicle → Chronicle

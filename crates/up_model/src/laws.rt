@@ -1,17 +1,19 @@
 //! Laws: what holds of every run, whatever the jobs are and whatever is given.
-ghost use Rattle.std.specs.Prelude.{ℕ, ◌≡◌, ◌≤◌, length, List, []};
+ghost use Rattle.std.specs.Prelude.{ℕ, ◌≡◌, ◌≤◌, true, length, List, []};
 ghost use Rattle.up_model.specs.Answers.{after, after_all};
 ghost use Rattle.up_model.specs.Blocks.{AreFound, IsLone, IsPatient};
 ghost use Rattle.up_model.specs.Chronicle.{Chronicle};
 ghost use Rattle.up_model.specs.Configuration.{Configuration};
 ghost use Rattle.up_model.specs.Due.{due};
 ghost use Rattle.up_model.specs.Laws.{AreByAge, finished_times, handled_times, IsOrderly};
+ghost use Rattle.up_model.specs.Left.{is_calm, Spends};
 ghost use Rattle.up_model.specs.Queue.{queue};
 ghost use Rattle.up_model.specs.declared.input.Input.{Input};
 
 /// What is due always runs out: after an input nothing is due.
 pub fn rest()
-    ensures { (config : Configuration) (c : Chronicle) (given : Input) → due config (after config c given) ≡ [] }
+    ensures { (config : Configuration) (c : Chronicle) (given : Input)
+        → due config (after config c given) ≡ [] }
 {}
 
 /// The queue stands by age: each of its events was queued before those after it, and before now.
@@ -21,13 +23,17 @@ pub fn ages()
 
 /// Each event is taken up by one turn at most.
 pub fn handled_once()
-    ensures { (config : Configuration) (inputs : List Input) (event : ℕ) → handled_times event (after_all config [] inputs) ≤ 1 }
+    ensures { (config : Configuration) (inputs : List Input) (event : ℕ)
+        → handled_times event (after_all config [] inputs) ≤ 1 }
 {}
 
 /// Each event finishes once at most, and only after a turn had taken it up.
 pub fn finished_once()
-    ensures once { (config : Configuration) (inputs : List Input) (event : ℕ) → finished_times event (after_all config [] inputs) ≤ 1 }
-    ensures taken_up { (config : Configuration) (inputs : List Input) (event : ℕ) → finished_times event (after_all config [] inputs) ≤ handled_times event (after_all config [] inputs) }
+    ensures once { (config : Configuration) (inputs : List Input) (event : ℕ)
+        → finished_times event (after_all config [] inputs) ≤ 1 }
+    ensures taken_up { (config : Configuration) (inputs : List Input) (event : ℕ)
+        → finished_times event (after_all config [] inputs) ≤ handled_times event
+        (after_all config [] inputs) }
 {}
 
 /// At each moment of a run an event that is taken up was neither taken up nor finished, and one that finishes had been taken up once and
@@ -45,5 +51,13 @@ pub fn blocks()
 /// An instance doesn't order its main process while that lives, if each job is the one that its name finds. (Of two jobs with one name,
 /// one with a main process and one without, an instance could get a second.)
 pub fn one_main()
-    ensures { (config : Configuration) (inputs : List Input) → AreFound config.jobs → IsLone (after_all config [] inputs) }
+    ensures { (config : Configuration) (inputs : List Input) → AreFound config.jobs
+        → IsLone (after_all config [] inputs) }
+{}
+
+/// The processes that the instances may still order before they wait for an event become fewer by at least those that a step orders, whatever
+/// it is given but a turn and a request.
+pub fn left_falls()
+    ensures { (config : Configuration) (c : Chronicle) (given : Input) → is_calm given ≡ true
+        → Spends config c given }
 {}

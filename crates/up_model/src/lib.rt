@@ -5,10 +5,12 @@
 
 pub mod event;
 pub mod event_id;
+pub mod exit_status;
 pub mod failure;
 pub mod input;
 pub mod laws;
 pub mod life;
+pub mod limits;
 pub mod output;
 pub mod process;
 pub mod request;
@@ -19,9 +21,11 @@ pub mod who;
 
 pub use event::Event;
 pub use event_id::EventId;
+pub use exit_status::ExitStatus;
 pub use failure::{Cause, End, Failure, Verdict};
 pub use input::Input;
 pub use life::{Entry, JobEvent};
+pub use limits::{MAX_EVENTS, MAX_INSTANCES};
 pub use output::{Order, Output};
 pub use process::{How, process_name};
 pub use request::{Answer, Command, Request};

@@ -132,7 +132,9 @@ fn is_request(command: Command, wait: bool, name: &Text, vars: &Env) -> bool
 impl Request {
     /// The request of these parts, if they are one.
     pub fn new(command: Command, wait: bool, name: Text, vars: Env) -> Option<Self>
-        ensures { result ≡ (if is_request command wait name vars then Some (record { command = command; wait = wait; name = name; vars = vars }) else None) }
+        ensures { result
+            ≡ (if is_request command wait name vars
+            then Some (record { command = command; wait = wait; name = name; vars = vars }) else None) }
     {
         if is_request(command, wait, &name, &vars) {
             Some(Request {

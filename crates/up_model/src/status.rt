@@ -62,7 +62,8 @@ fn without_main(state: State) -> Option<&'static str>
 }
 
 fn push_process(text: &mut String, label: Option<&str>, pid: u32) -> Result<(), AllocError>
-    ensures { OnOk result (string_bytes text.new ≡ string_bytes text.old ++ process_text (option_map (λ bytes. bytes.now) label.entry) pid) }
+    ensures { OnOk result (string_bytes text.new
+        ≡ string_bytes text.old ++ process_text (option_map (λ bytes. bytes.now) label.entry) pid) }
 {
     let Some(label) = label else {
         return Ok(());

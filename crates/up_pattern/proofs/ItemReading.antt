@@ -58,16 +58,16 @@ body-all : (after : List Symbol) → list_any is_close (drop 1 after) ≡ false 
 body-all [] none = refl
 body-all (symbol ∷ after) none = ap (λ rest. symbol ∷ rest) (before-all after none)
 
-none-behind : (after : List Symbol) → list_any is_close after ≡ false → list_any is_close (drop 1 after) ≡ false
-none-behind [] none = refl
-none-behind (symbol ∷ after) none = (or_parts _ _ none).1
+none-beyond : (after : List Symbol) → list_any is_close after ≡ false → list_any is_close (drop 1 after) ≡ false
+none-beyond [] none = refl
+none-beyond (symbol ∷ after) none = (or_parts _ _ none).1
 
 -- after a set that isn't closed there are no sets
 flat-inner : (n : Bool) (after : List Symbol) → list_any is_close (drop 1 (cond n (drop 1 after) after)) ≡ false → list_any is_close (drop 2 after) ≡ false
 flat-inner true [] none = refl
 flat-inner true (symbol ∷ after) none = none
 flat-inner false [] none = refl
-flat-inner false (symbol ∷ after) none = none-behind after none
+flat-inner false (symbol ∷ after) none = none-beyond after none
 
 not_open : (symbol : Symbol) → is_not symbol ≡ true → is_open symbol ≡ false
 not_open (Bare byte) is = grind (arith, nat_tests)
@@ -95,7 +95,7 @@ sets-open after classless unclosed =
     }
 
 inner-unclosed : (n : Bool) (after : List Symbol) → list_any is_close (drop 1 after) ≡ false → list_any is_close (drop 1 (cond n (drop 1 after) after)) ≡ false
-inner-unclosed true after none = none-behind (drop 1 after) none
+inner-unclosed true after none = none-beyond (drop 1 after) none
 inner-unclosed false after none = none
 
 inner-classless : (after : List Symbol) → has_class after ≡ false → has_class (inner after) ≡ false
@@ -125,7 +125,7 @@ item-flat symbol after flat = by_case (is_open symbol) refl
 
 none-further : (after : List Symbol) → list_any is_close (drop 1 after) ≡ false → list_any is_close (drop 2 after) ≡ false
 none-further [] none = refl
-none-further (symbol ∷ after) none = none-behind after none
+none-further (symbol ∷ after) none = none-beyond after none
 
 -- if an item is that of its symbol, the others are those of the symbols after it
 pub items-lone : (symbol : Symbol) (after : List Symbol) → item_of symbol after ≡ lone_item symbol → items_from 0 (symbol ∷ after) ≡ lone_item symbol ∷ items_from 0 after
@@ -169,8 +169,8 @@ inner-drop : (n : Bool) (count : ℕ) (after : List Symbol) → drop (cond n 1 0
 inner-drop true count after = sym (drop-drop count 1 after)
 inner-drop false count after = let same : 0 + count ≡ count = omega arith in ap (λ n. drop n after) same
 
-pub set-behind : (inverted : Bool) (found : List (ℕ × ℕ)) (after : List Symbol) → drop (more (Among inverted found) after) after ≡ drop (length (body (inner after)) + 1) (inner after)
-set-behind inverted found after = inner-drop (begins is_not after) (length (body (inner after)) + 1) after
+pub set-beyond : (inverted : Bool) (found : List (ℕ × ℕ)) (after : List Symbol) → drop (more (Among inverted found) after) after ≡ drop (length (body (inner after)) + 1) (inner after)
+set-beyond inverted found after = inner-drop (begins is_not after) (length (body (inner after)) + 1) after
 
 pub means-open : (text : List ℕ) (reading : Reading) → has_class (body (inner (symbols text))) ≡ false → is_closed (inner (symbols text)) ≡ false → item_of_part reading.part ≡ Only 91 → reading.rest.now ≡ text → MeansItem (set_item (symbols text)) text reading
 means-open text reading classless unclosed part rest =
@@ -189,19 +189,19 @@ means-closed text set rest reading is shorter ends part rest_is sets =
     let item = set-among (symbols text) (rw is at ends.0) (rw is at ends.1) in
     record {
       part = part ∙ rw is (sym item);
-      rest = rw (item, rest_is) (rw is at ends.2 ∙ sym (set-behind (begins is_not (symbols text)) (ranges (body (inner (symbols text)))) (symbols text)));
+      rest = rw (item, rest_is) (rw is at ends.2 ∙ sym (set-beyond (begins is_not (symbols text)) (ranges (body (inner (symbols text)))) (symbols text)));
       flat = λ none. absurd (false≢true (sym none ∙ sets));
       shorter = let no_longer = ends.3 in rw rest_is (omega arith);
     }
 
 -- after a ! a set is what follows it, and without one what is there
-pub inner-behind : (symbols after : List Symbol) → symbols ≡ Bare 33 ∷ after → (true ≡ begins is_not symbols) × (after ≡ inner symbols)
-inner-behind symbols after is = rw is (refl, refl)
+pub inner-beyond : (symbols after : List Symbol) → symbols ≡ Bare 33 ∷ after → (true ≡ begins is_not symbols) × (after ≡ inner symbols)
+inner-beyond symbols after is = rw is (refl, refl)
 
 pub inner-same : (symbols : List Symbol) → begins is_not symbols ≡ false → (false ≡ begins is_not symbols) × (symbols ≡ inner symbols)
 inner-same symbols none = rw none (refl, refl)
 
-pub ruleset inners = (inner-behind, inner-same)
+pub ruleset inners = (inner-beyond, inner-same)
 
 -- what read gives: a set's item, or an item of one symbol
 pub reading-set : (text rest : List ℕ) (symbol : Symbol) (reading : Reading) → symbols text ≡ symbol ∷ symbols rest → is_open symbol ≡ true → MeansItem (set_item (symbols rest)) rest reading

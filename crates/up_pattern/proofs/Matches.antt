@@ -40,13 +40,13 @@ splits-star test (byte ∷ bytes) =
     ap (λ b. test (byte ∷ bytes) || b) (any-map (λ split. test split.1) (λ split. (byte ∷ split.0, split.1)) (splits bytes) ∙ splits-star test bytes)
 
 -- one byte over every way to cut in two
-splits-behind : (item : Item) (test : List ℕ → Bool) (byte : ℕ) (bytes : List ℕ) → list_any (λ split. is_byte_of item (byte ∷ split.0) && test split.1) (splits bytes) ≡ (admits_byte item byte && test bytes)
-splits-behind item test byte [] = by_case (admits_byte item byte && test [])
+splits-beyond : (item : Item) (test : List ℕ → Bool) (byte : ℕ) (bytes : List ℕ) → list_any (λ split. is_byte_of item (byte ∷ split.0) && test split.1) (splits bytes) ≡ (admits_byte item byte && test bytes)
+splits-beyond item test byte [] = by_case (admits_byte item byte && test [])
   where
     by_case : (b : Bool) → (b || false) ≡ b
     by_case true = refl
     by_case false = refl
-splits-behind item test byte (next ∷ bytes) =
+splits-beyond item test byte (next ∷ bytes) =
     ap (λ b. (admits_byte item byte && test (next ∷ bytes)) || b) (any-map (λ split. is_byte_of item (byte ∷ split.0) && test split.1) (λ split. (next ∷ split.0, split.1)) (splits bytes) ∙ any-none (splits bytes))
     ∙ by_case (admits_byte item byte && test (next ∷ bytes))
   where
@@ -57,7 +57,7 @@ splits-behind item test byte (next ∷ bytes) =
 splits-one : (item : Item) (test : List ℕ → Bool) (bytes : List ℕ) → list_any (λ split. is_byte_of item split.0 && test split.1) (splits bytes) ≡ one_from item test bytes
 splits-one item test [] = refl
 splits-one item test (byte ∷ bytes) =
-    any-map (λ split. is_byte_of item split.0 && test split.1) (λ split. (byte ∷ split.0, split.1)) (splits bytes) ∙ splits-behind item test byte bytes
+    any-map (λ split. is_byte_of item split.0 && test split.1) (λ split. (byte ∷ split.0, split.1)) (splits bytes) ∙ splits-beyond item test byte bytes
 
 splits-item : (item : Item) (test : List ℕ → Bool) (bytes : List ℕ) → list_any (λ split. admits item split.0 && test split.1) (splits bytes) ≡ item_from item test bytes
 splits-item Run test bytes = splits-star test bytes
@@ -115,13 +115,13 @@ absorbs items bytes later left leads =
         let n = length bytes - length left in
         let later_here = leads.needs (drop found.0 bytes) found.1 in
         let order : drop n (drop found.0 bytes) ≡ drop found.0 (drop n bytes) = drop-drop n found.0 bytes ∙ ap (λ k. drop k bytes) (omega arith) ∙ sym (drop-drop found.0 n bytes) in
-        let at_left = subst (λ bs. star_from (items_match later) bs ≡ true) (order ∙ ap (drop found.0) (sym leads.behind)) later_here in
+        let at_left = subst (λ bs. star_from (items_match later) bs ≡ true) (order ∙ ap (drop found.0) (sym leads.beyond)) later_here in
         absurd (both_ways _ q (star-drop (items_match later) found.0 left at_left))
 
 -- an item that takes one byte
-one-takes : (item : Item) (test : List ℕ → Bool) (bytes behind : List ℕ) → TakesOne item bytes behind → one_from item test bytes ≡ test behind
-one-takes item test [] behind takes = absurd takes
-one-takes item test (byte ∷ bytes) behind takes = rw (takes.0, takes.1) refl
+one-takes : (item : Item) (test : List ℕ → Bool) (bytes beyond : List ℕ) → TakesOne item bytes beyond → one_from item test bytes ≡ test beyond
+one-takes item test [] beyond takes = absurd takes
+one-takes item test (byte ∷ bytes) beyond takes = rw (takes.0, takes.1) refl
 
 one-fails : (item : Item) (test : List ℕ → Bool) (bytes : List ℕ) → TakesNone item bytes → one_from item test bytes ≡ false
 one-fails item test [] takes = refl
@@ -153,33 +153,33 @@ takes-start items bytes =
     let none : length bytes - length bytes ≡ 0 = omega arith in
     record {
       same = refl;
-      behind = rw none refl;
+      beyond = rw none refl;
       shorter = omega arith;
       needs = λ others passes. rw none passes;
     }
 
-takes-length : (item : Item) (bytes behind : List ℕ) → TakesOne item bytes behind → length bytes ≡ length behind + 1
-takes-length item [] behind takes = absurd takes
-takes-length item (byte ∷ bytes) behind takes = rw takes.1 (omega arith)
+takes-length : (item : Item) (bytes beyond : List ℕ) → TakesOne item bytes beyond → length bytes ≡ length beyond + 1
+takes-length item [] beyond takes = absurd takes
+takes-length item (byte ∷ bytes) beyond takes = rw takes.1 (omega arith)
 
-pub takes-shorter : (item : Item) (bytes behind : List ℕ) → TakesOne item bytes behind → length behind ≤ length bytes
-takes-shorter item bytes behind takes = let more = takes-length item bytes behind takes in omega (arith, more)
+pub takes-shorter : (item : Item) (bytes beyond : List ℕ) → TakesOne item bytes beyond → length beyond ≤ length bytes
+takes-shorter item bytes beyond takes = let more = takes-length item bytes beyond takes in omega (arith, more)
 
-takes-drop : (item : Item) (bytes behind : List ℕ) → TakesOne item bytes behind → behind ≡ drop 1 bytes
-takes-drop item [] behind takes = absurd takes
-takes-drop item (byte ∷ bytes) behind takes = takes.1
+takes-drop : (item : Item) (bytes beyond : List ℕ) → TakesOne item bytes beyond → beyond ≡ drop 1 bytes
+takes-drop item [] beyond takes = absurd takes
+takes-drop item (byte ∷ bytes) beyond takes = takes.1
 
 -- one more item takes a byte
-pub takes-more : (items : List Item) (bytes : List ℕ) (now : List Item) (left : List ℕ) (item : Item) (later : List Item) (behind : List ℕ)
-    → Takes items bytes now left → now ≡ item ∷ later → is_run item ≡ false → TakesOne item left behind → Takes items bytes later behind
-takes-more items bytes now left item later behind takes is other one =
-    let lengths = takes-length item left behind one in
+pub takes-more : (items : List Item) (bytes : List ℕ) (now : List Item) (left : List ℕ) (item : Item) (later : List Item) (beyond : List ℕ)
+    → Takes items bytes now left → now ≡ item ∷ later → is_run item ≡ false → TakesOne item left beyond → Takes items bytes later beyond
+takes-more items bytes now left item later beyond takes is other one =
+    let lengths = takes-length item left beyond one in
     let fewer = takes.shorter in
     let n = length bytes - length left in
-    let next : length bytes - length behind ≡ n + 1 = omega arith in
+    let next : length bytes - length beyond ≡ n + 1 = omega arith in
     record {
-      same = takes.same ∙ ap (λ read. items_match read left) is ∙ no_run item (items_match later) left other ∙ one-takes item (items_match later) left behind one;
-      behind = takes-drop item left behind one ∙ ap (drop 1) takes.behind ∙ drop-drop 1 n bytes ∙ ap (λ k. drop k bytes) (sym next);
+      same = takes.same ∙ ap (λ read. items_match read left) is ∙ no_run item (items_match later) left other ∙ one-takes item (items_match later) left beyond one;
+      beyond = takes-drop item left beyond one ∙ ap (drop 1) takes.beyond ∙ drop-drop 1 n bytes ∙ ap (λ k. drop k bytes) (sym next);
       shorter = omega arith;
       needs = λ others passes.
           let before : items_match (item ∷ later) (drop n others) ≡ true = subst (λ read. items_match read (drop n others) ≡ true) is (takes.needs others passes) in
@@ -193,26 +193,26 @@ pub takes-run : (items : List Item) (bytes : List ℕ) (now : List Item) (left :
 takes-run items bytes now left item later takes is run =
     record {
       same = takes.same ∙ ap (λ read. items_match read left) is ∙ a_run item (items_match later) left run;
-      behind = takes.behind;
+      beyond = takes.beyond;
       needs = λ others passes.
           let n = length bytes - length left in
           let before : items_match (item ∷ later) (drop n others) ≡ true = subst (λ read. items_match read (drop n others) ≡ true) is (takes.needs others passes) in
           sym (a_run item (items_match later) (drop n others) run) ∙ before;
     }
 
-pub takes-first : (item : Item) (bytes : List ℕ) (byte : ℕ) (behind : List ℕ) → bytes ≡ byte ∷ behind → admits_byte item byte ≡ true → TakesOne item bytes behind
-takes-first item bytes byte behind is admitted = subst (λ bs. TakesOne item bs behind) (sym is) (admitted, refl)
+pub takes-first : (item : Item) (bytes : List ℕ) (byte : ℕ) (beyond : List ℕ) → bytes ≡ byte ∷ beyond → admits_byte item byte ≡ true → TakesOne item bytes beyond
+takes-first item bytes byte beyond is admitted = subst (λ bs. TakesOne item bs beyond) (sym is) (admitted, refl)
 
 -- one item more before those that lead up to a run
-pub leads-more : (item : Item) (items : List Item) (bytes behind : List ℕ) (later : List Item) (left : List ℕ)
-    → is_run item ≡ false → TakesOne item bytes behind → length left ≤ length behind → Leads items behind later left → Leads (item ∷ items) bytes later left
-leads-more item items bytes behind later left other one shorter leads =
-    let lengths = takes-length item bytes behind one in
-    let n = length behind - length left in
+pub leads-more : (item : Item) (items : List Item) (bytes beyond : List ℕ) (later : List Item) (left : List ℕ)
+    → is_run item ≡ false → TakesOne item bytes beyond → length left ≤ length beyond → Leads items beyond later left → Leads (item ∷ items) bytes later left
+leads-more item items bytes beyond later left other one shorter leads =
+    let lengths = takes-length item bytes beyond one in
+    let n = length beyond - length left in
     let next : length bytes - length left ≡ 1 + n = omega arith in
     record {
-      same = no_run item (items_match items) bytes other ∙ one-takes item (items_match items) bytes behind one ∙ leads.same;
-      behind = leads.behind ∙ ap (drop n) (takes-drop item bytes behind one) ∙ drop-drop n 1 bytes ∙ ap (λ k. drop k bytes) (sym next);
+      same = no_run item (items_match items) bytes other ∙ one-takes item (items_match items) bytes beyond one ∙ leads.same;
+      beyond = leads.beyond ∙ ap (drop n) (takes-drop item bytes beyond one) ∙ drop-drop n 1 bytes ∙ ap (λ k. drop k bytes) (sym next);
       needs = λ others passes.
           let one_before = sym (no_run item (items_match items) others other) ∙ passes in
           let at_later = leads.needs (drop 1 others) (one-needs item (items_match items) others one_before) in

@@ -23,19 +23,19 @@ pub first-bare : (text : List ℕ) (byte : ℕ) (rest : List ℕ) → text ≡ b
 unfolding symbols
 first-bare text byte rest is other = rw is (rw (ne_eqb byte 92 other) refl, omega arith)
 
-pub first-escaped : (text : List ℕ) (byte : ℕ) (behind : List ℕ) (escaped : ℕ) (rest : List ℕ) → text ≡ byte ∷ behind → byte ≡ 92 → behind ≡ escaped ∷ rest → First text (Escaped escaped) rest
+pub first-escaped : (text : List ℕ) (byte : ℕ) (beyond : List ℕ) (escaped : ℕ) (rest : List ℕ) → text ≡ byte ∷ beyond → byte ≡ 92 → beyond ≡ escaped ∷ rest → First text (Escaped escaped) rest
 unfolding symbols
-first-escaped text byte behind escaped rest is backslash then_is = rw (is, then_is) (rw (eq-eqb byte 92 backslash) refl, omega arith)
+first-escaped text byte beyond escaped rest is backslash then_is = rw (is, then_is) (rw (eq-eqb byte 92 backslash) refl, omega arith)
 
-pub first-trailing : (text : List ℕ) (byte : ℕ) (behind : List ℕ) → text ≡ byte ∷ behind → byte ≡ 92 → length behind ≡ 0 → First text Trailing behind
+pub first-trailing : (text : List ℕ) (byte : ℕ) (beyond : List ℕ) → text ≡ byte ∷ beyond → byte ≡ 92 → length beyond ≡ 0 → First text Trailing beyond
 unfolding symbols
 first-trailing text byte [] is backslash none = rw is (rw (eq-eqb byte 92 backslash) refl, omega arith)
-first-trailing text byte (escaped ∷ behind) is backslash none = absurd (omega arith)
+first-trailing text byte (escaped ∷ beyond) is backslash none = absurd (omega arith)
 
 -- symbols after a backslash begin with no bare byte
-begins-behind : (byte : ℕ) (text : List ℕ) → begins (is_bare byte) (symbols_from true text) ≡ false
-begins-behind byte [] = refl
-begins-behind byte (escaped ∷ text) = refl
+begins-beyond : (byte : ℕ) (text : List ℕ) → begins (is_bare byte) (symbols_from true text) ≡ false
+begins-beyond byte [] = refl
+begins-beyond byte (escaped ∷ text) = refl
 
 -- a text that doesn't begin with this byte
 pub begins-none : (byte : ℕ) (text : List ℕ) → length text ≡ 0 → begins (is_bare byte) (symbols text) ≡ false
@@ -44,7 +44,7 @@ begins-none byte text none = rw (first-none text none) refl
 pub begins-other : (byte : ℕ) (whole : List ℕ) (first : ℕ) (text : List ℕ) → whole ≡ first ∷ text → first ≢ byte → begins (is_bare byte) (symbols whole) ≡ false
 unfolding symbols
 begins-other byte whole first text is other = rw is (elim (first == 92) as (λ b. begins (is_bare byte) (cond b (symbols_from true text) (Bare first ∷ symbols_from false text)) ≡ false) [
-  | true ↦ begins-behind byte text
+  | true ↦ begins-beyond byte text
   | false ↦ ne_eqb first byte other
 ])
 
@@ -88,8 +88,8 @@ range-last low symbols (high ∷ after) is last = rw (is, last) refl
 pub range-empty : (low : ℕ) (symbols after : List Symbol) → symbols ≡ Bare 45 ∷ after → after ≡ [] → (low, symbols) ≡ range_end low symbols
 range-empty low symbols after is empty = rw (is, empty) refl
 
-pub range-to : (low : ℕ) (symbols after : List Symbol) (high : Symbol) (behind : List Symbol) → symbols ≡ Bare 45 ∷ after → begins (is_bare 93) after ≡ false → after ≡ high ∷ behind → (byte_of high, behind) ≡ range_end low symbols
-range-to low symbols after high behind is further then_is =
+pub range-to : (low : ℕ) (symbols after : List Symbol) (high : Symbol) (beyond : List Symbol) → symbols ≡ Bare 45 ∷ after → begins (is_bare 93) after ≡ false → after ≡ high ∷ beyond → (byte_of high, beyond) ≡ range_end low symbols
+range-to low symbols after high beyond is further then_is =
     let open_end : is_close high ≡ false = rw then_is at further in
     rw (is, then_is, open_end) refl
 
@@ -127,7 +127,7 @@ among-step byte high low after left end =
 pub record Onward (symbols later : List Symbol) : Type 0 where
   pub classes : has_class (body later) ≡ has_class (body symbols)
   pub closed : is_closed later ≡ is_closed symbols
-  pub behind : drop (length (body later)) later ≡ drop (length (body symbols)) symbols
+  pub beyond : drop (length (body later)) later ≡ drop (length (body symbols)) symbols
 
 begins-body : (passes : Symbol → Bool) (after : List Symbol) → begins passes (body after) ≡ begins passes after
 begins-body passes [] = refl
@@ -143,7 +143,7 @@ onward symbol after classless ends =
     record {
       classes = sym (ap (λ front. (is_open symbol && begins is_class_mark front) || has_class front) same ∙ ap (λ b. (is_open symbol && b) || has_class (body after)) (begins-body is_class_mark after) ∙ ap (λ b. b || has_class (body after)) classless);
       closed = closed-on after ends;
-      behind = ap (λ front. drop (length front) after) (sym same);
+      beyond = ap (λ front. drop (length front) after) (sym same);
     }
 
 -- a class at the first item
@@ -160,10 +160,10 @@ class-here symbol after class =
 pub record EndsHere (symbol : Symbol) (rest : List Symbol) : Type 0 where
   pub classes : has_class (body (symbol ∷ Bare 93 ∷ rest)) ≡ false
   pub closed : is_closed (symbol ∷ Bare 93 ∷ rest) ≡ true
-  pub behind : drop (length (body (symbol ∷ Bare 93 ∷ rest)) + 1) (symbol ∷ Bare 93 ∷ rest) ≡ rest
+  pub beyond : drop (length (body (symbol ∷ Bare 93 ∷ rest)) + 1) (symbol ∷ Bare 93 ∷ rest) ≡ rest
 
 pub ends_here : (symbol : Symbol) (rest : List Symbol) → EndsHere symbol rest
-ends_here symbol rest = record { classes = rw (and_right (is_open symbol) false refl) refl; closed = refl; behind = refl }
+ends_here symbol rest = record { classes = rw (and_right (is_open symbol) false refl) refl; closed = refl; beyond = refl }
 
 pub among-on : (byte low high : ℕ) (symbols : List Symbol) (symbol : Symbol) (after left : List Symbol) → symbols ≡ symbol ∷ after → low ≡ byte_of symbol → (high, left) ≡ range_end low after
     → (nat_le low byte && nat_le byte high) ≡ false → begins is_close left ≡ false → is_among byte (ranges (body left)) ≡ is_among byte (ranges (body symbols))
@@ -181,7 +181,7 @@ set-closed symbols later symbol after rest on is then_is =
     let on_here = subst (Onward symbols) whole on in (
       sym on_here.classes ∙ here.classes,
       sym on_here.closed ∙ here.closed,
-      sym (sym (drop-drop 1 (length (body symbols)) symbols) ∙ ap (drop 1) (sym on_here.behind)),
+      sym (sym (drop-drop 1 (length (body symbols)) symbols) ∙ ap (drop 1) (sym on_here.beyond)),
     )
 
 pub ruleset set_ends = (onward, class-here, ends_here)

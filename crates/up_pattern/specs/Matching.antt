@@ -43,8 +43,8 @@ TakesNone item (byte ∷ bytes) = admits_byte item byte ≡ false
 
 -- it does, and these stand after it
 abbrev pub TakesOne : Item → List ℕ → List ℕ → Type 0
-TakesOne item [] behind = ⊥
-TakesOne item (byte ∷ bytes) behind = (admits_byte item byte ≡ true) × (behind ≡ bytes)
+TakesOne item [] beyond = ⊥
+TakesOne item (byte ∷ bytes) beyond = (admits_byte item byte ≡ true) × (beyond ≡ bytes)
 
 -- whether there are no bytes
 abbrev pub is_nil : List ℕ → Bool
@@ -88,18 +88,21 @@ unclosed_width (symbol ∷ symbols) =
 
 -- a text whose sets have no class, and of which no more than this many bytes stand after the last ]
 pub record Settled (unclosed : ℕ) (text : List ℕ) : Type 0 where
-  pub ends : (later : List Symbol) → IsEnd later (symbols text) → width_of later ≤ unclosed → list_any is_close later ≡ false
+  pub ends : (later : List Symbol) → IsEnd later (symbols text) → width_of later ≤ unclosed
+      → list_any is_close later ≡ false
   pub classless : list_any is_class (all_items text) ≡ false
 
 -- what is known of some bytes is whether the item admits them
 abbrev pub Knows : List (Option Bool) → Item → Type 0
-Knows known item = (byte : ℕ) (admitted : Bool) → slice_get known byte ≡ Some (Some admitted) → admits_byte item byte ≡ admitted
+Knows known item = (byte : ℕ) (admitted : Bool) → slice_get known byte ≡ Some (Some admitted)
+    → admits_byte item byte ≡ admitted
 
 -- the last byte of the range that begins with this item, and what stands after it
 abbrev pub range_end : ℕ → List Symbol → ℕ × List Symbol
 range_end low [] = (low, [])
 range_end low (dash ∷ []) = (low, dash ∷ [])
-range_end low (dash ∷ high ∷ symbols) = if is_dash dash && not (is_close high) then (byte_of high, symbols) else (low, dash ∷ high ∷ symbols)
+range_end low (dash ∷ high ∷ symbols) =
+    if is_dash dash && not (is_close high) then (byte_of high, symbols) else (low, dash ∷ high ∷ symbols)
 
 -- how a set ends
 abbrev pub EndsSo : SetEnd → List ℕ → Type 0
@@ -107,7 +110,8 @@ EndsSo ending.Class set = has_class (body (symbols set)) ≡ true
 EndsSo ending.Open set = (has_class (body (symbols set)) ≡ false) × (is_closed (symbols set) ≡ false)
 EndsSo (ending.Closed rest) set =
     (has_class (body (symbols set)) ≡ false) × (is_closed (symbols set) ≡ true)
-    × (symbols rest.now ≡ drop (length (body (symbols set)) + 1) (symbols set)) × (length rest.now ≤ length set)
+    × (symbols rest.now ≡ drop (length (body (symbols set)) + 1) (symbols set))
+    × (length rest.now ≤ length set)
 
 -- the item of a part
 abbrev pub item_of_part : Part → Item
@@ -128,15 +132,17 @@ pub record MeansItem (item : Item) (text : List ℕ) (reading : Reading) : Type 
 -- items take one byte each: these items and these bytes are left
 pub record Takes (items : List Item) (bytes : List ℕ) (later : List Item) (left : List ℕ) : Type 0 where
   pub same : items_match items bytes ≡ items_match later left
-  pub behind : left ≡ drop (length bytes - length left) bytes
+  pub beyond : left ≡ drop (length bytes - length left) bytes
   pub shorter : length left ≤ length bytes
-  pub needs : (others : List ℕ) → items_match items others ≡ true → items_match later (drop (length bytes - length left) others) ≡ true
+  pub needs : (others : List ℕ) → items_match items others ≡ true
+      → items_match later (drop (length bytes - length left) others) ≡ true
 
 -- items take one byte each, up to a run of any bytes: after it these items and these bytes are left
 pub record Leads (items : List Item) (bytes : List ℕ) (later : List Item) (left : List ℕ) : Type 0 where
   pub same : items_match items bytes ≡ star_from (items_match later) left
-  pub behind : left ≡ drop (length bytes - length left) bytes
-  pub needs : (others : List ℕ) → items_match items others ≡ true → star_from (items_match later) (drop (length bytes - length left) others) ≡ true
+  pub beyond : left ≡ drop (length bytes - length left) bytes
+  pub needs : (others : List ℕ) → items_match items others ≡ true
+      → star_from (items_match later) (drop (length bytes - length left) others) ≡ true
 
 -- what the items up to a run of any bytes come to
 abbrev pub RunGives : ℕ → Outcome → List ℕ → List ℕ → Type 0
@@ -148,8 +154,11 @@ RunGives unclosed (outcome.Run rest left) text bytes =
 
 -- what an item, and the items of a text after it, come to after a run of any bytes
 abbrev pub SearchGives : ℕ → Outcome → Item → List ℕ → List ℕ → Type 0
-SearchGives unclosed outcome.Matches item text bytes = star_from (items_match (item ∷ all_items text)) bytes ≡ true
-SearchGives unclosed outcome.Fails item text bytes = star_from (items_match (item ∷ all_items text)) bytes ≡ false
+SearchGives unclosed outcome.Matches item text bytes =
+    star_from (items_match (item ∷ all_items text)) bytes ≡ true
+SearchGives unclosed outcome.Fails item text bytes =
+    star_from (items_match (item ∷ all_items text)) bytes ≡ false
 SearchGives unclosed (outcome.Run rest left) item text bytes =
-    (star_from (items_match (item ∷ all_items text)) bytes ≡ star_from (items_match (all_items rest.now)) left.now)
+    (star_from (items_match (item ∷ all_items text)) bytes
+    ≡ star_from (items_match (all_items rest.now)) left.now)
     × Settled unclosed rest.now × (length rest.now < length text) × (length left.now ≤ length bytes)

@@ -9,7 +9,8 @@ use Rattle.up_pattern.specs.declared.pattern.Symbol.TheVariants.{Bare, Escaped, 
 abbrev pub symbols_from : Bool → List ℕ → List Symbol
 symbols_from false [] = []
 symbols_from true [] = Trailing ∷ []
-symbols_from false (byte ∷ text) = if byte == 92 then symbols_from true text else Bare byte ∷ symbols_from false text
+symbols_from false (byte ∷ text) = if byte == 92 then symbols_from true text
+    else Bare byte ∷ symbols_from false text
 symbols_from true (byte ∷ text) = Escaped byte ∷ symbols_from false text
 
 -- the symbols of a pattern: bytes that stand bare, bytes after a backslash, and perhaps a trailing backslash
@@ -108,13 +109,15 @@ item_of symbol symbols = if is_open symbol then set_item symbols else lone_item 
 
 -- how many more symbols an item takes: a set those up to its ]
 abbrev pub more : Item → List Symbol → ℕ
-more (Among inverted ranges) symbols = (if begins is_not symbols then 1 else 0) + (length (body (inner symbols)) + 1)
+more (Among inverted ranges) symbols = (if begins is_not symbols then 1
+    else 0) + (length (body (inner symbols)) + 1)
 more other symbols = 0
 
 -- the items of these symbols, of which the first few belong to an item before
 abbrev pub items_from : ℕ → List Symbol → List Item
 items_from taken [] = []
-items_from zero (symbol ∷ symbols) = item_of symbol symbols ∷ items_from (more (item_of symbol symbols) symbols) symbols
+items_from zero (symbol ∷ symbols) = item_of symbol symbols
+    ∷ items_from (more (item_of symbol symbols) symbols) symbols
 items_from (suc taken) (symbol ∷ symbols) = items_from taken symbols
 
 -- the items as they are read, supported or not
@@ -138,7 +141,8 @@ is_among byte ranges = list_any (λ range. nat_le range.0 byte && nat_le byte ra
 abbrev pub admits_byte : Item → ℕ → Bool
 admits_byte Any byte = true
 admits_byte (Only other) byte = other == byte
-admits_byte (Among inverted ranges) byte = if inverted then not (is_among byte ranges) else is_among byte ranges
+admits_byte (Among inverted ranges) byte =
+    if inverted then not (is_among byte ranges) else is_among byte ranges
 admits_byte other byte = false
 
 -- whether it is one byte that the item admits
@@ -168,7 +172,8 @@ splits (byte ∷ bytes) = ([], byte ∷ bytes) ∷ map (λ split. (byte ∷ spli
 abbrev pub cuts : ℕ → List ℕ → List (List (List ℕ))
 cuts zero [] = [] ∷ []
 cuts zero (byte ∷ bytes) = []
-cuts (suc count) bytes = flat_map (λ split. map (λ pieces. split.0 ∷ pieces) (cuts count split.1)) (splits bytes)
+cuts (suc count) bytes =
+    flat_map (λ split. map (λ pieces. split.0 ∷ pieces) (cuts count split.1)) (splits bytes)
 
 -- whether the bytes can be cut into pieces that the items admit, one each
 abbrev pub fits : List Item → List ℕ → Bool

@@ -61,7 +61,7 @@ fn next_symbol(text: &[u8]) -> Option<(Symbol, &[u8])>
         return Some((Symbol::Bare(*byte), rest));
     }
     match rest.split_first() {
-        Some((escaped, behind)) => Some((Symbol::Escaped(*escaped), behind)),
+        Some((escaped, beyond)) => Some((Symbol::Escaped(*escaped), beyond)),
         None => Some((Symbol::Trailing, rest)),
     }
 }
@@ -70,7 +70,8 @@ fn next_symbol(text: &[u8]) -> Option<(Symbol, &[u8])>
 #[tactic(auto, using(crate::proofs::SetReading::firsts))]
 fn strip(text: &[u8], byte: u8) -> Option<&[u8]>
     requires { byte ≢ 92 }
-    ensures { MatchOption result (begins (is_bare byte) (symbols text.now) ≡ false) (λ rest. First text.now (Bare byte) rest.now) }
+    ensures { MatchOption result (begins (is_bare byte) (symbols text.now)
+        ≡ false) (λ rest. First text.now (Bare byte) rest.now) }
 {
     let Some((first, rest)) = text.split_first() else {
         return None;
@@ -125,11 +126,11 @@ fn unclosed_length(pattern: &[u8]) -> usize
 {
     let mut length = pattern.len();
     let mut rest = pattern;
-    'symbols: while let Some((symbol, behind)) = next_symbol(rest) {
+    'symbols: while let Some((symbol, beyond)) = next_symbol(rest) {
         if is_close(symbol) {
-            length = behind.len();
+            length = beyond.len();
         }
-        rest = behind;
+        rest = beyond;
     }
     length
 }
@@ -145,10 +146,10 @@ fn byte_of(symbol: Symbol) -> u8
 }
 
 // Whether this symbol of a set begins a class, with what stands after it.
-fn begins_class(symbol: Symbol, behind: &[u8]) -> bool
-    ensures { result ≡ (is_open symbol && begins is_class_mark (symbols behind.now)) }
+fn begins_class(symbol: Symbol, beyond: &[u8]) -> bool
+    ensures { result ≡ (is_open symbol && begins is_class_mark (symbols beyond.now)) }
 {
-    is_open(symbol) && begins_class_mark(behind)
+    is_open(symbol) && begins_class_mark(beyond)
 }
 
 // How the set ends that begins with these bytes.
@@ -157,33 +158,33 @@ fn set_end(set: &[u8]) -> SetEnd<'_>
     ensures { EndsSo result set.now }
 {
     let mut rest = set;
-    'items: while let Some((symbol, behind)) = next_symbol(rest) {
-        if begins_class(symbol, behind) {
+    'items: while let Some((symbol, beyond)) = next_symbol(rest) {
+        if begins_class(symbol, beyond) {
             return SetEnd::Class;
         }
-        if let Some(end) = strip(behind, b']') {
+        if let Some(end) = strip(beyond, b']') {
             return SetEnd::Closed(end);
         }
-        rest = behind;
+        rest = beyond;
     }
     SetEnd::Open
 }
 
 // The last byte of the range that begins with this item, and what stands after it.
 #[tactic(auto, using(crate::proofs::SetReading::range_ends))]
-fn range_end(low: u8, behind: &[u8]) -> (u8, &[u8])
-    ensures shorter { length result.1.now ≤ length behind.now }
-    ensures end { (result.0, symbols result.1.now) ≡ range_end low (symbols behind.now) }
+fn range_end(low: u8, beyond: &[u8]) -> (u8, &[u8])
+    ensures shorter { length result.1.now ≤ length beyond.now }
+    ensures end { (result.0, symbols result.1.now) ≡ range_end low (symbols beyond.now) }
 {
-    let Some(end) = strip(behind, b'-') else {
-        return (low, behind);
+    let Some(end) = strip(beyond, b'-') else {
+        return (low, beyond);
     };
     if begins(end, b']') {
-        return (low, behind);
+        return (low, beyond);
     }
     match next_symbol(end) {
         Some((high, rest)) => (byte_of(high), rest),
-        None => (low, behind),
+        None => (low, beyond),
     }
 }
 
@@ -199,16 +200,16 @@ fn is_among(set: &[u8], byte: u8) -> bool
     ensures { result ≡ is_among byte (ranges (body (symbols set.now))) }
 {
     let mut rest = set;
-    'items: while let Some((symbol, behind)) = next_symbol(rest) {
+    'items: while let Some((symbol, beyond)) = next_symbol(rest) {
         let low = byte_of(symbol);
-        let (high, behind) = range_end(low, behind);
+        let (high, beyond) = range_end(low, beyond);
         if is_between(low, byte, high) {
             return true;
         }
-        if begins(behind, b']') {
+        if begins(beyond, b']') {
             return false;
         }
-        rest = behind;
+        rest = beyond;
     }
     false
 }
@@ -266,7 +267,8 @@ fn read_set(text: &[u8]) -> Reading<'_>
 #[tactic(auto, using(crate::proofs::ItemReading::readings))]
 fn read(text: &[u8], ahead: bool) -> Option<Reading<'_>>
     requires { ahead ≡ false → IsFlat text.now }
-    ensures none { MatchOption result (all_items text.now ≡ []) (λ reading. all_items text.now ≡ item_of_part reading.part ∷ all_items reading.rest.now) }
+    ensures none { MatchOption result (all_items text.now ≡ []) (λ reading. all_items text.now
+        ≡ item_of_part reading.part ∷ all_items reading.rest.now) }
     ensures flat { IfSome result (λ reading. reading.ahead ≡ false → IsFlat reading.rest.now) }
     ensures end { IfSome result (λ reading. IsEnd (symbols reading.rest.now) (symbols text.now)) }
     ensures shorter { IfSome result (λ reading. length reading.rest.now < length text.now) }
@@ -286,7 +288,8 @@ fn read(text: &[u8], ahead: bool) -> Option<Reading<'_>>
 #[tactic(auto, using(crate::proofs::Unclosed::settlings))]
 fn read_settled(text: &[u8], unclosed: usize) -> Option<Reading<'_>>
     requires { Settled unclosed text.now }
-    ensures none { MatchOption result (all_items text.now ≡ []) (λ reading. all_items text.now ≡ item_of_part reading.part ∷ all_items reading.rest.now) }
+    ensures none { MatchOption result (all_items text.now ≡ []) (λ reading. all_items text.now
+        ≡ item_of_part reading.part ∷ all_items reading.rest.now) }
     ensures settled { IfSome result (λ reading. Settled unclosed reading.rest.now) }
     ensures shorter { IfSome result (λ reading. length reading.rest.now < length text.now) }
 {
@@ -334,12 +337,13 @@ fn is_class(part: &Part) -> bool
 
 // What stands after the first byte, if the item admits it.
 fn take_byte<'b>(part: &Part, bytes: &'b [u8]) -> Option<&'b [u8]>
-    ensures { MatchOption result (TakesNone (item_of_part part.now) bytes.now) (λ behind. TakesOne (item_of_part part.now) bytes.now behind.now) }
+    ensures { MatchOption result (TakesNone (item_of_part part.now) bytes.now)
+        (λ beyond. TakesOne (item_of_part part.now) bytes.now beyond.now) }
 {
     match bytes.split_first() {
-        Some((byte, behind)) => {
+        Some((byte, beyond)) => {
             if admits(part, *byte) {
-                Some(behind)
+                Some(beyond)
             } else {
                 None
             }
@@ -362,7 +366,7 @@ fn take_items<'a, 'b>(text: &'a [u8], unclosed: usize, bytes: &'b [u8]) -> Outco
             return Outcome::Run { rest, left };
         }
         match take_byte(&reading.part, left) {
-            Some(behind) => left = behind,
+            Some(beyond) => left = beyond,
             None => return Outcome::Fails,
         }
     }
@@ -408,15 +412,15 @@ fn search<'a, 'b>(part: &Part, text: &'a [u8], unclosed: usize, bytes: &'b [u8])
 {
     let mut known = nothing_known();
     let mut left = bytes;
-    'places: while let Some((byte, behind)) = left.split_first() {
+    'places: while let Some((byte, beyond)) = left.split_first() {
         if recall(&mut known, part, *byte) {
-            match take_items(text, unclosed, behind) {
+            match take_items(text, unclosed, beyond) {
                 Outcome::Matches => return Outcome::Matches,
                 Outcome::Fails => {}
                 Outcome::Run { rest, left } => return Outcome::Run { rest, left },
             }
         }
-        left = behind;
+        left = beyond;
     }
     Outcome::Fails
 }
@@ -439,10 +443,10 @@ fn matches_end(text: &[u8], unclosed: usize, bytes: &[u8]) -> bool
             Outcome::Fails => return false,
             Outcome::Run {
                 rest: later,
-                left: behind,
+                left: beyond,
             } => {
                 rest = later;
-                left = behind;
+                left = beyond;
             }
         }
     }

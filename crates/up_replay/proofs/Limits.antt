@@ -11,6 +11,9 @@ use Rattle.up_replay.specs.Bundle.{files_of, lines_of}
 use Rattle.up_replay.specs.Folders.{prints, unusable}
 use Rattle.up_replay.specs.Replay.{bundle_printed, Prints, Replays}
 use Rattle.up_replay.proofs.Reports.{any_report}
+use Rattle.up_model.specs.ExitStatuses.{status_number}
+use Rattle.up_model.specs.declared.exit_status.ExitStatus.{ExitStatus}
+use Rattle.up_model.specs.declared.exit_status.ExitStatus.TheVariants.{Unusable}
 
 -- what is printed for a bundle that is too long tells of no report
 other_report : (report other : List Fault) (bytes : List ℕ) → nat_le (length bytes) 67108864 ≡ false → (others : List ℕ) → nat_le (length others) 67108864 ≡ false → bundle_printed report bytes ≡ bundle_printed other others
@@ -34,26 +37,26 @@ prints_take all made had = ⊎_elim by_long by_short (cases_lt 67108864 (length 
         record { report = any.0; is = any.1; same = had.same ∙ other_report had.report any.0 (take 67108865 all) (long _ size) all (long _ more) }
 
 -- what is printed for a bundle that is too long
-pub prints_long : (bytes : List ℕ) (made : Printed) → 67108864 < length bytes → made ≡ prints (unusable (codes "-")) 3 → Prints bytes made
+pub prints_long : (bytes : List ℕ) (made : Printed) → 67108864 < length bytes → made ≡ prints (unusable (codes "-")) Unusable → Prints bytes made
 unfolding bundle_printed
 prints_long bytes made more is =
     let any = any_report (files_of (lines_of bytes)) in
     record { report = any.0; is = any.1; same = is ∙ rw (long _ more) refl }
 
-replayed_whole : (all bytes : List ℕ) (made : Printed) (status : ℕ) (old new : Option (List ℕ)) → bytes ≡ take 67108865 all → Prints bytes made
-    → (status < 3 → (status ≡ made.status) × Appends old new made.text) → Replays all status old new
+replayed_whole : (all bytes : List ℕ) (made : Printed) (status : ExitStatus) (old new : Option (List ℕ)) → bytes ≡ take 67108865 all → Prints bytes made
+    → (status_number status < 3 → (status ≡ made.status) × Appends old new made.text) → Replays all (status_number status) old new
 replayed_whole all bytes made status old new front had wrote below =
     let whole = prints_take all made (subst (λ b. Prints b made) front had) in
     let written = wrote below in
     record {
       report = whole.report;
       is = whole.is;
-      ends = written.0 ∙ ap (λ (m : Printed). m.status) whole.same;
+      ends = ap status_number (written.0 ∙ ap (λ (m : Printed). m.status) whole.same);
       text = subst (λ text. Appends old new text) (ap (λ (m : Printed). m.text) whole.same) written.1;
     }
 
 -- what was written for a reader's bytes, if these are known
-pub replayed_known : (known : Option (List ℕ)) (bytes : List ℕ) (made : Printed) (status : ℕ) (old new : Option (List ℕ)) → IfSome known (λ all. bytes ≡ take 67108865 all) → Prints bytes made
-    → (status < 3 → (status ≡ made.status) × Appends old new made.text) → IfSome known (λ all. Replays all status old new)
+pub replayed_known : (known : Option (List ℕ)) (bytes : List ℕ) (made : Printed) (status : ExitStatus) (old new : Option (List ℕ)) → IfSome known (λ all. bytes ≡ take 67108865 all) → Prints bytes made
+    → (status_number status < 3 → (status ≡ made.status) × Appends old new made.text) → IfSome known (λ all. Replays all (status_number status) old new)
 replayed_known None bytes made status old new front had wrote = tt
 replayed_known (Some all) bytes made status old new front had wrote = replayed_whole all bytes made status old new front had wrote

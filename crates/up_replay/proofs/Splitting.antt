@@ -10,7 +10,7 @@ use Rattle.up_text.proofs.Readings.{prefix_len-front}
 use Rattle.up_replay.specs.Bundle.{lines_of, first_line, after_line}
 use Rattle.up_model.specs.declared.input.Input.{Input}
 use Rattle.up_text.specs.Lexemes.{stanzas}
-use Rattle.up_replay.specs.Rows.{is_text, begins_text, inputs_from, lines_inputs, unless_left, Fronts}
+use Rattle.up_replay.specs.ScriptSteps.{is_text, begins_text, inputs_from, lines_inputs, unless_left, Fronts}
 use Rattle.up_replay.proofs.BundleLemmas.{lines_of-first}
 use Rattle.up_replay.proofs.Passing.{first_line-append, shorter}
 
@@ -103,7 +103,7 @@ fronts script front rest count is none before =
     record {
       counted = before.counted ∙ sym (ap (prefix_len is_text) before.lines ∙ prefix_len-front is_text before.passed (lines_of rest) before.text (no_prefix (lines_of rest) none));
       lines = bytes ∙ ap concat (sym taken);
-      behind = sym dropped;
+      after = sym dropped;
       text = ap is_utf8 bytes ∙ is_utf8-from_IsUtf8 (concat before.passed) (texts_bytes before.passed before.text);
       front_within = omega (arith, ap length bytes, ap length before.joined, length-append (concat before.passed) rest);
       count_within = omega (arith, before.within);
@@ -133,6 +133,6 @@ pub by_front : (line : ℕ) (script front rest : List ℕ) (count : ℕ) → Fro
     → unless_left (line + count) (lines_of rest) (inputs_from line (stanzas front)) ≡ lines_inputs line (lines_of script)
 unfolding lines_inputs
 by_front line script front rest count is =
-    ap (λ lines. unless_left (line + count) lines (inputs_from line (stanzas front))) is.behind
+    ap (λ lines. unless_left (line + count) lines (inputs_from line (stanzas front))) is.after
     ∙ ap (λ text. unless_left (line + count) (drop count (lines_of script)) (inputs_from line (stanzas text))) is.lines
     ∙ ap (λ n. unless_left (line + n) (drop n (lines_of script)) (inputs_from line (stanzas (concat (take n (lines_of script)))))) is.counted

@@ -7,6 +7,8 @@ use Rattle.up_conf.specs.declared.report.Fault.{Fault}
 use Rattle.up_conf.specs.declared.job.JobDef.{JobDef}
 use Rattle.up_conf.specs.FaultCodes as fault
 use Rattle.up_conf.specs.Folders.{jobs_of, IsReport}
+use Rattle.up_model.specs.declared.exit_status.ExitStatus.{ExitStatus}
+use Rattle.up_model.specs.declared.exit_status.ExitStatus.TheVariants.{Done, Failed, Unusable}
 use Rattle.up_image.specs.declared.refusal.CompileError.{CompileError}
 use Rattle.up_image.specs.declared.refusal.CompileError.TheVariants.{SameName, TooManyJobs, ImageTooLarge}
 use Rattle.up_image.specs.Compiling.{has_twice, read_paths}
@@ -37,13 +39,13 @@ unfoldable pub unusable : List ℕ → List ℕ
 unusable name = codes "initd: cannot use " ++ name ++ codes "\n"
 
 -- bytes that are printed, with a status
-abbrev pub prints : List ℕ → ℕ → Printed
+abbrev pub prints : List ℕ → ExitStatus → Printed
 prints text status = record { text = text; status = status }
 
 -- the status, by the faults of a folder
-abbrev pub status_of : List Fault → ℕ
-status_of [] = 0
-status_of (found ∷ report) = 1
+abbrev pub status_of : List Fault → ExitStatus
+status_of [] = Done
+status_of (found ∷ report) = Failed
 
 -- the jobs of files with this report of their faults, or why they are refused
 unfoldable pub compile_outcome : List Fault → List File → Result (List JobDef × List Fault) CompileError
@@ -61,7 +63,7 @@ count_line jobs faults = decimal jobs ++ codes " jobs, " ++ decimal faults ++ co
 abbrev pub check_output : Result (List JobDef × List Fault) CompileError → Printed
 check_output (Ok made) = prints (flat_map fault_line made.1 ++ count_line (length made.0) (length made.1))
     (status_of made.1)
-check_output (Err error) = prints (refusal_line error) 3
+check_output (Err error) = prints (refusal_line error) Unusable
 
 -- the jobs and some report of a folder's files, or why they are refused
 pub record IsCompiled (files : List File) (made : Result

@@ -11,6 +11,6 @@ pub mod Requests
 -- What the lines of a script say.
 pub mod Script
 -- The steps of a script.
-pub mod Rows
+pub mod ScriptSteps
 -- What a replay prints, and its status.
 pub mod Replay

@@ -1,5 +1,6 @@
 -- What a replay prints, and its status.
 use Rattle.std.specs.Prelude.{◌≡◌, ℕ, ◌<◌, nat_le, List, [], ◌++◌, length, Option, None, Some, Result, Ok, Err, if◌then◌else◌, codes}
+use Rattle.up_replay.specs.declared.replay.TheConstants.{MAX_BUNDLE}
 use Rattle.std.specs.List.{flat_map}
 use Rattle.std.specs.Fmt.{decimal}
 use Rattle.std.specs.Io.KnownBytes.{Appends}
@@ -10,11 +11,13 @@ use Rattle.up_conf.specs.Folders.{IsReport}
 use Rattle.up_image.specs.declared.refusal.CompileError.{CompileError}
 use Rattle.up_model.specs.declared.input.Input.{Input}
 use Rattle.up_model.specs.Answers.{answers}
+use Rattle.up_model.specs.ExitStatuses.{status_number}
+use Rattle.up_model.specs.declared.exit_status.ExitStatus.TheVariants.{Usage, Unusable}
 use Rattle.up_replay.specs.declared.printed.Printed.{Printed}
 use Rattle.up_replay.specs.Bundle.{lines_of, files_of, bad_line, script_line, script_text}
 use Rattle.up_replay.specs.Folders.{fault_line, refusal_line, unusable, prints, status_of, compile_outcome}
 use Rattle.up_replay.specs.Lines.{step_lines}
-use Rattle.up_replay.specs.Rows.{script_inputs}
+use Rattle.up_replay.specs.ScriptSteps.{script_inputs}
 
 -- the line of a bad step of the script with this name
 unfoldable pub bad_step_line : List ℕ → ℕ → List ℕ
@@ -36,13 +39,13 @@ play_output base name jobs report (Ok inputs) = prints
     (flat_map fault_line report ++ flat_map step_lines
     (answers (record { base = base; jobs = jobs }) [] inputs)) (status_of report)
 play_output base name jobs report (Err line) = prints
-    (flat_map fault_line report ++ bad_step_line name line) 2
+    (flat_map fault_line report ++ bad_step_line name line) Usage
 
 -- what a folder and a script with this name print, with a base environment
 abbrev pub replay_output : List (List ℕ × List ℕ) → List ℕ → Result (List JobDef × List Fault) CompileError
     → Result (List Input) ℕ → Printed
 replay_output base name (Ok made) read = play_output base name made.0 made.1 read
-replay_output base name (Err error) read = prints (refusal_line error) 3
+replay_output base name (Err error) read = prints (refusal_line error) Unusable
 
 -- what is printed for a folder's files, a base environment and a script, with some report of the folder's faults
 pub record Plays (files : List File) (base : List (List ℕ × List ℕ)) (name : List ℕ)
@@ -54,9 +57,9 @@ pub record Plays (files : List File) (base : List (List ℕ × List ℕ)) (name 
 -- what is printed for the bytes of a bundle, which has 64 MiB at most, with this report of its folder's faults
 unfoldable pub bundle_printed : List Fault → List ℕ → Printed
 bundle_printed report bytes =
-    if nat_le (length bytes) 67108864 then replay_output [] (codes "-")
+    if nat_le (length bytes) MAX_BUNDLE then replay_output [] (codes "-")
     (compile_outcome report (files_of (lines_of bytes))) (inputs_in (lines_of bytes))
-    else prints (unusable (codes "-")) 3
+    else prints (unusable (codes "-")) Unusable
 
 -- what is printed for a bundle
 pub record Prints (bytes : List ℕ) (made : Printed) : Type 0 where
@@ -68,7 +71,7 @@ pub record Prints (bytes : List ℕ) (made : Printed) : Type 0 where
 pub record Replayed (bytes : List ℕ) (status : ℕ) (old new : Option (List ℕ)) : Type 0 where
   pub report : List Fault
   pub is : IsReport (files_of (lines_of bytes)) report
-  pub ends : status ≡ (bundle_printed report bytes).status
+  pub ends : status ≡ status_number (bundle_printed report bytes).status
   pub text : Appends old new (bundle_printed report bytes).text
 
 abbrev pub Replays : List ℕ → ℕ → Option (List ℕ) → Option (List ℕ) → Type 0

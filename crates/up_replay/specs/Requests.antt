@@ -29,9 +29,9 @@ begins_no_wait [] = false
 begins_no_wait (word ∷ words) = bytes_eq word (codes "--no-wait")
 
 -- the words after the first
-abbrev pub behind_first : List (List ℕ) → List (List ℕ)
-behind_first [] = []
-behind_first (word ∷ words) = words
+abbrev pub after_first_step : List (List ℕ) → List (List ℕ)
+after_first_step [] = []
+after_first_step (word ∷ words) = words
 
 -- a request by its command and its parts
 abbrev pub make : Command → Bool → List ℕ → List (List ℕ × List ℕ) → Request
@@ -56,7 +56,7 @@ with_words asked wait words = if is_alone asked then alone asked wait words else
 abbrev pub request_by : List (List ℕ) → Command → Option Request
 request_by words asked =
     if may_wait asked && begins_no_wait words then with_words asked false
-    (behind_first words) else with_words asked true words
+    (after_first_step words) else with_words asked true words
 
 -- ID COMMAND [--no-wait] [NAME] [KEY=VALUE]..
 abbrev pub request_of : List (List ℕ) → Option Input

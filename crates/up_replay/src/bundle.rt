@@ -58,7 +58,7 @@ pub(crate) fn split_line(text: &[u8]) -> (&[u8], &[u8])
 
 // A line without its line feed.
 #[tactic(auto, using(crate::proofs::BundleLemmas::trimmed_take, crate::proofs::BundleLemmas::feed_within))]
-fn trimmed(line: &[u8]) -> &[u8]
+fn trim_blanks(line: &[u8]) -> &[u8]
     ensures { result.now ≡ bundle.without_feed line.now }
 {
     &line[..feed_at(line)]
@@ -68,7 +68,7 @@ fn trimmed(line: &[u8]) -> &[u8]
 fn is_script(line: &[u8]) -> bool
     ensures { result ≡ bundle.is_script line.now }
 {
-    trimmed(line) == b"%script".as_slice()
+    trim_blanks(line) == b"%script".as_slice()
 }
 
 #[tactic(auto, unfolding(crate::specs::Bundle::is_file))]
@@ -113,7 +113,7 @@ fn to_header(text: &[u8]) -> (&[u8], &[u8], u32)
 {
     let mut rest = text;
     let mut lines = 0u32;
-    'passing: while !begins_header(rest) {
+    'place_after: while !begins_header(rest) {
         rest = split_line(rest).1;
         lines += 1;
     }
@@ -137,7 +137,7 @@ pub(crate) fn as_text(bytes: &[u8]) -> Option<&str>
 fn path_of(line: &[u8]) -> &[u8]
     ensures { result.now ≡ bundle.path_of line.now }
 {
-    let line = trimmed(line);
+    let line = trim_blanks(line);
     if line.len() < 6 { &[] } else { &line[6..] }
 }
 

@@ -1,6 +1,6 @@
 //! Writes inputs as the lines of a script.
 ghost use Rattle.std.specs.Prelude.{◌≡◌, IfOk, IfSome, Ok};
-ghost use Rattle.up_replay.specs.Rows.{script_inputs};
+ghost use Rattle.up_replay.specs.ScriptSteps.{script_inputs};
 
 use crate::lines::{push, push_decimal, push_signal};
 use crate::same::same_inputs;

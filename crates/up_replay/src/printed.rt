@@ -1,19 +1,21 @@
 //! What the program prints, and its status.
 ghost use Rattle.std.specs.Prelude.{◌≡◌, ◌++◌, IfOk, OnOk, codes};
 ghost use Rattle.std.specs.List.{flat_map};
+ghost use Rattle.up_model.specs.declared.exit_status.ExitStatus.TheVariants.{Unusable};
 ghost use Rattle.up_replay.specs.Folders.{fault_line, image_refusal_line, prints, refusal_line, status_of, unusable};
 
 use crate::lines::{push, push_decimal};
 use std::alloc::{AllocError, Global};
 use up_conf::{Fault, Report};
 use up_image::{CompileError, ImageError};
+use up_model::ExitStatus;
 use up_text::Items;
 
 /// What is printed, and the status.
 #[derive(Debug, Drop)]
 pub struct Printed {
     pub text: Items<u8>,
-    pub status: u8,
+    pub status: ExitStatus,
 }
 
 #[tactic(auto, unfolding(crate::specs::Folders::fault_line))]
@@ -39,16 +41,20 @@ pub(crate) fn push_faults(text: &mut Vec<u8>, faults: &[Fault]) -> Result<(), Al
     Ok(())
 }
 
-pub(crate) fn status_of(report: &Report) -> u8
+pub(crate) fn status_of(report: &Report) -> ExitStatus
     ensures { result ≡ status_of report.now }
 {
-    if report.is_empty() { 0 } else { 1 }
+    if report.is_empty() {
+        ExitStatus::Done
+    } else {
+        ExitStatus::Failed
+    }
 }
 
 /// The line of a refused folder.
 #[tactic(auto, unfolding(crate::specs::Folders::refusal_line))]
 pub(crate) fn refused(alloc: Global, error: CompileError) -> Result<Printed, AllocError>
-    ensures { IfOk result (λ made. made ≡ prints (refusal_line error) 3) }
+    ensures { IfOk result (λ made. made ≡ prints (refusal_line error) Unusable) }
 {
     let mut text: Vec<u8> = Vec::new(alloc);
     push(&mut text, "initd: ")?;
@@ -57,13 +63,16 @@ pub(crate) fn refused(alloc: Global, error: CompileError) -> Result<Printed, All
     push(&mut text, error.name())?;
     push(&mut text, "\n")?;
     let text = Items::new(text);
-    Ok(Printed { text, status: 3 })
+    Ok(Printed {
+        text,
+        status: ExitStatus::Unusable,
+    })
 }
 
 /// The line of an image that is refused, or of a table that has none.
 #[tactic(auto, unfolding(crate::specs::Folders::image_refusal_line))]
 pub fn image_refused(alloc: Global, error: ImageError) -> Result<Printed, AllocError>
-    ensures { IfOk result (λ made. made ≡ prints (image_refusal_line error) 3) }
+    ensures { IfOk result (λ made. made ≡ prints (image_refusal_line error) Unusable) }
 {
     let mut text: Vec<u8> = Vec::new(alloc);
     push(&mut text, "initd: ")?;
@@ -72,18 +81,24 @@ pub fn image_refused(alloc: Global, error: ImageError) -> Result<Printed, AllocE
     push(&mut text, error.name())?;
     push(&mut text, "\n")?;
     let text = Items::new(text);
-    Ok(Printed { text, status: 3 })
+    Ok(Printed {
+        text,
+        status: ExitStatus::Unusable,
+    })
 }
 
 /// The line of what can't be read or written.
 #[tactic(auto, unfolding(crate::specs::Folders::unusable))]
 pub fn cannot_use(alloc: Global, name: &str) -> Result<Printed, AllocError>
-    ensures { IfOk result (λ made. made ≡ prints (unusable name.now) 3) }
+    ensures { IfOk result (λ made. made ≡ prints (unusable name.now) Unusable) }
 {
     let mut text: Vec<u8> = Vec::new(alloc);
     push(&mut text, "initd: cannot use ")?;
     push(&mut text, name)?;
     push(&mut text, "\n")?;
     let text = Items::new(text);
-    Ok(Printed { text, status: 3 })
+    Ok(Printed {
+        text,
+        status: ExitStatus::Unusable,
+    })
 }

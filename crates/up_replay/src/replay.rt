@@ -1,12 +1,15 @@
 //! Replays a bundle.
 ghost use Rattle.std.specs.Prelude.{◌≡◌, ◌⊎◌, ◌≤◌, ◌<◌, ◌+◌, [], ◌++◌, IfOk, IfSome, OnOk, length, take, codes};
+ghost use Rattle.up_replay.specs.declared.replay.TheConstants.{MAX_BUNDLE};
 ghost use Rattle.std.specs.List.{flat_map};
 ghost use Rattle.std.specs.Io.KnownBytes.{Appends};
 ghost use Rattle.up_model.specs.Answers.{answers};
+ghost use Rattle.up_model.specs.ExitStatuses.{status_number};
+ghost use Rattle.up_model.specs.declared.exit_status.ExitStatus.TheVariants.{Unusable};
 ghost use Rattle.up_replay.specs.Folders.{fault_line};
 ghost use Rattle.up_replay.specs.Lines.{step_lines};
 ghost use Rattle.up_replay.specs.Replay.{bad_step_line, play_output, replay_output, unless_bad, Plays, Prints, Replays};
-ghost use Rattle.up_replay.specs.Rows.{script_inputs};
+ghost use Rattle.up_replay.specs.ScriptSteps.{script_inputs};
 
 use crate::bundle::{Bundle, read_bundle};
 use crate::check::compile_outcome;
@@ -20,11 +23,11 @@ use std::io::{ErrorKind, Read, Write};
 use up_conf::{Folder, Report};
 use up_engine::Engine;
 use up_image::{CompileError, Table};
-use up_model::{Input, Step};
+use up_model::{ExitStatus, Input, Step};
 use up_text::{Env, Items};
 
 /// The most bytes that a bundle has: 64 MiB.
-const MAX_LEN: usize = 67_108_864;
+pub const MAX_BUNDLE: usize = 67_108_864;
 
 fn push_steps(text: &mut Vec<u8>, steps: &[Step]) -> Result<(), AllocError>
     ensures { OnOk result (text.new.items ≡ text.old.items ++ flat_map step_lines steps.now) }
@@ -126,7 +129,10 @@ fn play(
             drop(table);
             push_no_run(&mut text, report, name, line)?;
             let text = Items::new(text);
-            Ok(Printed { text, status: 2 })
+            Ok(Printed {
+                text,
+                status: ExitStatus::Usage,
+            })
         }
     }
 }
@@ -166,7 +172,7 @@ pub fn render_folder(
 pub fn render_bundle(alloc: Global, bytes: &[u8]) -> Result<Printed, AllocError>
     ensures { IfOk result (Prints bytes.now) }
 {
-    if bytes.len() > MAX_LEN {
+    if bytes.len() > MAX_BUNDLE {
         return cannot_use(alloc, "-");
     }
     let bundle = read_bundle(alloc, bytes)?;
@@ -177,51 +183,59 @@ pub fn render_bundle(alloc: Global, bytes: &[u8]) -> Result<Printed, AllocError>
 // All bytes, but at most one more than a bundle may have.
 fn read_all<R: Read>(alloc: Global, reader: &mut R) -> io::Result<Vec<u8>>
     ensures { IfOk result (λ bytes. IfSome (R.remaining reader.old)
-        (λ all. bytes.items ≡ take 67108865 all)) }
+        (λ all. bytes.items ≡ take (MAX_BUNDLE + 1) all)) }
 {
     let mut bytes: Vec<u8> = Vec::new(alloc);
-    let mut limited = Read::take(reader, 67_108_865);
+    let mut limited = Read::take(reader, MAX_BUNDLE as u64 + 1);
     limited.read_to_end(&mut bytes)?;
     Ok(bytes)
 }
 
-/// Writes what is printed, and gives the status: 3 if it can't be written.
-pub fn write_printed<W: Write>(writer: &mut W, made: &Printed) -> u8
-    ensures written { result < 3 → (result ≡ made.now.status)
+/// Writes what is printed, and returns the status: `Unusable` if it can't be written.
+pub fn write_printed<W: Write>(writer: &mut W, made: &Printed) -> ExitStatus
+    ensures written { status_number result < 3 → (result ≡ made.now.status)
         × Appends (W.contents writer.old) (W.contents writer.new) made.now.text }
-    ensures status { (result ≡ made.now.status) ⊎ (result ≡ 3) }
+    ensures status { (result ≡ made.now.status) ⊎ (result ≡ Unusable) }
 {
     match writer.write_all(made.text.as_slice()) {
         Ok(()) => made.status,
-        Err(_) => 3,
+        Err(_) => ExitStatus::Unusable,
     }
 }
 
-// Says that the bundle can't be read, and gives the status.
-fn write_unreadable<W: Write>(writer: &mut W) -> u8
-    ensures { result ≡ 3 }
+// Says that the bundle can't be read, and returns the status.
+fn write_unreadable<W: Write>(writer: &mut W) -> ExitStatus
+    ensures { result ≡ Unusable }
 {
     let _ = writer.write_all(b"initd: cannot use -\n");
-    3
+    ExitStatus::Unusable
 }
 
-/// Reads a bundle, writes what is printed for it and gives the status: 0; 1 with faulty files; 2 at a bad step; 3 if the folder is
-/// refused or the bundle can't be read or written; 4 if memory ran out.
-pub fn replay<R: Read, W: Write>(alloc: Global, reader: &mut R, writer: &mut W) -> u8
-    ensures { IfSome (R.remaining reader.old)
-        (λ bytes. Replays bytes result (W.contents writer.old) (W.contents writer.new)) }
+/// Reads a bundle, writes what is printed for it and returns the status: `Failed` with faulty files; `Usage` at a bad step; `Unusable` if
+/// the folder is refused or the bundle can't be read or written; `Memory` if memory ran out.
+pub fn replay_bundle<R: Read, W: Write>(alloc: Global, reader: &mut R, writer: &mut W) -> ExitStatus
+    ensures { IfSome (R.remaining reader.old) (λ bytes. Replays bytes (status_number result)
+        (W.contents writer.old) (W.contents writer.new)) }
 {
     match read_all(alloc, reader) {
         Ok(bytes) => match render_bundle(alloc, bytes.as_slice()) {
             Ok(made) => write_printed(writer, &made),
-            Err(_) => 4,
+            Err(_) => ExitStatus::Memory,
         },
         Err(error) => {
             if error.kind() == ErrorKind::OutOfMemory {
-                4
+                ExitStatus::Memory
             } else {
                 write_unreadable(writer)
             }
         }
     }
+}
+
+/// Reads a bundle, writes what is printed for it and returns the number of the status.
+pub fn replay<R: Read, W: Write>(alloc: Global, reader: &mut R, writer: &mut W) -> u8
+    ensures { IfSome (R.remaining reader.old)
+        (λ bytes. Replays bytes result (W.contents writer.old) (W.contents writer.new)) }
+{
+    replay_bundle(alloc, reader, writer).number()
 }

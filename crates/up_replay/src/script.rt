@@ -4,7 +4,7 @@ ghost use Rattle.up_stanza.specs.Reading.{LacksMemory};
 ghost use Rattle.up_text.specs.Places.{reading};
 ghost use Rattle.up_text.specs.Lexemes.{lexemes_of, stanzas};
 ghost use Rattle.up_replay.specs.Bundle.{lines_of};
-ghost use Rattle.up_replay.specs.Rows.{is_text, begins_text, behind_step, inputs_from, lines_inputs, step_inputs, script_inputs, unless_left, texts_in, IsNext, Fronts, ReachesNoFurther};
+ghost use Rattle.up_replay.specs.ScriptSteps.{is_text, begins_text, after_step, inputs_from, lines_inputs, step_inputs, script_inputs, unless_left, texts_in, IsNext, Fronts, ReachesNoFurther};
 
 use crate::bundle::{as_text, split_line};
 use crate::words::inputs_of;
@@ -13,7 +13,7 @@ use up_model::Input;
 use up_text::{Items, Lexer, Text, TextFault, without_comments};
 
 // The bytes as a text, where they may stand in a script.
-#[tactic(auto, unfolding(crate::specs::Rows::is_text))]
+#[tactic(auto, unfolding(crate::specs::ScriptSteps::is_text))]
 fn text_of(bytes: &[u8]) -> Option<&str>
     ensures test { MatchOption result (is_text bytes.now ≡ false) (λ text. is_text bytes.now ≡ true) }
     ensures same { IfSome result (λ text. text.now ≡ bytes.now) }
@@ -75,8 +75,8 @@ fn next_word(alloc: Global, lexer: &mut Lexer) -> Result<Next, AllocError>
 // The words of the step in front, where each is whole; the lexer then stands after it.
 fn step_words(alloc: Global, lexer: &mut Lexer) -> Result<Option<Items<Text>>, AllocError>
     ensures words { IfOk result (λ words. words ≡ texts_in (lexemes_of lexer.old)) }
-    ensures behind { IfOk result (λ words. IfSome words
-        (λ _. lexemes_of lexer.new ≡ behind_step (lexemes_of lexer.old))) }
+    ensures after { IfOk result (λ words. IfSome words
+        (λ _. lexemes_of lexer.new ≡ after_step (lexemes_of lexer.old))) }
     ensures within { ReachesNoFurther lexer.new lexer.old }
 {
     let mut words: Vec<Text> = Vec::new(alloc);
@@ -93,8 +93,8 @@ fn step_words(alloc: Global, lexer: &mut Lexer) -> Result<Option<Items<Text>>, A
 // The inputs of the step in front, if it is no bad one; the lexer then stands after it.
 fn step_inputs(alloc: Global, lexer: &mut Lexer) -> Result<Option<Items<Input>>, AllocError>
     ensures inputs { IfOk result (λ inputs. inputs ≡ step_inputs (lexemes_of lexer.old)) }
-    ensures behind { IfOk result (λ inputs. IfSome inputs
-        (λ _. lexemes_of lexer.new ≡ behind_step (lexemes_of lexer.old))) }
+    ensures after { IfOk result (λ inputs. IfSome inputs
+        (λ _. lexemes_of lexer.new ≡ after_step (lexemes_of lexer.old))) }
     ensures within { ReachesNoFurther lexer.new lexer.old }
 {
     match step_words(alloc, lexer)? {
@@ -158,7 +158,7 @@ fn lines_inputs(
 }
 
 /// The inputs of a script that begins on this line, or its first bad line.
-#[tactic(auto, unfolding(crate::specs::Rows::script_inputs), using(up_text::proofs::Comments::no_longer))]
+#[tactic(auto, unfolding(crate::specs::ScriptSteps::script_inputs), using(up_text::proofs::Comments::no_longer))]
 pub fn script_inputs(
     alloc: Global,
     script: &[u8],

@@ -129,7 +129,7 @@ fn asks(alloc: Global, words: &[String], asked: &Asked) -> bool {
 fn refusal(rt: &HostRuntime, words: &[String]) -> Option<u8> {
     match read_words(rt.alloc(), words) {
         Ok(_) => None,
-        Err(error) => Some(print_refusal(rt, &error)),
+        Err(error) => Some(print_refusal(rt, &error).number()),
     }
 }
 

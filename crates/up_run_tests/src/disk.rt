@@ -24,7 +24,7 @@ fn is_printed(
     (printed, status): (&str, u8),
 ) -> io::Result<bool> {
     let text = text_of(rt, dir, printed)?;
-    Ok(made.text.as_slice() == text.as_bytes() && made.status == status)
+    Ok(made.text.as_slice() == text.as_bytes() && made.status.number() == status)
 }
 
 // Whether a check of what lies in a folder prints this, with this status.

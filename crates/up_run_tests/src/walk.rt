@@ -24,7 +24,7 @@ pub(crate) fn below(rt: &HostRuntime, dir: &str, path: &str) -> io::Result<Strin
 /// A text in which `@` stands for the path of the folder.
 pub(crate) fn text_of(rt: &HostRuntime, dir: &str, text: &str) -> io::Result<String> {
     match text.split_once('@') {
-        Some((before, behind)) => Ok(format!(in rt.alloc(); "{before}{dir}{behind}")?),
+        Some((before, after)) => Ok(format!(in rt.alloc(); "{before}{dir}{after}")?),
         None => Ok(String::from_str(rt.alloc(), text)?),
     }
 }

@@ -6,7 +6,7 @@ use Rattle.std.specs.List.{list_all}
 use Rattle.std.specs.Str.{bytes_eq}
 use Rattle.up_text.specs.Names.{is_key}
 use Rattle.up_text.specs.Scripts.{is_filled}
-use Rattle.up_stanza.specs.Arguments.{single, none, with_first, each, filled, behind}
+use Rattle.up_stanza.specs.Arguments.{single, none, with_first, each, one_or_more, after}
 use Rattle.up_stanza.specs.Settings.{key_in}
 
 -- what an option was made of
@@ -37,17 +37,17 @@ pub none-is : {X : Type 0} (x y : X) (texts : List (List ℕ)) → none x texts 
 none-is x y [] is = (refl, cc)
 none-is x y (text ∷ texts) is = absurd (cc)
 
-pub filled-is : (texts others : List (List ℕ)) → filled texts ≡ Some others → (texts ≡ others) × (is_filled others ≡ true)
-filled-is [] others is = absurd (cc)
-filled-is (text ∷ texts) others is = let same : (text ∷ texts) ≡ others = cc in (same, ap is_filled (sym same))
+pub one_or_more-is : (texts others : List (List ℕ)) → one_or_more texts ≡ Some others → (texts ≡ others) × (is_filled others ≡ true)
+one_or_more-is [] others is = absurd (cc)
+one_or_more-is (text ∷ texts) others is = let same : (text ∷ texts) ≡ others = cc in (same, ap is_filled (sym same))
 
-pub filled-from : (texts : List (List ℕ)) → is_filled texts ≡ true → filled texts ≡ Some texts
-filled-from [] is = absurd (cc)
-filled-from (text ∷ texts) is = refl
+pub one_or_more-from : (texts : List (List ℕ)) → is_filled texts ≡ true → one_or_more texts ≡ Some texts
+one_or_more-from [] is = absurd (cc)
+one_or_more-from (text ∷ texts) is = refl
 
-pub behind-is : (word : List ℕ) (texts others : List (List ℕ)) → behind word texts ≡ Some others → texts ≡ word ∷ others
-behind-is word [] others is = absurd (cc)
-behind-is word (text ∷ texts) others is = by_word (bytes_eq text word) refl is
+pub after-is : (word : List ℕ) (texts others : List (List ℕ)) → after word texts ≡ Some others → texts ≡ word ∷ others
+after-is word [] others is = absurd (cc)
+after-is word (text ∷ texts) others is = by_word (bytes_eq text word) refl is
   where
     by_word : (same : Bool) → bytes_eq text word ≡ same → cond same (Some texts) None ≡ Some others → (text ∷ texts) ≡ word ∷ others
     by_word false e is = absurd (cc)

@@ -5,12 +5,12 @@ use Rattle.std.specs.List.{concat}
 use Rattle.std.specs.Str.{bytes_eq}
 use Rattle.up_value.specs.declared.fault.TextFault.{TextFault}
 use Rattle.up_text.specs.declared.token.Token.{Token}
-use Rattle.up_text.specs.Commands.{row_at, command_in}
-use Rattle.up_text.specs.Places.{Place, Reading, Got, Ended, Fails, reading, switched, passing, fault_in}
-use Rattle.up_text.specs.Rows.{row_of}
+use Rattle.up_text.specs.Commands.{command_marks_at, command_in}
+use Rattle.up_text.specs.Places.{Place, Reading, Got, Ended, Fails, reading, with_parens, place_after, fault_in}
+use Rattle.up_text.specs.Statements.{statement_of}
 use Rattle.up_text.specs.Scripts.{lines_of, script_in}
 use Rattle.up_text.proofs.Lexemes.{reading_less, reading_ends}
-use Rattle.up_text.proofs.Rows.{Row-row_of, Row-leaves}
+use Rattle.up_text.proofs.Statements.{IsStatement-statement_of, IsStatement-leaves}
 use Rattle.up_stanza.specs.declared.kind.Kind.{Kind}
 use Rattle.up_stanza.specs.declared.kind.Kind.TheVariants as kind
 use Rattle.up_stanza.specs.declared.process.Process.TheVariants as process
@@ -19,18 +19,18 @@ use Rattle.up_stanza.specs.declared.stanza.Stanza.TheVariants.{Runs, StartOn, St
 use Rattle.up_stanza.specs.Actions.{action_of}
 use Rattle.up_stanza.specs.Arguments.{listed_of}
 use Rattle.up_stanza.specs.Kinds.{kind_of}
-use Rattle.up_stanza.specs.Stanzas.{Found, made, found_by, unswitched, expression_in, expression_by, texts_at, with_end, command_by, command_at, script_of, script_by, script_at, action_by, action_at, said_as, said_by, stanza_by, stanza_at}
+use Rattle.up_stanza.specs.Stanzas.{Found, map_found, and_then_found, without_parens, expression_in, expression_by, texts_at, with_end, command_by, command_at, script_of, script_by, script_at, action_by, action_at, stanza_as, stanza_of, stanza_by, stanza_at}
 
 -- how much of the text is left after a part, if it is read
 abbrev left : {X : Type 0} → Found X → ℕ
 left None = 0
 left (Some found) = length found.1.rest
 
-made_left : {X Y : Type 0} (f : X → Y) (found : Found X) → left (made f found) ≤ left found
+made_left : {X Y : Type 0} (f : X → Y) (found : Found X) → left (map_found f found) ≤ left found
 made_left f None = omega arith
 made_left f (Some found) = omega arith
 
-found_left : {X Y : Type 0} (f : X → Option Y) (found : Found X) → left (found_by f found) ≤ left found
+found_left : {X Y : Type 0} (f : X → Option Y) (found : Found X) → left (and_then_found f found) ≤ left found
 found_left f None = omega arith
 found_left {X} {Y} f (Some found) = by_part (f found.0)
   where
@@ -38,21 +38,21 @@ found_left {X} {Y} f (Some found) = by_part (f found.0)
     by_part None = omega arith
     by_part (Some y) = omega arith
 
-switched_left : {X : Type 0} (found : Found X) → left (unswitched found) ≤ left found
+switched_left : {X : Type 0} (found : Found X) → left (without_parens found) ≤ left found
 switched_left None = omega arith
 switched_left (Some found) = omega arith
 
-row_left : (place : Place) → left (row_of place) ≤ length place.rest
-row_left place = by_row (row_of place) refl
+statement_left : (place : Place) → left (statement_of place) ≤ length place.rest
+statement_left place = by_statement (statement_of place) refl
   where
-    by_row : (row : Found (List Token)) → row_of place ≡ row → left row ≤ length place.rest
-    by_row None is = omega arith
-    by_row (Some row) is = (Row-leaves place row.0 row.1 (Row-row_of place row.0 row.1 is)).1
+    by_statement : (statement : Found (List Token)) → statement_of place ≡ statement → left statement ≤ length place.rest
+    by_statement None is = omega arith
+    by_statement (Some statement) is = (IsStatement-leaves place statement.0 statement.1 (IsStatement-statement_of place statement.0 statement.1 is)).1
 
 texts_left : (place : Place) → left (texts_at place) ≤ length place.rest
-texts_left place = let row = row_left place in let texts = made_left (λ (tokens : List Token). map (λ t. t.text) tokens) (row_of place) in omega (arith, row, texts)
+texts_left place = let statement = statement_left place in let texts = made_left (λ (tokens : List Token). map (λ t. t.text) tokens) (statement_of place) in omega (arith, statement, texts)
 
-passing_left : (n : ℕ) (place : Place) → length (passing n place).rest ≤ length place.rest
+passing_left : (n : ℕ) (place : Place) → length (place_after n place).rest ≤ length place.rest
 passing_left n place = let is = length-drop n place.rest in omega (arith, is)
 
 with_end_left : {X : Type 0} (part : Option X) (place : Place) → left (with_end part (reading place)) ≤ length place.rest
@@ -60,67 +60,67 @@ with_end_left None place = omega arith
 with_end_left (Some x) place = by_reading (reading place) refl
   where
     by_reading : (r : Reading) → reading place ≡ r → left (with_end (Some x) r) ≤ length place.rest
-    by_reading (Got token behind) is = omega arith
-    by_reading (Ended behind) is = (reading_ends place behind is).1
+    by_reading (Got token after) is = omega arith
+    by_reading (Ended after) is = (reading_ends place after is).1
     by_reading (Fails fault) is = omega arith
 
 command_left : (place : Place) → left (command_at place) ≤ length place.rest
-command_left place = by_fault (fault_in (row_at place))
+command_left place = by_fault (fault_in (command_marks_at place))
   where
     by_fault : (fault : Option TextFault) → left (command_by place fault) ≤ length place.rest
     by_fault (Some fault) = omega arith
     by_fault None =
-        let n = length (row_at place) in
+        let n = length (command_marks_at place) in
         let passed = passing_left n place in
-        let end = with_end_left (action_of (command_in (row_at place))) (passing n place) in
+        let end = with_end_left (action_of (command_in (command_marks_at place))) (place_after n place) in
         omega (arith, passed, end)
 
 script_left : (place : Place) → left (script_at place) ≤ length place.rest
 script_left place = by_reading (reading place) refl
   where
-    by_script : (behind : Place) (script : Option (List (List ℕ) × List ℕ)) → length behind.rest ≤ length place.rest → left (script_of behind script) ≤ length place.rest
-    by_script behind None less = omega arith
-    by_script behind (Some script) less = let passed = passing_left (length (concat script.0) + length script.1) behind in omega (arith, passed, less)
+    by_script : (after : Place) (script : Option (List (List ℕ) × List ℕ)) → length after.rest ≤ length place.rest → left (script_of after script) ≤ length place.rest
+    by_script after None less = omega arith
+    by_script after (Some script) less = let passed = passing_left (length (concat script.0) + length script.1) after in omega (arith, passed, less)
 
     by_reading : (r : Reading) → reading place ≡ r → left (script_by r) ≤ length place.rest
-    by_reading (Got token behind) is = omega arith
-    by_reading (Ended behind) is = by_script behind (script_in (lines_of behind.rest)) (reading_ends place behind is).1
+    by_reading (Got token after) is = omega arith
+    by_reading (Ended after) is = by_script after (script_in (lines_of after.rest)) (reading_ends place after is).1
     by_reading (Fails fault) is = omega arith
 
 action_left : (place : Place) → left (action_at place) ≤ length place.rest
 action_left place = by_reading (reading place) refl
   where
-    by_word : (behind : Place) (exec script : Bool) → length behind.rest ≤ length place.rest → left (cond exec (command_at behind) (cond script (script_at behind) None)) ≤ length place.rest
-    by_word behind true script less = let more = command_left behind in omega (arith, more, less)
-    by_word behind false true less = let more = script_left behind in omega (arith, more, less)
-    by_word behind false false less = omega arith
+    by_word : (after : Place) (exec script : Bool) → length after.rest ≤ length place.rest → left (cond exec (command_at after) (cond script (script_at after) None)) ≤ length place.rest
+    by_word after true script less = let more = command_left after in omega (arith, more, less)
+    by_word after false true less = let more = script_left after in omega (arith, more, less)
+    by_word after false false less = omega arith
 
     by_reading : (r : Reading) → reading place ≡ r → left (action_by r) ≤ length place.rest
-    by_reading (Got token behind) is =
-        by_word behind (bytes_eq token.text (codes "exec")) (bytes_eq token.text (codes "script")) (let less = reading_less place token behind is in omega (arith, less))
-    by_reading (Ended behind) is = omega arith
+    by_reading (Got token after) is =
+        by_word after (bytes_eq token.text (codes "exec")) (bytes_eq token.text (codes "script")) (let less = reading_less place token after is in omega (arith, less))
+    by_reading (Ended after) is = omega arith
     by_reading (Fails fault) is = omega arith
 
 expression_left : (place : Place) → left (expression_by (reading place)) ≤ length place.rest
 expression_left place = by_reading (reading place) refl
   where
-    by_on : (behind : Place) (on : Bool) → length behind.rest ≤ length place.rest → left (cond on (unswitched (found_by expression_in (row_of (switched true behind)))) None) ≤ length place.rest
-    by_on behind false less = omega arith
-    by_on behind true less =
-        let row = row_left (switched true behind) in
-        let tree = found_left expression_in (row_of (switched true behind)) in
-        let whole = switched_left (found_by expression_in (row_of (switched true behind))) in
-        omega (arith, row, tree, whole, less)
+    by_on : (after : Place) (on : Bool) → length after.rest ≤ length place.rest → left (cond on (without_parens (and_then_found expression_in (statement_of (with_parens true after)))) None) ≤ length place.rest
+    by_on after false less = omega arith
+    by_on after true less =
+        let statement = statement_left (with_parens true after) in
+        let tree = found_left expression_in (statement_of (with_parens true after)) in
+        let whole = switched_left (and_then_found expression_in (statement_of (with_parens true after))) in
+        omega (arith, statement, tree, whole, less)
 
     by_reading : (r : Reading) → reading place ≡ r → left (expression_by r) ≤ length place.rest
-    by_reading (Got token behind) is = by_on behind (bytes_eq token.text (codes "on")) (let less = reading_less place token behind is in omega (arith, less))
-    by_reading (Ended behind) is = omega arith
+    by_reading (Got token after) is = by_on after (bytes_eq token.text (codes "on")) (let less = reading_less place token after is in omega (arith, less))
+    by_reading (Ended after) is = omega arith
     by_reading (Fails fault) is = omega arith
 
-made_of : {X Y : Type 0} (f : X → Y) (found : Found X) (n : ℕ) → left found ≤ n → left (made f found) ≤ n
+made_of : {X Y : Type 0} (f : X → Y) (found : Found X) (n : ℕ) → left found ≤ n → left (map_found f found) ≤ n
 made_of f found n less = let more = made_left f found in omega (arith, more, less)
 
-kind_left : (kind : Kind) (place : Place) → left (said_as kind place) ≤ length place.rest
+kind_left : (kind : Kind) (place : Place) → left (stanza_as kind place) ≤ length place.rest
 kind_left (kind.Listed kind) place = let texts = texts_left place in let more = found_left (listed_of kind) (texts_at place) in omega (arith, texts, more)
 kind_left kind.Exec place = made_of (Runs process.Main) (command_at place) _ (command_left place)
 kind_left kind.Script place = made_of (Runs process.Main) (script_at place) _ (script_left place)
@@ -131,18 +131,18 @@ kind_left kind.PostStop place = made_of (Runs process.PostStop) (action_at place
 kind_left kind.Start place = made_of StartOn (expression_by (reading place)) _ (expression_left place)
 kind_left kind.Stop place = made_of StopOn (expression_by (reading place)) _ (expression_left place)
 
-pub stanza_less : (place : Place) (stanza : Stanza) (behind : Place) → stanza_at place ≡ Some (stanza, behind) → length behind.rest < length place.rest
-stanza_less place stanza behind is = by_reading (reading place) refl is
+pub stanza_less : (place : Place) (stanza : Stanza) (after : Place) → stanza_at place ≡ Some (stanza, after) → length after.rest < length place.rest
+stanza_less place stanza after is = by_reading (reading place) refl is
   where
-    by_kind : (kind : Option Kind) (token : Token) (next : Place) → reading place ≡ Got token next → said_by kind next ≡ Some (stanza, behind) → length behind.rest < length place.rest
+    by_kind : (kind : Option Kind) (token : Token) (next : Place) → reading place ≡ Got token next → stanza_of kind next ≡ Some (stanza, after) → length after.rest < length place.rest
     by_kind None token next got is = absurd (cc)
     by_kind (Some kind) token next got is =
         let first = reading_less place token next got in
         let more = kind_left kind next in
-        let same : left (said_as kind next) ≡ length behind.rest = ap left is in
+        let same : left (stanza_as kind next) ≡ length after.rest = ap left is in
         omega (arith, first, more, same)
 
-    by_reading : (r : Reading) → reading place ≡ r → stanza_by r ≡ Some (stanza, behind) → length behind.rest < length place.rest
+    by_reading : (r : Reading) → reading place ≡ r → stanza_by r ≡ Some (stanza, after) → length after.rest < length place.rest
     by_reading (Got token next) got is = by_kind (kind_of token.text) token next got is
     by_reading (Ended next) got is = absurd (cc)
     by_reading (Fails fault) got is = absurd (cc)

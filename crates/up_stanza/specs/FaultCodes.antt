@@ -1,5 +1,6 @@
 -- The codes of the faults of a file.
 use Rattle.std.specs.Prelude.{ℕ, List, codes}
+use Rattle.up_value.specs.Values.{Bytes}
 use Rattle.up_stanza.specs.declared.fault.FaultCode.{FaultCode}
 use Rattle.up_stanza.specs.declared.fault.FaultCode.TheVariants.{UnknownStanza, NotInProfile, ExpectedToken, UnexpectedToken, UnterminatedQuote, UnterminatedBlock, TrailingBackslash, BadExpression, ValueBeforeKey, BadNumber, BadSignal, BadName, BadPattern, BadExpansion, NotText, TooLarge, Memory}
 
@@ -24,7 +25,7 @@ number_of TooLarge = 16
 number_of Memory = 42
 
 -- its name, as it is printed
-abbrev pub name_of : FaultCode → List ℕ
+abbrev pub name_of : FaultCode → Bytes
 name_of UnknownStanza = codes "UnknownStanza"
 name_of NotInProfile = codes "NotInProfile"
 name_of ExpectedToken = codes "ExpectedToken"

@@ -2,13 +2,14 @@
 use Rattle.std.specs.Prelude.{ℕ, List, [], ◌∷◌, Option, codes}
 use Rattle.std.specs.List.{find}
 use Rattle.std.specs.Str.{bytes_eq}
+use Rattle.up_value.specs.Values.{Bytes}
 use Rattle.up_stanza.specs.declared.kind.Kind.{Kind}
 use Rattle.up_stanza.specs.declared.kind.Kind.TheVariants.{Listed, Exec, Script, PreStart, PostStart, PreStop, PostStop, Start, Stop}
 use Rattle.up_stanza.specs.declared.kind.Listed as lists
 use Rattle.up_stanza.specs.declared.kind.Listed.TheVariants as listed
 
 -- the word that begins a stanza of arguments
-abbrev pub listed_word : lists.Listed → List ℕ
+abbrev pub listed_word : lists.Listed → Bytes
 listed_word listed.Description = codes "description"
 listed_word listed.Author = codes "author"
 listed_word listed.Version = codes "version"
@@ -27,7 +28,7 @@ listed_word listed.Console = codes "console"
 listed_word listed.Chdir = codes "chdir"
 
 -- the word that begins a stanza of this kind
-abbrev pub word_of : Kind → List ℕ
+abbrev pub word_of : Kind → Bytes
 word_of (Listed kind) = listed_word kind
 word_of Exec = codes "exec"
 word_of Script = codes "script"
@@ -41,10 +42,13 @@ word_of Stop = codes "stop"
 -- all kinds: a word whose kind is not among them begins no stanza
 abbrev pub kinds : List Kind
 kinds =
-    Listed listed.Description ∷ Listed listed.Author ∷ Listed listed.Version ∷ Listed listed.Usage ∷ Listed listed.Emits ∷ Listed listed.Env ∷ Listed listed.Export
-    ∷ Listed listed.Task ∷ Listed listed.Manual ∷ Listed listed.Respawn ∷ Listed listed.Normal ∷ Listed listed.Kill ∷ Listed listed.Reload ∷ Listed listed.Instance
-    ∷ Listed listed.Console ∷ Listed listed.Chdir ∷ Exec ∷ Script ∷ PreStart ∷ PostStart ∷ PreStop ∷ PostStop ∷ Start ∷ Stop ∷ []
+    Listed listed.Description ∷ Listed listed.Author ∷ Listed listed.Version ∷ Listed listed.Usage
+    ∷ Listed listed.Emits ∷ Listed listed.Env ∷ Listed listed.Export
+    ∷ Listed listed.Task ∷ Listed listed.Manual ∷ Listed listed.Respawn ∷ Listed listed.Normal
+    ∷ Listed listed.Kill ∷ Listed listed.Reload ∷ Listed listed.Instance
+    ∷ Listed listed.Console ∷ Listed listed.Chdir ∷ Exec ∷ Script ∷ PreStart ∷ PostStart ∷ PreStop ∷ PostStop
+    ∷ Start ∷ Stop ∷ []
 
 -- the kind of stanza that a word begins
-unfoldable pub kind_of : List ℕ → Option Kind
+unfoldable pub kind_of : Bytes → Option Kind
 kind_of word = find (λ kind. bytes_eq word (word_of kind)) kinds

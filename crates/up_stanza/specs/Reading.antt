@@ -3,15 +3,16 @@ use Rattle.std.specs.Prelude.{◌≡◌, ℕ, true, List, ◌++◌, length, Opti
 use Rattle.std.specs.Str.{bytes_eq}
 use Rattle.up_value.specs.declared.fault.TextFault.{TextFault}
 use Rattle.up_value.specs.declared.fault.TextFault.TheVariants.{Memory}
+use Rattle.up_value.specs.Values.{Bytes}
 use Rattle.up_text.specs.declared.token.Token.{Token}
-use Rattle.up_text.specs.Commands.{row_at, command_in}
-use Rattle.up_text.specs.Places.{Place, Reading, Got, Ended, Fails, reading, passing, fault_in}
+use Rattle.up_text.specs.Commands.{command_marks_at, command_in}
+use Rattle.up_text.specs.Places.{Place, Reading, Got, Ended, Fails, reading, place_after, fault_in}
 use Rattle.up_stanza.specs.declared.fault.ConfFault.{ConfFault}
 use Rattle.up_stanza.specs.declared.fault.FaultCode.{FaultCode}
-use Rattle.up_stanza.specs.declared.row.Next.{Next}
-use Rattle.up_stanza.specs.declared.row.Next.TheVariants as next
+use Rattle.up_stanza.specs.declared.statement.Next.{Next}
+use Rattle.up_stanza.specs.declared.statement.Next.TheVariants as next
 use Rattle.up_stanza.specs.declared.stanza.Stanza.{Stanza}
-use Rattle.up_stanza.specs.Stanzas.{Found, Said, expression_by}
+use Rattle.up_stanza.specs.Stanzas.{Found, Readable, expression_by}
 
 -- items that were read, and those after them
 abbrev pub items_before : {X : Type 0} → List X → Option (List X) → Option (List X)
@@ -21,7 +22,7 @@ items_before xs (Some others) = Some (xs ++ others)
 -- and the place after them all
 abbrev pub put_before : {X : Type 0} → List X → Found (List X) → Found (List X)
 put_before xs None = None
-put_before xs (Some row) = Some (xs ++ row.0, row.1)
+put_before xs (Some statement) = Some (xs ++ statement.0, statement.1)
 
 -- what the next call of a lexer gives, and where it stands then
 abbrev pub Continues : Place → Place → Next → Type 0
@@ -31,8 +32,8 @@ Continues old new (next.Refused code) = (fault : TextFault) × (reading old ≡ 
 
 -- out of memory at this reading: only where a token stands
 abbrev pub LacksMemory : Reading → Type 0
-LacksMemory (Got token behind) = Unit {0}
-LacksMemory (Ended behind) = ⊥
+LacksMemory (Got token after) = Unit {0}
+LacksMemory (Ended after) = ⊥
 LacksMemory (Fails fault) = fault ≡ Memory
 
 -- a part of a stanza is read as it is found
@@ -42,17 +43,19 @@ IsFound found (Err code) new = found ≡ None
 
 -- whether the token `on` is read, and the place after it
 abbrev pub HasOn : Reading → Result (Unit {0}) FaultCode → Place → Type 0
-HasOn read (Ok done) new = (token : Token) × (read ≡ Got token new) × (bytes_eq token.text (codes "on") ≡ true)
+HasOn read (Ok done) new = (token : Token) × (read ≡ Got token new)
+    × (bytes_eq token.text (codes "on") ≡ true)
 HasOn read (Err code) new = expression_by read ≡ None
 
 -- the text of a command is read, or it isn't whole
-abbrev pub HasText : Place → Result (List ℕ) FaultCode → Place → Type 0
-HasText old (Ok text) new = (fault_in (row_at old) ≡ None) × (text ≡ command_in (row_at old)) × (new ≡ passing (length (row_at old)) old)
-HasText old (Err code) new = (fault : TextFault) × (fault_in (row_at old) ≡ Some fault)
+abbrev pub HasText : Place → Result Bytes FaultCode → Place → Type 0
+HasText old (Ok text) new = (fault_in (command_marks_at old) ≡ None)
+    × (text ≡ command_in (command_marks_at old)) × (new ≡ place_after (length (command_marks_at old)) old)
+HasText old (Err code) new = (fault : TextFault) × (fault_in (command_marks_at old) ≡ Some fault)
 
 -- stanzas that were read, and those after them
-abbrev pub said_behind : List Stanza → Said → Said
-said_behind stanzas said = (stanzas ++ said.0, said.1)
+abbrev pub stanzas_before : List Stanza → Readable → Readable
+stanzas_before stanzas readable = (stanzas ++ readable.0, readable.1)
 
 -- a file is read as its stanzas, or refused at its line
 abbrev pub IsConf : Result (List Stanza) ℕ → Result (List Stanza) ConfFault → Type 0

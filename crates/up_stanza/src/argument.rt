@@ -5,7 +5,7 @@ ghost use Rattle.std.specs.List.{before_first, after_first};
 ghost use Rattle.std.specs.Result.{result_ok};
 ghost use Rattle.up_expr.specs.Values.{is_equals, has_equals};
 ghost use Rattle.up_stanza.specs.declared.exit.Exit.TheVariants as exit;
-ghost use Rattle.up_stanza.specs.Settings.{key_in, keyed, setting_in, exit_in, expandable_in, console_in};
+ghost use Rattle.up_stanza.specs.Settings.{key_in, setting_with, setting_in, exit_in, expandable_in, console_in};
 ghost use Rattle.up_stanza.specs.Numbers.{number_in};
 ghost use Rattle.up_stanza.specs.Signals.{signal_in};
 
@@ -33,7 +33,8 @@ pub(crate) fn read_key(alloc: Global, text: &str) -> Result<Result<Text, FaultCo
 
 // The parts of a text before and after its first =, if it has one.
 fn split_setting(text: &str) -> Option<(&str, &str)>
-    ensures { MatchOption result (has_equals text.now ≡ false) (λ parts. (has_equals text.now ≡ true) × (parts.0.now ≡ before_first is_equals text.now) × (parts.1.now ≡ after_first is_equals text.now)) }
+    ensures { MatchOption result (has_equals text.now ≡ false) (λ parts. (has_equals text.now ≡ true)
+        × (parts.0.now ≡ before_first is_equals text.now) × (parts.1.now ≡ after_first is_equals text.now)) }
 {
     text.split_once('=')
 }
@@ -52,12 +53,13 @@ fn copy_value(alloc: Global, value: Option<&str>) -> Result<Option<Text>, AllocE
 }
 
 // The key with this value, if it is one.
-fn keyed(
+fn setting_with(
     alloc: Global,
     key: &str,
     value: Option<&str>,
 ) -> Result<Result<Setting, FaultCode>, AllocError>
-    ensures read { IfOk result (λ read. result_ok read ≡ keyed key.now (option_map (λ text. text.now) value.entry)) }
+    ensures read { IfOk result (λ read. result_ok read
+        ≡ setting_with key.now (option_map (λ text. text.now) value.entry)) }
     ensures memory { OnErr result (is_key key.now ≡ true) }
 {
     if !is_key(key) {
@@ -78,8 +80,8 @@ pub(crate) fn read_setting(
     ensures memory { OnErr result (is_some (setting_in text.now) ≡ true) }
 {
     match split_setting(text) {
-        Some((key, value)) => keyed(alloc, key, Some(value)),
-        None => keyed(alloc, text, None),
+        Some((key, value)) => setting_with(alloc, key, Some(value)),
+        None => setting_with(alloc, text, None),
     }
 }
 

@@ -58,12 +58,12 @@ fn split_words(alloc: Global, text: &str) -> Result<Items<Text>, AllocError>
     let mut words: Vec<Text> = Vec::new(alloc);
     let mut rest = text;
     'words: loop {
-        let (word, behind) = next_word(rest);
+        let (word, after) = next_word(rest);
         if word.is_empty() {
             break;
         }
         words.push(Text::from_str(alloc, word)?)?;
-        rest = behind;
+        rest = after;
     }
     Ok(Items::new(words))
 }

@@ -1,13 +1,14 @@
 //! Reads a job file.
 ghost use Rattle.std.specs.Prelude.{◌≡◌, ◌≤◌, ◌⊎◌, IfErr, IfOk, IfSome, MatchOption, MatchResult, Err, Ok, List, true, false, length, nat_le};
 ghost use Rattle.std.specs.Str.{is_utf8};
+ghost use Rattle.up_stanza.specs.declared.conf.TheConstants.{MAX_LEN, MAX_KEYS};
 ghost use Rattle.up_text.specs.Places.{start};
 ghost use Rattle.up_stanza.specs.declared.fault.FaultCode.TheVariants.{Memory};
-ghost use Rattle.up_stanza.specs.Confs.{conf_of, has_few_keys, is_readable, keys_exported, keys_set, limited, total};
+ghost use Rattle.up_stanza.specs.Confs.{conf_of, has_few_keys, is_readable, keys_exported, keys_set, within_limits, total};
 ghost use Rattle.up_stanza.specs.declared.stanza.Stanza.{Stanza};
 ghost use Rattle.up_stanza.specs.Grammar.{Conf};
 ghost use Rattle.up_stanza.specs.Reading.{IsConf};
-ghost use Rattle.up_stanza.specs.Stanzas.{said_of};
+ghost use Rattle.up_stanza.specs.Stanzas.{stanzas_of};
 
 use crate::fault::{ConfFault, FaultCode};
 use crate::reader::read_stanzas;
@@ -43,7 +44,7 @@ fn keys_exported(stanza: &Stanza) -> usize
 // Whether the stanzas set few enough keys.
 #[tactic(auto, using(crate::proofs::Totals::total_more, crate::proofs::Totals::total_over))]
 fn sets_few(stanzas: &[Stanza]) -> bool
-    ensures { result ≡ nat_le (total keys_set stanzas.now) 30000 }
+    ensures { result ≡ nat_le (total keys_set stanzas.now) MAX_KEYS }
 {
     let mut left = MAX_KEYS;
     for stanza in stanzas {
@@ -59,7 +60,7 @@ fn sets_few(stanzas: &[Stanza]) -> bool
 // Whether the stanzas export few enough keys.
 #[tactic(auto, using(crate::proofs::Totals::total_more, crate::proofs::Totals::total_over))]
 fn exports_few(stanzas: &[Stanza]) -> bool
-    ensures { result ≡ nat_le (total keys_exported stanzas.now) 30000 }
+    ensures { result ≡ nat_le (total keys_exported stanzas.now) MAX_KEYS }
 {
     let mut left = MAX_KEYS;
     for stanza in stanzas {
@@ -87,8 +88,8 @@ fn at_first_line(code: FaultCode) -> ConfFault
 
 // The stanzas of a text, or the fault.
 fn read_text(alloc: Global, text: &str) -> Result<Result<Stanzas, ConfFault>, AllocError>
-    requires { length text.now ≤ 1048576 }
-    ensures { IfOk result (λ read. IsConf (limited (said_of (start text.now))) read) }
+    requires { length text.now ≤ MAX_LEN }
+    ensures { IfOk result (λ read. IsConf (within_limits (stanzas_of (start text.now))) read) }
 {
     let (stanzas, fault) = read_stanzas(alloc, Lexer::new(text))?;
     if !has_few_keys(stanzas.as_slice()) {
@@ -114,9 +115,10 @@ fn as_text(bytes: &[u8]) -> Option<&str>
 // The text of a file's bytes, if they may be read.
 #[tactic(auto, unfolding(crate::specs::Confs::is_readable))]
 fn text_of(bytes: &[u8]) -> Result<&str, FaultCode>
-    ensures test { MatchResult result (λ text. is_readable bytes.now ≡ true) (λ code. is_readable bytes.now ≡ false) }
+    ensures test { MatchResult result (λ text. is_readable bytes.now ≡ true) (λ code. is_readable bytes.now
+        ≡ false) }
     ensures same { IfOk result (λ text. text.now ≡ bytes.now) }
-    ensures short { IfOk result (λ text. length text.now ≤ 1048576) }
+    ensures short { IfOk result (λ text. length text.now ≤ MAX_LEN) }
 {
     if bytes.len() > MAX_LEN {
         return Err(FaultCode::TooLarge);
@@ -150,7 +152,8 @@ pub fn read_conf(alloc: Global, bytes: &[u8]) -> Result<Stanzas, ConfFault>
 
     // By the grammar: these stanzas are written, or none are.
     ensures written { IfOk result (λ stanzas. Conf bytes.now stanzas) }
-    ensures unwritten { IfErr result (λ fault. (fault.code ≡ Memory) ⊎ ((stanzas : List Stanza) → Conf bytes.now stanzas → ⊥)) }
+    ensures unwritten { IfErr result (λ fault. (fault.code ≡ Memory)
+        ⊎ ((stanzas : List Stanza) → Conf bytes.now stanzas → ⊥)) }
 {
     match read_bytes(alloc, bytes) {
         Ok(Ok(stanzas)) => Ok(stanzas),

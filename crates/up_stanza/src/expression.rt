@@ -1,14 +1,14 @@
 //! Reads the expressions of `start on` and `stop on`.
 ghost use Rattle.std.specs.Prelude.{◌≡◌, IfOk, MatchBool, OnErr, is_some, true};
 ghost use Rattle.std.specs.Result.{result_ok};
-ghost use Rattle.up_text.specs.Places.{reading, switched};
-ghost use Rattle.up_text.specs.Rows.{row_of};
+ghost use Rattle.up_text.specs.Places.{reading, with_parens};
+ghost use Rattle.up_text.specs.Statements.{statement_of};
 ghost use Rattle.up_expr.specs.declared.fault.ExprFault.TheVariants.{Memory};
 ghost use Rattle.up_stanza.specs.Reading.{IsFound, HasOn};
-ghost use Rattle.up_stanza.specs.Stanzas.{expression_by, found_by, expression_in, unswitched};
+ghost use Rattle.up_stanza.specs.Stanzas.{expression_by, and_then_found, expression_in, without_parens};
 
 use crate::fault::FaultCode;
-use crate::row::{Next, next_token, read_row};
+use crate::statement::{Next, next_token, read_statement};
 use std::alloc::{AllocError, Global};
 use up_expr::{Condition, ExprFault, parse_expr};
 use up_text::{Lexer, Token};
@@ -67,10 +67,12 @@ fn parse(alloc: Global, tokens: &[Token]) -> Result<Result<Condition, FaultCode>
 
 // The expression up to the stanza's end, where parentheses are tokens.
 fn read_tree(alloc: Global, lexer: &mut Lexer) -> Result<Result<Condition, FaultCode>, AllocError>
-    ensures { IfOk result (λ tree. IsFound (unswitched (found_by expression_in (row_of (switched true lexer.old)))) tree lexer.new) }
+    ensures { IfOk result (λ tree. IsFound
+        (without_parens (and_then_found expression_in
+        (statement_of (with_parens true lexer.old)))) tree lexer.new) }
 {
     lexer.parens(true);
-    match read_row(alloc, lexer)? {
+    match read_statement(alloc, lexer)? {
         Ok(tokens) => {
             lexer.parens(false);
             parse(alloc, tokens.as_slice())

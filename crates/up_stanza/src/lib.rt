@@ -15,11 +15,11 @@ mod listed;
 pub mod number;
 pub mod process;
 mod reader;
-mod row;
 mod running;
 pub mod setting;
 pub mod signal;
 pub mod stanza;
+mod statement;
 
 pub use action::Action;
 pub use conf::{read_bytes, read_conf};

@@ -1,7 +1,8 @@
 //! Reads what a stanza says whose arguments are the tokens up to its end.
 ghost use Rattle.std.specs.Prelude.{◌≡◌, IfOk, OnErr, is_ok, is_some, option_map, option_and_then, codes, true};
 ghost use Rattle.std.specs.Result.{result_ok};
-ghost use Rattle.up_stanza.specs.Arguments.{single, none, each, filled, some, behind, unlimited, limit_by, limit_of, respawn_of, kill_of, reload_of, normal_of, listed_of};
+ghost use Rattle.up_stanza.specs.declared.listed.TheConstants.{MAX_COUNT, MAX_SECONDS};
+ghost use Rattle.up_stanza.specs.Arguments.{single, none, each, one_or_more, some, after, unlimited, limit_by, limit_of, respawn_of, kill_of, reload_of, normal_of, listed_of};
 ghost use Rattle.up_stanza.specs.Numbers.{number_in};
 ghost use Rattle.up_stanza.specs.Settings.{key_in, setting_in, exit_in, expandable_in, console_in};
 ghost use Rattle.up_stanza.specs.Signals.{signal_in};
@@ -54,8 +55,8 @@ fn alone(stanza: Stanza, texts: &[Text]) -> Result<Stanza, FaultCode>
 }
 
 // One or more arguments.
-fn filled(texts: Items<Text>) -> Result<Items<Text>, FaultCode>
-    ensures { result_ok result ≡ filled texts }
+fn one_or_more(texts: Items<Text>) -> Result<Items<Text>, FaultCode>
+    ensures { result_ok result ≡ one_or_more texts }
 {
     if texts.as_slice().is_empty() {
         Err(FaultCode::ExpectedToken)
@@ -65,8 +66,8 @@ fn filled(texts: Items<Text>) -> Result<Items<Text>, FaultCode>
 }
 
 // The arguments after this word.
-fn behind<'a>(texts: &'a [Text], word: &str) -> Result<&'a [Text], FaultCode>
-    ensures { option_map (λ others. others.now) (result_ok result) ≡ behind word.now texts.now }
+fn after<'a>(texts: &'a [Text], word: &str) -> Result<&'a [Text], FaultCode>
+    ensures { option_map (λ others. others.now) (result_ok result) ≡ after word.now texts.now }
 {
     match texts.split_first() {
         Some((text, others)) => {
@@ -189,7 +190,8 @@ fn no_count(text: &Text) -> FaultCode {
 
 // A limit of a count and an interval.
 fn read_pair(count: &Text, interval: &Text) -> Result<Limit, FaultCode>
-    ensures { result_ok result ≡ limit_by (number_in 0 65535 count.now) (number_in 0 2147483647 interval.now) }
+    ensures { result_ok result
+        ≡ limit_by (number_in 0 MAX_COUNT count.now) (number_in 0 MAX_SECONDS interval.now) }
 {
     match as_number(count.as_str(), MAX_COUNT) {
         Ok(count) => match as_number(interval.as_str(), MAX_SECONDS) {
@@ -221,9 +223,10 @@ fn read_limit(texts: &[Text]) -> Result<Limit, FaultCode>
 
 // `limit` and what it limits.
 fn read_respawn_limit(texts: &[Text]) -> Result<Stanza, FaultCode>
-    ensures { result_ok result ≡ option_map RespawnLimit (option_and_then limit_of (behind (codes "limit") texts.now)) }
+    ensures { result_ok result
+        ≡ option_map RespawnLimit (option_and_then limit_of (after (codes "limit") texts.now)) }
 {
-    match behind(texts, "limit") {
+    match after(texts, "limit") {
         Ok(others) => match read_limit(others) {
             Ok(limit) => Ok(Stanza::RespawnLimit(limit)),
             Err(code) => Err(code),
@@ -245,7 +248,8 @@ fn read_respawn(texts: &[Text]) -> Result<Stanza, FaultCode>
 
 // How many seconds pass before a kill.
 fn read_timeout(texts: &[Text]) -> Result<Stanza, FaultCode>
-    ensures { result_ok result ≡ option_map KillTimeout (option_and_then (number_in 0 2147483647) (single texts.now)) }
+    ensures { result_ok result
+        ≡ option_map KillTimeout (option_and_then (number_in 0 MAX_SECONDS) (single texts.now)) }
 {
     match single(texts) {
         Ok(text) => match as_number(text.as_str(), MAX_SECONDS) {
@@ -298,7 +302,7 @@ fn read_kill(texts: &[Text]) -> Result<Stanza, FaultCode>
 fn read_reload(texts: &[Text]) -> Result<Stanza, FaultCode>
     ensures { result_ok result ≡ reload_of texts.now }
 {
-    match behind(texts, "signal") {
+    match after(texts, "signal") {
         Ok(others) => match read_one_signal(others) {
             Ok(signal) => Ok(Stanza::ReloadSignal(signal)),
             Err(code) => Err(code),
@@ -311,7 +315,7 @@ fn read_reload(texts: &[Text]) -> Result<Stanza, FaultCode>
 fn read_normal(alloc: Global, texts: &[Text]) -> Result<Result<Stanza, FaultCode>, AllocError>
     ensures { IfOk result (λ read. result_ok read ≡ normal_of texts.now) }
 {
-    match behind(texts, "exit") {
+    match after(texts, "exit") {
         Ok(others) => match read_exits(alloc, others)? {
             Ok(exits) => Ok(Ok(Stanza::NormalExit(exits))),
             Err(code) => Ok(Err(code)),
@@ -336,7 +340,8 @@ fn read_about(texts: &[Text]) -> Result<Result<Stanza, FaultCode>, AllocError>
 
 // One setting.
 fn read_env(alloc: Global, texts: &[Text]) -> Result<Result<Stanza, FaultCode>, AllocError>
-    ensures read { IfOk result (λ read. result_ok read ≡ option_map Env (option_and_then setting_in (single texts.now))) }
+    ensures read { IfOk result (λ read. result_ok read
+        ≡ option_map Env (option_and_then setting_in (single texts.now))) }
     ensures memory { OnErr result (is_some (option_and_then setting_in (single texts.now)) ≡ true) }
 {
     match single(texts) {
@@ -364,7 +369,8 @@ fn read_instance_name(
     alloc: Global,
     texts: &[Text],
 ) -> Result<Result<Stanza, FaultCode>, AllocError>
-    ensures read { IfOk result (λ read. result_ok read ≡ option_map Instance (option_and_then expandable_in (single texts.now))) }
+    ensures read { IfOk result (λ read. result_ok read
+        ≡ option_map Instance (option_and_then expandable_in (single texts.now))) }
     ensures memory { OnErr result (is_some (option_and_then expandable_in (single texts.now)) ≡ true) }
 {
     match single(texts) {
@@ -418,9 +424,9 @@ fn read_chdir(texts: &[Text]) -> Result<Result<Stanza, FaultCode>, AllocError>
 
 // Events that are emitted.
 fn read_emits(texts: Items<Text>) -> Result<Stanza, FaultCode>
-    ensures { result_ok result ≡ option_map Emits (filled texts) }
+    ensures { result_ok result ≡ option_map Emits (one_or_more texts) }
 {
-    match filled(texts) {
+    match one_or_more(texts) {
         Ok(texts) => Ok(Stanza::Emits(texts)),
         Err(code) => Err(code),
     }

@@ -5,7 +5,7 @@ ghost use Rattle.up_stanza.specs.declared.action.Action as actions;
 ghost use Rattle.up_stanza.specs.declared.kind.Kind.TheVariants as kind;
 ghost use Rattle.up_stanza.specs.Arguments.{listed_of};
 ghost use Rattle.up_stanza.specs.Reading.{IsFound};
-ghost use Rattle.up_stanza.specs.Stanzas.{Found, found_by, made, said_as, said_of, stanza_at, texts_at};
+ghost use Rattle.up_stanza.specs.Stanzas.{Found, and_then_found, map_found, stanza_as, stanzas_of, stanza_at, texts_at};
 ghost use Rattle.up_stanza.specs.declared.process.Process.TheVariants as process;
 ghost use Rattle.up_stanza.specs.declared.stanza.Stanza.TheVariants.{Runs};
 
@@ -15,15 +15,16 @@ use crate::fault::{ConfFault, FaultCode};
 use crate::kind::{Kind, Listed, kind_of};
 use crate::listed::read_listed;
 use crate::process::Process;
-use crate::row::{Next, next_token, read_texts};
 use crate::running::{read_exec, read_runs, read_script};
 use crate::stanza::{Stanza, Stanzas};
+use crate::statement::{Next, next_token, read_texts};
 use std::alloc::{AllocError, Global};
 use up_text::{Items, Lexer};
 
 // What the main process runs.
 fn as_main(read: Result<Action, FaultCode>) -> Result<Stanza, FaultCode>
-    ensures { (found : Found actions.Action) (new : Place) → IsFound found read new → IsFound (made (Runs process.Main) found) result new }
+    ensures { (found : Found actions.Action) (new : Place) → IsFound found read new
+        → IsFound (map_found (Runs process.Main) found) result new }
 {
     match read {
         Ok(action) => Ok(Stanza::Runs(Process::Main, action)),
@@ -37,7 +38,8 @@ fn read_arguments(
     kind: Listed,
     lexer: &mut Lexer,
 ) -> Result<Result<Stanza, FaultCode>, AllocError>
-    ensures { IfOk result (λ stanza. IsFound (found_by (listed_of kind) (texts_at lexer.old)) stanza lexer.new) }
+    ensures { IfOk result (λ stanza. IsFound
+        (and_then_found (listed_of kind) (texts_at lexer.old)) stanza lexer.new) }
 {
     match read_texts(alloc, lexer)? {
         Ok(texts) => read_listed(alloc, kind, texts),
@@ -47,7 +49,7 @@ fn read_arguments(
 
 // `start on`.
 fn read_start(alloc: Global, lexer: &mut Lexer) -> Result<Result<Stanza, FaultCode>, AllocError>
-    ensures { IfOk result (λ stanza. IsFound (said_as kind.Start lexer.old) stanza lexer.new) }
+    ensures { IfOk result (λ stanza. IsFound (stanza_as kind.Start lexer.old) stanza lexer.new) }
 {
     match read_expression(alloc, lexer)? {
         Ok(tree) => Ok(Ok(Stanza::StartOn(tree))),
@@ -57,7 +59,7 @@ fn read_start(alloc: Global, lexer: &mut Lexer) -> Result<Result<Stanza, FaultCo
 
 // `stop on`.
 fn read_stop(alloc: Global, lexer: &mut Lexer) -> Result<Result<Stanza, FaultCode>, AllocError>
-    ensures { IfOk result (λ stanza. IsFound (said_as kind.Stop lexer.old) stanza lexer.new) }
+    ensures { IfOk result (λ stanza. IsFound (stanza_as kind.Stop lexer.old) stanza lexer.new) }
 {
     match read_expression(alloc, lexer)? {
         Ok(tree) => Ok(Ok(Stanza::StopOn(tree))),
@@ -71,7 +73,7 @@ fn read_kind(
     kind: Kind,
     lexer: &mut Lexer,
 ) -> Result<Result<Stanza, FaultCode>, AllocError>
-    ensures { IfOk result (λ stanza. IsFound (said_as kind lexer.old) stanza lexer.new) }
+    ensures { IfOk result (λ stanza. IsFound (stanza_as kind lexer.old) stanza lexer.new) }
 {
     match kind {
         Kind::Listed(kind) => read_arguments(alloc, kind, lexer),
@@ -131,7 +133,8 @@ pub(crate) fn read_stanzas(
     alloc: Global,
     lexer: Lexer,
 ) -> Result<(Stanzas, Option<ConfFault>), AllocError>
-    ensures { IfOk result (λ read. (read.0, option_map (λ fault. fault.line) read.1) ≡ said_of lexer.entry) }
+    ensures { IfOk result (λ read. (read.0, option_map (λ fault. fault.line) read.1)
+        ≡ stanzas_of lexer.entry) }
 {
     let mut lexer = lexer;
     let mut stanzas: Vec<Stanza> = Vec::new(alloc);

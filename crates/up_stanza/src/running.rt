@@ -4,14 +4,14 @@ ghost use Rattle.up_text.specs.Places.{reading};
 ghost use Rattle.up_text.specs.Scripts.{lines_of, script_in};
 ghost use Rattle.up_stanza.specs.declared.stanza.Stanza.TheVariants.{Runs};
 ghost use Rattle.up_stanza.specs.Reading.{IsFound};
-ghost use Rattle.up_stanza.specs.Stanzas.{action_at, command_at, with_end, made, script_at, script_of};
+ghost use Rattle.up_stanza.specs.Stanzas.{action_at, command_at, with_end, map_found, script_at, script_of};
 
 use crate::action::Action;
 use crate::command::read_command;
 use crate::fault::FaultCode;
 use crate::process::Process;
-use crate::row::{Next, next_token, read_command_text};
 use crate::stanza::Stanza;
+use crate::statement::{Next, next_token, read_command_text};
 use std::alloc::{AllocError, Global};
 use up_text::Lexer;
 
@@ -48,7 +48,8 @@ pub(crate) fn read_exec(
 
 // The script of the lines up to its end line, after which the lexer then stands.
 fn read_lines(alloc: Global, lexer: &mut Lexer) -> Result<Result<Action, FaultCode>, AllocError>
-    ensures script { IfOk result (λ action. IsFound (script_of lexer.old (script_in (lines_of lexer.old.rest))) action lexer.new) }
+    ensures script { IfOk result (λ action. IsFound
+        (script_of lexer.old (script_in (lines_of lexer.old.rest))) action lexer.new) }
     ensures memory { OnErr result (is_some (script_in (lines_of lexer.old.rest)) ≡ true) }
 {
     match lexer.script_lines(alloc) {
@@ -97,7 +98,8 @@ pub(crate) fn read_runs(
     process: Process,
     lexer: &mut Lexer,
 ) -> Result<Result<Stanza, FaultCode>, AllocError>
-    ensures { IfOk result (λ stanza. IsFound (made (Runs process) (action_at lexer.old)) stanza lexer.new) }
+    ensures { IfOk result (λ stanza. IsFound
+        (map_found (Runs process) (action_at lexer.old)) stanza lexer.new) }
 {
     match read_action(alloc, lexer)? {
         Ok(action) => Ok(Ok(Stanza::Runs(process, action))),

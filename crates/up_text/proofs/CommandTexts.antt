@@ -4,41 +4,41 @@ use Rattle.std.proofs.lemmas.Bool.{false≢true}
 use Rattle.std.proofs.lemmas.Grind.{flat_map-append}
 use Rattle.std.proofs.lemmas.List.{drop_at}
 use Rattle.std.specs.List.{list_all, flat_map, prefix_len, take_while}
-use Rattle.up_text.proofs.GapTexts.{gap-behind, gap-spaces}
-use Rattle.up_text.proofs.Readings.{prefix_len-front, place-behind, filled-front}
+use Rattle.up_text.proofs.GapTexts.{gap-after, gap-spaces}
+use Rattle.up_text.proofs.Readings.{prefix_len-front, place-after, filled-front}
 use Rattle.up_text.proofs.Runs.{Holds-same, feeds-append, feeds-length}
-use Rattle.up_text.proofs.Tidying.{GoesOn, tidied-front, tidied-behind, take_while-behind, spelled-kept, spaces-kept, kept-both, kept-all, row-behind, row-ends, row-goes_on}
-use Rattle.up_text.specs.CommandParts.{marks_in, row_in, tidied, is_kept, Between, Told, Refused}
-use Rattle.up_text.specs.Commands.{row_at, trimmed, ReadsCommand}
-use Rattle.up_text.specs.Lexer.{place, begins_joint, is_line_end, is_spelling, begins_gap, ends_token, GapRun, Run, Broken, shown}
-use Rattle.up_text.specs.Places.{fault_in, feeds, is_space, is_stop, written}
+use Rattle.up_text.proofs.Tidying.{GoesOn, trim_end_blanks-front, trim_end_blanks-after, take_while-after, spelled-kept, spaces-kept, kept-both, kept-all, statement-after, statement-ends, statement-goes_on}
+use Rattle.up_text.specs.CommandParts.{marks_in, command_marks, trim_end_blanks, is_kept, Between, Told, Refused}
+use Rattle.up_text.specs.Commands.{command_marks_at, trim_blanks, ReadsCommand}
+use Rattle.up_text.specs.Lexer.{place, begins_joint, is_line_end, is_spelling, begins_gap, ends_token, GapRun, Run, Broken, mark_bytes}
+use Rattle.up_text.specs.Places.{fault_in, feeds, is_space, is_stop, command_bytes}
 use Rattle.up_text.specs.Tokens.{Mark, Part, Quoting, Folded, Alone, Blank, Passed, Stop, Fail, Outside, is_blank, is_hash}
 use Rattle.up_value.specs.declared.fault.TextFault.{TextFault}
 use Rattle.up_value.specs.declared.fault.TextFault.TheVariants.{Memory}
 
 -- a spelling and the gap after it
 word-tidy : (text rest : List ℕ) (front spaces : List Mark) → marks_in text ≡ (front ++ spaces) ++ marks_in rest → list_all is_spelling front ≡ true → list_all is_space spaces ≡ true → begins_gap false rest ≡ false
-    → tidied (row_in text) ≡ (front ++ cond (is_line_end rest) [] spaces) ++ tidied (row_in rest)
+    → trim_end_blanks (command_marks text) ≡ (front ++ cond (is_line_end rest) [] spaces) ++ trim_end_blanks (command_marks rest)
 word-tidy text rest front spaces same spelled blank ends = by_case (is_line_end rest) refl
   where
-    row : row_in text ≡ (front ++ spaces) ++ row_in rest
-    row = row-behind text rest (front ++ spaces) same (kept-both front spaces (spelled-kept front spelled) (spaces-kept spaces blank))
+    statement : command_marks text ≡ (front ++ spaces) ++ command_marks rest
+    statement = statement-after text rest (front ++ spaces) same (kept-both front spaces (spelled-kept front spelled) (spaces-kept spaces blank))
 
-    goes_on : (later : List Mark) → row_in rest ≡ later → GoesOn later → tidied (row_in text) ≡ (front ++ spaces) ++ tidied later
+    goes_on : (later : List Mark) → command_marks rest ≡ later → GoesOn later → trim_end_blanks (command_marks text) ≡ (front ++ spaces) ++ trim_end_blanks later
     goes_on later is on =
-        ap tidied (row ∙ ap (λ ms. (front ++ spaces) ++ ms) (is ∙ on.is))
-        ∙ tidied-front (front ++ spaces) on.mark on.later on.solid
-        ∙ ap (λ ms. (front ++ spaces) ++ tidied ms) (sym on.is)
+        ap trim_end_blanks (statement ∙ ap (λ ms. (front ++ spaces) ++ ms) (is ∙ on.is))
+        ∙ trim_end_blanks-front (front ++ spaces) on.mark on.later on.solid
+        ∙ ap (λ ms. (front ++ spaces) ++ trim_end_blanks ms) (sym on.is)
 
-    by_case : (end : Bool) → is_line_end rest ≡ end → tidied (row_in text) ≡ (front ++ cond end [] spaces) ++ tidied (row_in rest)
+    by_case : (end : Bool) → is_line_end rest ≡ end → trim_end_blanks (command_marks text) ≡ (front ++ cond end [] spaces) ++ trim_end_blanks (command_marks rest)
     by_case true e =
-        let none : row_in rest ≡ [] = row-ends rest e in
-        ap tidied (row ∙ ap (λ ms. (front ++ spaces) ++ ms) none ∙ append-nil (front ++ spaces))
-        ∙ tidied-behind front spaces spelled blank
+        let none : command_marks rest ≡ [] = statement-ends rest e in
+        ap trim_end_blanks (statement ∙ ap (λ ms. (front ++ spaces) ++ ms) none ∙ append-nil (front ++ spaces))
+        ∙ trim_end_blanks-after front spaces spelled blank
         ∙ sym (append-nil front)
         ∙ sym (append-nil (front ++ []))
-        ∙ ap (λ ms. (front ++ []) ++ tidied ms) (sym none)
-    by_case false e = goes_on (row_in rest) refl (row-goes_on rest e ends)
+        ∙ ap (λ ms. (front ++ []) ++ trim_end_blanks ms) (sym none)
+    by_case false e = goes_on (command_marks rest) refl (statement-goes_on rest e ends)
 
 pub Told-word : {text middle rest : List ℕ} {line crossed reached : ℕ} {old half new : Option (List ℕ)}
     → Run false true (Outside false) text line (Outside false) middle crossed old half → Between middle crossed rest reached half new → Told text line rest reached old new
@@ -54,14 +54,14 @@ Told-word {text} {middle} {rest} {line} {crossed} {reached} {old} {half} {new} r
       kept = kept-both run.front gap.front (spelled-kept run.front run.spelled) (spaces-kept gap.front gap.spaces);
       counted = omega (arith, run.counted, gap.counted, feeds-append run.bytes gap.bytes);
       tidy = word-tidy text rest run.front gap.front same run.spelled gap.spaces gap.ends;
-      pushed = λ held holds. Holds-same new ((held ++ flat_map (shown true) run.front) ++ cond (is_line_end rest) [] (flat_map written gap.front)) _
-          (append_assoc held (flat_map (shown true) run.front) _ ∙ ap (λ bs. held ++ bs) (shown-both (is_line_end rest)))
+      pushed = λ held holds. Holds-same new ((held ++ flat_map (mark_bytes true) run.front) ++ cond (is_line_end rest) [] (flat_map command_bytes gap.front)) _
+          (append_assoc held (flat_map (mark_bytes true) run.front) _ ∙ ap (λ bs. held ++ bs) (mark_bytes-both (is_line_end rest)))
           (gap.pushed _ (run.pushed held holds));
     }
   where
-    shown-both : (end : Bool) → flat_map written run.front ++ cond end [] (flat_map written gap.front) ≡ flat_map written (run.front ++ cond end [] gap.front)
-    shown-both true = sym (flat_map-append written run.front [])
-    shown-both false = sym (flat_map-append written run.front gap.front)
+    mark_bytes-both : (end : Bool) → flat_map command_bytes run.front ++ cond end [] (flat_map command_bytes gap.front) ≡ flat_map command_bytes (run.front ++ cond end [] gap.front)
+    mark_bytes-both true = sym (flat_map-append command_bytes run.front [])
+    mark_bytes-both false = sym (flat_map-append command_bytes run.front gap.front)
 
 pub Told-then : {text middle rest : List ℕ} {line crossed reached : ℕ} {old half new : Option (List ℕ)} → Told text line middle crossed old half → Told middle crossed rest reached half new → Told text line rest reached old new
 Told-then {text} {middle} {rest} {line} {crossed} {reached} {old} {half} {new} a b = record {
@@ -73,10 +73,10 @@ Told-then {text} {middle} {rest} {line} {crossed} {reached} {old} {half} {new} a
   long = length-append a.front b.front ∙ (rw (a.long, b.long) (sym (length-append a.bytes b.bytes)));
   kept = kept-both a.front b.front a.kept b.kept;
   counted = omega (arith, a.counted, b.counted, feeds-append a.bytes b.bytes);
-  tidy = a.tidy ∙ ap (λ ms. a.told ++ ms) b.tidy ∙ sym (append_assoc a.told b.told (tidied (row_in rest)));
-  pushed = λ held holds. Holds-same new ((held ++ flat_map written a.told) ++ flat_map written b.told) (held ++ flat_map written (a.told ++ b.told))
-      (append_assoc held (flat_map written a.told) (flat_map written b.told) ∙ ap (λ xs. held ++ xs) (sym (flat_map-append written a.told b.told)))
-      (b.pushed (held ++ flat_map written a.told) (a.pushed held holds));
+  tidy = a.tidy ∙ ap (λ ms. a.told ++ ms) b.tidy ∙ sym (append_assoc a.told b.told (trim_end_blanks (command_marks rest)));
+  pushed = λ held holds. Holds-same new ((held ++ flat_map command_bytes a.told) ++ flat_map command_bytes b.told) (held ++ flat_map command_bytes (a.told ++ b.told))
+      (append_assoc held (flat_map command_bytes a.told) (flat_map command_bytes b.told) ∙ ap (λ xs. held ++ xs) (sym (flat_map-append command_bytes a.told b.told)))
+      (b.pushed (held ++ flat_map command_bytes a.told) (a.pushed held holds));
 }
 
 pub Told-none : (text : List ℕ) (line : ℕ) (out : Option (List ℕ)) → Told text line text line out out
@@ -108,8 +108,8 @@ Told-fits {text} {rest} a = (omega (arith, feeds-length a.bytes, a.counted, ap l
 
 -- where a word begins
 pub begins-word : (text : List ℕ) → is_line_end text ≡ false → begins_gap false text ≡ false → ends_token false text ≡ false
-begins-word [] within behind = absurd (false≢true (sym within))
-begins-word (byte ∷ text) within behind = rw within (by_case (is_blank byte) (is_hash byte) (begins_joint (byte ∷ text)) behind)
+begins-word [] within after = absurd (false≢true (sym within))
+begins-word (byte ∷ text) within after = rw within (by_case (is_blank byte) (is_hash byte) (begins_joint (byte ∷ text)) after)
   where
     by_case : (b h j : Bool) → ((b || h || j) || false) ≡ false → ((false || b || h || j) || false) ≡ false
     by_case true h j is = absurd (false≢true (sym is))
@@ -119,22 +119,22 @@ begins-word (byte ∷ text) within behind = rw within (by_case (is_blank byte) (
 
 -- the gap before a command
 
-lead-trimmed : (spaces row : List Mark) → list_all is_space spaces ≡ true → prefix_len is_space row ≡ 0 → trimmed (spaces ++ row) ≡ tidied row
-lead-trimmed spaces row blank none =
-    ap (λ n. tidied (drop n (spaces ++ row))) (prefix_len-front is_space spaces row blank none) ∙ ap tidied (drop_at spaces row (length spaces) refl)
+lead-trim_blanks : (spaces statement : List Mark) → list_all is_space spaces ≡ true → prefix_len is_space statement ≡ 0 → trim_blanks (spaces ++ statement) ≡ trim_end_blanks statement
+lead-trim_blanks spaces statement blank none =
+    ap (λ n. trim_end_blanks (drop n (spaces ++ statement))) (prefix_len-front is_space spaces statement blank none) ∙ ap trim_end_blanks (drop_at spaces statement (length spaces) refl)
 
-row-starts : (rest : List ℕ) → begins_gap false rest ≡ false → prefix_len is_space (row_in rest) ≡ 0
-row-starts rest behind = by_case (is_line_end rest) refl
+statement-starts : (rest : List ℕ) → begins_gap false rest ≡ false → prefix_len is_space (command_marks rest) ≡ 0
+statement-starts rest after = by_case (is_line_end rest) refl
   where
-    goes_on : GoesOn (row_in rest) → prefix_len is_space (row_in rest) ≡ 0
+    goes_on : GoesOn (command_marks rest) → prefix_len is_space (command_marks rest) ≡ 0
     goes_on on = ap (prefix_len is_space) on.is ∙ solid-first on.mark on.later on.solid
       where
         solid-first : (mark : Mark) (later : List Mark) → is_space mark ≡ false → prefix_len is_space (mark ∷ later) ≡ 0
         solid-first mark later solid = rw solid refl
 
-    by_case : (end : Bool) → is_line_end rest ≡ end → prefix_len is_space (row_in rest) ≡ 0
-    by_case true e = ap (prefix_len is_space) (row-ends rest e)
-    by_case false e = goes_on (row-goes_on rest e behind)
+    by_case : (end : Bool) → is_line_end rest ≡ end → prefix_len is_space (command_marks rest) ≡ 0
+    by_case true e = ap (prefix_len is_space) (statement-ends rest e)
+    by_case false e = goes_on (statement-goes_on rest e after)
 
 kept-fault : (front later : List Mark) → list_all is_kept front ≡ true → fault_in (front ++ later) ≡ fault_in later
 kept-fault [] later all = refl
@@ -152,61 +152,61 @@ kept-fault (Stop ∷ front) later all = absurd (false≢true all)
 record Whole (text : List ℕ) (line : ℕ) (rest : List ℕ) (reached : ℕ) (told : List Mark) : Type 0 where
   bytes : List ℕ
   joined : text ≡ bytes ++ rest
-  long : length (row_in text) ≡ length bytes
+  long : length (command_marks text) ≡ length bytes
   counted : reached ≡ line + feeds bytes
-  sound : fault_in (row_in text) ≡ None
-  is : trimmed (row_in text) ≡ told
+  sound : fault_in (command_marks text) ≡ None
+  is : trim_blanks (command_marks text) ≡ told
 
 whole : (text middle rest : List ℕ) (line crossed reached : ℕ) (old new : Option (List ℕ)) → GapRun true false 0 false text line middle crossed → begins_gap false middle ≡ false → (told : Told middle crossed rest reached old new) → is_line_end rest ≡ true
     → Whole text line rest reached told.told
-whole text middle rest line crossed reached old new run behind told end =
+whole text middle rest line crossed reached old new run after told end =
     let spaces = gap-spaces run.front run.gaps in
-    let none : row_in rest ≡ [] = row-ends rest end in
-    let lead : row_in text ≡ run.front ++ row_in middle = row-behind text middle run.front (gap-behind text middle line crossed run behind) (spaces-kept run.front spaces) in
-    let row : row_in text ≡ run.front ++ told.front =
-    lead ∙ ap (λ ms. run.front ++ ms) (row-behind middle rest told.front told.same told.kept ∙ ap (λ ms. told.front ++ ms) none ∙ append-nil told.front) in
+    let none : command_marks rest ≡ [] = statement-ends rest end in
+    let lead : command_marks text ≡ run.front ++ command_marks middle = statement-after text middle run.front (gap-after text middle line crossed run after) (spaces-kept run.front spaces) in
+    let statement : command_marks text ≡ run.front ++ told.front =
+    lead ∙ ap (λ ms. run.front ++ ms) (statement-after middle rest told.front told.same told.kept ∙ ap (λ ms. told.front ++ ms) none ∙ append-nil told.front) in
     record {
       bytes = run.bytes ++ told.bytes;
       joined = run.is_text ∙ ap (λ bs. run.bytes ++ bs) told.joined ∙ sym (append_assoc run.bytes told.bytes rest);
-      long = ap length row ∙ length-append run.front told.front ∙ (rw (run.long, told.long) (sym (length-append run.bytes told.bytes)));
+      long = ap length statement ∙ length-append run.front told.front ∙ (rw (run.long, told.long) (sym (length-append run.bytes told.bytes)));
       counted = omega (arith, run.counted, told.counted, feeds-append run.bytes told.bytes);
-      sound = ap fault_in (row ∙ sym (append-nil (run.front ++ told.front))) ∙ kept-fault (run.front ++ told.front) [] (kept-both run.front told.front (spaces-kept run.front spaces) told.kept);
+      sound = ap fault_in (statement ∙ sym (append-nil (run.front ++ told.front))) ∙ kept-fault (run.front ++ told.front) [] (kept-both run.front told.front (spaces-kept run.front spaces) told.kept);
       is =
-          ap trimmed lead
-          ∙ lead-trimmed run.front (row_in middle) spaces (row-starts middle behind)
+          ap trim_blanks lead
+          ∙ lead-trim_blanks run.front (command_marks middle) spaces (statement-starts middle after)
           ∙ told.tidy
-          ∙ ap (λ ms. told.told ++ tidied ms) none
+          ∙ ap (λ ms. told.told ++ trim_end_blanks ms) none
           ∙ append-nil told.told;
     }
 
 -- what reading it answers
 
 pub Command-read : (text middle rest : List ℕ) (line crossed reached : ℕ) (inside parens : Bool) (depth : ℕ) (old new : Option (List ℕ)) → GapRun true false 0 false text line middle crossed → begins_gap false middle ≡ false
-    → (told : Told middle crossed rest reached old new) → is_line_end rest ≡ true → (bytes : List ℕ) → bytes ≡ flat_map written told.told
+    → (told : Told middle crossed rest reached old new) → is_line_end rest ≡ true → (bytes : List ℕ) → bytes ≡ flat_map command_bytes told.told
     → ReadsCommand (place text line inside parens depth) (Ok bytes) (place rest reached inside parens depth)
-unfolding row_at
-Command-read text middle rest line crossed reached inside parens depth old new run behind told end bytes are =
-    let is = whole text middle rest line crossed reached old new run behind told end in
+unfolding command_marks_at
+Command-read text middle rest line crossed reached inside parens depth old new run after told end bytes are =
+    let is = whole text middle rest line crossed reached old new run after told end in
     rw is.sound
-    (inl (ap Ok (are ∙ ap (flat_map written) (sym is.is)), sym (place-behind text is.bytes rest line inside parens depth (length (row_in text)) reached is.joined is.long is.counted)))
+    (inl (ap Ok (are ∙ ap (flat_map command_bytes) (sym is.is)), sym (place-after text is.bytes rest line inside parens depth (length (command_marks text)) reached is.joined is.long is.counted)))
 
 pub Command-memory : (text middle rest : List ℕ) (line crossed reached : ℕ) (inside parens : Bool) (depth : ℕ) (old new : Option (List ℕ)) → GapRun true false 0 false text line middle crossed → begins_gap false middle ≡ false
     → Told middle crossed rest reached old new → is_line_end rest ≡ true
     → ReadsCommand (place text line inside parens depth) (Err Memory) (place text line inside parens depth)
-unfolding row_at
-Command-memory text middle rest line crossed reached inside parens depth old new run behind told end =
-    let is = whole text middle rest line crossed reached old new run behind told end in
+unfolding command_marks_at
+Command-memory text middle rest line crossed reached inside parens depth old new run after told end =
+    let is = whole text middle rest line crossed reached old new run after told end in
     rw is.sound (inr (refl, refl))
 
 pub Command-refused : (text middle : List ℕ) (line crossed : ℕ) (inside parens : Bool) (depth : ℕ) (fault : TextFault) → GapRun true false 0 false text line middle crossed → begins_gap false middle ≡ false → Refused middle fault
     → ReadsCommand (place text line inside parens depth) (Err fault) (place text line inside parens depth)
-unfolding row_at
-Command-refused text middle line crossed inside parens depth fault run behind refused =
+unfolding command_marks_at
+Command-refused text middle line crossed inside parens depth fault run after refused =
     let spaces = spaces-kept run.front (gap-spaces run.front run.gaps) in
-    let last : row_in middle ≡ refused.front ++ Fail fault ∷ [] =
-    ap (take_while (λ m. not (is_stop m))) refused.same ∙ take_while-behind (λ m. not (is_stop m)) refused.front (Fail fault ∷ []) (kept-all refused.front refused.kept) in
-    let row : row_in text ≡ run.front ++ (refused.front ++ Fail fault ∷ []) =
-    row-behind text middle run.front (gap-behind text middle line crossed run behind) spaces ∙ ap (λ ms. run.front ++ ms) last in
-    let found : fault_in (row_in text) ≡ Some fault =
-    ap fault_in row ∙ kept-fault run.front (refused.front ++ Fail fault ∷ []) spaces ∙ kept-fault refused.front (Fail fault ∷ []) refused.kept in
+    let last : command_marks middle ≡ refused.front ++ Fail fault ∷ [] =
+    ap (take_while (λ m. not (is_stop m))) refused.same ∙ take_while-after (λ m. not (is_stop m)) refused.front (Fail fault ∷ []) (kept-all refused.front refused.kept) in
+    let statement : command_marks text ≡ run.front ++ (refused.front ++ Fail fault ∷ []) =
+    statement-after text middle run.front (gap-after text middle line crossed run after) spaces ∙ ap (λ ms. run.front ++ ms) last in
+    let found : fault_in (command_marks text) ≡ Some fault =
+    ap fault_in statement ∙ kept-fault run.front (refused.front ++ Fail fault ∷ []) spaces ∙ kept-fault refused.front (Fail fault ∷ []) refused.kept in
     rw found (refl, refl)

@@ -14,8 +14,8 @@ use Rattle.up_text.specs.Tokens.{is_line_feed, is_blank, is_hash, is_backslash, 
 use Rattle.up_pattern.specs.Lists.{begins}
 
 -- where the bytes that pass are below 128, the text may be cut after them
-pub IsCharBoundary-behind : (p : ℕ → Bool) (text : List ℕ) → IsUtf8 text → ((byte : ℕ) → p byte ≡ true → byte < 128) → IsCharBoundary text (prefix_len p text)
-IsCharBoundary-behind p text utf8 ascii =
+pub IsCharBoundary-after : (p : ℕ → Bool) (text : List ℕ) → IsUtf8 text → ((byte : ℕ) → p byte ≡ true → byte < 128) → IsCharBoundary text (prefix_len p text)
+IsCharBoundary-after p text utf8 ascii =
     let n = prefix_len p text in
     let within = prefix_len-le-length p text in
     ⊎_elim
@@ -104,8 +104,8 @@ pub Splits-prefix : (p : ℕ → Bool) (text : List ℕ) → Splits p text (take
 Splits-prefix p text = record { joined = sym (take-append-drop (prefix_len p text) text); all = list_all-take p text; ends = begins-drop p text }
 
 -- and there is only one such run
-pub Splits-behind : (p : ℕ → Bool) (text front rest : List ℕ) → Splits p text front rest → drop (prefix_len p text) text ≡ rest
-Splits-behind p text front rest splits = ap (λ whole. drop (prefix_len p whole) whole) splits.joined ∙ past front rest splits.all splits.ends
+pub Splits-after : (p : ℕ → Bool) (text front rest : List ℕ) → Splits p text front rest → drop (prefix_len p text) text ≡ rest
+Splits-after p text front rest splits = ap (λ whole. drop (prefix_len p whole) whole) splits.joined ∙ past front rest splits.all splits.ends
   where
     past : (front rest : List ℕ) → list_all p front ≡ true → begins p rest ≡ false → drop (prefix_len p (front ++ rest)) (front ++ rest) ≡ rest
     past [] [] all ends = refl

@@ -5,11 +5,11 @@ use Rattle.std.proofs.lemmas.Grind.{flat_map-append}
 use Rattle.std.proofs.lemmas.List.{length-map, nil_from_length}
 use Rattle.std.proofs.lemmas.List.Folds.{list_all-append}
 use Rattle.std.specs.List.{list_all, flat_map, prefix_len}
-use Rattle.up_text.proofs.Gaps.{ends-gap_mark, unjoined}
+use Rattle.up_text.proofs.Gaps.{ends-gap_mark, without_joining}
 use Rattle.up_text.proofs.Runs.{blank-is, backslash-is, reaches-blanks, feeds-none, feeds-append, Holds-same}
 use Rattle.up_text.specs.CommandParts.{marks_in, Between}
 use Rattle.up_text.specs.Lexer.{is_line_end, begins_joint, begins_fold, begins_gap, Splits, GapRun, Holds}
-use Rattle.up_text.specs.Places.{is_space, is_gap, written}
+use Rattle.up_text.specs.Places.{is_space, is_gap, command_bytes}
 use Rattle.up_text.specs.Tokens.{Mark, Part, Quoting, Blank, Passed, Stop, Mode, Outside, Comment, Escaped, Continued, Quoted, QuotedEscape, end_marks, marks, mark_of, mark_outside, mode_after, open_after, is_line_feed, is_blank, is_hash, is_quote, is_backslash}
 use Rattle.up_pattern.specs.Lists.{begins}
 
@@ -67,7 +67,7 @@ silent-end Escaped mark ms silent is = false≢true silent
 silent-end (Quoted quote joined) mark ms silent is = false≢true silent
 silent-end (QuotedEscape quote) mark ms silent is = false≢true silent
 
-nothing-written : (mode : Mode) (text : List ℕ) (front later : List Mark) → is_silent mode ≡ true → marks false 0 mode text ≡ front ++ later → list_all is_space front ≡ true → flat_map written front ≡ []
+nothing-written : (mode : Mode) (text : List ℕ) (front later : List Mark) → is_silent mode ≡ true → marks false 0 mode text ≡ front ++ later → list_all is_space front ≡ true → flat_map command_bytes front ≡ []
 nothing-written mode text [] later silent same spaces = refl
 nothing-written mode [] (mark ∷ front) later silent same spaces = absurd (silent-end mode mark (front ++ later) silent same)
 nothing-written mode (byte ∷ text) (mark ∷ front) later silent same spaces =
@@ -80,7 +80,7 @@ nothing-written mode (byte ∷ text) (mark ∷ front) later silent same spaces =
     rw passed (nothing-written (mode_after mode byte text) text front later is.stays more both.1)
 
 -- where no blank and no joined line begins a gap, nothing of it is written
-pub unblanked-written : (text : List ℕ) (front later : List Mark) → begins is_blank text ≡ false → begins_joint text ≡ false → marks_in text ≡ front ++ later → list_all is_space front ≡ true → flat_map written front ≡ []
+pub unblanked-written : (text : List ℕ) (front later : List Mark) → begins is_blank text ≡ false → begins_joint text ≡ false → marks_in text ≡ front ++ later → list_all is_space front ≡ true → flat_map command_bytes front ≡ []
 unblanked-written text [] later blank joint same spaces = refl
 unblanked-written [] (mark ∷ front) later blank joint same spaces = absurd (cc)
 unblanked-written (byte ∷ text) (mark ∷ front) later blank joint same spaces =
@@ -91,7 +91,7 @@ unblanked-written (byte ∷ text) (mark ∷ front) later blank joint same spaces
   where
     by_case : (f h k j q : Bool) → is_line_feed byte ≡ f → is_hash byte ≡ h → is_backslash byte ≡ k → begins is_line_feed text ≡ j → is_quote byte ≡ q → (k && j) ≡ false
         → mark_of false 0 (Outside false) byte text ≡ mark → (is_space mark ≡ true) × (list_all is_space front ≡ true)
-        → marks false (open_after 0 (mark_of false 0 (Outside false) byte text)) (mode_after (Outside false) byte text) text ≡ front ++ later → flat_map written (mark ∷ front) ≡ []
+        → marks false (open_after 0 (mark_of false 0 (Outside false) byte text)) (mode_after (Outside false) byte text) text ≡ front ++ later → flat_map command_bytes (mark ∷ front) ≡ []
     by_case true h k j q ef eh ek ej eq other first both rest =
         let stop : mark_of false 0 (Outside false) byte text ≡ Stop = rw ef refl in
         absurd (false≢true (ap is_space (sym stop ∙ first) ∙ both.0))
@@ -116,14 +116,14 @@ joint-marks byte feed text backslash is_feed =
     let is = backslash-is byte backslash in
     simp (is.0, is.1, is.2, backslash, is_feed)
 
-pub joint-written : (text : List ℕ) (front later : List Mark) → begins_joint text ≡ true → marks_in text ≡ front ++ later → list_all is_space front ≡ true → prefix_len is_space later ≡ 0 → flat_map written front ≡ 32 ∷ []
+pub joint-written : (text : List ℕ) (front later : List Mark) → begins_joint text ≡ true → marks_in text ≡ front ++ later → list_all is_space front ≡ true → prefix_len is_space later ≡ 0 → flat_map command_bytes front ≡ 32 ∷ []
 joint-written [] front later joint same spaces ends = absurd (false≢true joint)
 joint-written (byte ∷ []) front later joint same spaces ends = absurd (false≢true ((and_parts (is_backslash byte) false joint).1))
 joint-written (byte ∷ feed ∷ text) front later joint same spaces ends =
     let both = and_parts (is_backslash byte) (is_line_feed feed) joint in
     by_front front (sym (joint-marks byte feed text both.0 both.1) ∙ same) spaces
   where
-    by_front : (front : List Mark) → Passed ∷ Blank 32 ∷ marks false 0 (Outside true) text ≡ front ++ later → list_all is_space front ≡ true → flat_map written front ≡ 32 ∷ []
+    by_front : (front : List Mark) → Passed ∷ Blank 32 ∷ marks false 0 (Outside true) text ≡ front ++ later → list_all is_space front ≡ true → flat_map command_bytes front ≡ 32 ∷ []
     by_front [] same spaces = absurd (no_space later same ends)
       where
         no_space : (later : List Mark) → Passed ∷ Blank 32 ∷ marks false 0 (Outside true) text ≡ later → prefix_len is_space later ≡ 0 → ⊥
@@ -161,11 +161,11 @@ spaces-blanks folds [] = refl
 spaces-blanks true (byte ∷ blanks) = spaces-blanks true blanks
 spaces-blanks false (byte ∷ blanks) = spaces-blanks false blanks
 
-written-folded : (blanks : List ℕ) → flat_map written (map (gap_mark true) blanks) ≡ []
+written-folded : (blanks : List ℕ) → flat_map command_bytes (map (gap_mark true) blanks) ≡ []
 written-folded [] = refl
 written-folded (byte ∷ blanks) = written-folded blanks
 
-written-blanks : (blanks : List ℕ) → flat_map written (map (gap_mark false) blanks) ≡ blanks
+written-blanks : (blanks : List ℕ) → flat_map command_bytes (map (gap_mark false) blanks) ≡ blanks
 written-blanks [] = refl
 written-blanks (byte ∷ blanks) = ap (λ bytes. byte ∷ bytes) (written-blanks blanks)
 
@@ -189,12 +189,12 @@ feed-none byte text (mark ∷ front) later feed same spaces =
     absurd (false≢true (ap is_space (sym stop ∙ first) ∙ both.0))
 
 -- a stanza's end is no gap's part
-feed-stays : (rest bytes behind : List ℕ) (front later : List Mark) → begins is_line_feed rest ≡ true → rest ≡ bytes ++ behind → length front ≡ length bytes → marks_in rest ≡ front ++ later → list_all is_space front ≡ true → is_line_end behind ≡ true
-feed-stays [] bytes behind front later feed joined long same spaces = absurd (false≢true feed)
-feed-stays (byte ∷ rest) bytes behind front later feed joined long same spaces =
+feed-stays : (rest bytes after : List ℕ) (front later : List Mark) → begins is_line_feed rest ≡ true → rest ≡ bytes ++ after → length front ≡ length bytes → marks_in rest ≡ front ++ later → list_all is_space front ≡ true → is_line_end after ≡ true
+feed-stays [] bytes after front later feed joined long same spaces = absurd (false≢true feed)
+feed-stays (byte ∷ rest) bytes after front later feed joined long same spaces =
     let none : front ≡ [] = feed-none byte rest front later feed same spaces in
     let no_bytes : bytes ≡ [] = nil_from_length bytes (sym long ∙ ap length none) in
-    let stays : byte ∷ rest ≡ behind = joined ∙ ap (λ bs. bs ++ behind) no_bytes in
+    let stays : byte ∷ rest ≡ after = joined ∙ ap (λ bs. bs ++ after) no_bytes in
     ap is_line_end (sym stays) ∙ feed
 
 -- what ends a gap is no blank
@@ -205,51 +205,51 @@ ends-spaces (byte ∷ text) ends =
     rw solid refl
 
 -- the marks after a gap
-pub gap-behind : (text rest : List ℕ) (line reached : ℕ) → (run : GapRun true false 0 false text line rest reached) → begins_gap false rest ≡ false → marks_in text ≡ run.front ++ marks_in rest
-gap-behind text rest line reached run ends =
+pub gap-after : (text rest : List ℕ) (line reached : ℕ) → (run : GapRun true false 0 false text line rest reached) → begins_gap false rest ≡ false → marks_in text ≡ run.front ++ marks_in rest
+gap-after text rest line reached run ends =
     let a : ((begins is_blank rest || begins is_hash rest || begins_joint rest) ≡ false) × (_ ≡ false) = or_parts _ _ ends in
     let b : ((begins is_blank rest || begins is_hash rest) ≡ false) × (begins_joint rest ≡ false) = or_parts _ _ a.0 in
     let c : (begins is_blank rest ≡ false) × (begins is_hash rest ≡ false) = or_parts _ _ b.0 in
-    run.same ∙ ap (λ ms. run.front ++ ms) (unjoined false 0 run.behind rest c.0 b.1)
+    run.same ∙ ap (λ ms. run.front ++ ms) (without_joining false 0 run.after rest c.0 b.1)
 
 -- what is written for blanks and the gap after them, if the stanza goes on after it
-gap-written : (text blanks rest behind : List ℕ) (line reached : ℕ) → Splits is_blank text blanks rest → (run : GapRun true false 0 false rest line behind reached) → begins_gap false behind ≡ false → is_line_end behind ≡ false
-    → cond (begins_joint rest) (32 ∷ []) blanks ≡ flat_map written (map (gap_mark (begins_fold rest)) blanks ++ run.front)
-gap-written text blanks rest behind line reached splits run ends within =
+gap-written : (text blanks rest after : List ℕ) (line reached : ℕ) → Splits is_blank text blanks rest → (run : GapRun true false 0 false rest line after reached) → begins_gap false after ≡ false → is_line_end after ≡ false
+    → cond (begins_joint rest) (32 ∷ []) blanks ≡ flat_map command_bytes (map (gap_mark (begins_fold rest)) blanks ++ run.front)
+gap-written text blanks rest after line reached splits run ends within =
     flip (by_case (begins_joint rest) (begins is_line_feed rest) refl refl)
   where
-    flip : cond (begins_joint rest) (32 ∷ []) blanks ≡ flat_map written (map (gap_mark (begins_fold rest)) blanks) ++ flat_map written run.front → cond (begins_joint rest) (32 ∷ []) blanks ≡ flat_map written (map (gap_mark (begins_fold rest)) blanks ++ run.front)
-    flip is = is ∙ sym (flat_map-append written (map (gap_mark (begins_fold rest)) blanks) run.front)
+    flip : cond (begins_joint rest) (32 ∷ []) blanks ≡ flat_map command_bytes (map (gap_mark (begins_fold rest)) blanks) ++ flat_map command_bytes run.front → cond (begins_joint rest) (32 ∷ []) blanks ≡ flat_map command_bytes (map (gap_mark (begins_fold rest)) blanks ++ run.front)
+    flip is = is ∙ sym (flat_map-append command_bytes (map (gap_mark (begins_fold rest)) blanks) run.front)
 
-    by_case : (joint feed : Bool) → begins_joint rest ≡ joint → begins is_line_feed rest ≡ feed → cond (begins_joint rest) (32 ∷ []) blanks ≡ flat_map written (map (gap_mark (begins_fold rest)) blanks) ++ flat_map written run.front
-    by_case joint true ej ef = absurd (true≢false (sym (feed-stays rest run.bytes behind run.front _ ef run.is_text run.long run.same (gap-spaces run.front run.gaps)) ∙ within))
+    by_case : (joint feed : Bool) → begins_joint rest ≡ joint → begins is_line_feed rest ≡ feed → cond (begins_joint rest) (32 ∷ []) blanks ≡ flat_map command_bytes (map (gap_mark (begins_fold rest)) blanks) ++ flat_map command_bytes run.front
+    by_case joint true ej ef = absurd (true≢false (sym (feed-stays rest run.bytes after run.front _ ef run.is_text run.long run.same (gap-spaces run.front run.gaps)) ∙ within))
     by_case true false ej ef =
-        let space = joint-written rest run.front (marks_in behind) ej (gap-behind rest behind line reached run ends) (gap-spaces run.front run.gaps) (ends-spaces behind ends) in
+        let space = joint-written rest run.front (marks_in after) ej (gap-after rest after line reached run ends) (gap-spaces run.front run.gaps) (ends-spaces after ends) in
         rw (ej, ef, written-folded blanks, space) refl
     by_case false false ej ef =
-        let none = unblanked-written rest run.front (marks_in behind) splits.ends ej (gap-behind rest behind line reached run ends) (gap-spaces run.front run.gaps) in
+        let none = unblanked-written rest run.front (marks_in after) splits.ends ej (gap-after rest after line reached run ends) (gap-spaces run.front run.gaps) in
         rw (ej, ef, written-blanks blanks, none) (sym (append-nil blanks))
 
 -- blanks, and the gap after them
-pub Between-made : (text blanks rest behind : List ℕ) (line reached : ℕ) (between : List ℕ) (old new : Option (List ℕ)) → Splits is_blank text blanks rest → GapRun true false 0 false rest line behind reached → begins_gap false behind ≡ false
-    → between ≡ cond (begins_joint rest) (32 ∷ []) blanks → ((held : List ℕ) → Holds old held → Holds new (held ++ cond (is_line_end behind) [] between))
-    → Between text line behind reached old new
-Between-made text blanks rest behind line reached between old new splits run ends is pushed = record {
+pub Between-made : (text blanks rest after : List ℕ) (line reached : ℕ) (between : List ℕ) (old new : Option (List ℕ)) → Splits is_blank text blanks rest → GapRun true false 0 false rest line after reached → begins_gap false after ≡ false
+    → between ≡ cond (begins_joint rest) (32 ∷ []) blanks → ((held : List ℕ) → Holds old held → Holds new (held ++ cond (is_line_end after) [] between))
+    → Between text line after reached old new
+Between-made text blanks rest after line reached between old new splits run ends is pushed = record {
   bytes = blanks ++ run.bytes;
   front = map (gap_mark (begins_fold rest)) blanks ++ run.front;
-  joined = splits.joined ∙ ap (λ bs. blanks ++ bs) run.is_text ∙ sym (append_assoc blanks run.bytes behind);
+  joined = splits.joined ∙ ap (λ bs. blanks ++ bs) run.is_text ∙ sym (append_assoc blanks run.bytes after);
   same =
       ap marks_in splits.joined
       ∙ marks-gap_blanks blanks rest splits.all splits.ends
-      ∙ ap (λ ms. map (gap_mark (begins_fold rest)) blanks ++ ms) (gap-behind rest behind line reached run ends)
-      ∙ sym (append_assoc (map (gap_mark (begins_fold rest)) blanks) run.front (marks_in behind));
+      ∙ ap (λ ms. map (gap_mark (begins_fold rest)) blanks ++ ms) (gap-after rest after line reached run ends)
+      ∙ sym (append_assoc (map (gap_mark (begins_fold rest)) blanks) run.front (marks_in after));
   long = length-append (map (gap_mark (begins_fold rest)) blanks) run.front ∙ (rw (length-map blanks (gap_mark (begins_fold rest)), run.long) (sym (length-append blanks run.bytes)));
   spaces = list_all-append is_space (map (gap_mark (begins_fold rest)) blanks) run.front ∙ and_from _ _ (spaces-blanks (begins_fold rest) blanks) (gap-spaces run.front run.gaps);
   ends = ends;
   counted = omega (arith, run.counted, feeds-append blanks run.bytes, feeds-none is_blank blanks (λ byte is. (blank-is byte is).0) splits.all);
-  pushed = λ held holds. Holds-same new _ _ (ap (λ bs. held ++ bs) (written-there (is_line_end behind) refl)) (pushed held holds);
+  pushed = λ held holds. Holds-same new _ _ (ap (λ bs. held ++ bs) (written-there (is_line_end after) refl)) (pushed held holds);
 }
   where
-    written-there : (end : Bool) → is_line_end behind ≡ end → cond end [] between ≡ cond end [] (flat_map written (map (gap_mark (begins_fold rest)) blanks ++ run.front))
+    written-there : (end : Bool) → is_line_end after ≡ end → cond end [] between ≡ cond end [] (flat_map command_bytes (map (gap_mark (begins_fold rest)) blanks ++ run.front))
     written-there true e = refl
-    written-there false e = is ∙ gap-written text blanks rest behind line reached splits run ends e
+    written-there false e = is ∙ gap-written text blanks rest after line reached splits run ends e

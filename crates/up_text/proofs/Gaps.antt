@@ -4,10 +4,10 @@ use Rattle.std.proofs.lemmas.Bool.{and_parts, and_from, or_parts, ne_eqb, or_cas
 use Rattle.std.proofs.lemmas.List.{drop_at}
 use Rattle.std.proofs.lemmas.List.Folds.{list_all-append}
 use Rattle.std.specs.List.{list_all, prefix_len}
-use Rattle.up_text.proofs.Readings.{prefix_len-front, place-behind, list_all-rest}
+use Rattle.up_text.proofs.Readings.{prefix_len-front, place-after, list_all-rest}
 use Rattle.up_text.proofs.Runs.{blank-is, feed-is, hash-is, backslash-is, feeds-none, feeds-append, feeds-length}
-use Rattle.up_text.specs.Lexer.{place, is_in_line, begins_joint, begins_gap, passes_feeds, Splits, GapRun, IsBehindGap}
-use Rattle.up_text.specs.Places.{is_gap, gap_at, marks_at, passing, is_finished}
+use Rattle.up_text.specs.Lexer.{place, is_in_line, begins_joint, begins_gap, passes_feeds, Splits, GapRun, IsAfterGap}
+use Rattle.up_text.specs.Places.{is_gap, gap_at, marks_at, place_after, is_finished}
 use Rattle.up_text.specs.Tokens.{Mark, Part, Quoting, Alone, Blank, Passed, Stop, Outside, Comment, marks, mark_outside, feed_mark, open_after, is_line_feed, is_blank, is_hash, is_quote, is_backslash, is_paren, reaches_feed}
 use Rattle.up_pattern.specs.Lists.{begins}
 
@@ -16,20 +16,20 @@ or-true b = refl
 
 -- one part of a gap after another
 pub GapRun-then : {inside parens : Bool} {depth : ℕ} {joined : Bool} {text middle rest : List ℕ} {line crossed reached : ℕ}
-    → (a : GapRun inside parens depth joined text line middle crossed) → GapRun inside parens depth a.behind middle crossed rest reached → GapRun inside parens depth joined text line rest reached
+    → (a : GapRun inside parens depth joined text line middle crossed) → GapRun inside parens depth a.after middle crossed rest reached → GapRun inside parens depth joined text line rest reached
 GapRun-then {inside} {parens} {depth} {joined} {text} {middle} {rest} {line} {crossed} {reached} a b = record {
   bytes = a.bytes ++ b.bytes;
   front = a.front ++ b.front;
-  behind = b.behind;
+  after = b.after;
   is_text = a.is_text ∙ ap (λ xs. a.bytes ++ xs) b.is_text ∙ sym (append_assoc a.bytes b.bytes rest);
-  same = a.same ∙ ap (λ ms. a.front ++ ms) b.same ∙ sym (append_assoc a.front b.front (marks parens depth (Outside b.behind) rest));
+  same = a.same ∙ ap (λ ms. a.front ++ ms) b.same ∙ sym (append_assoc a.front b.front (marks parens depth (Outside b.after) rest));
   long = length-append a.front b.front ∙ (rw (a.long, b.long) (sym (length-append a.bytes b.bytes)));
   gaps = list_all-append (is_gap inside) a.front b.front ∙ and_from _ _ a.gaps b.gaps;
   counted = omega (arith, a.counted, b.counted, feeds-append a.bytes b.bytes);
 }
 
 pub GapRun-none : (inside parens : Bool) (depth : ℕ) (joined : Bool) (text : List ℕ) (line : ℕ) → GapRun inside parens depth joined text line text line
-GapRun-none inside parens depth joined text line = record { bytes = []; front = []; behind = joined; is_text = refl; same = refl; long = refl; gaps = refl; counted = sym (add-zero line) }
+GapRun-none inside parens depth joined text line = record { bytes = []; front = []; after = joined; is_text = refl; same = refl; long = refl; gaps = refl; counted = sym (add-zero line) }
 
 pub GapRun-fits : {inside parens : Bool} {depth : ℕ} {joined : Bool} {text rest : List ℕ} {line reached : ℕ} → GapRun inside parens depth joined text line rest reached → reached + length rest ≤ line + length text
 GapRun-fits {inside} {parens} {depth} {joined} {text} {rest} {line} {reached} a = omega (arith, feeds-length a.bytes, a.counted, ap length a.is_text, length-append a.bytes rest)
@@ -70,7 +70,7 @@ GapRun-blanks inside parens depth joined text blanks rest line splits =
     record {
       bytes = blanks;
       front = are.front;
-      behind = joined;
+      after = joined;
       is_text = splits.joined;
       same = rw splits.joined are.same;
       long = are.long;
@@ -125,7 +125,7 @@ GapRun-comment inside parens depth joined text (byte ∷ bytes) rest line splits
     record {
       bytes = byte ∷ bytes;
       front = Passed ∷ later.front;
-      behind = false;
+      after = false;
       is_text = splits.joined;
       same = rw splits.joined (simp (is.0, is.1, first) (ap (λ ms. Passed ∷ ms) later.same));
       long = ap suc later.long;
@@ -158,7 +158,7 @@ GapRun-feed inside parens depth joined (byte ∷ rest) line passes feed =
     record {
       bytes = byte ∷ [];
       front = feed_mark depth ∷ [];
-      behind = false;
+      after = false;
       is_text = refl;
       same = rw (feed, is.0, is.1, is.2, is.3) (ap (λ d. feed_mark depth ∷ marks parens d (Outside false) rest) (open-feed depth));
       long = refl;
@@ -176,7 +176,7 @@ GapRun-joint inside parens depth joined (byte ∷ feed ∷ rest) line joint =
     record {
       bytes = byte ∷ feed ∷ [];
       front = Passed ∷ cond joined Passed (Blank 32) ∷ [];
-      behind = true;
+      after = true;
       is_text = refl;
       same = simp (is.0, is.1, is.2, both.0, both.1, open-blank);
       long = refl;
@@ -215,9 +215,9 @@ ends-gap inside parens depth joined [] ends = refl
 ends-gap inside parens depth joined (byte ∷ text) ends = rw (ends-gap_mark inside parens depth joined byte text ends) refl
 
 -- where no blank stands, it doesn't matter whether blanks are joined
-pub unjoined : (parens : Bool) (depth : ℕ) (joined : Bool) (text : List ℕ) → begins is_blank text ≡ false → begins_joint text ≡ false → marks parens depth (Outside joined) text ≡ marks parens depth (Outside false) text
-unjoined parens depth joined [] blank joint = refl
-unjoined parens depth joined (byte ∷ text) blank joint =
+pub without_joining : (parens : Bool) (depth : ℕ) (joined : Bool) (text : List ℕ) → begins is_blank text ≡ false → begins_joint text ≡ false → marks parens depth (Outside joined) text ≡ marks parens depth (Outside false) text
+without_joining parens depth joined [] blank joint = refl
+without_joining parens depth joined (byte ∷ text) blank joint =
     by_case (is_backslash byte) (begins is_line_feed text) refl refl joint
   where
     by_case : (k j : Bool) → is_backslash byte ≡ k → begins is_line_feed text ≡ j → (k && j) ≡ false → marks parens depth (Outside joined) (byte ∷ text) ≡ marks parens depth (Outside false) (byte ∷ text)
@@ -226,19 +226,19 @@ unjoined parens depth joined (byte ∷ text) blank joint =
     by_case false j ek ej is = simp (blank, ek)
 
 -- after a gap
-pub behind-gap : (inside parens : Bool) (depth : ℕ) (text : List ℕ) (line : ℕ) (rest : List ℕ) (reached : ℕ) → GapRun inside parens depth false text line rest reached → begins_gap (passes_feeds inside depth) rest ≡ false
-    → IsBehindGap (place text line inside parens depth) (place rest reached inside parens depth)
+pub after-gap : (inside parens : Bool) (depth : ℕ) (text : List ℕ) (line : ℕ) (rest : List ℕ) (reached : ℕ) → GapRun inside parens depth false text line rest reached → begins_gap (passes_feeds inside depth) rest ≡ false
+    → IsAfterGap (place text line inside parens depth) (place rest reached inside parens depth)
 unfolding gap_at marks_at
-behind-gap inside parens depth text line rest reached run ends =
-    let later = marks parens depth (Outside run.behind) rest in
+after-gap inside parens depth text line rest reached run ends =
+    let later = marks parens depth (Outside run.after) rest in
     let gap : prefix_len (is_gap inside) (marks parens depth (Outside false) text) ≡ length run.front =
-    ap (prefix_len (is_gap inside)) run.same ∙ prefix_len-front (is_gap inside) run.front later run.gaps (ends-gap inside parens depth run.behind rest ends) in
+    ap (prefix_len (is_gap inside)) run.same ∙ prefix_len-front (is_gap inside) run.front later run.gaps (ends-gap inside parens depth run.after rest ends) in
     let a : ((begins is_blank rest || begins is_hash rest || begins_joint rest) ≡ false) × ((passes_feeds inside depth && begins is_line_feed rest) ≡ false) = or_parts _ _ ends in
     let b : ((begins is_blank rest || begins is_hash rest) ≡ false) × (begins_joint rest ≡ false) = or_parts _ _ a.0 in
     let c : (begins is_blank rest ≡ false) × (begins is_hash rest ≡ false) = or_parts _ _ b.0 in
     record {
-      at = sym (ap (λ n. passing n (place text line inside parens depth)) gap ∙ place-behind text run.bytes rest line inside parens depth (length run.front) reached run.is_text run.long run.counted);
-      marked = sym (ap (λ n. drop n (marks parens depth (Outside false) text)) gap ∙ ap (drop (length run.front)) run.same ∙ drop_at run.front later (length run.front) refl ∙ unjoined parens depth run.behind rest c.0 b.1);
+      at = sym (ap (λ n. place_after n (place text line inside parens depth)) gap ∙ place-after text run.bytes rest line inside parens depth (length run.front) reached run.is_text run.long run.counted);
+      marked = sym (ap (λ n. drop n (marks parens depth (Outside false) text)) gap ∙ ap (drop (length run.front)) run.same ∙ drop_at run.front later (length run.front) refl ∙ without_joining parens depth run.after rest c.0 b.1);
     }
 
 -- which part of a gap begins a text
@@ -271,20 +271,20 @@ comment-shorter text (byte ∷ front) rest splits hash = omega (arith, ap length
 pub GapRun-shrinks : {inside parens : Bool} {depth : ℕ} {joined : Bool} {text rest : List ℕ} {line reached : ℕ} → GapRun inside parens depth joined text line rest reached → length rest ≤ length text
 GapRun-shrinks {inside} {parens} {depth} {joined} {text} {rest} {line} {reached} a = omega (arith, ap length a.is_text, length-append a.bytes rest)
 
-pub finished-read : (text rest : List ℕ) (line reached : ℕ) (parens : Bool) (depth : ℕ) → IsBehindGap (place text line false parens depth) (place rest reached false parens depth) → begins_gap (passes_feeds false depth) rest ≡ false
+pub finished-read : (text rest : List ℕ) (line reached : ℕ) (parens : Bool) (depth : ℕ) → IsAfterGap (place text line false parens depth) (place rest reached false parens depth) → begins_gap (passes_feeds false depth) rest ≡ false
     → eqb (length rest) 0 ≡ is_finished (place text line false parens depth)
 unfolding is_finished gap_at marks_at
-finished-read text rest line reached parens depth behind ends =
-    sym (list_all-rest (is_gap false) (marks_at (place text line false parens depth)) ∙ ap (list_all (is_gap false)) (sym behind.marked) ∙ at_rest rest ends)
+finished-read text rest line reached parens depth after ends =
+    sym (list_all-rest (is_gap false) (marks_at (place text line false parens depth)) ∙ ap (list_all (is_gap false)) (sym after.marked) ∙ at_rest rest ends)
   where
     at_rest : (rest : List ℕ) → begins_gap (passes_feeds false depth) rest ≡ false → list_all (is_gap false) (marks_at (place rest reached false parens depth)) ≡ eqb (length rest) 0
     at_rest [] ends = refl
     at_rest (byte ∷ rest) ends = rw (ends-gap_mark false parens depth false byte rest ends) (sym (ne_eqb (length (byte ∷ rest)) 0 (λ same. absurd (omega arith))))
 
-pub at_end-read : (inside : Bool) (text rest : List ℕ) (line reached : ℕ) (parens : Bool) (depth : ℕ) → inside ≡ false → IsBehindGap (place text line inside parens depth) (place rest reached inside parens depth) → begins_gap (passes_feeds inside depth) rest ≡ false
+pub at_end-read : (inside : Bool) (text rest : List ℕ) (line reached : ℕ) (parens : Bool) (depth : ℕ) → inside ≡ false → IsAfterGap (place text line inside parens depth) (place rest reached inside parens depth) → begins_gap (passes_feeds inside depth) rest ≡ false
     → eqb (length rest) 0 ≡ is_finished (place text line inside parens depth)
-at_end-read true text rest line reached parens depth outside behind ends = absurd (true≢false outside)
-at_end-read false text rest line reached parens depth outside behind ends = finished-read text rest line reached parens depth behind ends
+at_end-read true text rest line reached parens depth outside after ends = absurd (true≢false outside)
+at_end-read false text rest line reached parens depth outside after ends = finished-read text rest line reached parens depth after ends
 
 pub inside-unfinished : (inside : Bool) (text : List ℕ) (line : ℕ) (parens : Bool) (depth : ℕ) → inside ≡ true → false ≡ is_finished (place text line inside parens depth)
 unfolding is_finished

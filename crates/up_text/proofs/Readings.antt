@@ -8,8 +8,8 @@ use Rattle.std.specs.List.{list_all, flat_map, prefix_len, take_while}
 use Rattle.up_value.specs.declared.fault.TextFault.{TextFault}
 use Rattle.up_value.specs.declared.fault.TextFault.TheVariants.{Memory}
 use Rattle.up_text.specs.declared.token.Token.{Token}
-use Rattle.up_text.specs.Lexer.{place, is_ordinary, is_spelling, ends_token, is_line_end, Splits, Run, Broken, GivesToken, GivesFault, IsFaultOf, IsBehindGap, begins_gap, passes_feeds, open_at}
-use Rattle.up_text.specs.Places.{Place, Reading, Got, Ended, Fails, reading, Answers, line_at, feeds, given, is_spelled, is_plain, fault_in, spelled, read_at, marks_at, passing, within, token_of}
+use Rattle.up_text.specs.Lexer.{place, is_ordinary, is_spelling, ends_token, is_line_end, Splits, Run, Broken, GivesToken, GivesFault, IsFaultOf, IsAfterGap, begins_gap, passes_feeds, open_at}
+use Rattle.up_text.specs.Places.{Place, Reading, Got, Ended, Fails, reading, Answers, line_at, feeds, token_bytes, is_spelled, is_plain, fault_in, spelling_read, read_at, marks_at, place_after, within, token_of}
 use Rattle.up_text.specs.Tokens.{Mark, Part, Quoting, Folded, Alone, Blank, Passed, Stop, Fail, Outside, marks, mark_outside, feed_mark, is_line_feed, is_blank, is_hash, is_quote, is_backslash, is_paren, reaches_feed}
 use Rattle.up_pattern.specs.Lists.{begins}
 use Rattle.up_text.proofs.Runs.{backslash-is, quote-is, paren-is, ends-front, Broken-then, Run-then, Run-ordinary}
@@ -93,11 +93,11 @@ ends-marks parens depth (byte ∷ text) ends = rw (ends-mark parens depth byte t
 
 -- what a spelling gives
 
-pub read-front : (at : Place) (front later : List Mark) → 0 < length front → list_all is_spelling front ≡ true → (spelling : List Mark) → take_while is_spelled (front ++ later) ≡ spelling → read_at at (front ++ later) ≡ spelled at spelling (fault_in spelling)
+pub read-front : (at : Place) (front later : List Mark) → 0 < length front → list_all is_spelling front ≡ true → (spelling : List Mark) → take_while is_spelled (front ++ later) ≡ spelling → read_at at (front ++ later) ≡ spelling_read at spelling (fault_in spelling)
 read-front at [] later filled all spelling is = absurd (omega arith)
-read-front at (Part byte ∷ front) later filled all spelling is = ap (λ s. spelled at s (fault_in s)) is
-read-front at (Quoting byte ∷ front) later filled all spelling is = ap (λ s. spelled at s (fault_in s)) is
-read-front at (Folded ∷ front) later filled all spelling is = ap (λ s. spelled at s (fault_in s)) is
+read-front at (Part byte ∷ front) later filled all spelling is = ap (λ s. spelling_read at s (fault_in s)) is
+read-front at (Quoting byte ∷ front) later filled all spelling is = ap (λ s. spelling_read at s (fault_in s)) is
+read-front at (Folded ∷ front) later filled all spelling is = ap (λ s. spelling_read at s (fault_in s)) is
 read-front at (Fail fault ∷ front) later filled all spelling is = absurd (false≢true all)
 read-front at (Alone byte ∷ front) later filled all spelling is = absurd (false≢true all)
 read-front at (Blank byte ∷ front) later filled all spelling is = absurd (false≢true all)
@@ -106,29 +106,29 @@ read-front at (Stop ∷ front) later filled all spelling is = absurd (false≢tr
 
 -- a spelling of which something is read
 pub filled-front : (parens : Bool) (text bytes rest : List ℕ) (front : List Mark) → text ≡ bytes ++ rest → length front ≡ length bytes → ends_token parens text ≡ false → ends_token parens rest ≡ true → 0 < length front
-filled-front parens text [] rest front joined long before behind = absurd (true≢false (sym behind ∙ sym (ap (ends_token parens) joined) ∙ before))
-filled-front parens text (byte ∷ bytes) rest front joined long before behind = omega arith
+filled-front parens text [] rest front joined long before beyond = absurd (true≢false (sym beyond ∙ sym (ap (ends_token parens) joined) ∙ before))
+filled-front parens text (byte ∷ bytes) rest front joined long before beyond = omega arith
 
-pub place-behind : (text bytes rest : List ℕ) (line : ℕ) (inside parens : Bool) (depth n reached : ℕ) → text ≡ bytes ++ rest → n ≡ length bytes → reached ≡ line + feeds bytes → passing n (place text line inside parens depth) ≡ place rest reached inside parens depth
-place-behind text bytes rest line inside parens depth n reached joined long counted =
+pub place-after : (text bytes rest : List ℕ) (line : ℕ) (inside parens : Bool) (depth n reached : ℕ) → text ≡ bytes ++ rest → n ≡ length bytes → reached ≡ line + feeds bytes → place_after n (place text line inside parens depth) ≡ place rest reached inside parens depth
+place-after text bytes rest line inside parens depth n reached joined long counted =
     rw (joined, counted, take_at bytes rest n (sym long), drop_at bytes rest n (sym long)) refl
 
 pub token-read : (parens : Bool) (text rest : List ℕ) (line reached : ℕ) (old new : Option (List ℕ)) (run : Run parens false (Outside false) text line (Outside false) rest reached old new) (inside : Bool) (depth : ℕ)
     → ends_token parens text ≡ false → ends_token parens rest ≡ true
-    → GivesToken (place text line inside parens depth) (token_of line (flat_map given run.front) (list_all is_plain run.front)) (place rest reached true parens depth)
+    → GivesToken (place text line inside parens depth) (token_of line (flat_map token_bytes run.front) (list_all is_plain run.front)) (place rest reached true parens depth)
 unfolding marks_at
-token-read parens text rest line reached old new run inside depth before behind =
+token-read parens text rest line reached old new run inside depth before beyond =
     let at = place text line inside parens depth in
     let later = marks parens depth (Outside false) rest in
     let all = spelled-all run.front run.spelled in
-    let stops = ends-marks parens depth rest behind in
+    let stops = ends-marks parens depth rest beyond in
     let whole : take_while is_spelled (run.front ++ later) ≡ run.front = take_while-front is_spelled run.front later all stops in
-    let filled = filled-front parens text run.bytes rest run.front run.joined run.long before behind in
+    let filled = filled-front parens text run.bytes rest run.front run.joined run.long before beyond in
     let sound : fault_in run.front ≡ None = ap fault_in (sym (append-nil run.front)) ∙ fault-none run.front [] run.spelled in
     ap (read_at at) (run.same depth)
     ∙ read-front at run.front later filled run.spelled run.front whole
-    ∙ ap (spelled at run.front) sound
-    ∙ ap (λ p. Got (token_of line (flat_map given run.front) (list_all is_plain run.front)) (within depth p)) (place-behind text run.bytes rest line inside parens depth (length run.front) reached run.joined run.long run.counted)
+    ∙ ap (spelling_read at run.front) sound
+    ∙ ap (λ p. Got (token_of line (flat_map token_bytes run.front) (list_all is_plain run.front)) (within depth p)) (place-after text run.bytes rest line inside parens depth (length run.front) reached run.joined run.long run.counted)
 
 broken-spelled : (front : List Mark) (fault : TextFault) → list_all is_spelling front ≡ true → list_all is_spelled (front ++ Fail fault ∷ []) ≡ true
 broken-spelled front fault all = list_all-append is_spelled front (Fail fault ∷ []) ∙ and_from _ _ (spelled-all front all) refl
@@ -139,7 +139,7 @@ read-broken at (m ∷ front) fault all =
     let whole : take_while is_spelled ((m ∷ front) ++ Fail fault ∷ []) ≡ (m ∷ front) ++ Fail fault ∷ [] =
     take_while-all is_spelled ((m ∷ front) ++ Fail fault ∷ []) (broken-spelled (m ∷ front) fault all) in
     read-front at (m ∷ front) (Fail fault ∷ []) (omega arith) all ((m ∷ front) ++ Fail fault ∷ []) whole
-    ∙ ap (spelled at ((m ∷ front) ++ Fail fault ∷ [])) (fault-none (m ∷ front) (Fail fault ∷ []) all)
+    ∙ ap (spelling_read at ((m ∷ front) ++ Fail fault ∷ [])) (fault-none (m ∷ front) (Fail fault ∷ []) all)
 
 pub token-broken : (parens : Bool) (text : List ℕ) (line : ℕ) (fault : TextFault) (inside : Bool) (depth : ℕ) → Broken parens (Outside false) text fault → GivesFault (place text line inside parens depth) fault
 unfolding marks_at
@@ -148,27 +148,27 @@ token-broken parens text line fault inside depth broken =
     rw (broken.same depth, read-broken at broken.front fault broken.spelled) refl
 
 -- if a token is read, the fault of memory may come
-pub token-memory : (at : Place) (token : Token) (behind : Place) → GivesToken at token behind → GivesFault at Memory
-token-memory at token behind gives = rw gives refl
+pub token-memory : (at : Place) (token : Token) (beyond : Place) → GivesToken at token beyond → GivesFault at Memory
+token-memory at token beyond gives = rw gives refl
 
 -- a plain token
 pub ordinary-read : (parens : Bool) (text front rest : List ℕ) (line : ℕ) (inside : Bool) (depth : ℕ) → Splits (is_ordinary parens) text front rest → ends_token parens text ≡ false → ends_token parens rest ≡ true
     → GivesToken (place text line inside parens depth) (token_of line front true) (place rest line true parens depth)
 unfolding Run-ordinary
-ordinary-read parens text front rest line inside depth splits before behind =
+ordinary-read parens text front rest line inside depth splits before beyond =
     let run = Run-ordinary parens false text front rest line None None splits (λ held holds. tt) in
     subst (λ t. GivesToken (place text line inside parens depth) t (place rest line true parens depth)) (is_plain_token front)
-    (token-read parens text rest line line None None run inside depth before behind)
+    (token-read parens text rest line line None None run inside depth before beyond)
   where
     plain-parts : (bytes : List ℕ) → list_all is_plain (map Part bytes) ≡ true
     plain-parts [] = refl
     plain-parts (byte ∷ bytes) = plain-parts bytes
 
-    given-parts : (bytes : List ℕ) → flat_map given (map Part bytes) ≡ bytes
+    given-parts : (bytes : List ℕ) → flat_map token_bytes (map Part bytes) ≡ bytes
     given-parts [] = refl
     given-parts (byte ∷ bytes) = ap (λ bs. byte ∷ bs) (given-parts bytes)
 
-    is_plain_token : (bytes : List ℕ) → token_of line (flat_map given (map Part bytes)) (list_all is_plain (map Part bytes)) ≡ token_of line bytes true
+    is_plain_token : (bytes : List ℕ) → token_of line (flat_map token_bytes (map Part bytes)) (list_all is_plain (map Part bytes)) ≡ token_of line bytes true
     is_plain_token bytes = rw (plain-parts bytes, given-parts bytes) refl
 
 -- after bytes that stand for themselves comes a quote or a backslash
@@ -190,9 +190,9 @@ quoting-first parens depth byte text before other =
 
 pub plain-no : (parens keep : Bool) (text rest : List ℕ) (line reached : ℕ) (old new : Option (List ℕ)) (run : Run parens keep (Outside false) text line (Outside false) rest reached old new)
     → ends_token parens text ≡ false → begins (is_ordinary parens) text ≡ false → ends_token parens rest ≡ true → list_all is_plain run.front ≡ false
-plain-no parens keep [] rest line reached old new run before other behind = absurd (true≢false before)
-plain-no parens keep (byte ∷ text) rest line reached old new run before other behind =
-    by_front run.front (run.same 0) (filled-front parens (byte ∷ text) run.bytes rest run.front run.joined run.long before behind)
+plain-no parens keep [] rest line reached old new run before other beyond = absurd (true≢false before)
+plain-no parens keep (byte ∷ text) rest line reached old new run before other beyond =
+    by_front run.front (run.same 0) (filled-front parens (byte ∷ text) run.bytes rest run.front run.joined run.long before beyond)
   where
     by_front : (front : List Mark) → marks parens 0 (Outside false) (byte ∷ text) ≡ front ++ marks parens 0 (Outside false) rest → 0 < length front → list_all is_plain front ≡ false
     by_front [] same filled = absurd (omega arith)
@@ -200,24 +200,24 @@ plain-no parens keep (byte ∷ text) rest line reached old new run before other 
         let first : m ≡ mark_outside parens 0 false byte text = cc in
         rw (first, quoting-first parens 0 byte text before other) refl
 
-given-parts : (bytes : List ℕ) → flat_map given (map Part bytes) ≡ bytes
+given-parts : (bytes : List ℕ) → flat_map token_bytes (map Part bytes) ≡ bytes
 given-parts [] = refl
 given-parts (byte ∷ bytes) = ap (λ bs. byte ∷ bs) (given-parts bytes)
 
 -- a token whose spelling goes on with a quote or a backslash
 pub spelled-read : (parens : Bool) (front text rest : List ℕ) (line reached : ℕ) (old new : Option (List ℕ)) (run : Run parens false (Outside false) text line (Outside false) rest reached old new) (inside : Bool) (depth : ℕ)
     → list_all (is_ordinary parens) front ≡ true → ends_token parens text ≡ false → begins (is_ordinary parens) text ≡ false → ends_token parens rest ≡ true
-    → GivesToken (place (front ++ text) line inside parens depth) (token_of line (front ++ flat_map given run.front) false) (place rest reached true parens depth)
+    → GivesToken (place (front ++ text) line inside parens depth) (token_of line (front ++ flat_map token_bytes run.front) false) (place rest reached true parens depth)
 unfolding Run-then Run-ordinary
-spelled-read parens front text rest line reached old new run inside depth all before other behind =
+spelled-read parens front text rest line reached old new run inside depth all before other beyond =
     let first : Run parens false (Outside false) (front ++ text) line (Outside false) text line None None =
     Run-ordinary parens false (front ++ text) front text line None None (record { joined = refl; all = all; ends = other }) (λ held holds. tt) in
     let second : Run parens false (Outside false) text line (Outside false) rest reached None None =
     record { bytes = run.bytes; front = run.front; joined = run.joined; same = run.same; long = run.long; spelled = run.spelled; counted = run.counted; pushed = λ held holds. tt } in
-    let read = token-read parens (front ++ text) rest line reached None None (Run-then first second) inside depth (ends-front parens front text all before) behind in
+    let read = token-read parens (front ++ text) rest line reached None None (Run-then first second) inside depth (ends-front parens front text all before) beyond in
     let plain : list_all is_plain (map Part front ++ run.front) ≡ false =
-    list_all-append is_plain (map Part front) run.front ∙ ap (λ b. list_all is_plain (map Part front) && b) (plain-no parens false text rest line reached old new run before other behind) ∙ and-false (list_all is_plain (map Part front)) in
-    let text_is : flat_map given (map Part front ++ run.front) ≡ front ++ flat_map given run.front = flat_map-append given (map Part front) run.front ∙ ap (λ bs. bs ++ flat_map given run.front) (given-parts front) in
+    list_all-append is_plain (map Part front) run.front ∙ ap (λ b. list_all is_plain (map Part front) && b) (plain-no parens false text rest line reached old new run before other beyond) ∙ and-false (list_all is_plain (map Part front)) in
+    let text_is : flat_map token_bytes (map Part front ++ run.front) ≡ front ++ flat_map token_bytes run.front = flat_map-append token_bytes (map Part front) run.front ∙ ap (λ bs. bs ++ flat_map token_bytes run.front) (given-parts front) in
     rw (plain, text_is) at read
   where
     and-false : (b : Bool) → (b && false) ≡ false
@@ -241,16 +241,16 @@ paren-read (byte ∷ text) line inside depth paren =
     rw (is.0, is.1, is.2, is.3, is.4, paren) (rw (is.0, add-zero) refl)
 
 -- what the parts of a lexer call read, if the text is after a gap
-pub reading-behind : (before after : Place) → IsBehindGap before after → reading before ≡ read_at after (marks_at after)
+pub reading-after : (before after : Place) → IsAfterGap before after → reading before ≡ read_at after (marks_at after)
 unfolding reading
-reading-behind before after behind = rw (← behind.at, ← behind.marked) refl
+reading-after before after beyond = rw (← beyond.at, ← beyond.marked) refl
 
 pub end-read : (rest : List ℕ) (line : ℕ) (inside parens : Bool) (depth : ℕ) → is_line_end rest ≡ true → begins_gap (passes_feeds inside depth) rest ≡ false
     → read_at (place rest line inside parens depth) (marks_at (place rest line inside parens depth)) ≡ Ended (place (drop 1 rest) (line + feeds (take 1 rest)) false parens 0)
 unfolding marks_at
-end-read [] line inside parens depth ends behind = rw add-zero refl
-end-read (byte ∷ rest) line inside parens depth feed behind =
-    let none : eqb depth 0 ≡ true = no_depth inside (eqb depth 0) (or_parts _ _ (rw feed at behind)).1 in
+end-read [] line inside parens depth ends beyond = rw add-zero refl
+end-read (byte ∷ rest) line inside parens depth feed beyond =
+    let none : eqb depth 0 ≡ true = no_depth inside (eqb depth 0) (or_parts _ _ (rw feed at beyond)).1 in
     rw (feed, none) (ap (λ n. Ended (place rest (line + n) false parens 0)) (one feed))
   where
     one : is_line_feed byte ≡ true → feeds (byte ∷ []) ≡ 1
@@ -264,15 +264,15 @@ end-read (byte ∷ rest) line inside parens depth feed behind =
 
 -- what a call answers
 
-pub Answers-end : (old behind new : Place) → reading old ≡ Ended behind → new ≡ behind → Answers old (reading old) (Ok None) new
-Answers-end old behind new read same = rw read (refl, same)
+pub Answers-end : (old beyond new : Place) → reading old ≡ Ended beyond → new ≡ beyond → Answers old (reading old) (Ok None) new
+Answers-end old beyond new read same = rw read (refl, same)
 
-pub Answers-token : (old behind new : Place) (token : Token) → reading old ≡ Got token behind → new ≡ behind → Answers old (reading old) (Ok (Some token)) new
-Answers-token old behind new token read same = rw read (inl (refl, same))
+pub Answers-token : (old beyond new : Place) (token : Token) → reading old ≡ Got token beyond → new ≡ beyond → Answers old (reading old) (Ok (Some token)) new
+Answers-token old beyond new token read same = rw read (inl (refl, same))
 
 pub Answers-fault : (old : Place) (read : Reading) (fault : TextFault) → IsFaultOf read fault → Answers old read (Err fault) old
-Answers-fault old (Got token behind) fault is = inr (ap Err is, refl)
-Answers-fault old (Ended behind) fault is = absurd is
+Answers-fault old (Got token beyond) fault is = inr (ap Err is, refl)
+Answers-fault old (Ended beyond) fault is = absurd is
 Answers-fault old (Fails refused) fault is = (ap Err is, refl)
 
 -- a finished text
@@ -289,5 +289,5 @@ pub feeds-first : (text : List ℕ) → begins is_line_feed text ≡ true → fe
 feeds-first [] feed = absurd (false≢true feed)
 feeds-first (byte ∷ text) feed = rw feed refl
 
-pub line-read : (before after : Place) → IsBehindGap before after → after.line ≡ line_at before
-line-read before after behind = ap (λ p. p.line) behind.at
+pub line-read : (before after : Place) → IsAfterGap before after → after.line ≡ line_at before
+line-read before after beyond = ap (λ p. p.line) beyond.at

@@ -8,7 +8,7 @@ use Rattle.std.proofs.lemmas.List.Folds.{list_all-append}
 use Rattle.std.specs.List.{list_all, flat_map}
 use Rattle.up_value.specs.declared.fault.TextFault.{TextFault}
 use Rattle.up_value.specs.declared.fault.TextFault.TheVariants.{UnterminatedQuote, TrailingBackslash}
-use Rattle.up_text.specs.Lexer.{is_ordinary, is_literal, is_high, is_low, is_byte, begins_joint, begins_fold, ends_token, Splits, SplitsChar, Holds, shown, is_spelling, Run, Broken, Escape}
+use Rattle.up_text.specs.Lexer.{is_ordinary, is_literal, is_high, is_low, is_byte, begins_joint, begins_fold, ends_token, Splits, SplitsChar, Holds, mark_bytes, is_spelling, Run, Broken, Escape}
 use Rattle.up_text.specs.Places.{feeds}
 use Rattle.up_text.specs.Tokens.{Mark, Part, Quoting, Folded, Fail, Mode, Outside, Quoted, marks, open_after, is_line_feed, is_blank, is_hash, is_quote, is_backslash, is_paren, reaches_feed}
 use Rattle.up_pattern.specs.Lists.{begins}
@@ -106,10 +106,10 @@ feeds-append (byte ∷ xs) ys = by_case (is_line_feed byte) (feeds-append xs ys)
 
 -- the marks of bytes that stand for themselves
 
-pub shown-parts : (keep : Bool) (bytes : List ℕ) → flat_map (shown keep) (map Part bytes) ≡ bytes
-shown-parts keep [] = refl
-shown-parts true (byte ∷ bytes) = ap (λ bs. byte ∷ bs) (shown-parts true bytes)
-shown-parts false (byte ∷ bytes) = ap (λ bs. byte ∷ bs) (shown-parts false bytes)
+pub mark_bytes-parts : (keep : Bool) (bytes : List ℕ) → flat_map (mark_bytes keep) (map Part bytes) ≡ bytes
+mark_bytes-parts keep [] = refl
+mark_bytes-parts true (byte ∷ bytes) = ap (λ bs. byte ∷ bs) (mark_bytes-parts true bytes)
+mark_bytes-parts false (byte ∷ bytes) = ap (λ bs. byte ∷ bs) (mark_bytes-parts false bytes)
 
 pub spelled-parts : (bytes : List ℕ) → list_all is_spelling (map Part bytes) ≡ true
 spelled-parts [] = refl
@@ -140,19 +140,19 @@ pub Holds-same : (held : Option (List ℕ)) (xs ys : List ℕ) → xs ≡ ys →
 Holds-same held xs ys same holds = subst (Holds held) same holds
 
 -- one part after another
-unfoldable pub Run-then : {parens keep : Bool} {mode between behind : Mode} {text middle rest : List ℕ} {line crossed reached : ℕ} {old half new : Option (List ℕ)}
-    → Run parens keep mode text line between middle crossed old half → Run parens keep between middle crossed behind rest reached half new → Run parens keep mode text line behind rest reached old new
-Run-then {parens} {keep} {mode} {between} {behind} {text} {middle} {rest} {line} {crossed} {reached} {old} {half} {new} a b = record {
+unfoldable pub Run-then : {parens keep : Bool} {mode between after : Mode} {text middle rest : List ℕ} {line crossed reached : ℕ} {old half new : Option (List ℕ)}
+    → Run parens keep mode text line between middle crossed old half → Run parens keep between middle crossed after rest reached half new → Run parens keep mode text line after rest reached old new
+Run-then {parens} {keep} {mode} {between} {after} {text} {middle} {rest} {line} {crossed} {reached} {old} {half} {new} a b = record {
   bytes = a.bytes ++ b.bytes;
   front = a.front ++ b.front;
   joined = a.joined ∙ ap (λ xs. a.bytes ++ xs) b.joined ∙ sym (append_assoc a.bytes b.bytes rest);
-  same = λ depth. a.same depth ∙ ap (λ ms. a.front ++ ms) (b.same depth) ∙ sym (append_assoc a.front b.front (marks parens depth behind rest));
+  same = λ depth. a.same depth ∙ ap (λ ms. a.front ++ ms) (b.same depth) ∙ sym (append_assoc a.front b.front (marks parens depth after rest));
   long = length-append a.front b.front ∙ (rw (a.long, b.long) (sym (length-append a.bytes b.bytes)));
   spelled = list_all-append is_spelling a.front b.front ∙ and_from _ _ a.spelled b.spelled;
   counted = omega (arith, a.counted, b.counted, feeds-append a.bytes b.bytes);
-  pushed = λ held holds. Holds-same new ((held ++ flat_map (shown keep) a.front) ++ flat_map (shown keep) b.front) (held ++ flat_map (shown keep) (a.front ++ b.front))
-      (append_assoc held (flat_map (shown keep) a.front) (flat_map (shown keep) b.front) ∙ ap (λ xs. held ++ xs) (sym (flat_map-append (shown keep) a.front b.front)))
-      (b.pushed (held ++ flat_map (shown keep) a.front) (a.pushed held holds));
+  pushed = λ held holds. Holds-same new ((held ++ flat_map (mark_bytes keep) a.front) ++ flat_map (mark_bytes keep) b.front) (held ++ flat_map (mark_bytes keep) (a.front ++ b.front))
+      (append_assoc held (flat_map (mark_bytes keep) a.front) (flat_map (mark_bytes keep) b.front) ∙ ap (λ xs. held ++ xs) (sym (flat_map-append (mark_bytes keep) a.front b.front)))
+      (b.pushed (held ++ flat_map (mark_bytes keep) a.front) (a.pushed held holds));
 }
 
 -- a fault after a part
@@ -173,8 +173,8 @@ feeds-length (byte ∷ bytes) = by_case (is_line_feed byte) (feeds-length bytes)
     by_case true ih = omega arith
     by_case false ih = omega arith
 
-pub Run-fits : {parens keep : Bool} {mode behind : Mode} {text rest : List ℕ} {line reached : ℕ} {old new : Option (List ℕ)}
-    → Run parens keep mode text line behind rest reached old new → reached + length rest ≤ line + length text
+pub Run-fits : {parens keep : Bool} {mode after : Mode} {text rest : List ℕ} {line reached : ℕ} {old new : Option (List ℕ)}
+    → Run parens keep mode text line after rest reached old new → reached + length rest ≤ line + length text
 Run-fits {rest} a = omega (arith, feeds-length a.bytes, a.counted, ap length a.joined, length-append a.bytes rest)
 
 -- bytes that stand for themselves
@@ -188,7 +188,7 @@ Run-ordinary parens keep text front rest line old new splits pushed = record {
   long = length-map front Part;
   spelled = spelled-parts front;
   counted = rw (feeds-none (is_ordinary parens) front (λ byte is. (ordinary-is parens byte is).0) splits.all) (sym (add-zero line));
-  pushed = λ held holds. Holds-same new (held ++ front) _ (ap (λ xs. held ++ xs) (sym (shown-parts keep front))) (pushed held holds);
+  pushed = λ held holds. Holds-same new (held ++ front) _ (ap (λ xs. held ++ xs) (sym (mark_bytes-parts keep front))) (pushed held holds);
 }
 
 -- the same in a quoted piece
@@ -203,7 +203,7 @@ Run-literal parens keep quote joined text (byte ∷ bytes) rest line old new spl
   long = length-map (byte ∷ bytes) Part;
   spelled = spelled-parts (byte ∷ bytes);
   counted = rw (feeds-none (is_literal quote) (byte ∷ bytes) (λ byte is. (literal-is quote byte is).1) splits.all) (sym (add-zero line));
-  pushed = λ held holds. Holds-same new (held ++ byte ∷ bytes) _ (ap (λ xs. held ++ xs) (sym (shown-parts keep (byte ∷ bytes)))) (pushed held holds);
+  pushed = λ held holds. Holds-same new (held ++ byte ∷ bytes) _ (ap (λ xs. held ++ xs) (sym (mark_bytes-parts keep (byte ∷ bytes)))) (pushed held holds);
 }
 
 -- blanks in a quoted piece: joined with a line end before or after them, or not
@@ -238,10 +238,10 @@ marks-blanks parens depth quote joined (byte ∷ blanks) rest quoting all ends =
     let is = blank-is byte both.0 in
     simp (blank-apart byte quote quoting both.0, is.0, both.0, reaches-blanks blanks rest both.1 ends, open-blank) (ap (λ ms. blank_mark (joined || begins_fold rest) byte ∷ ms) (marks-blanks parens depth quote joined blanks rest quoting both.1 ends))
 
-shown-folded : (keep : Bool) (blanks : List ℕ) → flat_map (shown keep) (map (blank_mark true) blanks) ≡ []
-shown-folded keep [] = refl
-shown-folded true (byte ∷ blanks) = shown-folded true blanks
-shown-folded false (byte ∷ blanks) = shown-folded false blanks
+mark_bytes-folded : (keep : Bool) (blanks : List ℕ) → flat_map (mark_bytes keep) (map (blank_mark true) blanks) ≡ []
+mark_bytes-folded keep [] = refl
+mark_bytes-folded true (byte ∷ blanks) = mark_bytes-folded true blanks
+mark_bytes-folded false (byte ∷ blanks) = mark_bytes-folded false blanks
 
 spelled-blanks : (folds : Bool) (blanks : List ℕ) → list_all is_spelling (map (blank_mark folds) blanks) ≡ true
 spelled-blanks folds [] = refl
@@ -249,7 +249,7 @@ spelled-blanks true (byte ∷ blanks) = spelled-blanks true blanks
 spelled-blanks false (byte ∷ blanks) = spelled-blanks false blanks
 
 Run-blanks : (parens keep : Bool) (quote : ℕ) (joined folds : Bool) (text blanks rest : List ℕ) (line : ℕ) (old new : Option (List ℕ)) → is_quote quote ≡ true → Splits is_blank text blanks rest → (joined || begins_fold rest) ≡ folds
-    → ((held : List ℕ) → Holds old held → Holds new (held ++ flat_map (shown keep) (map (blank_mark folds) blanks)))
+    → ((held : List ℕ) → Holds old held → Holds new (held ++ flat_map (mark_bytes keep) (map (blank_mark folds) blanks)))
     → Run parens keep (Quoted quote joined) text line (Quoted quote joined) rest line old new
 Run-blanks parens keep quote joined folds text blanks rest line old new quoting splits is pushed = record {
   bytes = blanks;
@@ -266,14 +266,14 @@ pub Run-blanks_folded : (parens keep : Bool) (quote : ℕ) (joined : Bool) (text
     → Run parens keep (Quoted quote joined) text line (Quoted quote joined) rest line out out
 Run-blanks_folded parens keep quote joined text blanks rest line out quoting splits is =
     Run-blanks parens keep quote joined true text blanks rest line out out quoting splits is
-    (λ held holds. Holds-same out held _ (sym (append-nil held) ∙ ap (λ xs. held ++ xs) (sym (shown-folded keep blanks))) holds)
+    (λ held holds. Holds-same out held _ (sym (append-nil held) ∙ ap (λ xs. held ++ xs) (sym (mark_bytes-folded keep blanks))) holds)
 
 pub Run-blanks_kept : (parens keep : Bool) (quote : ℕ) (joined : Bool) (text blanks rest : List ℕ) (line : ℕ) (old new : Option (List ℕ)) → is_quote quote ≡ true → Splits is_blank text blanks rest → (joined || begins_fold rest) ≡ false
     → ((held : List ℕ) → Holds old held → Holds new (held ++ blanks))
     → Run parens keep (Quoted quote joined) text line (Quoted quote joined) rest line old new
 Run-blanks_kept parens keep quote joined text blanks rest line old new quoting splits is pushed =
     Run-blanks parens keep quote joined false text blanks rest line old new quoting splits is
-    (λ held holds. Holds-same new (held ++ blanks) _ (ap (λ xs. held ++ xs) (sym (shown-parts keep blanks))) (pushed held holds))
+    (λ held holds. Holds-same new (held ++ blanks) _ (ap (λ xs. held ++ xs) (sym (mark_bytes-parts keep blanks))) (pushed held holds))
 
 -- a line end in a quoted piece
 abbrev pub fold_mark : Bool → Mark
@@ -287,11 +287,11 @@ open-fold : (depth : ℕ) (joined : Bool) → open_after depth (fold_mark joined
 open-fold depth true = refl
 open-fold depth false = refl
 
-shown-fold : (keep joined : Bool) → flat_map (shown keep) (fold_mark joined ∷ []) ≡ fold_text joined
-shown-fold true true = refl
-shown-fold true false = refl
-shown-fold false true = refl
-shown-fold false false = refl
+mark_bytes-fold : (keep joined : Bool) → flat_map (mark_bytes keep) (fold_mark joined ∷ []) ≡ fold_text joined
+mark_bytes-fold true true = refl
+mark_bytes-fold true false = refl
+mark_bytes-fold false true = refl
+mark_bytes-fold false false = refl
 
 spelled-fold : (joined : Bool) → list_all is_spelling (fold_mark joined ∷ []) ≡ true
 spelled-fold true = refl
@@ -315,7 +315,7 @@ Run-feed parens keep quote joined (byte ∷ rest) line old new quoting feed push
   long = refl;
   spelled = spelled-fold joined;
   counted = rw feed refl;
-  pushed = λ held holds. Holds-same new (held ++ fold_text joined) _ (ap (λ xs. held ++ xs) (sym (shown-fold keep joined))) (pushed held holds);
+  pushed = λ held holds. Holds-same new (held ++ fold_text joined) _ (ap (λ xs. held ++ xs) (sym (mark_bytes-fold keep joined))) (pushed held holds);
 }
 
 -- the backslash before it gives nothing
@@ -336,7 +336,7 @@ Run-joint parens keep quote joined (byte ∷ rest) line out quoting joint =
       pushed = λ held holds. Holds-same out held _ (sym (append-nil held) ∙ ap (λ xs. held ++ xs) (folded keep)) holds;
     }
   where
-    folded : (keep : Bool) → [] ≡ flat_map (shown keep) (Folded ∷ [])
+    folded : (keep : Bool) → [] ≡ flat_map (mark_bytes keep) (Folded ∷ [])
     folded true = refl
     folded false = refl
 
@@ -345,9 +345,9 @@ joint-feed [] joint = absurd (cc)
 joint-feed (byte ∷ text) joint = (and_parts (is_backslash byte) (begins is_line_feed text) joint).1
 
 -- a quote or a backslash that is kept or dropped
-quoting-shown : (keep : Bool) (byte : ℕ) → flat_map (shown keep) (Quoting byte ∷ []) ≡ cond keep (byte ∷ []) []
-quoting-shown true byte = refl
-quoting-shown false byte = refl
+quoting-mark_bytes : (keep : Bool) (byte : ℕ) → flat_map (mark_bytes keep) (Quoting byte ∷ []) ≡ cond keep (byte ∷ []) []
+quoting-mark_bytes true byte = refl
+quoting-mark_bytes false byte = refl
 
 -- a quote
 pub Run-closing : (parens keep : Bool) (quote : ℕ) (joined : Bool) (text : List ℕ) (line : ℕ) (old new : Option (List ℕ)) → is_quote quote ≡ true → begins (is_byte quote) text ≡ true
@@ -364,7 +364,7 @@ Run-closing parens keep quote joined (byte ∷ rest) line old new quoting closes
       long = refl;
       spelled = refl;
       counted = rw (subst (λ b. is_line_feed b ≡ false) (sym same) (quote-is quote quoting).0) (sym (add-zero line));
-      pushed = λ held holds. Holds-same new (held ++ cond keep (byte ∷ []) []) _ (ap (λ xs. held ++ xs) (sym (quoting-shown keep byte))) (pushed held holds);
+      pushed = λ held holds. Holds-same new (held ++ cond keep (byte ∷ []) []) _ (ap (λ xs. held ++ xs) (sym (quoting-mark_bytes keep byte))) (pushed held holds);
     }
 
 pub Run-opening : (parens keep : Bool) (quote : ℕ) (text : List ℕ) (line : ℕ) (old new : Option (List ℕ)) → is_quote quote ≡ true → begins (is_byte quote) text ≡ true
@@ -383,14 +383,14 @@ Run-opening parens keep quote (byte ∷ rest) line old new quoting opens pushed 
       long = refl;
       spelled = refl;
       counted = rw is.0 (sym (add-zero line));
-      pushed = λ held holds. Holds-same new (held ++ cond keep (byte ∷ []) []) _ (ap (λ xs. held ++ xs) (sym (quoting-shown keep byte))) (pushed held holds);
+      pushed = λ held holds. Holds-same new (held ++ cond keep (byte ∷ []) []) _ (ap (λ xs. held ++ xs) (sym (quoting-mark_bytes keep byte))) (pushed held holds);
     }
 
 -- a character after a backslash
 
-escape-shown : (keep : Bool) (first : ℕ) (others held : List ℕ) → (held ++ cond keep (92 ∷ []) []) ++ (first ∷ others) ≡ held ++ flat_map (shown keep) (Quoting 92 ∷ Part first ∷ map Part others)
-escape-shown true first others held = append_assoc held (92 ∷ []) (first ∷ others) ∙ ap (λ xs. held ++ (92 ∷ first ∷ xs)) (sym (shown-parts true others))
-escape-shown false first others held = append_assoc held [] (first ∷ others) ∙ ap (λ xs. held ++ (first ∷ xs)) (sym (shown-parts false others))
+escape-mark_bytes : (keep : Bool) (first : ℕ) (others held : List ℕ) → (held ++ cond keep (92 ∷ []) []) ++ (first ∷ others) ≡ held ++ flat_map (mark_bytes keep) (Quoting 92 ∷ Part first ∷ map Part others)
+escape-mark_bytes true first others held = append_assoc held (92 ∷ []) (first ∷ others) ∙ ap (λ xs. held ++ (92 ∷ first ∷ xs)) (sym (mark_bytes-parts true others))
+escape-mark_bytes false first others held = append_assoc held [] (first ∷ others) ∙ ap (λ xs. held ++ (first ∷ xs)) (sym (mark_bytes-parts false others))
 
 backslash-92 : is_backslash 92 ≡ true
 unfolding is_backslash
@@ -428,7 +428,7 @@ Run-escape_outside parens keep text rest line old new escape apart =
       long = ap (λ n. suc (suc n)) (length-map escape.others Part);
       spelled = spelled-parts escape.others;
       counted = rw (feeds-escape escape.first escape.others other escape.high) (sym (add-zero line));
-      pushed = λ held holds. Holds-same new _ _ (escape-shown keep escape.first escape.others held) (escape.pushed held holds);
+      pushed = λ held holds. Holds-same new _ _ (escape-mark_bytes keep escape.first escape.others held) (escape.pushed held holds);
     }
 
 pub Run-escape_quoted : (parens keep : Bool) (quote : ℕ) (joined : Bool) (text rest : List ℕ) (line : ℕ) (old new : Option (List ℕ)) → is_quote quote ≡ true → Escape keep text old new rest → begins_joint text ≡ false
@@ -443,7 +443,7 @@ Run-escape_quoted parens keep quote joined text rest line old new quoting escape
       long = ap (λ n. suc (suc n)) (length-map escape.others Part);
       spelled = spelled-parts escape.others;
       counted = rw (feeds-escape escape.first escape.others other escape.high) (sym (add-zero line));
-      pushed = λ held holds. Holds-same new _ _ (escape-shown keep escape.first escape.others held) (escape.pushed held holds);
+      pushed = λ held holds. Holds-same new _ _ (escape-mark_bytes keep escape.first escape.others held) (escape.pushed held holds);
     }
 
 -- a backslash at the end of the text
@@ -538,8 +538,8 @@ pub begins-filled : (p : ℕ → Bool) (text : List ℕ) → begins p text ≡ t
 begins-filled p [] first = absurd (cc)
 begins-filled p (byte ∷ text) first = omega arith
 
-pub Run-shrinks : {parens keep : Bool} {mode behind : Mode} {text rest : List ℕ} {line reached : ℕ} {old new : Option (List ℕ)}
-    → Run parens keep mode text line behind rest reached old new → length rest ≤ length text
+pub Run-shrinks : {parens keep : Bool} {mode after : Mode} {text rest : List ℕ} {line reached : ℕ} {old new : Option (List ℕ)}
+    → Run parens keep mode text line after rest reached old new → length rest ≤ length text
 Run-shrinks {rest} a = omega (arith, ap length a.joined, length-append a.bytes rest)
 
 pub not-joint : (parens : Bool) (text : List ℕ) → ends_token parens text ≡ false → begins_joint text ≡ false

@@ -9,7 +9,7 @@ use Rattle.std.proofs.lemmas.List.{take-append-drop, take_all, length-take-le, a
 use Rattle.up_text.proofs.Runs.{feeds-none, feeds-append, feeds-length}
 use Rattle.std.proofs.lemmas.List.Splits.{slice_split-cons_no, slice_split-cons_yes}
 use Rattle.std.specs.List.{list_all, prefix_len, slice_split, onto_first, concat}
-use Rattle.up_text.proofs.Cuts.{Splits-behind, Splits-prefix, list_all-take, begins-drop, in_line-ascii}
+use Rattle.up_text.proofs.Cuts.{Splits-after, Splits-prefix, list_all-take, begins-drop, in_line-ascii}
 use Rattle.up_text.specs.Lexer.{is_in_word, is_in_line, BeginsWord, BeginsLine, EndsScript, Splits}
 use Rattle.up_text.specs.Places.{feeds}
 use Rattle.up_text.specs.Scripts.{lines_of, is_filled, words_in, are_end_words, may_follow, is_end_line, script_in}
@@ -88,7 +88,7 @@ word-cut text blanks words bytes word rest n splits same long front back =
 pub rest-cut : (text blanks words bytes word rest : List ℕ) (n : ℕ) → Splits is_blank text blanks words → bytes ≡ words → n ≡ prefix_len is_in_word bytes → word ≡ take n words → rest ≡ drop n words
     → Splits is_in_word (drop (prefix_len is_blank text) text) word rest
 rest-cut text blanks words bytes word rest n splits same long front back =
-    rw (front, back, long, same, Splits-behind is_blank text blanks words splits) (Splits-prefix is_in_word words)
+    rw (front, back, long, same, Splits-after is_blank text blanks words splits) (Splits-prefix is_in_word words)
 
 -- the first line of a text
 
@@ -201,12 +201,12 @@ concat-push (first ∷ before) line rest = append_assoc first (concat before) (l
 feeds-push : (before : List (List ℕ)) (line : List ℕ) → feeds (concat (before ++ line ∷ [])) ≡ feeds (concat before) + feeds line
 feeds-push before line = ap feeds (sym (append-nil _) ∙ sym (concat-push before line []) ∙ ap (λ xs. concat before ++ xs) (append-nil line)) ∙ feeds-append (concat before) line
 
-pub Passed-more : (text : List ℕ) (line : ℕ) (rest : List ℕ) (reached : ℕ) (first behind : List ℕ) (count : ℕ) → Passed text line rest reached → BeginsLine rest first behind count → is_end_line first ≡ false → Passed text line behind (reached + count)
-Passed-more text line rest reached first behind count passed begins other = record {
+pub Passed-more : (text : List ℕ) (line : ℕ) (rest : List ℕ) (reached : ℕ) (first beyond : List ℕ) (count : ℕ) → Passed text line rest reached → BeginsLine rest first beyond count → is_end_line first ≡ false → Passed text line beyond (reached + count)
+Passed-more text line rest reached first beyond count passed begins other = record {
   before = passed.before ++ first ∷ [];
-  joined = passed.joined ∙ ap (λ xs. concat passed.before ++ xs) begins.joined ∙ concat-push passed.before first behind;
-  found = λ after last is. passed.found (first ∷ after) last (ap script_in begins.lines ∙ script-more first (lines_of behind) after last other is) ∙ ap (λ b. Some (b, last)) (sym (append_assoc passed.before (first ∷ []) after));
-  none = λ is. passed.none (ap script_in begins.lines ∙ script-none first (lines_of behind) other is);
+  joined = passed.joined ∙ ap (λ xs. concat passed.before ++ xs) begins.joined ∙ concat-push passed.before first beyond;
+  found = λ after last is. passed.found (first ∷ after) last (ap script_in begins.lines ∙ script-more first (lines_of beyond) after last other is) ∙ ap (λ b. Some (b, last)) (sym (append_assoc passed.before (first ∷ []) after));
+  none = λ is. passed.none (ap script_in begins.lines ∙ script-none first (lines_of beyond) other is);
   counted = omega (arith, passed.counted, begins.counted, feeds-push passed.before first);
 }
 
@@ -218,12 +218,12 @@ pub Passed-boundary : (text : List ℕ) (line : ℕ) (rest : List ℕ) (reached 
 Passed-boundary text line rest reached passed utf8 =
     subst (IsCharBoundary text) (Passed-cut text line rest reached passed) (IsCharBoundary-at_seam text (concat passed.before) rest passed.joined utf8)
 
-pub Passed-end : (text : List ℕ) (line : ℕ) (rest : List ℕ) (reached : ℕ) (first behind : List ℕ) (count : ℕ) → Passed text line rest reached → BeginsLine rest first behind count → is_end_line first ≡ true → EndsScript text line (take (length text - length rest) text) behind (reached + count)
-Passed-end text line rest reached first behind count passed begins is = record {
+pub Passed-end : (text : List ℕ) (line : ℕ) (rest : List ℕ) (reached : ℕ) (first beyond : List ℕ) (count : ℕ) → Passed text line rest reached → BeginsLine rest first beyond count → is_end_line first ≡ true → EndsScript text line (take (length text - length rest) text) beyond (reached + count)
+Passed-end text line rest reached first beyond count passed begins is = record {
   before = passed.before;
   last = first;
   found = passed.found [] first (ap script_in begins.lines ∙ rw is refl) ∙ ap (λ b. Some (b, first)) (append-nil passed.before);
-  joined = passed.joined ∙ ap (λ xs. concat passed.before ++ xs) begins.joined ∙ sym (append_assoc (concat passed.before) first behind);
+  joined = passed.joined ∙ ap (λ xs. concat passed.before ++ xs) begins.joined ∙ sym (append_assoc (concat passed.before) first beyond);
   lines = ap (take (length text - length rest)) passed.joined ∙ take_at (concat passed.before) rest (length text - length rest) (Passed-cut text line rest reached passed);
   counted = omega (arith, passed.counted, begins.counted, feeds-append (concat passed.before) first);
 }

@@ -6,7 +6,7 @@ use Rattle.std.specs.Str.{IsCharBoundary}
 use Rattle.std.proofs.lemmas.Bool.Decides.{nat_tests}
 use Rattle.std.proofs.lemmas.List.{drop-drop}
 use Rattle.std.specs.List.{prefix_len}
-use Rattle.up_text.specs.Expansion.{Sign, Plain, Named, Braced, Opened, key_of, braced, dollar, sign, bytes_behind, signs}
+use Rattle.up_text.specs.Expansion.{Sign, Plain, Named, Braced, Opened, key_of, braced, dollar, sign, bytes_after, signs}
 use Rattle.up_pattern.specs.Lists.{begins}
 use Rattle.up_value.specs.Names.{is_key_start, is_key_byte}
 
@@ -48,27 +48,27 @@ IsCharBoundary-after_first (first ∷ text) byte utf8 is ascii =
     IsCharBoundary-after_ascii (first ∷ text) 0 utf8 (omega arith) (rw same ascii)
 
 -- what stands after `${`, a key and these bytes
-behind_key : (n k m : ℕ) (text front rest : List ℕ) → m ≡ suc (k + n) → drop k text ≡ front → drop n front ≡ rest → drop m (123 ∷ text) ≡ rest
-behind_key n k m text front rest is at gone = rw is (sym (drop-drop n k text) ∙ ap (drop n) at ∙ gone)
+after_key : (n k m : ℕ) (text front rest : List ℕ) → m ≡ suc (k + n) → drop k text ≡ front → drop n front ≡ rest → drop m (123 ∷ text) ≡ rest
+after_key n k m text front rest is at gone = rw is (sym (drop-drop n k text) ∙ ap (drop n) at ∙ gone)
 
 -- a `${` makes this sign
-made : (text rest : List ℕ) (sign : Sign) → braced (key_of text) (drop (length (key_of text)) text) ≡ sign → drop (bytes_behind sign) (123 ∷ text) ≡ rest → signs 0 (36 ∷ 123 ∷ text) ≡ sign ∷ signs 0 rest
-made text rest sign is gone = rw is (ap (λ later. sign ∷ later) (signs-drop (bytes_behind sign) (123 ∷ text) ∙ ap (signs 0) gone))
+made : (text rest : List ℕ) (sign : Sign) → braced (key_of text) (drop (length (key_of text)) text) ≡ sign → drop (bytes_after sign) (123 ∷ text) ≡ rest → signs 0 (36 ∷ 123 ∷ text) ≡ sign ∷ signs 0 rest
+made text rest sign is gone = rw is (ap (λ later. sign ∷ later) (signs-drop (bytes_after sign) (123 ∷ text) ∙ ap (signs 0) gone))
 
 pub signs-braced : (text key back rest : List ℕ) → key ≡ key_of text → back ≡ drop (length (key_of text)) text → (length key == 0) ≡ false → back ≡ 125 ∷ rest → signs 0 (36 ∷ 123 ∷ text) ≡ Braced key ∷ signs 0 rest
 signs-braced text key back rest is_key is_back filled begins =
     let at : drop (length key) text ≡ 125 ∷ rest = rw is_key (sym is_back ∙ begins) in
-    made text rest (Braced key) (rw (← is_key, at, filled) refl) (behind_key 1 (length key) (length key + 2) text (125 ∷ rest) rest (omega arith) at refl)
+    made text rest (Braced key) (rw (← is_key, at, filled) refl) (after_key 1 (length key) (length key + 2) text (125 ∷ rest) rest (omega arith) at refl)
 
 pub signs-opened : (text key back rest : List ℕ) → key ≡ key_of text → back ≡ drop (length (key_of text)) text → (length key == 0) ≡ false → back ≡ 45 ∷ rest → signs 0 (36 ∷ 123 ∷ text) ≡ Opened key false ∷ signs 0 rest
 signs-opened text key back rest is_key is_back filled begins =
     let at : drop (length key) text ≡ 45 ∷ rest = rw is_key (sym is_back ∙ begins) in
-    made text rest (Opened key false) (rw (← is_key, at, filled) refl) (behind_key 1 (length key) (length key + 2) text (45 ∷ rest) rest (omega arith) at refl)
+    made text rest (Opened key false) (rw (← is_key, at, filled) refl) (after_key 1 (length key) (length key + 2) text (45 ∷ rest) rest (omega arith) at refl)
 
 pub signs-opened_emptied : (text key back rest : List ℕ) → key ≡ key_of text → back ≡ drop (length (key_of text)) text → (length key == 0) ≡ false → back ≡ 58 ∷ 45 ∷ rest → signs 0 (36 ∷ 123 ∷ text) ≡ Opened key true ∷ signs 0 rest
 signs-opened_emptied text key back rest is_key is_back filled begins =
     let at : drop (length key) text ≡ 58 ∷ 45 ∷ rest = rw is_key (sym is_back ∙ begins) in
-    made text rest (Opened key true) (rw (← is_key, at, filled) refl) (behind_key 2 (length key) (length key + 3) text (58 ∷ 45 ∷ rest) rest (omega arith) at refl)
+    made text rest (Opened key true) (rw (← is_key, at, filled) refl) (after_key 2 (length key) (length key + 3) text (58 ∷ 45 ∷ rest) rest (omega arith) at refl)
 
 pub signs-named : (text key rest : List ℕ) → begins (λ first. first == 123) text ≡ false → key ≡ key_of text → (length key == 0) ≡ false → rest ≡ drop (length (key_of text)) text → signs 0 (36 ∷ text) ≡ Named key ∷ signs 0 rest
 signs-named [] key rest none is_key filled is_rest = absurd (true≢false (sym (ap (λ k. length k == 0) is_key) ∙ filled))

@@ -9,7 +9,7 @@ use Rattle.std.specs.List.{list_all, prefix_len, suffix_len, take_while}
 use Rattle.up_text.proofs.Gaps.{ends-gap_mark}
 use Rattle.up_text.proofs.Readings.{prefix_len-front}
 use Rattle.up_text.proofs.Runs.{all-weaker}
-use Rattle.up_text.specs.CommandParts.{marks_in, row_in, tidied, is_kept}
+use Rattle.up_text.specs.CommandParts.{marks_in, command_marks, trim_end_blanks, is_kept}
 use Rattle.up_text.specs.Lexer.{is_line_end, is_spelling, begins_gap}
 use Rattle.up_text.specs.Places.{is_space, is_stop}
 use Rattle.up_text.specs.Tokens.{Mark, Part, Quoting, Folded, Alone, Blank, Passed, Stop, Fail, Outside, marks, mode_after, mark_outside, open_after, is_line_feed, is_blank, is_hash, is_quote, is_backslash, reaches_feed}
@@ -39,21 +39,21 @@ suffix_len-front p front x later stop =
     reverse-append front (x ∷ later) ∙ ap (λ zs. zs ++ reverse front) (reverse-append (x ∷ []) later) ∙ append_assoc (reverse later) (x ∷ []) (reverse front) in
     ap (prefix_len p) turned ∙ prefix_len-before p (reverse later) x (reverse front) stop ∙ sym (ap (prefix_len p) (reverse-append (x ∷ []) later))
 
-suffix_len-behind : {X : Type 0} (p : X → Bool) (front later : List X) → list_all (λ x. not (p x)) front ≡ true → list_all p later ≡ true → suffix_len p (front ++ later) ≡ length later
-suffix_len-behind p front later none all =
+suffix_len-after : {X : Type 0} (p : X → Bool) (front later : List X) → list_all (λ x. not (p x)) front ≡ true → list_all p later ≡ true → suffix_len p (front ++ later) ≡ length later
+suffix_len-after p front later none all =
     ap (prefix_len p) (reverse-append front later)
     ∙ prefix_len-front p (reverse later) (reverse front) (list_all-reverse p later all) (prefix_len-none p (reverse front) (list_all-reverse (λ x. not (p x)) front none))
     ∙ length-reverse later
 
 -- marks that end with no blank stay before those that don't end with one
 
-pub tidied-front : (front : List Mark) (mark : Mark) (later : List Mark) → is_space mark ≡ false → tidied (front ++ mark ∷ later) ≡ front ++ tidied (mark ∷ later)
-tidied-front front mark later solid =
-    let row = mark ∷ later in
-    let n = suffix_len is_space row in
-    let size : length (front ++ row) - suffix_len is_space (front ++ row) ≡ length front + (length row - n) =
-    omega (arith, suffix_len-front is_space front mark later solid, suffix_len-le-length is_space row, length-append front row) in
-    ap (λ k. take k (front ++ row)) size ∙ take-append-add front row (length row - n)
+pub trim_end_blanks-front : (front : List Mark) (mark : Mark) (later : List Mark) → is_space mark ≡ false → trim_end_blanks (front ++ mark ∷ later) ≡ front ++ trim_end_blanks (mark ∷ later)
+trim_end_blanks-front front mark later solid =
+    let statement = mark ∷ later in
+    let n = suffix_len is_space statement in
+    let size : length (front ++ statement) - suffix_len is_space (front ++ statement) ≡ length front + (length statement - n) =
+    omega (arith, suffix_len-front is_space front mark later solid, suffix_len-le-length is_space statement, length-append front statement) in
+    ap (λ k. take k (front ++ statement)) size ∙ take-append-add front statement (length statement - n)
 
 spelling-solid : (mark : Mark) → is_spelling mark ≡ true → not (is_space mark) ≡ true
 spelling-solid (Part byte) is = refl
@@ -66,19 +66,19 @@ spelling-solid Passed is = absurd (false≢true is)
 spelling-solid Stop is = absurd (false≢true is)
 
 -- blanks after a spelling go
-pub tidied-behind : (front later : List Mark) → list_all is_spelling front ≡ true → list_all is_space later ≡ true → tidied (front ++ later) ≡ front
-tidied-behind front later spelled spaces =
+pub trim_end_blanks-after : (front later : List Mark) → list_all is_spelling front ≡ true → list_all is_space later ≡ true → trim_end_blanks (front ++ later) ≡ front
+trim_end_blanks-after front later spelled spaces =
     let size : length front ≡ length (front ++ later) - suffix_len is_space (front ++ later) =
-    omega (arith, suffix_len-behind is_space front later (all-weaker is_spelling (λ m. not (is_space m)) front spelling-solid spelled) spaces, length-append front later) in
+    omega (arith, suffix_len-after is_space front later (all-weaker is_spelling (λ m. not (is_space m)) front spelling-solid spelled) spaces, length-append front later) in
     take_at front later _ size
 
 -- the marks up to the stanza's end
 
-pub take_while-behind : {X : Type 0} (p : X → Bool) (front later : List X) → list_all p front ≡ true → take_while p (front ++ later) ≡ front ++ take_while p later
-take_while-behind p [] later all = refl
-take_while-behind p (x ∷ front) later all =
+pub take_while-after : {X : Type 0} (p : X → Bool) (front later : List X) → list_all p front ≡ true → take_while p (front ++ later) ≡ front ++ take_while p later
+take_while-after p [] later all = refl
+take_while-after p (x ∷ front) later all =
     let both = and_parts (p x) (list_all p front) all in
-    take_while-cons p x (front ++ later) ∙ rw both.0 (ap (λ xs. x ∷ xs) (take_while-behind p front later both.1))
+    take_while-cons p x (front ++ later) ∙ rw both.0 (ap (λ xs. x ∷ xs) (take_while-after p front later both.1))
 
 kept-goes_on : (mark : Mark) → is_kept mark ≡ true → not (is_stop mark) ≡ true
 kept-goes_on (Part byte) is = refl
@@ -113,14 +113,14 @@ kept-both front later first second = list_all-append is_kept front later ∙ and
 pub kept-all : (front : List Mark) → list_all is_kept front ≡ true → list_all (λ m. not (is_stop m)) front ≡ true
 kept-all front kept = all-weaker is_kept (λ m. not (is_stop m)) front kept-goes_on kept
 
-pub row-behind : (text rest : List ℕ) (front : List Mark) → marks_in text ≡ front ++ marks_in rest → list_all is_kept front ≡ true → row_in text ≡ front ++ row_in rest
-row-behind text rest front same kept =
-    ap (take_while (λ m. not (is_stop m))) same ∙ take_while-behind (λ m. not (is_stop m)) front (marks_in rest) (kept-all front kept)
+pub statement-after : (text rest : List ℕ) (front : List Mark) → marks_in text ≡ front ++ marks_in rest → list_all is_kept front ≡ true → command_marks text ≡ front ++ command_marks rest
+statement-after text rest front same kept =
+    ap (take_while (λ m. not (is_stop m))) same ∙ take_while-after (λ m. not (is_stop m)) front (marks_in rest) (kept-all front kept)
 
 -- a row that ends here
-pub row-ends : (rest : List ℕ) → is_line_end rest ≡ true → row_in rest ≡ []
-row-ends [] ends = refl
-row-ends (byte ∷ rest) feed = rw feed refl
+pub statement-ends : (rest : List ℕ) → is_line_end rest ≡ true → command_marks rest ≡ []
+statement-ends [] ends = refl
+statement-ends (byte ∷ rest) feed = rw feed refl
 
 -- a row that goes on
 
@@ -137,17 +137,17 @@ goes_on-mark byte text apart =
     by_case false r false false j true = refl
     by_case false r false false j false = refl
 
-pub record GoesOn (row : List Mark) : Type 0 where
+pub record GoesOn (statement : List Mark) : Type 0 where
   pub mark : Mark
   pub later : List Mark
-  pub is : row ≡ mark ∷ later
+  pub is : statement ≡ mark ∷ later
   pub solid : is_space mark ≡ false
 
-pub row-goes_on : (rest : List ℕ) → is_line_end rest ≡ false → begins_gap false rest ≡ false → GoesOn (row_in rest)
-row-goes_on [] within behind = absurd (true≢false within)
-row-goes_on (byte ∷ text) within behind = record {
+pub statement-goes_on : (rest : List ℕ) → is_line_end rest ≡ false → begins_gap false rest ≡ false → GoesOn (command_marks rest)
+statement-goes_on [] within after = absurd (true≢false within)
+statement-goes_on (byte ∷ text) within after = record {
   mark = mark_outside false 0 false byte text;
   later = take_while (λ m. not (is_stop m)) (marks false (open_after 0 (mark_outside false 0 false byte text)) (mode_after (Outside false) byte text) text);
   is = take_while-cons (λ m. not (is_stop m)) (mark_outside false 0 false byte text) _ ∙ rw (goes_on-mark byte text within) refl;
-  solid = (or_parts _ _ (ends-gap_mark true false 0 false byte text behind)).0;
+  solid = (or_parts _ _ (ends-gap_mark true false 0 false byte text after)).0;
 }

@@ -2,6 +2,7 @@
 use Rattle.std.specs.Prelude.{◌≡◌, ◌⊎◌, ℕ, zero, suc, ◌+◌, ◌*◌, if◌then◌else◌, List, [], ◌∷◌, length, Option, None, Some, Result, Ok, Err}
 use Rattle.up_value.specs.declared.fault.TextFault.{TextFault}
 use Rattle.up_value.specs.declared.fault.TextFault.TheVariants.{Memory}
+use Rattle.up_value.specs.Values.{Bytes}
 use Rattle.up_text.specs.declared.token.Token.{Token}
 use Rattle.up_text.specs.Places.{Place, start, Reading, Got, Ended, Fails, line_at, reading}
 
@@ -13,14 +14,14 @@ pub data Lexeme : Type 0 where
 
 -- one reading, and then the others. Outside a stanza an end is that of the text
 abbrev pub lexeme_by : (Place → List Lexeme) → Place → Reading → List Lexeme
-lexeme_by more place (Got token behind) = Word token ∷ more behind
-lexeme_by more place (Ended behind) = if place.inside then End ∷ more behind else []
+lexeme_by more place (Got token after) = Word token ∷ more after
+lexeme_by more place (Ended after) = if place.inside then End ∷ more after else []
 lexeme_by more place (Fails fault) = Bad (line_at place) fault ∷ []
 
 -- so many readings
 unfoldable pub lexemes_from : ℕ → Place → List Lexeme
 lexemes_from zero place = []
-lexemes_from (suc n) place = lexeme_by (λ behind. lexemes_from n behind) place (reading place)
+lexemes_from (suc n) place = lexeme_by (λ after. lexemes_from n after) place (reading place)
 
 -- a number of readings that is always enough: each passes a byte of the text, or ends the last stanza
 abbrev pub readings_left : Place → ℕ
@@ -31,7 +32,7 @@ unfoldable pub lexemes_of : Place → List Lexeme
 lexemes_of place = lexemes_from (readings_left place) place
 
 -- what is read from a text
-abbrev pub lexemes : List ℕ → List Lexeme
+abbrev pub lexemes : Bytes → List Lexeme
 lexemes text = lexemes_of (start text)
 
 -- a lexeme before the first stanza
@@ -47,7 +48,7 @@ split_ends (Bad line fault ∷ later) = put_front (Bad line fault) (split_ends l
 split_ends (Word token ∷ later) = put_front (Word token) (split_ends later)
 
 -- the stanzas of a text; at a token that is refused the last one breaks off
-abbrev pub stanzas : List ℕ → List (List Lexeme)
+abbrev pub stanzas : Bytes → List (List Lexeme)
 stanzas text = split_ends (lexemes text)
 
 -- what one reading gives and leaves of lexemes: nothing at the text's end; nothing at a stanza's end, which is passed; the fault of a

@@ -26,4 +26,4 @@ pub mod Lexemes
 -- Tokens printed plainly, and what is read from that.
 pub mod Printing
 -- The tokens of a stanza, and where they end.
-pub mod Rows
+pub mod Statements

@@ -3,6 +3,7 @@ use Rattle.std.specs.Prelude.{ℕ, ◌+◌, ◌-◌, Bool, true, false, ◌||◌
 use Rattle.up_pattern.specs.Lists.{begins}
 use Rattle.up_value.specs.declared.fault.TextFault.{TextFault}
 use Rattle.up_value.specs.declared.fault.TextFault.TheVariants.{UnterminatedQuote, TrailingBackslash}
+use Rattle.up_value.specs.Values.{Bytes}
 
 -- what a byte is: one that a token is given; a quote or a backslash, which belongs to a token and gives it nothing; one of a
 -- quoted piece that is joined with others to one space; a parenthesis that is a token of its own; a blank between tokens; one of a
@@ -52,16 +53,17 @@ unfoldable pub is_paren : ℕ → Bool
 is_paren byte = byte == 40 || byte == 41
 
 -- a text that goes on to a line end over nothing but blanks, perhaps by a backslash
-abbrev pub reaches_feed : List ℕ → Bool
+abbrev pub reaches_feed : Bytes → Bool
 reaches_feed [] = false
-reaches_feed (byte ∷ text) = is_line_feed byte || (is_blank byte && reaches_feed text) || (is_backslash byte && begins is_line_feed text)
+reaches_feed (byte ∷ text) = is_line_feed byte || (is_blank byte && reaches_feed text)
+    || (is_backslash byte && begins is_line_feed text)
 
 -- a line end ends the stanza if no parenthesis is open
 abbrev pub feed_mark : ℕ → Mark
 feed_mark depth = if depth == 0 then Stop else Passed
 
 -- what a byte is outside quotes and comments, by what stands after it
-abbrev pub mark_outside : Bool → ℕ → Bool → ℕ → List ℕ → Mark
+abbrev pub mark_outside : Bool → ℕ → Bool → ℕ → Bytes → Mark
 mark_outside parens depth joined byte text =
     if is_line_feed byte then feed_mark depth
     else (if is_blank byte then (if joined || reaches_feed text then Passed else Blank byte)
@@ -72,7 +74,7 @@ mark_outside parens depth joined byte text =
     else Part byte)))))
 
 -- what it is inside quotes: a run of blanks with a line end in it is one space, which the first line end gives
-abbrev pub mark_quoted : ℕ → Bool → ℕ → List ℕ → Mark
+abbrev pub mark_quoted : ℕ → Bool → ℕ → Bytes → Mark
 mark_quoted quote joined byte text =
     if byte == quote then Quoting byte
     else (if is_line_feed byte then (if joined then Folded else Part 32)
@@ -81,7 +83,7 @@ mark_quoted quote joined byte text =
     else Part byte)))
 
 -- what a byte is
-abbrev pub mark_of : Bool → ℕ → Mode → ℕ → List ℕ → Mark
+abbrev pub mark_of : Bool → ℕ → Mode → ℕ → Bytes → Mark
 mark_of parens depth (Outside joined) byte text = mark_outside parens depth joined byte text
 mark_of parens depth Comment byte text = if is_line_feed byte then feed_mark depth else Passed
 mark_of parens depth Escaped byte text = Part byte
@@ -90,7 +92,7 @@ mark_of parens depth (Quoted quote joined) byte text = mark_quoted quote joined 
 mark_of parens depth (QuotedEscape quote) byte text = Part byte
 
 -- where the byte after one outside quotes and comments stands
-abbrev pub mode_outside : Bool → ℕ → List ℕ → Mode
+abbrev pub mode_outside : Bool → ℕ → Bytes → Mode
 mode_outside joined byte text =
     if is_blank byte then Outside joined
     else (if is_hash byte then Comment
@@ -99,16 +101,17 @@ mode_outside joined byte text =
     else Outside false)))
 
 -- where the byte after one inside quotes stands
-abbrev pub mode_quoted : ℕ → Bool → ℕ → List ℕ → Mode
+abbrev pub mode_quoted : ℕ → Bool → ℕ → Bytes → Mode
 mode_quoted quote joined byte text =
     if byte == quote then Outside false
     else (if is_line_feed byte then Quoted quote true
     else (if is_blank byte then Quoted quote joined
-    else (if is_backslash byte then (if begins is_line_feed text then Quoted quote joined else QuotedEscape quote)
+    else (if is_backslash byte then (if begins is_line_feed text then Quoted quote joined
+    else QuotedEscape quote)
     else Quoted quote false)))
 
 -- where the next byte stands
-abbrev pub mode_after : Mode → ℕ → List ℕ → Mode
+abbrev pub mode_after : Mode → ℕ → Bytes → Mode
 mode_after (Outside joined) byte text = mode_outside joined byte text
 mode_after Comment byte text = if is_line_feed byte then Outside false else Comment
 mode_after Escaped byte text = Outside false
@@ -129,7 +132,7 @@ end_marks (QuotedEscape quote) = Fail UnterminatedQuote ∷ []
 end_marks other = []
 
 -- the marks of a text, one for each byte; whether parentheses are tokens, and how many are open
-abbrev pub marks : Bool → ℕ → Mode → List ℕ → List Mark
+abbrev pub marks : Bool → ℕ → Mode → Bytes → List Mark
 marks parens depth mode [] = end_marks mode
 marks parens depth mode (byte ∷ text) =
     let mark = mark_of parens depth mode byte text in

@@ -2,8 +2,8 @@
 ghost use Rattle.std.specs.Prelude.{◌≡◌, ◌≤◌, ◌<◌, ◌||◌, ◌==◌, true, false, not, List, ◌∷◌, ◌++◌, length, drop, MatchOption, option_map};
 ghost use Rattle.std.specs.List.{prefix_len};
 ghost use Rattle.up_value.specs.Bindings.{value_of};
-ghost use Rattle.up_text.specs.Expanding.{Gives, IsGiven, depth_behind, said, signs_of};
-ghost use Rattle.up_text.specs.Expansion.{Sign, Lacks, counted, expand, is_expandable, key_of, signs, texts_of};
+ghost use Rattle.up_text.specs.Expanding.{Gives, IsGiven, depth_after, piece_texts, signs_of};
+ghost use Rattle.up_text.specs.Expansion.{Sign, Lacks, usable_value, expand, is_expandable, key_of, signs, texts_of};
 ghost use Rattle.up_pattern.specs.Lists.{begins};
 ghost use Rattle.up_value.specs.Names.{is_key_byte, is_key_start};
 
@@ -61,9 +61,10 @@ fn begins_with(text: &str, byte: u8) -> bool
 }
 
 // The text after its first byte, if that is this one.
-fn behind(text: &str, byte: u8) -> Option<&str>
+fn after(text: &str, byte: u8) -> Option<&str>
     requires { byte < 128 }
-    ensures { MatchOption result (begins (λ first. first == byte) text.now ≡ false) (λ rest. text.now ≡ byte ∷ rest.now) }
+    ensures { MatchOption result (begins (λ first. first == byte) text.now ≡ false) (λ rest. text.now
+        ≡ byte ∷ rest.now) }
 {
     if begins_with(text, byte) {
         Some(&text[1..])
@@ -115,14 +116,14 @@ fn read_braced(text: &str) -> (Piece, &str)
     if key.is_empty() {
         return (Piece::Wrong, text);
     }
-    if let Some(rest) = behind(rest, b'}') {
+    if let Some(rest) = after(rest, b'}') {
         return (Piece::Braced(key), rest);
     }
-    if let Some(rest) = behind(rest, b'-') {
+    if let Some(rest) = after(rest, b'-') {
         return (Piece::Opened(key, false), rest);
     }
-    if let Some(rest) = behind(rest, b':') {
-        if let Some(rest) = behind(rest, b'-') {
+    if let Some(rest) = after(rest, b':') {
+        if let Some(rest) = after(rest, b'-') {
             return (Piece::Opened(key, true), rest);
         }
     }
@@ -134,7 +135,7 @@ fn read_dollar(text: &str) -> (Piece, &str)
     ensures same { signs 0 (36 ∷ text.now) ≡ signs_of result.0 ++ signs 0 result.1.now }
     ensures shorter { length result.1.now ≤ length text.now }
 {
-    if let Some(rest) = behind(text, b'{') {
+    if let Some(rest) = after(text, b'{') {
         return read_braced(rest);
     }
     let (key, rest) = split_key(text);
@@ -150,10 +151,10 @@ fn read_piece(text: &str) -> (Piece, &str)
     ensures same { signs 0 text.now ≡ signs_of result.0 ++ signs 0 result.1.now }
     ensures shorter { length result.1.now < length text.now }
 {
-    if let Some(rest) = behind(text, b'$') {
+    if let Some(rest) = after(text, b'$') {
         return read_dollar(rest);
     }
-    if let Some(rest) = behind(text, b'}') {
+    if let Some(rest) = after(text, b'}') {
         return (Piece::Closing, rest);
     }
     let (run, rest) = text.split_at(run_len(text.as_bytes()));
@@ -161,12 +162,13 @@ fn read_piece(text: &str) -> (Piece, &str)
 }
 
 // How many texts are open after a piece, by how many were; none if the piece makes the text malformed.
-#[tactic(auto, using(crate::proofs::Nesting::said_run))]
-fn depth_behind(depth: usize, piece: Piece) -> Option<usize>
+#[tactic(auto, using(crate::proofs::Nesting::piece_texts_run))]
+fn depth_after(depth: usize, piece: Piece) -> Option<usize>
     requires { depth ≤ 16 }
-    ensures said { (later : List Sign) → texts_of depth (signs_of piece.entry ++ later) ≡ said depth piece.entry later result }
+    ensures piece_texts { (later : List Sign)
+        → texts_of depth (signs_of piece.entry ++ later) ≡ piece_texts depth piece.entry later result }
     ensures shallow { MatchOption result Unit (λ deeper. deeper ≤ 16) }
-    ensures depth { MatchOption result Unit (λ deeper. deeper ≡ depth_behind depth piece.entry) }
+    ensures depth { MatchOption result Unit (λ deeper. deeper ≡ depth_after depth piece.entry) }
 {
     match piece {
         Piece::Run(_) => Some(depth),
@@ -183,8 +185,8 @@ fn depth_behind(depth: usize, piece: Piece) -> Option<usize>
 }
 
 // The value of a key; if emptied, an empty one doesn't count.
-fn counted<'a>(env: &'a Env, key: &str, emptied: bool) -> Option<&'a str>
-    ensures { option_map (λ value. value.now) result ≡ counted emptied (value_of key.now env.now) }
+fn usable_value<'a>(env: &'a Env, key: &str, emptied: bool) -> Option<&'a str>
+    ensures { option_map (λ value. value.now) result ≡ usable_value emptied (value_of key.now env.now) }
 {
     match env.get(key) {
         Some(value) => {
@@ -209,7 +211,7 @@ fn given_by<'a>(env: &'a Env, piece: Piece<'a>, depth: usize) -> Given<'a>
             Some(value) => Given::Text(value),
             None => Given::Lacks(key),
         },
-        Piece::Opened(key, emptied) => match counted(env, key, emptied) {
+        Piece::Opened(key, emptied) => match usable_value(env, key, emptied) {
             Some(value) => Given::Text(value),
             None => Given::Default,
         },
@@ -236,7 +238,7 @@ fn write_text(alloc: Global, text: &str, env: &Env) -> Result<Expanded, TextFaul
     let mut kept = MAX_DEPTH;
     'pieces: while !rest.is_empty() {
         let (piece, later) = read_piece(rest);
-        let Some(deeper) = depth_behind(depth, piece) else {
+        let Some(deeper) = depth_after(depth, piece) else {
             return Err(TextFault::BadExpansion);
         };
         if depth <= kept {
@@ -263,7 +265,7 @@ pub fn is_expandable(text: &str) -> bool
     let mut depth = 0usize;
     'pieces: while !rest.is_empty() {
         let (piece, later) = read_piece(rest);
-        let Some(deeper) = depth_behind(depth, piece) else {
+        let Some(deeper) = depth_after(depth, piece) else {
             return false;
         };
         depth = deeper;

@@ -1,7 +1,7 @@
 //! Reads the tokens of a job file or a script.
 ghost use Rattle.std.specs.Prelude.{◌≡◌, ◌+◌, ◌<◌, ◌≤◌, ◌^◌, true, length, take, drop};
 ghost use Rattle.up_text.specs.Lexer.{is_line_end};
-ghost use Rattle.up_text.specs.Places.{feeds, start, reading, Answers, line_at, is_finished, switched};
+ghost use Rattle.up_text.specs.Places.{feeds, start, reading, Answers, line_at, is_finished, with_parens};
 ghost use Rattle.up_text.specs.Scripts.{ReadsScript};
 ghost use Rattle.up_text.specs.Commands.{ReadsCommand};
 
@@ -104,7 +104,7 @@ impl<'a> Lexer<'a> {
 
     /// From here on parentheses are tokens of their own, or no longer. None is open then.
     pub fn parens(&mut self, on: bool)
-        ensures { self.new ≡ switched on self.old }
+        ensures { self.new ≡ with_parens on self.old }
     {
         self.parens = on;
         self.depth = 0;

@@ -2,39 +2,43 @@ use Rattle.std.specs.Prelude.{◌≡◌, ℕ, suc, Bool, true, false, ◌&&◌, 
 use Rattle.std.specs.BTreeMap.{BTreeMap, get_by_text}
 use Rattle.std.specs.Str.{bytes_eq}
 use Rattle.up_value.specs.Names.{is_key, is_value}
+use Rattle.up_value.specs.Values.{Bytes, Bindings}
 
 -- The bindings of an environment or an event are pairs of a key and its value, in order.
 
 -- the value of a key
-abbrev pub value_of : List ℕ → List (List ℕ × List ℕ) → Option (List ℕ)
+abbrev pub value_of : Bytes → Bindings → Option Bytes
 value_of key [] = None
 value_of key (binding ∷ bindings) = if bytes_eq key binding.0 then Some binding.1 else value_of key bindings
 
 -- a key is set: one that is there keeps its place, and a new one goes last
-abbrev pub set_in : List ℕ → List ℕ → List (List ℕ × List ℕ) → List (List ℕ × List ℕ)
+abbrev pub set_in : Bytes → Bytes → Bindings → Bindings
 set_in key value [] = (key, value) ∷ []
-set_in key value (binding ∷ bindings) = if bytes_eq key binding.0 then (binding.0, value) ∷ bindings else binding ∷ set_in key value bindings
+set_in key value (binding ∷ bindings) =
+    if bytes_eq key binding.0 then (binding.0, value) ∷ bindings else binding ∷ set_in key value bindings
 
 -- each of the pairs is set in turn
-abbrev pub set_all : List (List ℕ × List ℕ) → List (List ℕ × List ℕ) → List (List ℕ × List ℕ)
+abbrev pub set_all : Bindings → Bindings → Bindings
 set_all bindings [] = bindings
 set_all bindings (pair ∷ pairs) = set_all (set_in pair.0 pair.1 bindings) pairs
 
 -- whether the key is among those of the bindings
-abbrev pub has_key : List ℕ → List (List ℕ × List ℕ) → Bool
+abbrev pub has_key : Bytes → Bindings → Bool
 has_key key [] = false
 has_key key (binding ∷ bindings) = if bytes_eq key binding.0 then true else has_key key bindings
 
 -- distinct keys, each with a value that it may have
-abbrev pub are_bindings : List (List ℕ × List ℕ) → Bool
+abbrev pub are_bindings : Bindings → Bool
 are_bindings [] = true
-are_bindings (binding ∷ bindings) = is_key binding.0 && is_value binding.1 && not (has_key binding.0 bindings) && are_bindings bindings
+are_bindings (binding ∷ bindings) = is_key binding.0 && is_value binding.1
+    && not (has_key binding.0 bindings) && are_bindings bindings
 
 -- the place of a key among those of the bindings
-abbrev pub place_of : List ℕ → List (List ℕ × List ℕ) → Option ℕ
+abbrev pub place_of : Bytes → Bindings → Option ℕ
 place_of key [] = None
-place_of key (binding ∷ bindings) = if bytes_eq key binding.0 then Some 0 else option_map (λ place. suc place) (place_of key bindings)
+place_of key (binding ∷ bindings) = if bytes_eq key binding.0 then Some 0
+    else option_map (λ place. suc place) (place_of key bindings)
 
 -- a map from keys to their places among the bindings
-abbrev pub AreIndexed : {A : Type 0} → BTreeMap (String A) ℕ → List (List ℕ × List ℕ) → Type 0
-AreIndexed places bindings = (key : List ℕ) → get_by_text places key ≡ place_of key bindings
+abbrev pub AreIndexed : {A : Type 0} → BTreeMap (String A) ℕ → Bindings → Type 0
+AreIndexed places bindings = (key : Bytes) → get_by_text places key ≡ place_of key bindings

@@ -1,3 +1,5 @@
+-- The values that definitions speak of.
+pub mod Values
 -- Names, keys and values (init(5)).
 pub mod Names
 -- Environments: lists of distinct keys with values.

@@ -5,6 +5,7 @@ ghost use Rattle.std.specs.Str.{bytes_eq};
 ghost use Rattle.std.specs.List.{list_all};
 ghost use Rattle.up_value.specs.Names.{is_key, is_key_start, is_key_byte, is_value};
 ghost use Rattle.up_value.specs.Bindings.{value_of, set_in, set_all};
+ghost use Rattle.up_value.specs.Values.{Bytes};
 
 use crate::fault::TextFault;
 use crate::text::Text;
@@ -82,7 +83,7 @@ fn find(places: &BTreeMap<String, usize>, key: &str) -> Option<usize>
 
 fn value_at(pairs: &[(Text, Text)], place: usize) -> &str
     requires { place < length pairs.now }
-    ensures { (d : List ℕ × List ℕ) → result.now ≡ (slice_index_or pairs.now place d).1 }
+    ensures { (d : Bytes × Bytes) → result.now ≡ (slice_index_or pairs.now place d).1 }
 {
     let (_, value) = &pairs[place];
     value.as_str()
@@ -91,7 +92,8 @@ fn value_at(pairs: &[(Text, Text)], place: usize) -> &str
 // Gives the key at a place another value.
 fn set_value(pairs: &mut Vec<(Text, Text)>, place: usize, value: Text)
     requires { place < length pairs.old.items }
-    ensures { (d : List ℕ × List ℕ) → pairs.new.items ≡ slice_set pairs.old.items place ((slice_index_or pairs.old.items place d).0, value) }
+    ensures { (d : Bytes × Bytes) → pairs.new.items
+        ≡ slice_set pairs.old.items place ((slice_index_or pairs.old.items place d).0, value) }
 {
     let pair = &mut pairs[place];
     pair.1 = value;
@@ -99,8 +101,11 @@ fn set_value(pairs: &mut Vec<(Text, Text)>, place: usize, value: Text)
 
 // Notes where a key stands.
 fn index(places: &mut BTreeMap<String, usize>, key: String, place: usize) -> Result<(), AllocError>
-    ensures noted { OnOk result ((other : List ℕ) → get_by_text places.new other ≡ (if bytes_eq (string_bytes key) other then Some place else get_by_text places.old other)) }
-    ensures unchanged { OnErr result ((other : List ℕ) → get_by_text places.new other ≡ get_by_text places.old other) }
+    ensures noted { OnOk result ((other : Bytes)
+        → get_by_text places.new other ≡ (if bytes_eq (string_bytes key) other then Some place
+        else get_by_text places.old other)) }
+    ensures unchanged { OnErr result ((other : Bytes)
+        → get_by_text places.new other ≡ get_by_text places.old other) }
 {
     places.insert(key, place)?;
     Ok(())
@@ -114,9 +119,12 @@ fn add(
     value: Text,
 ) -> Result<(), AllocError>
     ensures pairs { OnOk result (pairs.new.items ≡ pairs.old.items ++ (key.now, value) ∷ []) }
-    ensures places { OnOk result ((other : List ℕ) → get_by_text places.new other ≡ (if bytes_eq key.now other then Some (length pairs.old.items) else get_by_text places.old other)) }
+    ensures places { OnOk result ((other : Bytes)
+        → get_by_text places.new other ≡ (if bytes_eq key.now other then Some (length pairs.old.items)
+        else get_by_text places.old other)) }
     ensures pairs_stay { OnErr result (pairs.new.items ≡ pairs.old.items) }
-    ensures places_stay { OnErr result ((other : List ℕ) → get_by_text places.new other ≡ get_by_text places.old other) }
+    ensures places_stay { OnErr result ((other : Bytes)
+        → get_by_text places.new other ≡ get_by_text places.old other) }
 {
     let alloc = *pairs.allocator();
     let name = Text::from_str(alloc, key)?;
@@ -181,8 +189,10 @@ impl Env {
     /// Sets a key: one that is there keeps its place and takes the new value, and a new one goes last. Refused with `BadName` for
     /// a bad key or value; a refusal changes nothing.
     pub fn set(&mut self, key: &str, value: &str) -> Result<(), TextFault>
-        ensures ok { OnOk result ((self.new ≡ set_in key.now value.now self.old) × IsTrue (is_key key.now && is_value value.now)) }
-        ensures refused { IfErr result (λ fault. fault ≡ (if is_key key.now && is_value value.now then TextFault.Memory else TextFault.BadName)) }
+        ensures ok { OnOk result ((self.new ≡ set_in key.now value.now self.old)
+            × IsTrue (is_key key.now && is_value value.now)) }
+        ensures refused { IfErr result (λ fault. fault
+            ≡ (if is_key key.now && is_value value.now then TextFault.Memory else TextFault.BadName)) }
         ensures unchanged { OnErr result (self.new ≡ self.old) }
     {
         if !is_key(key) || !is_value(value) {

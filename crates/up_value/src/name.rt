@@ -54,7 +54,8 @@ impl Name {
     /// without `"`, `'`, `\`, `(`, `)`, `#`, `=` and `$`.
     pub fn new(alloc: Global, text: &str) -> Result<Self, TextFault>
         ensures named { IfOk result (λ name. (name ≡ text.now) × IsTrue (is_name text.now)) }
-        ensures refused { IfErr result (λ fault. fault ≡ (if is_name text.now then TextFault.Memory else TextFault.BadName)) }
+        ensures refused { IfErr result (λ fault. fault
+            ≡ (if is_name text.now then TextFault.Memory else TextFault.BadName)) }
     {
         if !is_name(text) {
             return Err(TextFault::BadName);

@@ -1,6 +1,7 @@
 -- The bytes by which a client is answered: frames whose payload is a byte and text. Full frames say that more follows, and the last one
 -- whether the request succeeded.
 use Rattle.std.specs.Prelude.{◌≡◌, ◌≤◌, ◌-◌, ◌*◌, ◌/◌, ◌==◌, ◌&&◌, ◌||◌, not, ℕ, zero, suc, Bool, true, false, List, [], ◌∷◌, ◌++◌, length, take, drop, Option, None, Some, option_map, Result, Ok, Err, if◌then◌else◌}
+use Rattle.up_wire.specs.declared.answers.TheConstants.{MAX_CHUNK}
 use Rattle.std.specs.List.{flat_map, AllByRecursion}
 use Rattle.std.specs.Str.{is_utf8}
 use Rattle.up_model.specs.declared.request.Answer.{Answer}
@@ -14,7 +15,7 @@ use Rattle.up_wire.specs.Frames.{Bytes, max_payload, frame, is_partial, IsFaulty
 
 -- the text of a full frame
 abbrev pub max_chunk : ℕ
-max_chunk = 65535
+max_chunk = MAX_CHUNK
 
 abbrev pub chunk_frame : Bytes → Bytes
 chunk_frame chunk = frame (2 ∷ chunk)
@@ -34,7 +35,8 @@ verdict_number true = 0
 verdict_number false = 1
 
 unfoldable pub frames_of : Bool → Bytes → Bytes
-frames_of ok text = chunk_frames (full_frames text) text ++ frame (verdict_number ok ∷ drop (max_chunk * full_frames text) text)
+frames_of ok text = chunk_frames (full_frames text) text
+    ++ frame (verdict_number ok ∷ drop (max_chunk * full_frames text) text)
 
 abbrev pub answer_frames : Answer → Bytes
 answer_frames answer = frames_of answer.ok answer.text
@@ -111,7 +113,8 @@ AnswersStop Memory bytes = Unit {0}
 abbrev pub LiesAhead : Bytes → Bytes → Result Ahead WireFault → Type 0
 LiesAhead bytes text (Ok (Open rest)) = Opens bytes text rest.now × (is_partial rest.now ≡ true)
 LiesAhead bytes text (Ok (Last payload after)) =
-    Opens bytes text (frame payload.now ++ after.now) × (length payload.now ≤ max_payload) × (is_chunk payload.now ≡ false)
+    Opens bytes text (frame payload.now ++ after.now) × (length payload.now ≤ max_payload)
+    × (is_chunk payload.now ≡ false)
 LiesAhead bytes text (Err fault) = AnswerBegins fault bytes
 
 -- if no frame was taken, the bytes are what is left

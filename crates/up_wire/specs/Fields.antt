@@ -20,7 +20,8 @@ number_at n bytes = if nat_le n (length bytes) then Some (big_number n bytes, dr
 
 -- the first bytes, as many as there must be
 abbrev pub split_at : ℕ × Bytes → Option (Bytes × Bytes)
-split_at counted = if nat_le counted.0 (length counted.1) then Some (take counted.0 counted.1, drop counted.0 counted.1) else None
+split_at counted = if nat_le counted.0 (length counted.1)
+    then Some (take counted.0 counted.1, drop counted.0 counted.1) else None
 
 abbrev pub if_text : Bytes × Bytes → Option (Bytes × Bytes)
 if_text found = if is_utf8 found.0 then Some found else None
@@ -31,14 +32,17 @@ text_at bytes = option_and_then (λ counted. option_and_then if_text (split_at c
 -- variables with one more, if it may be there
 abbrev pub with_variable : Variables → Bytes → Bytes × Bytes → Option (Variables × Bytes)
 with_variable vars key value =
-    if is_key key && is_value value.0 && is_none (value_of key vars) then Some (set_in key value.0 vars, value.1) else None
+    if is_key key && is_value value.0 && is_none (value_of key vars)
+    then Some (set_in key value.0 vars, value.1) else None
 
 unfoldable pub variable_at : Variables → Bytes → Option (Variables × Bytes)
-variable_at vars bytes = option_and_then (λ key. option_and_then (with_variable vars key.0) (text_at key.1)) (text_at bytes)
+variable_at vars bytes =
+    option_and_then (λ key. option_and_then (with_variable vars key.0) (text_at key.1)) (text_at bytes)
 
 abbrev pub variables_at : ℕ → Variables → Bytes → Option (Variables × Bytes)
 variables_at zero vars bytes = Some (vars, bytes)
-variables_at (suc count) vars bytes = option_and_then (λ more. variables_at count more.0 more.1) (variable_at vars bytes)
+variables_at (suc count) vars bytes =
+    option_and_then (λ more. variables_at count more.0 more.1) (variable_at vars bytes)
 
 -- a command by its byte
 abbrev pub command_of : ℕ → Option Command
@@ -60,18 +64,28 @@ wait_of byte = if byte == 0 then Some true else (if byte == 1 then Some false el
 -- the request of these parts, if nothing follows them and they are one
 abbrev pub if_request : Command → Bool → Bytes → Variables × Bytes → Option RequestValue
 if_request its wait name (vars, []) =
-    if is_request its wait name vars then Some (record { command = its; wait = wait; name = name; vars = vars }) else None
+    if is_request its wait name vars then Some (record {
+      command = its;
+      wait = wait;
+      name = name;
+      vars =
+          vars;
+    }) else None
 if_request its wait name (vars, byte ∷ bytes) = None
 
 -- the name and the variables of a request
 unfoldable pub about_at : Command → Bool → Bytes → Option RequestValue
 about_at its wait bytes =
-    option_and_then (λ name. option_and_then (λ count. option_and_then (if_request its wait name.0) (variables_at count.0 [] count.1)) (number_at 2 name.1)) (text_at bytes)
+    option_and_then (λ name. option_and_then
+    (λ count. option_and_then (if_request its wait name.0) (variables_at count.0 [] count.1))
+    (number_at 2 name.1)) (text_at bytes)
 
 -- the request that a payload has
 unfoldable pub request_in : Bytes → Option RequestValue
 request_in bytes =
-    option_and_then (λ first. option_and_then (λ its. option_and_then (λ second. option_and_then (λ wait. about_at its wait second.1) (wait_of second.0)) (byte_at first.1)) (command_of first.0)) (byte_at bytes)
+    option_and_then (λ first. option_and_then
+    (λ its. option_and_then (λ second. option_and_then (λ wait. about_at its wait second.1)
+    (wait_of second.0)) (byte_at first.1)) (command_of first.0)) (byte_at bytes)
 
 -- what a refused reading says: out of memory nothing, else that there is nothing to read
 abbrev pub Refuses : {Y : Type 0} → WireFault → Option Y → Type 0

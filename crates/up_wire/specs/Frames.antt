@@ -1,5 +1,6 @@
 -- The bytes by which a client asks. A frame is the length of its payload, four bytes with the highest first, and its payload.
 use Rattle.std.specs.Prelude.{◌≡◌, ◌≤◌, ◌<◌, ◌+◌, ◌&&◌, ◌||◌, ℕ, Bool, true, false, nat_le, nat_lt, List, ◌∷◌, ◌++◌, length}
+use Rattle.up_wire.specs.declared.frames.TheConstants.{MAX_PAYLOAD}
 use Rattle.std.specs.List.{list_all, flat_map, AllByRecursion}
 use Rattle.std.specs.Str.{is_utf8}
 use Rattle.byteorder.specs.Endian.{big_bytes, big_number}
@@ -19,7 +20,7 @@ Variables = List (Bytes × Bytes)
 
 -- the greatest length of a payload
 abbrev pub max_payload : ℕ
-max_payload = 65536
+max_payload = MAX_PAYLOAD
 
 abbrev pub frame : Bytes → Bytes
 frame payload = big_bytes 4 (length payload) ++ payload
@@ -59,7 +60,8 @@ request_frame request = frame (payload_of request)
 
 -- whether the texts of a request are UTF-8
 abbrev pub are_texts : RequestValue → Bool
-are_texts request = is_utf8 request.name && list_all (λ binding. is_utf8 binding.0 && is_utf8 binding.1) request.vars
+are_texts request = is_utf8 request.name
+    && list_all (λ binding. is_utf8 binding.0 && is_utf8 binding.1) request.vars
 
 -- a request that a frame can carry
 pub record IsSendable (request : RequestValue) : Type 0 where
@@ -71,7 +73,8 @@ pub record IsSendable (request : RequestValue) : Type 0 where
 -- whether more bytes must come before there is a whole frame, or a faulty one
 abbrev pub is_partial : Bytes → Bool
 is_partial bytes =
-    nat_lt (length bytes) 4 || (nat_le (big_number 4 bytes) max_payload && nat_lt (length bytes) (4 + big_number 4 bytes))
+    nat_lt (length bytes) 4 || (nat_le (big_number 4 bytes) max_payload
+    && nat_lt (length bytes) (4 + big_number 4 bytes))
 
 -- the bytes are the frames of these requests, and then a rest that is no whole frame
 pub record Frames (bytes : Bytes) (requests : List RequestValue) (rest : Bytes) : Type 0 where

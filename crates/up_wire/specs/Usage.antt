@@ -47,7 +47,10 @@ with_commands app (its ∷ more) = with_commands (with_subcommand app (command_a
 
 -- the program, which has a version and needs a command
 abbrev pub program_app : App
-program_app = record (new_app (codes "initctl")) { top = record (new_app (codes "initctl")).top { has_version = true; subcommand_required = true } }
+program_app = record (new_app (codes "initctl")) {
+  top =
+      record (new_app (codes "initctl")).top { has_version = true; subcommand_required = true };
+}
 
 -- the whole command line
 abbrev pub usage : App

@@ -16,7 +16,8 @@ use Rattle.up_wire.specs.Frames.{Bytes, Variables}
 -- the commands, in the order in which help lists them
 abbrev pub commands : List Command
 commands =
-    command.Start ∷ command.Stop ∷ command.Restart ∷ command.Status ∷ command.Reload ∷ command.Emit ∷ command.List
+    command.Start ∷ command.Stop ∷ command.Restart ∷ command.Status ∷ command.Reload ∷ command.Emit
+    ∷ command.List
     ∷ command.ReloadConfiguration ∷ command.Version ∷ []
 
 -- the command of a word
@@ -34,12 +35,14 @@ with_binding key value vars = if is_key key && is_value value then Some (set_in 
 -- variables with that of a word KEY=VALUE, which is cut at its first `=`
 abbrev pub with_word : Bytes → Variables → Option Variables
 with_word word vars =
-    if nat_lt (position_or_len is_equals word) (length word) then with_binding (before_first is_equals word) (after_first is_equals word) vars else None
+    if nat_lt (position_or_len is_equals word) (length word)
+    then with_binding (before_first is_equals word) (after_first is_equals word) vars else None
 
 -- whether a word is KEY=VALUE
 abbrev pub is_binding : Bytes → Bool
 is_binding word =
-    nat_lt (position_or_len is_equals word) (length word) && (is_key (before_first is_equals word) && is_value (after_first is_equals word))
+    nat_lt (position_or_len is_equals word) (length word)
+    && (is_key (before_first is_equals word) && is_value (after_first is_equals word))
 
 -- variables with those of words, each set in turn
 abbrev pub with_words : Variables → List Bytes → Option Variables
@@ -49,7 +52,13 @@ with_words vars (word ∷ words) = option_and_then (λ more. with_words more wor
 -- the request of these parts, if they are one
 abbrev pub if_sound : Command → Bool → Bytes → Variables → Option RequestValue
 if_sound its wait name vars =
-    if is_request its wait name vars then Some (record { command = its; wait = wait; name = name; vars = vars }) else None
+    if is_request its wait name vars then Some (record {
+      command = its;
+      wait = wait;
+      name = name;
+      vars =
+          vars;
+    }) else None
 
 -- the request of a command, with its name and the words after it
 abbrev pub request_with : Command → Bool → Bytes → List Bytes → Option RequestValue
@@ -69,7 +78,9 @@ texts_in id rows = unwrap_or (all_of id rows) []
 
 -- the request of a command, of which this was matched
 abbrev pub request_in : List Row → Command → Option RequestValue
-request_in rows its = request_with its (not (is_set (codes "no-wait") rows)) (text_in (codes "NAME") rows) (texts_in (codes "VARS") rows)
+request_in rows its =
+    request_with its (not (is_set (codes "no-wait") rows)) (text_in (codes "NAME") rows)
+    (texts_in (codes "VARS") rows)
 
 -- the request of the word that was matched as a command, and of what was matched after it
 abbrev pub request_matched : Option (Bytes × List Row) → Option RequestValue

@@ -50,7 +50,8 @@ fn split_after(
     first: Answer,
     bytes: &[u8],
 ) -> Result<(Vec<Answer>, Vec<u8>), (WireFault, Answer)>
-    ensures frames { IfOk result (λ found. (found.0.items ≡ first ∷ drop 1 found.0.items) × AnswerFrames bytes.now (drop 1 found.0.items) found.1.items) }
+    ensures frames { IfOk result (λ found. (found.0.items ≡ first ∷ drop 1 found.0.items)
+        × AnswerFrames bytes.now (drop 1 found.0.items) found.1.items) }
     ensures fault { IfErr result (λ refused. AnswersStop refused.0 bytes.now × (refused.1 ≡ first)) }
 {
     match split(alloc, bytes) {
@@ -71,9 +72,13 @@ fn take_answers(
     text: &mut Vec<u8>,
     rest: &mut Vec<u8>,
 ) -> Result<Vec<Answer>, WireFault>
-    ensures taken { (total : Bytes) → Opens total text.old.items rest.old.items → IfOk result (λ answers. AreFull text.new.items × AnswerFrames total answers.items (pending text.new.items rest.new.items)) }
-    ensures refused { (total : Bytes) → Opens total text.old.items rest.old.items → IfErr result (λ fault. AnswersStop fault total) }
-    ensures kept { result ≡ Err Memory → (take (length text.old.items) text.new.items ≡ text.old.items) × (rest.new.items ≡ rest.old.items) }
+    ensures taken { (total : Bytes) → Opens total text.old.items rest.old.items
+        → IfOk result (λ answers. AreFull text.new.items
+        × AnswerFrames total answers.items (pending text.new.items rest.new.items)) }
+    ensures refused { (total : Bytes) → Opens total text.old.items rest.old.items
+        → IfErr result (λ fault. AnswersStop fault total) }
+    ensures kept { result ≡ Err Memory → (take (length text.old.items) text.new.items ≡ text.old.items)
+        × (rest.new.items ≡ rest.old.items) }
 {
     match join_full(text, rest) {
         Ok(Ahead::Open(left)) => {
@@ -118,9 +123,13 @@ impl AnswerFeed {
     /// Takes the next bytes, and returns the answers that are whole now. Refused with `FrameTooLarge` or `BadFrame` if the frame after
     /// the whole good ones is faulty, and then for good; out of memory, nothing of the piece was taken.
     pub fn feed(&mut self, piece: &[u8]) -> Result<Vec<Answer>, WireFault>
-        ensures broken { IfSome self.old.fault (λ fault. (result ≡ Err (wire_fault fault)) × (self.new ≡ self.old)) }
-        ensures taken { IfOk result (λ answers. (self.new.fault ≡ None) × AnswerFrames (self.old.rest ++ piece.now) answers.items self.new.rest) }
-        ensures refused { self.old.fault ≡ None → IfErr result (λ fault. AnswersStop fault (self.old.rest ++ piece.now) × (self.new ≡ refused fault self.old)) }
+        ensures broken { IfSome self.old.fault (λ fault. (result ≡ Err (wire_fault fault))
+            × (self.new ≡ self.old)) }
+        ensures taken { IfOk result (λ answers. (self.new.fault ≡ None)
+            × AnswerFrames (self.old.rest ++ piece.now) answers.items self.new.rest) }
+        ensures refused { self.old.fault ≡ None
+            → IfErr result (λ fault. AnswersStop fault (self.old.rest ++ piece.now)
+            × (self.new ≡ refused fault self.old)) }
     {
         if let Some(fault) = self.fault {
             return Err(WireFault::from(fault));

@@ -55,7 +55,8 @@ pub(crate) enum Ahead<'a> {
 pub(crate) fn join_full<'a>(text: &mut Vec<u8>, bytes: &'a [u8]) -> Result<Ahead<'a>, WireFault>
     ensures kept { take (length text.old.items) text.new.items ≡ text.old.items }
     ensures whole { KeepsWhole bytes.now result }
-    ensures ahead { (total : Bytes) → Opens total text.old.items bytes.now → LiesAhead total text.new.items result }
+    ensures ahead { (total : Bytes) → Opens total text.old.items bytes.now
+        → LiesAhead total text.new.items result }
 {
     let mut rest = bytes;
     loop {
@@ -73,7 +74,8 @@ pub(crate) fn join_full<'a>(text: &mut Vec<u8>, bytes: &'a [u8]) -> Result<Ahead
 /// The text of these bytes, which keeps their memory; bytes that are no text stay.
 #[tactic(auto, using(crate::proofs::Texts::is_text, crate::proofs::Texts::is_no_text))]
 fn text_of(bytes: &mut Vec<u8>) -> Option<Text>
-    ensures text { IfSome result (λ text. (is_utf8 bytes.old.items ≡ true) × (text ≡ bytes.old.items) × (bytes.new.items ≡ [])) }
+    ensures text { IfSome result (λ text. (is_utf8 bytes.old.items ≡ true) × (text ≡ bytes.old.items)
+        × (bytes.new.items ≡ [])) }
     ensures none { IfNone result (is_utf8 bytes.old.items ≡ false) }
 {
     let alloc = *bytes.allocator();
@@ -106,7 +108,8 @@ pub(crate) fn end(text: &mut Vec<u8>, payload: &[u8]) -> Result<Answer, WireFaul
 // The first answer, and the bytes after it, once it is whole.
 fn answer_at(alloc: Global, bytes: &[u8]) -> Result<Option<(Answer, &[u8])>, WireFault>
     ensures none { IfOk result (λ found. IfNone found (IsOpen bytes.now)) }
-    ensures some { IfOk result (λ found. IfSome found (λ x. (is_utf8 x.0.text ≡ true) × (bytes.now ≡ answer_frames x.0 ++ x.1.now))) }
+    ensures some { IfOk result (λ found. IfSome found (λ x. (is_utf8 x.0.text ≡ true)
+        × (bytes.now ≡ answer_frames x.0 ++ x.1.now))) }
     ensures fault { IfErr result (λ fault. AnswerBegins fault bytes.now) }
 {
     let mut text = Vec::new(alloc);

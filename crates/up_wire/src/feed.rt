@@ -27,7 +27,8 @@ impl Model for Feed {
 
 /// The requests of the whole frames, and a copy of the bytes after them if there is such a frame.
 fn split(alloc: Global, bytes: &[u8]) -> Result<(Vec<Request>, Option<Vec<u8>>), WireFault>
-    ensures frames { IfOk result (λ found. Frames bytes.now found.0.items (kept_of (option_map (λ rest. rest.items) found.1) bytes.now)) }
+    ensures frames { IfOk result (λ found. Frames bytes.now found.0.items
+        (kept_of (option_map (λ rest. rest.items) found.1) bytes.now)) }
     ensures fault { IfErr result (λ fault. Stops fault bytes.now) }
 {
     let (requests, rest) = requests_in(alloc, bytes)?;
@@ -63,9 +64,13 @@ impl Feed {
     /// Takes the next bytes, and returns the requests that are whole now. Refused with `FrameTooLarge` or `BadFrame` if the frame after
     /// the whole good ones is faulty, and then for good; out of memory, nothing of the piece was taken.
     pub fn feed(&mut self, piece: &[u8]) -> Result<Vec<Request>, WireFault>
-        ensures broken { IfSome self.old.fault (λ fault. (result ≡ Err (wire_fault fault)) × (self.new ≡ self.old)) }
-        ensures taken { IfOk result (λ requests. (self.new.fault ≡ None) × Frames (self.old.rest ++ piece.now) requests.items self.new.rest) }
-        ensures refused { self.old.fault ≡ None → IfErr result (λ fault. Stops fault (self.old.rest ++ piece.now) × (self.new ≡ refused fault self.old)) }
+        ensures broken { IfSome self.old.fault (λ fault. (result ≡ Err (wire_fault fault))
+            × (self.new ≡ self.old)) }
+        ensures taken { IfOk result (λ requests. (self.new.fault ≡ None)
+            × Frames (self.old.rest ++ piece.now) requests.items self.new.rest) }
+        ensures refused { self.old.fault ≡ None
+            → IfErr result (λ fault. Stops fault (self.old.rest ++ piece.now)
+            × (self.new ≡ refused fault self.old)) }
     {
         if let Some(fault) = self.fault {
             return Err(WireFault::from(fault));
@@ -90,7 +95,8 @@ impl Feed {
 
     // A frame's fault is kept for good; out of memory, the rest is what it was.
     fn refuse(&mut self, before: usize, fault: WireFault)
-        ensures { self.new ≡ refused fault (record { rest = take before self.old.rest; fault = self.old.fault }) }
+        ensures { self.new
+            ≡ refused fault (record { rest = take before self.old.rest; fault = self.old.fault }) }
     {
         match frame_fault(fault) {
             Some(fault) => {

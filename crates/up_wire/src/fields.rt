@@ -73,7 +73,8 @@ fn wait_of(byte: u8) -> Result<bool, WireFault>
 
 // Sets a key that isn't there yet.
 fn set(vars: &mut Env, key: &str, value: &str) -> Result<(), WireFault>
-    ensures { (rest : Bytes) → Reads (λ _. (vars.new, rest)) result (with_variable vars.old key.now (value.now, rest)) }
+    ensures { (rest : Bytes)
+        → Reads (λ _. (vars.new, rest)) result (with_variable vars.old key.now (value.now, rest)) }
 {
     if vars.get(key).is_some() {
         return Err(WireFault::BadFrame);

@@ -17,7 +17,8 @@ pub const MAX_PAYLOAD: usize = 65536;
 /// The first frame's payload, and the bytes after the frame, once it is whole.
 pub(crate) fn payload_at(bytes: &[u8]) -> Result<Option<(&[u8], &[u8])>, FrameFault>
     ensures none { IfOk result (λ found. IfNone found (is_partial bytes.now ≡ true)) }
-    ensures some { IfOk result (λ found. IfSome found (λ x. (length x.0.now ≤ max_payload) × (bytes.now ≡ frame x.0.now ++ x.1.now))) }
+    ensures some { IfOk result (λ found. IfSome found (λ x. (length x.0.now ≤ max_payload)
+        × (bytes.now ≡ frame x.0.now ++ x.1.now))) }
     ensures fault { IfErr result (λ fault. (fault ≡ TooLarge) × IsFaulty TooLarge bytes.now) }
 {
     if bytes.len() < 4 {
@@ -37,7 +38,8 @@ pub(crate) fn payload_at(bytes: &[u8]) -> Result<Option<(&[u8], &[u8])>, FrameFa
 /// The request of the first frame, and the bytes after the frame, once it is whole.
 fn request_at(alloc: Global, bytes: &[u8]) -> Result<Option<(Request, &[u8])>, WireFault>
     ensures none { IfOk result (λ found. IfNone found (is_partial bytes.now ≡ true)) }
-    ensures some { IfOk result (λ found. IfSome found (λ x. IsSendable x.0 × (bytes.now ≡ request_frame x.0 ++ x.1.now))) }
+    ensures some { IfOk result (λ found. IfSome found (λ x. IsSendable x.0
+        × (bytes.now ≡ request_frame x.0 ++ x.1.now))) }
     ensures fault { IfErr result (λ fault. Begins fault bytes.now) }
 {
     let Some((payload, rest)) = payload_at(bytes)? else {

@@ -2,10 +2,8 @@
 ghost use Rattle.std.specs.Prelude.{◌≡◌, [], ◌∷◌, false, IfOk, IfErr};
 ghost use Rattle.clap.specs.Words.{App, new_app, rule_of, with_subcommand};
 ghost use Rattle.up_model.specs.declared.request.Command.TheVariants as asked;
-ghost use Rattle.up_wire.specs.declared.fault.WireFault.TheVariants.{Memory};
 ghost use Rattle.up_wire.specs.Usage.{name_rule, words_rule, no_wait_rule, about_app, waiting_app, program_app, with_commands, usage, IsUsage};
 
-use crate::fault::WireFault;
 use clap::{Arg, ArgAction, Command};
 use std::alloc::{AllocError, Global};
 
@@ -77,13 +75,16 @@ fn alone<'a>(alloc: Global, name: &'a str, help: &'a str) -> Command<'a>
 
 // A command line with one command more.
 fn add<'a>(line: Command<'a>, command: Command<'a>) -> Result<Command<'a>, AllocError>
-    ensures { (app its : App) → IsUsage app line.entry → IsUsage its command.entry → IfOk result (IsUsage (with_subcommand app its.top)) }
+    ensures { (app its : App) → IsUsage app line.entry → IsUsage its command.entry
+        → IfOk result (IsUsage (with_subcommand app its.top)) }
 {
     line.subcommand(command)
 }
 
 fn job_commands<'a>(alloc: Global, line: Command<'a>) -> Result<Command<'a>, AllocError>
-    ensures { (app : App) → IsUsage app line.entry → IfOk result (IsUsage (with_commands app (asked.Start ∷ asked.Stop ∷ asked.Restart ∷ asked.Status ∷ asked.Reload ∷ []))) }
+    ensures { (app : App) → IsUsage app line.entry
+        → IfOk result (IsUsage (with_commands app (asked.Start ∷ asked.Stop ∷ asked.Restart ∷ asked.Status
+        ∷ asked.Reload ∷ []))) }
 {
     let start = waiting(alloc, "start", "JOB", "Starts an instance of a job")?;
     let stop = waiting(alloc, "stop", "JOB", "Stops an instance of a job")?;
@@ -113,7 +114,9 @@ fn job_commands<'a>(alloc: Global, line: Command<'a>) -> Result<Command<'a>, All
 }
 
 fn other_commands<'a>(alloc: Global, line: Command<'a>) -> Result<Command<'a>, AllocError>
-    ensures { (app : App) → IsUsage app line.entry → IfOk result (IsUsage (with_commands app (asked.Emit ∷ asked.List ∷ asked.ReloadConfiguration ∷ asked.Version ∷ []))) }
+    ensures { (app : App) → IsUsage app line.entry
+        → IfOk result (IsUsage (with_commands app (asked.Emit ∷ asked.List ∷ asked.ReloadConfiguration
+        ∷ asked.Version ∷ []))) }
 {
     let emit = waiting(alloc, "emit", "EVENT", "Emits an event")?;
     let list = alone(alloc, "list", "Prints the status of every job");
@@ -135,9 +138,8 @@ fn program<'a>(alloc: Global) -> Command<'a>
 }
 
 /// The command line of `initctl` without the options of the program.
-pub fn command_line<'a>(alloc: Global) -> Result<Command<'a>, WireFault>
-    ensures ok { IfOk result (IsUsage usage) }
-    ensures refused { IfErr result (λ fault. fault ≡ Memory) }
+pub fn command_line<'a>(alloc: Global) -> Result<Command<'a>, AllocError>
+    ensures { IfOk result (IsUsage usage) }
 {
     let line = job_commands(alloc, program(alloc))?;
     let line = other_commands(alloc, line)?;

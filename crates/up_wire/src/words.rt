@@ -29,7 +29,9 @@ fn command_named(word: &str) -> Option<Command>
 
 // The key and the value of a word KEY=VALUE.
 fn cut(word: &str) -> Option<(&str, &str)>
-    ensures { MatchOption result (nat_lt (position_or_len is_equals word.now) (length word.now) ≡ false) (λ parts. (nat_lt (position_or_len is_equals word.now) (length word.now) ≡ true) × (parts.0.now ≡ before_first is_equals word.now) × (parts.1.now ≡ after_first is_equals word.now)) }
+    ensures { MatchOption result (nat_lt (position_or_len is_equals word.now) (length word.now)
+        ≡ false) (λ parts. (nat_lt (position_or_len is_equals word.now) (length word.now) ≡ true)
+        × (parts.0.now ≡ before_first is_equals word.now) × (parts.1.now ≡ after_first is_equals word.now)) }
 {
     word.split_once('=')
 }

@@ -155,8 +155,10 @@ fn append(request: &Request, out: &mut Vec<u8>) -> Result<(), AllocError>
 
 /// Appends the frame of a request. Refused with `FrameTooLarge` if it doesn't fit into one; a refusal appends nothing.
 pub fn write_request(request: &Request, out: &mut Vec<u8>) -> Result<(), WireFault>
-    ensures ok { OnOk result ((length (payload_of request.now) ≤ max_payload) × (out.new.items ≡ out.old.items ++ request_frame request.now)) }
-    ensures refused { IfErr result (λ fault. fault ≡ (if nat_le (length (payload_of request.now)) max_payload then Memory else FrameTooLarge)) }
+    ensures ok { OnOk result ((length (payload_of request.now) ≤ max_payload)
+        × (out.new.items ≡ out.old.items ++ request_frame request.now)) }
+    ensures refused { IfErr result (λ fault. fault
+        ≡ (if nat_le (length (payload_of request.now)) max_payload then Memory else FrameTooLarge)) }
     ensures unchanged { OnErr result (out.new.items ≡ out.old.items) }
 {
     if !is_within(request) {
@@ -195,9 +197,8 @@ fn push_frames(out: &mut Vec<u8>, ok: bool, text: &[u8]) -> Result<(), AllocErro
 }
 
 /// Appends the frames of an answer. A refusal appends nothing.
-pub fn write_answer(answer: &Answer, out: &mut Vec<u8>) -> Result<(), WireFault>
+pub fn write_answer(answer: &Answer, out: &mut Vec<u8>) -> Result<(), AllocError>
     ensures ok { OnOk result (out.new.items ≡ out.old.items ++ answer_frames answer.now) }
-    ensures refused { IfErr result (λ fault. fault ≡ Memory) }
     ensures unchanged { OnErr result (out.new.items ≡ out.old.items) }
 {
     let mut bytes = Vec::new(*out.allocator());

@@ -208,7 +208,7 @@ fn lines_that_reach_no_peer_end_by_their_status(rt: HostRuntime) -> Result<(), F
         let words = strings(rt.alloc(), line.words)?;
         same(
             "a line",
-            (line.words.len(), run(&rt, &words)),
+            (line.words.len(), run(&rt, &words).number()),
             (line.words.len(), line.status),
         )?;
     }

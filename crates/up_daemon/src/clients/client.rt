@@ -87,13 +87,9 @@ impl Client {
         if self.unanswered != Some(id) {
             return Ok(false);
         }
-        match write_answer(answer, &mut self.answers) {
-            Ok(()) => {
-                self.unanswered = None;
-                Ok(true)
-            }
-            Err(_) => Err(AllocError),
-        }
+        write_answer(answer, &mut self.answers)?;
+        self.unanswered = None;
+        Ok(true)
     }
 
     // Takes what a read found at the buffer's beginning. False if that is the end, or breaks a frame.

@@ -78,8 +78,9 @@ pub(crate) fn unanswered(records: &[Record]) -> Option<usize>
     }
 }
 
-fn acted_on_by(next: &Record) -> Option<Option<usize>>
-    ensures { (c : Chronicle) → model.acted_on (entry_of next.now ∷ c) ≡ unwrap_or result (model.acted_on c) }
+fn request_instance_by(next: &Record) -> Option<Option<usize>>
+    ensures { (c : Chronicle) → model.request_instance (entry_of next.now ∷ c)
+        ≡ unwrap_or result (model.request_instance c) }
 {
     match next {
         Record::Given(_) => Some(None),
@@ -92,13 +93,13 @@ fn acted_on_by(next: &Record) -> Option<Option<usize>>
 
 /// The instance that this step's request acted on.
 #[tactic(auto, using(crate::proofs::Chronicles::chronicle_more))]
-pub(crate) fn acted_on(records: &[Record]) -> Option<usize>
-    ensures { result ≡ model.acted_on (chronicle records.now) }
+pub(crate) fn request_instance(records: &[Record]) -> Option<usize>
+    ensures { result ≡ model.request_instance (chronicle records.now) }
 {
     let mut left = records.len();
     'back: while left > 0 {
         left -= 1;
-        if let Some(found) = acted_on_by(&records[left]) {
+        if let Some(found) = request_instance_by(&records[left]) {
             return found;
         }
     }

@@ -18,7 +18,8 @@ fn record_at(records: &[Record], place: usize) -> Option<&Record>
     }
 }
 
-fn event_of(found: &Record) -> Option<&Event>
+/// The event of a record that queues one.
+pub(crate) fn event_of(found: &Record) -> Option<&Event>
     ensures { option_copied result ≡ reading.event_of (Some (entry_of found.now)) }
 {
     match found {
@@ -105,7 +106,8 @@ fn if_waits(place: usize, request: Option<&Request>) -> Option<usize>
     }
 }
 
-fn waiter_in(records: &[Record], found: &Record) -> Option<usize>
+/// The request that waits for the event of a record, among those that were given before.
+pub(crate) fn waiter_in(records: &[Record], found: &Record) -> Option<usize>
     ensures { result ≡ replies.waiter_in (Some (entry_of found.now)) (chronicle records.now) }
 {
     match found {

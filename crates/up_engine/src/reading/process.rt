@@ -3,7 +3,7 @@ ghost use Rattle.std.specs.Prelude.{◌≡◌, List, ◌∷◌, length, option_m
 ghost use Rattle.up_engine.specs.Records.{entry_of, chronicle};
 ghost use Rattle.up_model.specs.Chronicle.{Chronicle};
 ghost use Rattle.up_model.specs.Readings as reading;
-ghost use Rattle.up_model.specs.Tests as test;
+ghost use Rattle.up_model.specs.Predicates as test;
 
 use crate::reading::place::made_at;
 use crate::record::Record;
@@ -42,7 +42,7 @@ fn speaks_of(its: Option<(&Name, &str)>, process: Process, who: &Who, named: Pro
 }
 
 // Whether the answer for a process was ordered and not given since, after one record more.
-fn awaited_after(
+fn is_awaited_after(
     earlier: &[Record],
     next: &Record,
     place: usize,
@@ -51,8 +51,8 @@ fn awaited_after(
     before: bool,
 ) -> bool
     ensures { length (chronicle earlier.now) ≡ place
-        → before ≡ reading.awaited instance process (chronicle earlier.now)
-        → result ≡ reading.awaited instance process (entry_of next.now ∷ chronicle earlier.now) }
+        → before ≡ reading.is_awaited instance process (chronicle earlier.now)
+        → result ≡ reading.is_awaited instance process (entry_of next.now ∷ chronicle earlier.now) }
 {
     match next {
         Record::Made { .. } if place == instance => false,
@@ -75,12 +75,12 @@ fn awaited_after(
 
 /// Whether a process was ordered and not answered since.
 #[tactic(auto, using(crate::proofs::Chronicles::chronicle_more, crate::proofs::Chronicles::length_front))]
-pub(crate) fn awaited(records: &[Record], instance: usize, process: Process) -> bool
-    ensures { result ≡ reading.awaited instance process (chronicle records.now) }
+pub(crate) fn is_awaited(records: &[Record], instance: usize, process: Process) -> bool
+    ensures { result ≡ reading.is_awaited instance process (chronicle records.now) }
 {
     let mut found = false;
     for (place, next) in records.iter().enumerate() {
-        found = awaited_after(&records[..place], next, place, instance, process, found);
+        found = is_awaited_after(&records[..place], next, place, instance, process, found);
     }
     found
 }

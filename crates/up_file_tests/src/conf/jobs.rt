@@ -290,7 +290,7 @@ const OVERRIDDEN: &'static [Case] = &[Case {
 }];
 
 #[test]
-fn an_override_goes_behind(rt: HostRuntime) -> Result<(), Fail> {
+fn an_override_goes_after(rt: HostRuntime) -> Result<(), Fail> {
     check(rt.alloc(), OVERRIDDEN)
 }
 

@@ -524,15 +524,15 @@ const WORDS: &'static [(&'static str, &'static str, &'static str)] = &[
     ("", "", ""),
 ];
 
-fn begins(text: &str, word: &str, behind: &str) -> bool {
+fn begins(text: &str, word: &str, after: &str) -> bool {
     let found = next_word(text);
-    found.0 == word && found.1 == behind
+    found.0 == word && found.1 == after
 }
 
 #[test]
 fn words_stand_between_blanks(rt: HostRuntime) {
-    for (text, word, behind) in WORDS {
-        assert!(rt; begins(text, word, behind), "{text:?}");
+    for (text, word, after) in WORDS {
+        assert!(rt; begins(text, word, after), "{text:?}");
     }
 }
 

@@ -557,7 +557,7 @@ fn unclosed_sets_are_passed_once(rt: HostRuntime) -> Result<(), Fail> {
 
 // To read the item after the star at each byte again would be quadratic too.
 #[test]
-fn unclosed_sets_behind_a_star(rt: HostRuntime) -> Result<(), Fail> {
+fn unclosed_sets_after_a_star(rt: HostRuntime) -> Result<(), Fail> {
     let mut pattern: Vec<u8> = Vec::new(rt.alloc());
     pattern.push(b'*')?;
     let brackets = vec![in rt.alloc(); b'['; 50_000]?;

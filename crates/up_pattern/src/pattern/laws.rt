@@ -12,8 +12,10 @@ pub fn one_item_at_a_time()
 
 /// A pattern without `*`, `?`, `[` and a backslash is supported, and matches itself alone.
 pub fn literal()
-    ensures supported { (pattern : List ℕ) → list_all (λ byte. not (is_wild byte)) pattern ≡ true → supported pattern ≡ true }
-    ensures itself { (pattern bytes : List ℕ) → list_all (λ byte. not (is_wild byte)) pattern ≡ true → glob pattern bytes ≡ bytes_eq pattern bytes }
+    ensures supported { (pattern : List ℕ) → list_all (λ byte. not (is_wild byte)) pattern ≡ true
+        → supported pattern ≡ true }
+    ensures itself { (pattern bytes : List ℕ) → list_all (λ byte. not (is_wild byte)) pattern ≡ true
+        → glob pattern bytes ≡ bytes_eq pattern bytes }
 {}
 
 /// `*` matches everything.

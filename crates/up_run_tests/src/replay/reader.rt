@@ -58,7 +58,7 @@ fn check_folder(
     of: (&str, usize),
 ) -> Result<(), AllocError> {
     let made = check(alloc, folder)?;
-    check_printed(rt, (made.text.as_slice(), made.status), wanted, of);
+    check_printed(rt, (made.text.as_slice(), made.status.number()), wanted, of);
     Ok(())
 }
 

@@ -18,11 +18,11 @@ fn push_gap<'a>(out: &mut Draft, text: &'a str, line: u32) -> (u32, &'a str)
 {
     let (blanks, rest) = split_blanks(text);
     let between = if begins_joint(rest) { " " } else { blanks };
-    let (reached, behind) = after_gap(rest, line, true, 0);
-    if !is_line_end(behind) {
+    let (reached, after) = after_gap(rest, line, true, 0);
+    if !is_line_end(after) {
         out.push(between);
     }
-    (reached, behind)
+    (reached, after)
 }
 
 // Appends a spelling and the gap after it.
@@ -35,8 +35,8 @@ fn push_word<'a>(out: &mut Draft, text: &'a str, line: u32) -> Result<(u32, &'a 
     ensures ends { IfOk result (λ read. begins_gap false read.1.now ≡ false) }
     ensures shorter { IfOk result (λ read. length read.1.now < length text.now) }
 {
-    let (reached, behind) = push_spelling(out, text, line, false, true)?;
-    let (line, rest) = push_gap(out, behind, reached);
+    let (reached, after) = push_spelling(out, text, line, false, true)?;
+    let (line, rest) = push_gap(out, after, reached);
     Ok((line, rest))
 }
 
@@ -56,9 +56,9 @@ pub fn push_command<'a>(
     let mut rest = text;
     let mut line = line;
     'words: while !is_line_end(rest) {
-        let (reached, behind) = push_word(out, rest, line)?;
+        let (reached, after) = push_word(out, rest, line)?;
         line = reached;
-        rest = behind;
+        rest = after;
     }
     Ok((line, rest))
 }

@@ -2,7 +2,7 @@
 ghost use Rattle.std.specs.Prelude.{◌≡◌, ◌++◌, false, IfOk, OnOk};
 ghost use Rattle.up_text.specs.Tokens.{is_line_feed, is_quote, mode_after, mode_outside, mode_quoted};
 ghost use Rattle.up_pattern.specs.Lists.{begins};
-ghost use Rattle.up_text.specs.Comments.{is_comment, unless_comment, mode_of, unjoined, without_comments};
+ghost use Rattle.up_text.specs.Comments.{is_comment, unless_comment, mode_of, without_joining, without_comments};
 
 use crate::lexer::bytes::{is_blank, is_quote};
 use std::alloc::{AllocError, Global};
@@ -29,7 +29,7 @@ fn begins_feed(bytes: &[u8]) -> bool
 // Where the byte after one outside quotes and comments stands.
 #[tactic(auto, unfolding(crate::specs::Tokens::is_hash, crate::specs::Tokens::is_backslash))]
 fn after_outside(byte: u8, rest: &[u8]) -> Standing
-    ensures { mode_of result ≡ unjoined (mode_outside false byte rest.now) }
+    ensures { mode_of result ≡ without_joining (mode_outside false byte rest.now) }
 {
     if is_blank(byte) {
         Standing::Outside
@@ -51,7 +51,7 @@ fn after_outside(byte: u8, rest: &[u8]) -> Standing
 // Where the byte after one in a piece quoted by `quote` stands.
 #[tactic(auto, unfolding(crate::specs::Tokens::is_line_feed, crate::specs::Tokens::is_backslash))]
 fn after_quoted(quote: u8, byte: u8, rest: &[u8]) -> Standing
-    ensures { mode_of result ≡ unjoined (mode_quoted quote false byte rest.now) }
+    ensures { mode_of result ≡ without_joining (mode_quoted quote false byte rest.now) }
 {
     if byte == quote {
         Standing::Outside
@@ -71,7 +71,7 @@ fn after_quoted(quote: u8, byte: u8, rest: &[u8]) -> Standing
 // Where the next byte stands.
 #[tactic(auto, unfolding(crate::specs::Tokens::is_line_feed))]
 fn after(standing: Standing, byte: u8, rest: &[u8]) -> Standing
-    ensures { mode_of result ≡ unjoined (mode_after (mode_of standing) byte rest.now) }
+    ensures { mode_of result ≡ without_joining (mode_after (mode_of standing) byte rest.now) }
 {
     match standing {
         Standing::Outside => after_outside(byte, rest),

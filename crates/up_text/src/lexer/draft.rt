@@ -1,10 +1,11 @@
 //! A text under way.
-ghost use Rattle.std.specs.Prelude.{◌≡◌, ◌++◌, ◌⊎◌, ℕ, List, [], Some, None, Ok, Err, if◌then◌else◌, string_bytes};
-ghost use Rattle.up_text.specs.Lexer.{Holds, Finished};
+ghost use Rattle.std.specs.Prelude.{◌≡◌, ◌++◌, ◌⊎◌, ℕ, List, [], Some, None, IfOk, if◌then◌else◌, string_bytes};
+ghost use Rattle.up_value.specs.Values.{Bytes};
+ghost use Rattle.up_text.specs.Lexer.{Holds};
 
-use std::alloc::Global;
+use std::alloc::{AllocError, Global};
 use std::marker::Model;
-use up_value::{Text, TextFault};
+use up_value::Text;
 
 /// A text under way. Where memory is refused it only keeps that in mind, so that what stands after is still read, and a fault
 /// there comes before that memory ran out.
@@ -36,19 +37,19 @@ impl Draft {
 
     /// Appends this part.
     pub(crate) fn push(&mut self, part: &str)
-        ensures { (bytes : List ℕ) → Holds self.old bytes → Holds self.new (bytes ++ part.now) }
+        ensures { (bytes : Bytes) → Holds self.old bytes → Holds self.new (bytes ++ part.now) }
     {
         if !self.refused && self.text.push_str(part).is_err() {
             self.refused = true;
         }
     }
 
-    pub(crate) fn finish(self) -> Result<Text, TextFault>
-        ensures { (bytes : List ℕ) → Holds self bytes → Finished bytes result }
+    pub(crate) fn finish(self) -> Result<Text, AllocError>
+        ensures { (bytes : Bytes) → Holds self bytes → IfOk result (λ text. text ≡ bytes) }
     {
         let Draft { text, refused } = self;
         if refused {
-            return Err(TextFault::Memory);
+            return Err(AllocError);
         }
         Ok(Text::new(text))
     }
@@ -56,7 +57,8 @@ impl Draft {
 
 /// Appends a quote or a backslash if such are kept.
 pub(crate) fn push_quoting(out: &mut Draft, part: &str, keep: bool)
-    ensures { (bytes : List ℕ) → Holds out.old bytes → Holds out.new (bytes ++ (if keep then part.now else [])) }
+    ensures { (bytes : Bytes) → Holds out.old bytes
+        → Holds out.new (bytes ++ (if keep then part.now else [])) }
 {
     if keep {
         out.push(part);

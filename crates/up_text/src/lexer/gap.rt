@@ -1,6 +1,6 @@
 //! What stands between two tokens.
 ghost use Rattle.std.specs.Prelude.{◌≡◌, ◌+◌, ◌<◌, ◌≤◌, ◌^◌, ℕ, Bool, true, false, length};
-ghost use Rattle.up_text.specs.Lexer.{begins_gap, passes_feeds, place, IsBehindGap, GapRun};
+ghost use Rattle.up_text.specs.Lexer.{begins_gap, passes_feeds, place, IsAfterGap, GapRun};
 
 use crate::lexer::bytes::{
     begins_blank, begins_comment, begins_feed, begins_gap, split_blanks, split_first, split_line,
@@ -30,7 +30,9 @@ fn pass_part(text: &str, line: u32, passes: bool) -> (u32, &str)
 /// parenthesis is open.
 pub(crate) fn after_gap(text: &str, line: u32, inside: bool, depth: u32) -> (u32, &str)
     requires { line + length text.now < 2 ^ 32 }
-    ensures passed { (parens : Bool) → IsBehindGap (place text.now line inside parens depth) (place result.1.now result.0 inside parens depth) }
+    ensures passed { (parens : Bool)
+        → IsAfterGap (place text.now line inside parens depth)
+        (place result.1.now result.0 inside parens depth) }
     ensures run { (parens : Bool) → GapRun inside parens depth false text.now line result.1.now result.0 }
     ensures ends { begins_gap (passes_feeds inside depth) result.1.now ≡ false }
     ensures in_range { result.0 + length result.1.now ≤ line + length text.now }
@@ -40,9 +42,9 @@ pub(crate) fn after_gap(text: &str, line: u32, inside: bool, depth: u32) -> (u32
     let mut line = line;
     let mut rest = text;
     'gap: while begins_gap(rest, passes) {
-        let (reached, behind) = pass_part(rest, line, passes);
+        let (reached, after) = pass_part(rest, line, passes);
         line = reached;
-        rest = behind;
+        rest = after;
     }
     (line, rest)
 }

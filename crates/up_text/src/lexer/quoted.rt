@@ -1,5 +1,6 @@
 //! A quoted piece of a token or a command.
 ghost use Rattle.std.specs.Prelude.{◌≡◌, ◌+◌, ◌<◌, ◌≤◌, ◌^◌, ◌==◌, ◌++◌, ◌∷◌, ℕ, Bool, true, false, if◌then◌else◌, List, [], length, IfOk, MatchResult};
+ghost use Rattle.up_value.specs.Values.{Bytes};
 ghost use Rattle.up_text.specs.Tokens.{Outside, Quoted, is_quote, is_backslash, is_blank};
 ghost use Rattle.up_pattern.specs.Lists.{begins};
 ghost use Rattle.up_text.specs.Lexer.{is_byte, begins_fold, Holds, IsEscape, Run, Broken};
@@ -46,7 +47,8 @@ pub(crate) fn push_escape<'a>(out: &mut Draft, text: &'a str, keep: bool) -> Opt
 fn push_blanks<'a>(out: &mut Draft, text: &'a str, joined: bool) -> &'a str
     requires { begins is_blank text.now ≡ true }
     ensures run { (parens keep : Bool) (quote line : ℕ) → is_quote quote ≡ true
-        → Run parens keep (Quoted quote joined) text.now line (Quoted quote joined) result.now line out.old out.new }
+        → Run parens keep (Quoted quote joined) text.now line
+        (Quoted quote joined) result.now line out.old out.new }
     ensures shorter { length result.now < length text.now }
 {
     let (blanks, rest) = split_blanks(text);
@@ -58,7 +60,8 @@ fn push_blanks<'a>(out: &mut Draft, text: &'a str, joined: bool) -> &'a str
 
 // Appends the one space of a run, unless it was appended.
 fn push_space(out: &mut Draft, joined: bool)
-    ensures { (bytes : List ℕ) → Holds out.old bytes → Holds out.new (bytes ++ (if joined then [] else 32 ∷ [])) }
+    ensures { (bytes : Bytes) → Holds out.old bytes
+        → Holds out.new (bytes ++ (if joined then [] else 32 ∷ [])) }
 {
     if !joined {
         out.push(" ");
@@ -69,7 +72,8 @@ fn push_space(out: &mut Draft, joined: bool)
 fn push_line_end<'a>(out: &mut Draft, text: &'a str, joined: bool) -> &'a str
     requires { begins_fold text.now ≡ true }
     ensures run { (parens keep : Bool) (quote line : ℕ) → is_quote quote ≡ true
-        → Run parens keep (Quoted quote joined) text.now line (Quoted quote true) result.now (line + 1) out.old out.new }
+        → Run parens keep (Quoted quote joined) text.now line (Quoted quote true) result.now
+        (line + 1) out.old out.new }
     ensures shorter { length result.now < length text.now }
 {
     push_space(out, joined);
@@ -94,7 +98,8 @@ fn push_part<'a>(
     requires within { begins (is_byte quote) text.now ≡ false }
     requires in_range { line + length text.now < 2 ^ 32 }
     ensures means { (parens : Bool) → MatchResult result
-        (λ read. Run parens keep (Quoted quote joined) text.now line (Quoted quote read.2) read.1.now read.0 out.old out.new)
+        (λ read. Run parens keep (Quoted quote joined) text.now line
+        (Quoted quote read.2) read.1.now read.0 out.old out.new)
         (Broken parens (Quoted quote joined) text.now) }
     ensures shorter { IfOk result (λ read. length read.1.now < length text.now) }
 {
@@ -128,7 +133,8 @@ pub(crate) fn push_quoted<'a>(
     requires quoting { is_quote quote ≡ true }
     requires in_range { line + length text.now < 2 ^ 32 }
     ensures { (parens : Bool) → MatchResult result
-        (λ read. Run parens keep (Quoted quote false) text.now line (Outside false) read.1.now read.0 out.old out.new)
+        (λ read. Run parens keep (Quoted quote false) text.now line
+        (Outside false) read.1.now read.0 out.old out.new)
         (Broken parens (Quoted quote false) text.now) }
 {
     let mut rest = text;
@@ -138,12 +144,12 @@ pub(crate) fn push_quoted<'a>(
         if rest.is_empty() {
             return Err(TextFault::UnterminatedQuote);
         }
-        let (reached, behind, still) = push_part(out, rest, line, quote, joined, keep)?;
+        let (reached, after, still) = push_part(out, rest, line, quote, joined, keep)?;
         line = reached;
-        rest = behind;
+        rest = after;
         joined = still;
     }
-    let (closing, behind) = split_first(rest);
+    let (closing, after) = split_first(rest);
     push_quoting(out, closing, keep);
-    Ok((line, behind))
+    Ok((line, after))
 }

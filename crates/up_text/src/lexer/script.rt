@@ -64,17 +64,18 @@ fn split_line(text: &str) -> (&str, &str, u32)
 /// The script's lines, the text after its end line and the line there, if there is an end line.
 pub(crate) fn find_end(text: &str, line: u32) -> Option<(&str, &str, u32)>
     requires { line + length text.now < 2 ^ 32 }
-    ensures { MatchOption result (script_in (lines_of text.now) ≡ None) (λ end. EndsScript text.now line end.0.now end.1.now end.2) }
+    ensures { MatchOption result (script_in (lines_of text.now)
+        ≡ None) (λ end. EndsScript text.now line end.0.now end.1.now end.2) }
 {
     let mut rest = text;
     let mut line = line;
     'lines: while !rest.is_empty() {
-        let (first, behind, feeds) = split_line(rest);
+        let (first, after, feeds) = split_line(rest);
         if is_end_line(first) {
             let (script, _) = text.split_at(text.len() - rest.len());
-            return Some((script, behind, line + feeds));
+            return Some((script, after, line + feeds));
         }
-        rest = behind;
+        rest = after;
         line += feeds;
     }
     None

@@ -1,7 +1,6 @@
 //! The spelling of a token, and of what is written between the blanks of a command.
 ghost use Rattle.std.specs.Prelude.{◌≡◌, ◌+◌, ◌<◌, ◌≤◌, ◌^◌, ◌++◌, ℕ, Bool, true, false, length, IfOk, MatchOption, MatchResult};
 ghost use Rattle.std.specs.List.{list_all};
-ghost use Rattle.up_value.specs.declared.fault.TextFault.TheVariants.{Memory};
 ghost use Rattle.up_text.specs.Tokens.{Outside, is_quote};
 ghost use Rattle.up_pattern.specs.Lists.{begins};
 ghost use Rattle.up_text.specs.Places.{token_of};
@@ -13,12 +12,13 @@ use crate::lexer::bytes::{
 use crate::lexer::draft::{Draft, push_quoting};
 use crate::lexer::quoted::{push_escape, push_quoted};
 use crate::token::Token;
-use std::alloc::Global;
+use std::alloc::{AllocError, Global};
 use up_value::{Text, TextFault};
 
 // The quote that the text begins with.
 fn first_quote(text: &str) -> Option<u8>
-    ensures { MatchOption result (begins is_quote text.now ≡ false) (λ quote. (is_quote quote ≡ true) × (begins (is_byte quote) text.now ≡ true)) }
+    ensures { MatchOption result (begins is_quote text.now ≡ false) (λ quote. (is_quote quote ≡ true)
+        × (begins (is_byte quote) text.now ≡ true)) }
 {
     match text.as_bytes().first() {
         Some(byte) => {
@@ -43,7 +43,8 @@ fn push_piece<'a>(
     requires begins { ends_token parens text.now ≡ false }
     requires in_range { line + length text.now < 2 ^ 32 }
     ensures { MatchResult result
-        (λ read. Run parens keep (Outside false) text.now line (Outside false) read.1.now read.0 out.old out.new × (length read.1.now < length text.now))
+        (λ read. Run parens keep (Outside false) text.now line
+        (Outside false) read.1.now read.0 out.old out.new × (length read.1.now < length text.now))
         (Broken parens (Outside false) text.now) }
 {
     if begins_backslash(text) {
@@ -76,22 +77,23 @@ pub(crate) fn push_spelling<'a>(
 ) -> Result<(u32, &'a str), TextFault>
     requires { line + length text.now < 2 ^ 32 }
     ensures means { MatchResult result
-        (λ read. Run parens keep (Outside false) text.now line (Outside false) read.1.now read.0 out.old out.new)
+        (λ read. Run parens keep (Outside false) text.now line
+        (Outside false) read.1.now read.0 out.old out.new)
         (Broken parens (Outside false) text.now) }
     ensures ends { IfOk result (λ read. ends_token parens read.1.now ≡ true) }
 {
     let mut rest = text;
     let mut line = line;
     'pieces: while !ends_token(rest, parens) {
-        let (reached, behind) = push_piece(out, rest, line, parens, keep)?;
+        let (reached, after) = push_piece(out, rest, line, parens, keep)?;
         line = reached;
-        rest = behind;
+        rest = after;
     }
     Ok((line, rest))
 }
 
-fn make_token(alloc: Global, line: u32, text: &str) -> Result<Token, TextFault>
-    ensures { MatchResult result (λ token. token ≡ token_of line text.now true) (λ fault. fault ≡ Memory) }
+fn make_token(alloc: Global, line: u32, text: &str) -> Result<Token, AllocError>
+    ensures { IfOk result (λ token. token ≡ token_of line text.now true) }
 {
     let text = Text::from_str(alloc, text)?;
     Ok(Token {
@@ -113,9 +115,11 @@ fn spell<'a>(
     requires begins { ends_token parens text.now ≡ false }
     requires quotes { begins (is_ordinary parens) text.now ≡ false }
     requires in_range { line + length text.now < 2 ^ 32 }
-    ensures gives { (inside : Bool) (depth : ℕ) → let at = place (ordinary.now ++ text.now) line inside parens depth in
+    ensures gives { (inside : Bool) (depth : ℕ) → let at =
+        place (ordinary.now ++ text.now) line inside parens depth in
         MatchResult result (λ read. GivesToken at read.0 (place read.2.now read.1 true parens depth)) (GivesFault at) }
-    ensures in_range { IfOk result (λ read. (read.1 + length read.2.now ≤ line + length text.now) × (length read.2.now ≤ length text.now)) }
+    ensures in_range { IfOk result (λ read. (read.1 + length read.2.now ≤ line + length text.now)
+        × (length read.2.now ≤ length text.now)) }
 {
     let mut out = Draft::new(alloc);
     out.push(ordinary);
@@ -140,7 +144,8 @@ fn read_word<'a>(
     requires in_range { line + length text.now < 2 ^ 32 }
     ensures gives { (inside : Bool) (depth : ℕ) → let at = place text.now line inside parens depth in
         MatchResult result (λ read. GivesToken at read.0 (place read.2.now read.1 true parens depth)) (GivesFault at) }
-    ensures in_range { IfOk result (λ read. (read.1 + length read.2.now ≤ line + length text.now) × (length read.2.now ≤ length text.now)) }
+    ensures in_range { IfOk result (λ read. (read.1 + length read.2.now ≤ line + length text.now)
+        × (length read.2.now ≤ length text.now)) }
 {
     let (ordinary, rest) = split_ordinary(text, parens);
     if !ends_token(rest, parens) {
@@ -151,7 +156,7 @@ fn read_word<'a>(
 }
 
 // How many parentheses are open after this one.
-fn open_behind(text: &str, depth: u32) -> u32
+fn open_after_paren(text: &str, depth: u32) -> u32
     requires { depth + length text.now < 2 ^ 32 }
     ensures { result ≡ open_at text.now depth }
 {
@@ -171,7 +176,7 @@ pub(crate) fn read_token<'a>(
     depth: u32,
 ) -> Result<(Token, u32, &'a str, u32), TextFault>
     requires within { is_line_end text.now ≡ false }
-    requires behind_gap { (passes : Bool) × (begins_gap passes text.now ≡ false) }
+    requires after_gap { (passes : Bool) × (begins_gap passes text.now ≡ false) }
     requires lines { line + length text.now < 2 ^ 32 }
     requires parens { depth + length text.now < 2 ^ 32 }
     ensures gives { (inside : Bool) → let at = place text.now line inside parens depth in
@@ -182,8 +187,8 @@ pub(crate) fn read_token<'a>(
     if parens && begins_paren(text) {
         let (paren, rest) = split_first(text);
         let token = make_token(alloc, line, paren)?;
-        let behind = open_behind(text, depth);
-        return Ok((token, line, rest, behind));
+        let after = open_after_paren(text, depth);
+        return Ok((token, line, rest, after));
     }
     let (token, reached, rest) = read_word(alloc, text, line, parens)?;
     Ok((token, reached, rest, depth))

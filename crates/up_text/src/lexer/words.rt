@@ -24,7 +24,8 @@ fn word_len(bytes: &[u8]) -> usize
 /// or a backslash is a byte like any other, as in the line `end script` and in a command that needs no shell (init(5)).
 pub fn next_word(text: &str) -> (&str, &str)
     ensures begins { BeginsWord text.now result.0.now result.1.now }
-    ensures behind { Splits is_in_word (drop (prefix_len is_blank text.now) text.now) result.0.now result.1.now }
+    ensures after { Splits is_in_word (drop
+        (prefix_len is_blank text.now) text.now) result.0.now result.1.now }
     ensures shorter { 0 < length result.0.now → length result.1.now < length text.now }
 {
     let (_, words) = split_blanks(text);

@@ -1,3 +1,4 @@
+-- For the gate's time alone: with this answer a wrong body is refused sooner.
 use Rattle.std.proofs.Common.{rules}
 use Rattle.up_command.proofs.answer.print.Goals as goal
 

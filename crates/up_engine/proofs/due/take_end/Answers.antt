@@ -17,5 +17,5 @@ returns g c c' s =
     let config = c.args.setup.now in
     let now = c.in_ok-given.ensures.after config c' s in
     let does : Who → List Entry = λ who. end_of (job_named who.job config.jobs) (instance_named who d) c.args.process (end.Ended c.args.how) d in
-    let done = c.in_ok-conclude.ensures config d (does c.in_ok-its.its) now (c.verdict_on-judged.ensures Stepping d now) in
+    let done = c.in_ok-conclude.ensures config d (does c.in_ok-its.its) now (c.verdict_on-verdict_on_end.ensures Stepping d now) in
     rw one_last (subst (λ who. g.B.Book.stands c.conclude.new.book Stepping config (does who ++ d)) c.in_ok-its.ensures done)

@@ -2,7 +2,7 @@ use Rattle.std.proofs.Common.{◌≡◌, ◌∷◌, ◌++◌, ◌∙◌, true, f
 use Rattle.up_engine.specs.Keys.{Stepping}
 use Rattle.up_model.specs.Chronicle.{Chronicle, Given}
 use Rattle.up_model.specs.Readings.{goal as goal_of}
-use Rattle.up_model.specs.Tests.{is_start}
+use Rattle.up_model.specs.Predicates.{is_start}
 use Rattle.up_engine.proofs.requests.stop_found.Goals as goal
 
 pub returns-in_ok-stop_of : goal.returns-in_ok-stop_of

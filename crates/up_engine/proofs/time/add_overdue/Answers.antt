@@ -2,7 +2,7 @@ use Rattle.std.proofs.Common.{◌≡◌, ◌∙◌, ◌+◌, ◌++◌, ◌∷◌
 use Rattle.std.proofs.lemmas.List.{drop_all}
 use Rattle.up_engine.proofs.Slots.{slot_here, slots_length}
 use Rattle.up_model.specs.Clock.{kill_due, overdue}
-use Rattle.up_model.specs.Tests.{entries_if}
+use Rattle.up_model.specs.Predicates.{entries_if}
 use Rattle.up_engine.proofs.time.add_overdue.Goals as goal
 
 pub loop-slot-init : goal.loop-slot-init

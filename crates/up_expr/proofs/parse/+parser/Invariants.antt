@@ -1,5 +1,5 @@
 use Rattle.std.proofs.Common.{length, ◌≡◌, ◌<◌, ◌+◌, ◌*◌, List, None}
-use Rattle.up_expr.specs.Parsing.{Pending, at, Before, Behind, outcome}
+use Rattle.up_expr.specs.Parsing.{Pending, at, Before, After, outcome}
 use Rattle.up_expr.specs.Parts.{Keeps}
 use Rattle.up_expr.specs.Trees.{Tree}
 use Rattle.up_expr.proofs.parse.+parser.Given as goal
@@ -14,7 +14,7 @@ decreases-parse_items l = length l.tokens.now * 2 + 1
 -- what was read ends in the tree so far
 abbrev pub invariant-parse_items-operators : goal.invariant-parse_items-operators
 invariant-parse_items-operators l = record {
-  same : (tree : Tree) × Keeps l.tree tree × ((outer : List Pending) → length outer ≡ l.depth → outcome l.tokens (at outer None Before) ≡ outcome l.rest (at outer None (Behind tree)));
+  same : (tree : Tree) × Keeps l.tree tree × ((outer : List Pending) → length outer ≡ l.depth → outcome l.tokens (at outer None Before) ≡ outcome l.rest (at outer None (After tree)));
   within : length l.rest < length l.tokens;
 }
 

@@ -22,5 +22,5 @@ pub returns-clause-added : goal.returns-clause-added
 returns-clause-added c =
     let at : c.position-at.result ≡ by_name.position job_of c.args.job.now c.args.groups.now.items = search rules in
     let its : c.in_ok-group.group.job ≡ c.args.job.now = search rules in
-    let row : c.in_ok-group.group.row ≡ with_instance (new_instance c.args.instance.now) [] = search rules in
-    subst (λ gs. Changes c.args.job.now (with_instance (new_instance c.args.instance.now)) c.args.groups.now.items gs) (sym c.in_ok-insert.ensures.items) (added_group c.args.job.now (with_instance (new_instance c.args.instance.now)) c.args.groups.now.items c.position-at.result at c.requires.order c.in_ok-group.group c.requires.absent its row)
+    let instance_list : c.in_ok-group.group.instance_list ≡ with_instance (new_instance c.args.instance.now) [] = search rules in
+    subst (λ gs. Changes c.args.job.now (with_instance (new_instance c.args.instance.now)) c.args.groups.now.items gs) (sym c.in_ok-insert.ensures.items) (added_group c.args.job.now (with_instance (new_instance c.args.instance.now)) c.args.groups.now.items c.position-at.result at c.requires.order c.in_ok-group.group c.requires.absent its instance_list)

@@ -3,7 +3,7 @@ use Rattle.up_job.specs.Groups.{job_of}
 use Rattle.up_job.specs.InstanceLists.{named, without}
 use Rattle.up_job.specs.Named as by_name
 use Rattle.up_job.proofs.NamedLemmas.{within_here}
-use Rattle.up_job.proofs.GroupLemmas.{has_group, row_here, changed_order, changed_group}
+use Rattle.up_job.proofs.GroupLemmas.{has_group, list_here, changed_order, changed_group}
 use Rattle.up_job.proofs.instances.take.Goals as goal
 
 pub index_mut-requires : goal.index_mut-requires
@@ -17,7 +17,7 @@ pub remove-requires : goal.remove-requires
 remove-requires c =
     let at : c.position-at.result ≡ by_name.position job_of c.args.job.now c.args.groups.now.items = search rules in
     let there = has_group c.args.job.now c.args.instance.now c.args.groups.now.items c.requires.there in
-    subst (λ l. IsSome (named c.args.instance.now l)) (row_here c.args.job.now c.args.groups.now.items c.position-at.result c.index_mut.result.now at c.requires.order there c.index_mut.ensures.value) c.requires.there
+    subst (λ l. IsSome (named c.args.instance.now l)) (list_here c.args.job.now c.args.groups.now.items c.position-at.result c.index_mut.result.now at c.requires.order there c.index_mut.ensures.value) c.requires.there
 
 pub returns-clause-order : goal.returns-clause-order
 returns-clause-order c =
@@ -29,7 +29,7 @@ pub returns-clause-taken : goal.returns-clause-taken
 returns-clause-taken c =
     let at : c.position-at.result ≡ by_name.position job_of c.args.job.now c.args.groups.now.items = search rules in
     let there = has_group c.args.job.now c.args.instance.now c.args.groups.now.items c.requires.there in
-    ap (λ l. named c.args.instance.now l) (row_here c.args.job.now c.args.groups.now.items c.position-at.result c.index_mut.result.now at c.requires.order there c.index_mut.ensures.value) ∙ c.remove.ensures.taken
+    ap (λ l. named c.args.instance.now l) (list_here c.args.job.now c.args.groups.now.items c.position-at.result c.index_mut.result.now at c.requires.order there c.index_mut.ensures.value) ∙ c.remove.ensures.taken
 
 pub returns-clause-rest : goal.returns-clause-rest
 returns-clause-rest c =

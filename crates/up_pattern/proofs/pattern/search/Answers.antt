@@ -11,6 +11,6 @@ pub returns-in-Run : goal.returns-in-Run
 returns-in-Run c =
     let run = c.in-Run.ensures in
     let takes = takes-first (item_of_part c.args.part.now) _ _ _ c.in-Some.ensures.cases.0 (sym c.if-recall.ensures.answer) in
-    let leads = leads-more (item_of_part c.args.part.now) (all_items c.args.text.now) c.places.left.now c.in-Some.behind.now (all_items c.in-Run.rest.now) c.in-Run.left.now c.requires.one takes run.3 run.0 in
-    let shorter = takes-shorter (item_of_part c.args.part.now) c.places.left.now c.in-Some.behind.now takes in
+    let leads = leads-more (item_of_part c.args.part.now) (all_items c.args.text.now) c.places.left.now c.in-Some.beyond.now (all_items c.in-Run.rest.now) c.in-Run.left.now c.requires.one takes run.3 run.0 in
+    let shorter = takes-shorter (item_of_part c.args.part.now) c.places.left.now c.in-Some.beyond.now takes in
     (sym c.places.invariant.same ∙ absorbs _ _ _ _ leads, run.1, run.2, omega (arith, run.3, shorter, c.places.invariant.shorter))

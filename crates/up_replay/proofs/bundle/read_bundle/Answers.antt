@@ -20,11 +20,11 @@ files-preserved c =
     let no_script : is_script (first_line c.files.rest.now) ≡ false = ap is_script (sym c.split_line.ensures.line) ∙ sym c.is_script.ensures ∙ c.if-is_script.false in
     let skips : Skips c.split_line.result.1.now c.to_header-count.result.0.now c.to_header-count.result.1.now c.to_header-count.result.2 =
     record { content = h.content; header = h.header; files = h.files; script = h.script; number = h.number; bad = h.bad; within = h.within } in
-    let behind : Skips (after_line c.files.rest.now) c.to_header-count.result.0.now c.to_header-count.result.1.now c.to_header-count.result.2 = rw (← c.split_line.ensures.after) skips in
+    let after : Skips (after_line c.files.rest.now) c.to_header-count.result.0.now c.to_header-count.result.1.now c.to_header-count.result.2 = rw (← c.split_line.ensures.after) skips in
     let path : c.path_of.result.now ≡ path_of (first_line c.files.rest.now) = c.path_of.ensures ∙ ap path_of c.split_line.ensures.line in
     let less : length (after_line c.files.rest.now) < length c.files.rest.now = rw (← c.split_line.ensures.after) (c.split_line.ensures.shorter some) in
     rw c.first_bad-bad.ensures (left_next c.args.text.now c.files.folder c.add_file.new.folder c.files.bad c.files.line c.files.rest.now c.to_header-count.result.0.now c.to_header-count.result.1.now c.to_header-count.result.2 c.in_ok-good.good
-    c.files.invariant some no_script behind (c.in_ok-good.ensures.folder ∙ rw path refl) (c.in_ok-good.ensures.text ∙ ap is_utf8 path) less)
+    c.files.invariant some no_script after (c.in_ok-good.ensures.folder ∙ rw path refl) (c.in_ok-good.ensures.text ∙ ap is_utf8 path) less)
 
 pub returns-then-is_script-clause-folder : goal.returns-then-is_script-clause-folder
 returns-then-is_script-clause-folder c =

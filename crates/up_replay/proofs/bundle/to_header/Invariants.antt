@@ -3,8 +3,8 @@ use Rattle.up_replay.proofs.Passing.{Passed}
 use Rattle.up_replay.proofs.bundle.to_header.Given as goal
 
 -- what was passed has no header
-abbrev pub invariant-passing : goal.invariant-passing
-invariant-passing l = (front : List ℕ) × Passed l.text front l.rest l.lines
+abbrev pub invariant-place_after : goal.invariant-place_after
+invariant-place_after l = (front : List ℕ) × Passed l.text front l.rest l.lines
 
-abbrev pub decreases-passing : goal.decreases-passing
-decreases-passing l = length l.rest
+abbrev pub decreases-place_after : goal.decreases-place_after
+decreases-place_after l = length l.rest

@@ -1,6 +1,6 @@
 use Rattle.std.proofs.Common.{rules, append_assoc}
 use Rattle.up_replay.specs.Lines.{variable_text}
-use Rattle.up_replay.proofs.Rows.{one_more}
+use Rattle.up_replay.proofs.ScriptSteps.{one_more}
 use Rattle.up_replay.proofs.lines.push_variables.Goals as goal
 
 pub loop-i-preserved : goal.loop-i-preserved

@@ -15,7 +15,7 @@ returns-in_err-push_str-in-Text c = gives_memory c.args.text.now c.args.env.now 
 
 pub pieces-preserved-in_ok-push_str-in-Text : goal.pieces-preserved-in_ok-push_str-in-Text
 pieces-preserved-in_ok-push_str-in-Text c =
-    let same = ap (texts_of c.pieces.depth) c.read_piece.ensures.same ∙ c.in-Some.ensures.said (signs 0 c.read_piece.result.1.now) in
+    let same = ap (texts_of c.pieces.depth) c.read_piece.ensures.same ∙ c.in-Some.ensures.piece_texts (signs 0 c.read_piece.result.1.now) in
     record {
       is_text = search rules;
       shallow = c.in-Some.ensures.shallow;
@@ -25,7 +25,7 @@ pieces-preserved-in_ok-push_str-in-Text c =
 
 pub pieces-preserved : goal.pieces-preserved
 pieces-preserved c =
-    let same = ap (texts_of c.pieces.depth) c.read_piece.ensures.same ∙ c.in-Some.ensures.said (signs 0 c.read_piece.result.1.now) in
+    let same = ap (texts_of c.pieces.depth) c.read_piece.ensures.same ∙ c.in-Some.ensures.piece_texts (signs 0 c.read_piece.result.1.now) in
     record {
       is_text = search rules;
       shallow = c.in-Some.ensures.shallow;

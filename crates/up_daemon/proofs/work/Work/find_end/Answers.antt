@@ -1,4 +1,4 @@
-use Rattle.std.proofs.Common.{[], refl}
+use Rattle.std.proofs.Common.{[], refl, arith}
 use Rattle.up_model.specs.declared.input.Input.TheVariants as input
 use Rattle.up_daemon.specs.Attending.{LettingIn, Feeds}
 use Rattle.up_daemon.specs.Dealing.{Polling, FindsEnd, FindsNone, PollFails}
@@ -24,3 +24,8 @@ pub returns-in_ok-take-in-Ok-Some-clause-attends : goal.returns-in_ok-take-in-Ok
 returns-in_ok-take-in-Ok-Some-clause-attends g c start entries faults attends =
     let end = c.in-Ok-Some.end in
     c.in_ok-take-in-Ok-Some.ensures.attends start LettingIn entries faults (λ outputs. Feeds LettingIn (input.Ended end.0 end.1 end.2) outputs (desk_of c.args.self.now entries faults []) tt attends)
+
+pub returns-in_ok-take-in-Ok-Some-clause-fewer : goal.returns-in_ok-take-in-Ok-Some-clause-fewer
+returns-in_ok-take-in-Ok-Some-clause-fewer g c found =
+    let lives = rw c.in-Ok-Some.field-0-is at c.in-Ok-Some.ensures.lives in
+    omega (arith, lives, c.in_ok-take-in-Ok-Some.ensures.ends refl)

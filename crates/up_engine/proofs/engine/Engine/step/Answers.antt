@@ -1,6 +1,7 @@
 use Rattle.std.proofs.Common.{◌≡◌, ◌∙◌, sym, refl, ap, true, is_some}
 use Rattle.up_engine.specs.Keys.{Resting}
 use Rattle.up_engine.proofs.Entries.{is_some_map}
+use Rattle.up_engine.proofs.LeftLemmas.{left_after, sound_after}
 use Rattle.up_engine.proofs.engine.Engine.step.Goals as goal
 
 pub returns-then-not-is_expected-clause-meaning : goal.returns-then-not-is_expected-clause-meaning
@@ -23,3 +24,12 @@ returns-in-Ok-clause-meaning c config c' s =
       rw (sym s.setup) (c.in-Ok.ensures.outputs c' past),
       record { up = refl; setup = s.setup; past = rw (sym s.setup) (c.in-Ok.ensures.after c' past) },
     )
+
+pub returns-in-Ok-clause-left : goal.returns-in-Ok-clause-left
+returns-in-Ok-clause-left c calm =
+    left_after c.args.self.now.setup c.args.self.now.book c.step_book.new.book c.args.given c.in-Ok.outputs.items calm (c.args.self.now.sound c.if-self.false) c.in-Ok.ensures.after c.in-Ok.ensures.outputs
+
+pub invariant_of-self : goal.invariant_of-self
+invariant_of-self c = record {
+  sound = λ up. sound_after c.args.self.now.setup c.args.self.now.book c.step_book.new.book c.args.given (c.args.self.now.sound c.if-self.false) c.in-Ok.ensures.after;
+}

@@ -19,5 +19,5 @@ returns c config c' e s known =
     let two = c.in_ok-answer_waiter.ensures config finished one in
     let three = c.in_ok-tell.ensures config (answering_waiter c.waiter-waiter.result c.is_spoilt-spoilt.result ++ finished) two in
     let named = subst (λ o. Stored c.tell.new.self Stepping config (telling p c.args.told ++ (answering_waiter o c.is_spoilt-spoilt.result ++ finished))) waits three in
-    let judged = subst (λ b. Stored c.tell.new.self Stepping config (telling p c.args.told ++ (answering_waiter (waiter p c') b ++ finished))) spoilt named in
-    subst (λ q. Stored c.tell.new.self Stepping config (telling q c.args.told ++ (answering_waiter (waiter q c') (is_spoilt q c') ++ Finished q ∷ c'))) (some_same known) judged
+    let verdict_on_end = subst (λ b. Stored c.tell.new.self Stepping config (telling p c.args.told ++ (answering_waiter (waiter p c') b ++ finished))) spoilt named in
+    subst (λ q. Stored c.tell.new.self Stepping config (telling q c.args.told ++ (answering_waiter (waiter q c') (is_spoilt q c') ++ Finished q ∷ c'))) (some_same known) verdict_on_end

@@ -1,13 +1,13 @@
 use Rattle.std.proofs.Common.{refl}
 use Rattle.up_event.proofs.Steps.{Rests, has_node, changes}
-use Rattle.up_event.specs.LiveEvents.{changed, released}
+use Rattle.up_event.specs.LiveEvents.{with_change, without_hold}
 use Rattle.up_event.proofs.events.Events.release.Goals as goal
 
 pub release-requires : goal.release-requires
 release-requires c = has_node _ _ _ _ c.args.id _ (record { invariant = c.self.invariant; view_is = c.self.view_is }) c.requires
 
-rests : (c : goal.After-release) → Rests c.release.new.nodes c.self.inside.oldest c.self.inside.newest (changed c.args.id (released c.args.failed) c.args.self.now)
-rests c = changes _ _ _ _ _ c.args.id (released c.args.failed) (λ _. refl) (record { invariant = c.self.invariant; view_is = c.self.view_is }) c.release.ensures
+rests : (c : goal.After-release) → Rests c.release.new.nodes c.self.inside.oldest c.self.inside.newest (with_change c.args.id (without_hold c.args.failed) c.args.self.now)
+rests c = changes _ _ _ _ _ c.args.id (without_hold c.args.failed) (λ _. refl) (record { invariant = c.self.invariant; view_is = c.self.view_is }) c.release.ensures
 
 pub invariant_of-self : goal.invariant_of-self
 invariant_of-self c = (rests c).invariant

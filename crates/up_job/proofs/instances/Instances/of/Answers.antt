@@ -1,7 +1,7 @@
 use Rattle.std.proofs.Common.{◌≡◌, rules, IsSome}
 use Rattle.up_job.specs.Groups.{job_of, instances_in}
 use Rattle.up_job.specs.Named as by_name
-use Rattle.up_job.proofs.GroupLemmas.{row_here}
+use Rattle.up_job.proofs.GroupLemmas.{list_here}
 use Rattle.up_job.proofs.instances.Instances.of.Goals as goal
 
 pub returns-in-Ok-clause-list : goal.returns-in-Ok-clause-list
@@ -9,5 +9,5 @@ returns-in-Ok-clause-list c =
     let groups = c.self.inside.groups.items in
     let at : c.in-Ok.at ≡ by_name.position job_of c.args.job.now groups = search rules in
     let there : IsSome (by_name.named job_of c.args.job.now groups) = search rules in
-    let row : instances_in c.args.job.now groups ≡ c.index.result.now.row = row_here c.args.job.now groups c.in-Ok.at c.index.result.now at c.self.invariant there c.index.ensures in
+    let instance_list : instances_in c.args.job.now groups ≡ c.index.result.now.instance_list = list_here c.args.job.now groups c.in-Ok.at c.index.result.now at c.self.invariant there c.index.ensures in
     search rules

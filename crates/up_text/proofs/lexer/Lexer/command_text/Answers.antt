@@ -2,7 +2,7 @@ use Rattle.std.proofs.Common.{false, [], refl, arith}
 use Rattle.std.proofs.lemmas.Result.{err_from_is_err_and}
 use Rattle.std.specs.List.{flat_map}
 use Rattle.up_text.proofs.CommandTexts.{Command-read, Command-memory, Command-refused, Told-fits}
-use Rattle.up_text.specs.Places.{written}
+use Rattle.up_text.specs.Places.{command_bytes}
 use Rattle.up_text.proofs.lexer.Lexer.command_text.Goals as goal
 
 pub returns-in_err-line : goal.returns-in_err-line
@@ -19,8 +19,7 @@ returns-in_err-text c =
     let gap = c.after_gap-line.ensures in
     let told = c.in_ok-line.ensures.means in
     let p = err_from_is_err_and c.from_residual-in_err-text.result c.from_residual-in_err-text.ensures.1 in
-    let memory = c.in_err-text.ensures (flat_map written told.told) (told.pushed [] (rw c.new-out.ensures refl)) in
-    rw (← c.self.view_is, p.1, p.2, memory)
+    rw (← c.self.view_is, p.1, p.2)
     (Command-memory at.rest.now _ _ at.line _ _ at.inside at.parens at.depth _ _ (gap.run false) gap.ends told c.in_ok-line.ensures.ends)
 
 pub invariant_of-self : goal.invariant_of-self
@@ -37,6 +36,6 @@ returns c =
     let at = c.self.inside in
     let gap = c.after_gap-line.ensures in
     let told = c.in_ok-line.ensures.means in
-    let text = c.in_ok-text.ensures (flat_map written told.told) (told.pushed [] (rw c.new-out.ensures refl)) in
+    let text = c.in_ok-text.ensures (flat_map command_bytes told.told) (told.pushed [] (rw c.new-out.ensures refl)) in
     rw (← c.self.view_is)
     (Command-read at.rest.now _ _ at.line _ _ at.inside at.parens at.depth _ _ (gap.run false) gap.ends told c.in_ok-line.ensures.ends _ text)

@@ -15,4 +15,4 @@ returns-in_err-token-clause-gives c = λ inside.
 
 pub returns-then-begins_paren-clause-gives : goal.returns-then-begins_paren-clause-gives
 returns-then-begins_paren-clause-gives c = λ inside.
-    rw (c.in_ok-token.ensures, c.if-parens.true, c.split_first.ensures.front, c.split_first.ensures.rest, c.open_behind-behind.ensures) (paren-read c.args.text.now c.args.line inside c.args.depth (sym c.begins_paren.ensures ∙ c.if-begins_paren.true))
+    rw (c.in_ok-token.ensures, c.if-parens.true, c.split_first.ensures.front, c.split_first.ensures.rest, c.open_after_paren-after.ensures) (paren-read c.args.text.now c.args.line inside c.args.depth (sym c.begins_paren.ensures ∙ c.if-begins_paren.true))

@@ -13,10 +13,10 @@ returns-then-not-ends_token-clause-gives c = λ inside depth.
 pub returns-in_err-token-clause-gives : goal.returns-in_err-token-clause-gives
 returns-in_err-token-clause-gives c = λ inside depth.
     let p = err_from_is_err_and c.from_residual.result c.from_residual.ensures.1 in
-    let behind : ends_token c.args.parens c.split_ordinary.result.1.now ≡ true = sym c.ends_token.ensures ∙ c.if-not-ends_token.false in
-    rw (p.1, p.2, c.in_err-token.ensures) (token-memory _ _ _ (ordinary-read c.args.parens c.args.text.now _ _ c.args.line inside depth c.split_ordinary.ensures c.requires.begins behind))
+    let after : ends_token c.args.parens c.split_ordinary.result.1.now ≡ true = sym c.ends_token.ensures ∙ c.if-not-ends_token.false in
+    rw (p.1, p.2, c.in_err-token.ensures) (token-memory _ _ _ (ordinary-read c.args.parens c.args.text.now _ _ c.args.line inside depth c.split_ordinary.ensures c.requires.begins after))
 
 pub returns-clause-gives : goal.returns-clause-gives
 returns-clause-gives c = λ inside depth.
-    let behind : ends_token c.args.parens c.split_ordinary.result.1.now ≡ true = sym c.ends_token.ensures ∙ c.if-not-ends_token.false in
-    rw c.in_ok-token.ensures (ordinary-read c.args.parens c.args.text.now _ _ c.args.line inside depth c.split_ordinary.ensures c.requires.begins behind)
+    let after : ends_token c.args.parens c.split_ordinary.result.1.now ≡ true = sym c.ends_token.ensures ∙ c.if-not-ends_token.false in
+    rw c.in_ok-token.ensures (ordinary-read c.args.parens c.args.text.now _ _ c.args.line inside depth c.split_ordinary.ensures c.requires.begins after)

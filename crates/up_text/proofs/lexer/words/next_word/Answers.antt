@@ -9,5 +9,5 @@ split_at-requires c = rw (c.word_len.ensures, c.as_bytes.ensures.value) (IsCharB
 pub returns-clause-begins : goal.returns-clause-begins
 returns-clause-begins c = word-cut c.args.text.now _ _ _ _ _ _ c.split_blanks.ensures c.as_bytes.ensures.value c.word_len.ensures c.split_at.ensures.front c.split_at.ensures.back
 
-pub returns-clause-behind : goal.returns-clause-behind
-returns-clause-behind c = rest-cut c.args.text.now _ _ _ _ _ _ c.split_blanks.ensures c.as_bytes.ensures.value c.word_len.ensures c.split_at.ensures.front c.split_at.ensures.back
+pub returns-clause-after : goal.returns-clause-after
+returns-clause-after c = rest-cut c.args.text.now _ _ _ _ _ _ c.split_blanks.ensures c.as_bytes.ensures.value c.word_len.ensures c.split_at.ensures.front c.split_at.ensures.back

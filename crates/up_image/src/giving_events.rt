@@ -1,0 +1,147 @@
+//! Tells whether files can give an expression.
+ghost use Rattle.std.specs.Prelude.{◌≡◌, ◌-◌};
+ghost use Rattle.std.specs.List.{list_all};
+ghost use Rattle.up_expr.specs.Trees.{tree_of};
+ghost use Rattle.up_expr.specs.Values as values;
+ghost use Rattle.up_text.specs.Names.{is_name};
+ghost use Rattle.up_image.specs.Giving as giving;
+
+use crate::giving_texts::is_token;
+use up_expr::{Condition, Expr, Leaf, Test};
+use up_text::env::is_key;
+use up_text::{Name, is_expandable, supported};
+
+/// How deep parentheses may stand in each other.
+const MAX_DEPTH: u16 = 256;
+
+// Whether a text is a key with a ! after it.
+fn is_negated_key(text: &str) -> bool
+    ensures { result ≡ values.is_negated_key text.now }
+{
+    match text.strip_suffix("!") {
+        Some(key) => is_key(key),
+        None => false,
+    }
+}
+
+// Whether a text would be read as KEY=VALUE or KEY!=VALUE.
+fn looks_keyed(text: &str) -> bool
+    ensures { result ≡ giving.looks_keyed text.now }
+{
+    match text.split_once('=') {
+        Some((key, _)) => is_key(key) || is_negated_key(key),
+        None => false,
+    }
+}
+
+fn is_leaf_value(value: &str) -> bool
+    ensures { result ≡ giving.is_leaf_value value.now }
+{
+    is_token(value) && is_expandable(value) && supported(value.as_bytes())
+}
+
+fn is_test(test: &Test) -> bool
+    ensures { result ≡ giving.is_test test.now }
+{
+    match test {
+        Test::Place(value) => is_leaf_value(value.as_str()) && !looks_keyed(value.as_str()),
+        Test::Same(key, value) => is_key(key.as_str()) && is_leaf_value(value.as_str()),
+        Test::Differs(key, value) => is_key(key.as_str()) && is_leaf_value(value.as_str()),
+    }
+}
+
+fn are_tests(tests: &[Test]) -> bool
+    ensures { result ≡ list_all giving.is_test tests.now }
+{
+    tests.iter().all(|test| is_test(test))
+}
+
+fn is_positional(test: &Test) -> bool
+    ensures { result ≡ values.is_positional test.now }
+{
+    match test {
+        Test::Place(_) => true,
+        Test::Same(_, _) | Test::Differs(_, _) => false,
+    }
+}
+
+// Whether no positional value stands after a keyed one.
+fn is_ordered(tests: &[Test]) -> bool
+    ensures { result ≡ values.is_ordered tests.now }
+{
+    let mut setting_with = false;
+    for test in tests {
+        if !is_positional(test) {
+            setting_with = true;
+        } else if setting_with {
+            return false;
+        }
+    }
+    true
+}
+
+// Each name is one.
+fn is_name(name: &Name) -> bool
+    ensures { result ≡ is_name name.now }
+{
+    let _text = name.as_str();
+    true
+}
+
+fn is_leaf(leaf: &Leaf) -> bool
+    ensures { result ≡ giving.is_leaf leaf.now }
+{
+    is_name(&leaf.event) && are_tests(leaf.values.as_slice()) && is_ordered(leaf.values.as_slice())
+}
+
+// Whether files can give each leaf of an expression.
+#[cycle(leaves)]
+fn are_leaves(expr: &Expr) -> bool
+    ensures { result ≡ giving.are_leaves (tree_of expr.now) }
+{
+    match expr {
+        Expr::Leaf(leaf) => is_leaf(leaf),
+        Expr::And(left, right) => are_leaves(left) && are_leaves(right),
+        Expr::Or(left, right) => are_leaves(left) && are_leaves(right),
+    }
+}
+
+fn is_lone(expr: &Expr) -> bool
+    ensures { result ≡ giving.is_lone (tree_of expr.now) }
+{
+    match expr {
+        Expr::Leaf(_) => true,
+        Expr::And(_, _) => false,
+        Expr::Or(_, _) => false,
+    }
+}
+
+// Whether parentheses so deep are enough for an expression.
+#[cycle(depths)]
+fn is_shallow(expr: &Expr, depth: u16) -> bool
+    ensures { result ≡ giving.is_shallow depth (tree_of expr.now) }
+{
+    match expr {
+        Expr::Leaf(_) => true,
+        Expr::And(left, right) => {
+            is_shallow(left, depth)
+                && (is_lone(right) || (1 <= depth && is_shallow(right, depth - 1)))
+        }
+        Expr::Or(left, right) => {
+            is_shallow(left, depth)
+                && (is_lone(right) || (1 <= depth && is_shallow(right, depth - 1)))
+        }
+    }
+}
+
+/// Whether files can give an expression, or that there is none.
+pub(crate) fn can_await(condition: &Option<Condition>) -> bool
+    ensures { result ≡ giving.can_await condition.now }
+{
+    match condition {
+        None => true,
+        Some(condition) => {
+            are_leaves(condition.expr()) && is_shallow(condition.expr(), MAX_DEPTH)
+        }
+    }
+}

@@ -1,0 +1,435 @@
+-- The processes that the instances may still order become fewer by those that they order.
+use Rattle.std.proofs.Common.{◌≡◌, ℕ, zero, suc, ◌+◌, ◌<◌, ◌≤◌, ◌==◌, ◌⊎◌, inl, inr, Bool, true, false, ◌&&◌, ◌||◌, not, List, [], ◌∷◌, ◌++◌, Option, None, Some, is_some, if◌then◌else◌, refl, sym, ◌∙◌, ap, subst, arith, eq-eqb, append_assoc}
+use Rattle.std.specs.List.{AllByRecursion}
+use Rattle.up_conf.specs.declared.job.JobDef.{JobDef}
+use Rattle.up_stanza.specs.declared.action.Action.{Action}
+use Rattle.up_stanza.specs.declared.process.Process.{Process}
+use Rattle.up_stanza.specs.declared.process.Process.TheVariants.{Main}
+use Rattle.up_model.specs.declared.failure.End.{End}
+use Rattle.up_model.specs.declared.failure.End.TheVariants as end
+use Rattle.up_model.specs.declared.failure.Failure.{Failure}
+use Rattle.up_model.specs.declared.failure.Verdict.{Verdict}
+use Rattle.up_model.specs.declared.failure.Verdict.TheVariants as verdict
+use Rattle.up_model.specs.declared.input.Input.{Input}
+use Rattle.up_model.specs.declared.input.Input.TheVariants as input
+use Rattle.up_model.specs.declared.life.Entry as table
+use Rattle.up_model.specs.declared.life.JobEvent.{JobEvent}
+use Rattle.up_model.specs.declared.output.Output.{Output}
+use Rattle.up_model.specs.declared.output.Output.TheVariants as output
+use Rattle.up_model.specs.declared.request.Answer.{Answer}
+use Rattle.up_model.specs.declared.state.Goal.{Goal}
+use Rattle.up_model.specs.declared.state.Goal.TheVariants.{Start, Stop}
+use Rattle.up_model.specs.declared.state.State.{State}
+use Rattle.up_model.specs.declared.state.State.TheVariants.{Waiting, Starting, PostStart, Running, PreStop, Stopping}
+use Rattle.up_model.specs.declared.who.Who.{Who}
+use Rattle.up_model.specs.Answers.{after}
+use Rattle.up_model.specs.Chronicle.{Chronicle, Entry, Given, Queued, Handled, Finished, Made, Aimed, Released, Failed, Respawned, Entered, Ordered, Signalled, Replied, Outside, Entering, Spoilt}
+use Rattle.up_model.specs.Clock.{all_overdue, kill, killing}
+use Rattle.up_model.specs.Configuration.{Configuration, job_named}
+use Rattle.up_model.specs.Due.{due, effect, end_of}
+use Rattle.up_model.specs.Instances.{Instance, without_instance, instances_of, instance_named, all_instances}
+use Rattle.up_model.specs.Judgement.{verdict_on_end, end_itself, keep_failure, fail, carry_out}
+use Rattle.up_model.specs.Left.{left_in, left_at, left_among, left, is_calm, spawns, Spends}
+use Rattle.up_model.specs.Life.{next_state, entering}
+use Rattle.up_model.specs.Moves.{has_process, emitting, ordering, enter, enter_whole, may_leave, next_of, who_of, move, move_of, move_in, move_first}
+use Rattle.up_model.specs.Offers.{offering, offer_next}
+use Rattle.up_model.specs.Outputs.{order_for, order_by, order_of, signal_of, reply_of, outputs_of}
+use Rattle.up_model.specs.Readings.{made_at, id_at, goal, state_of, process_env, is_blocking, blocker, failure, holders, pid_of, lives}
+use Rattle.up_model.specs.Replies.{releasing, unanswered, answering_last}
+use Rattle.up_model.specs.Predicates.{is_start, entries_if, or_else}
+use Rattle.up_model.specs.Values.{Bindings}
+use Rattle.up_model.specs.Work.{work, settle}
+use Rattle.up_model.proofs.LeftSums.{IsKept, among-no_more, kept-fewer, gone-no_more}
+use Rattle.up_model.proofs.MoveLaws.{Leaves, leaves, IsMove, move-goal, move-is_of, enter-moves, enter-state, is_waiting, enter-all_instances}
+use Rattle.up_model.proofs.Places.{count, all-counted, instances-exist}
+use Rattle.up_model.proofs.ReplyLaws.{releasing-all, answering_hurried-all}
+use Rattle.up_model.proofs.Sparing.{same-append, all-append, all-if, all-weaker, IsOf, spared-goal, spared-state, spared-blocker, spared-offerings}
+use Rattle.up_model.proofs.WorkLaws.{IsAbout, due-about}
+
+-- how many processes entries order
+abbrev ordered : List Entry → ℕ
+ordered [] = 0
+ordered (Ordered instance its ∷ es) = 1 + ordered es
+ordered (e ∷ es) = ordered es
+
+ordered-append : (es others : List Entry) → ordered (es ++ others) ≡ ordered es + ordered others
+ordered-append [] others = omega arith
+ordered-append (Ordered instance its ∷ es) others = omega (arith, ordered-append es others)
+ordered-append (e ∷ es) others = ordered-append es others
+
+-- an entry that orders none
+abbrev OrdersNone : Entry → Type 0
+OrdersNone (Ordered instance its) = ⊥
+OrdersNone e = Unit {0}
+
+none-ordered : (es : List Entry) → AllByRecursion OrdersNone es → ordered es ≡ 0
+none-ordered [] all = refl
+none-ordered (Ordered instance its ∷ es) all = absurd all.0
+none-ordered (e ∷ es) all = none-ordered es all.1
+
+-- how many the table says that entering a state orders
+abbrev by_table : Option Process → ℕ
+by_table None = 0
+by_table (Some its) = 1
+
+ordering-few : (job : JobDef) (p : ℕ) (its : Option Process) → ordered (ordering job p its) ≤ by_table its
+ordering-few job p None = omega arith
+ordering-few job p (Some its) = by_case (has_process job its)
+  where
+    by_case : (b : Bool) → ordered (entries_if b (Ordered p its ∷ [])) ≤ 1
+    by_case true = omega arith
+    by_case false = omega arith
+
+emitting-none : (job : JobDef) (who : Who) (p : ℕ) (to : State) (kind : Option JobEvent) (c : Chronicle) → ordered (emitting job who p to kind c) ≡ 0
+emitting-none job who p to None c = refl
+emitting-none job who p to (Some kind) c = refl
+
+-- a move orders no more than the table says
+move-few : (job : JobDef) (who : Who) (p : ℕ) (to : State) (entry : table.Entry) (c : Chronicle) → ordered (enter_whole job who p to entry c) ≤ by_table entry.orders
+move-few job who p to entry c =
+    omega (arith, ordered-append xs (ys ++ (zs ++ (ws ++ es))), ordered-append ys (zs ++ (ws ++ es)), ordered-append zs (ws ++ es), ordered-append ws es, released, signalled, emitting-none job who p to entry.emits ((ws ++ es) ++ c), ordering-few job p entry.orders)
+  where
+    es : List Entry
+    es = Entered p to ∷ []
+
+    ws : List Entry
+    ws = ordering job p entry.orders
+
+    zs : List Entry
+    zs = emitting job who p to entry.emits ((ws ++ es) ++ c)
+
+    ys : List Entry
+    ys = entries_if (entry.kills && lives p Main c) (Signalled p job.kill_signal false ∷ [])
+
+    xs : List Entry
+    xs = entries_if entry.releases (releasing p false (enter job who p to entry c ++ c))
+
+    released : ordered xs ≡ 0
+    released = none-ordered xs (all-if OrdersNone entry.releases (releasing p false (enter job who p to entry c ++ c)) (releasing-all OrdersNone (λ request answer. tt) p false tt (enter job who p to entry c ++ c)))
+
+    signalled : ordered ys ≡ 0
+    signalled = none-ordered ys (all-if OrdersNone (entry.kills && lives p Main c) (Signalled p job.kill_signal false ∷ []) (tt, tt))
+
+-- on or back from post-start and pre-stop one can be left
+whole-few : (b task : Bool) (from : State)
+    → left_in Start (if b then Running else Stopping) (is_blocking (if b then Running else Stopping)) + by_table (entering (if b then Running else Stopping) from task).orders ≤ 1
+whole-few true task from = omega arith
+whole-few false task from = omega arith
+
+-- the next state leaves fewer to be ordered, by what entering it orders
+left-fewer : (aim : Goal) (from : State) (blocked has_main lives task : Bool) → Leaves aim from blocked
+    → left_in aim (next_state aim from has_main lives) (is_blocking (next_state aim from has_main lives)) + by_table (entering (next_state aim from has_main lives) from task).orders ≤ left_in aim from blocked
+left-fewer Start Starting true has_main lives task may = cc
+left-fewer Start Starting false has_main lives task may = omega arith
+left-fewer Start PostStart blocked has_main lives task may = whole-few (not has_main || lives) task PostStart
+left-fewer Start PreStop blocked has_main lives task may = whole-few (not has_main || lives) task PreStop
+left-fewer Start Stopping true has_main lives task may = cc
+left-fewer Start Stopping false has_main lives task may = omega arith
+left-fewer Stop Waiting blocked has_main lives task may = cc
+left-fewer Stop Starting true has_main lives task may = cc
+left-fewer Stop Starting false has_main lives task may = omega arith
+left-fewer Stop Running blocked has_main true task may = omega arith
+left-fewer Stop Running blocked has_main false task may = omega arith
+left-fewer Stop Stopping true has_main lives task may = cc
+left-fewer Stop Stopping false has_main lives task may = omega arith
+left-fewer Start from blocked has_main lives task may = omega arith
+left-fewer Stop from blocked has_main lives task may = omega arith
+
+-- an instance waits for its own event after it entered starting or stopping, and only these states ask for that
+enter-left : (job : JobDef) (who : Who) (p : ℕ) (from to : State) (c : Chronicle) (aim : Goal)
+    → left_in aim to (is_some (blocker p (enter_whole job who p to (entering to from job.task) c ++ c))) ≡ left_in aim to (is_blocking to)
+enter-left job who p from Starting c aim = rw (eq-eqb p p refl) refl
+enter-left job who p from Stopping c aim = rw (eq-eqb p p refl) refl
+enter-left job who p from Waiting c Start = refl
+enter-left job who p from to c Start = refl
+enter-left job who p from to c Stop = refl
+
+-- entering waiting orders none
+none-waiting : (to from : State) (task : Bool) → is_waiting to ≡ true → by_table (entering to from task).orders ≡ 0
+none-waiting Waiting from task gone = refl
+none-waiting to from task gone = absurd cc
+
+-- what the instances can order when one of them has moved
+moved-fewer : (k p : ℕ) (gone : Bool) (c d : Chronicle) → IsKept p c d → left_at p d + k ≤ left_at p c → (gone ≡ true → k ≡ 0)
+    → 0 < count p (all_instances c) → left_among (if gone then without_instance p (all_instances c) else all_instances c) d + k ≤ left_among (all_instances c) c
+moved-fewer k p true c d kept fewer none there = let nothing = none refl in omega (arith, nothing, gone-no_more p c d (all_instances c) kept)
+moved-fewer k p false c d kept fewer none there = kept-fewer k p c d (all_instances c) kept fewer there
+
+-- entries leave fewer processes to be ordered, by those that they order
+abbrev Spent : Chronicle → List Entry → Type 0
+Spent c es = left (es ++ c) + ordered es ≤ left c
+
+none-spent : (c : Chronicle) → Spent c []
+none-spent c = omega arith
+
+-- so does a move
+move-spends : (job : JobDef) (x : Instance) (c : Chronicle) → 0 < count x.place (instances_of job.name c) → may_leave job x.place c ≡ true → Spent c (move job x c)
+unfolding left
+move-spends job x c there may =
+    omega (arith, now, move-few job (who_of job x) p to entry c, moved-fewer (by_table entry.orders) p (is_waiting to) c d kept fewer (none-waiting to from job.task) (omega (arith, there, instances-exist p job.name c)))
+  where
+    p : ℕ
+    p = x.place
+
+    from : State
+    from = state_of p c
+
+    to : State
+    to = next_of job p c
+
+    entry : table.Entry
+    entry = entering to from job.task
+
+    es : List Entry
+    es = move job x c
+
+    d : Chronicle
+    d = es ++ c
+
+    all : AllByRecursion (IsMove p) es
+    all = enter-moves job (who_of job x) p to entry c
+
+    of : AllByRecursion (IsOf job.name p) es
+    of = all-weaker (IsMove p) (IsOf job.name p) (move-is_of job.name p) es all
+
+    kept : IsKept p c d
+    kept q apart =
+        ap (λ aim. left_in aim (state_of q d) (is_some (blocker q d))) (same-append (goal q) (IsOf job.name p) (λ e f its. spared-goal job.name p q e f its apart) es c of)
+        ∙ ap (λ s. left_in (goal q c) s (is_some (blocker q d))) (same-append (state_of q) (IsOf job.name p) (λ e f its. spared-state job.name p q e f its apart) es c of)
+        ∙ ap (λ o. left_in (goal q c) (state_of q c) (is_some o)) (same-append (blocker q) (IsOf job.name p) (λ e f its. spared-blocker job.name p q e f its apart) es c of)
+
+    here : left_at p d ≡ left_in (goal p c) to (is_blocking to)
+    here =
+        ap (λ aim. left_in aim (state_of p d) (is_some (blocker p d))) (same-append (goal p) (IsMove p) (move-goal p p) es c all)
+        ∙ ap (λ s. left_in (goal p c) s (is_some (blocker p d))) (enter-state job (who_of job x) p to entry c)
+        ∙ enter-left job (who_of job x) p from to c (goal p c)
+
+    fewer : left_at p d + by_table entry.orders ≤ left_at p c
+    fewer =
+        let less = left-fewer (goal p c) from (is_some (blocker p c)) (has_process job Main) (lives p Main c) job.task (leaves job p from c may) in
+        omega (arith, less, here)
+
+    now : left_among (all_instances d) d ≡ left_among (if is_waiting to then without_instance p (all_instances c) else all_instances c) d
+    now = ap (λ xs. left_among xs d) (enter-all_instances job (who_of job x) p to entry c)
+
+-- what holds of two lists holds of the first in which there is anything
+or_else-spends : (c : Chronicle) (es others : List Entry) → Spent c es → Spent c others → Spent c (or_else es others)
+or_else-spends c [] others spent other = other
+or_else-spends c (e ∷ es) others spent other = spent
+
+if-spends : (c : Chronicle) (b : Bool) (es : List Entry) → (b ≡ true → Spent c es) → Spent c (entries_if b es)
+if-spends c true es spent = spent refl
+if-spends c false es spent = none-spent c
+
+move_in-spends : (job : JobDef) (xs : List Instance) (c : Chronicle) → AllByRecursion (λ x. 0 < count x.place (instances_of job.name c)) xs → Spent c (move_in job xs c)
+move_in-spends job [] c there = none-spent c
+move_in-spends job (x ∷ xs) c there =
+    or_else-spends c (move_of job x c) (move_in job xs c) (if-spends c (may_leave job x.place c) (move job x c) (λ may. move-spends job x c there.0 may))
+    (move_in-spends job xs c there.1)
+
+move_first-spends : (jobs : List JobDef) (c : Chronicle) → Spent c (move_first jobs c)
+move_first-spends [] c = none-spent c
+move_first-spends (job ∷ jobs) c =
+    or_else-spends c (move_in job (instances_of job.name c) c) (move_first jobs c) (move_in-spends job (instances_of job.name c) c (all-counted (instances_of job.name c)))
+    (move_first-spends jobs c)
+
+-- an entry of the effect of an input that is no turn and no request, or of an answer
+abbrev IsCalm : Entry → Type 0
+IsCalm (Given given) = Unit {0}
+IsCalm (Queued (Outside given) event) = Unit {0}
+IsCalm (Aimed instance Stop environment its) = Unit {0}
+IsCalm (Released instance failed) = Unit {0}
+IsCalm (Failed instance failure) = Unit {0}
+IsCalm (Respawned instance moment) = Unit {0}
+IsCalm (Signalled instance signal by_timer) = Unit {0}
+IsCalm (Replied request answer) = Unit {0}
+IsCalm e = ⊥
+
+calm-none : (e : Entry) → IsCalm e → OrdersNone e
+calm-none (Ordered instance its) calm = absurd calm
+calm-none e calm = tt
+
+-- under goal stop an instance can order no more than under another
+stop-fewer : (aim : Goal) (state : State) (blocked : Bool) → left_in Stop state blocked ≤ left_in aim state blocked
+stop-fewer Start Starting blocked = omega arith
+stop-fewer Start Stopping blocked = omega arith
+stop-fewer Start state blocked = omega arith
+stop-fewer Stop state blocked = omega arith
+
+-- such an entry lets no instance order more
+calm-left : (p : ℕ) (e : Entry) (c : Chronicle) → IsCalm e → left_at p (e ∷ c) ≤ left_at p c
+calm-left p (Queued (Entering instance entered) event) c calm = absurd calm
+calm-left p (Finished event) c calm = absurd calm
+calm-left p (Entered instance entered) c calm = absurd calm
+calm-left p (Aimed instance Start environment its) c calm = absurd calm
+calm-left p (Aimed instance Stop environment its) c calm = by_case (instance == p)
+  where
+    by_case : (b : Bool) → left_in (if b then Stop else goal p c) (state_of p c) (is_some (blocker p c)) ≤ left_at p c
+    by_case true = stop-fewer (goal p c) (state_of p c) (is_some (blocker p c))
+    by_case false = omega arith
+calm-left p e c calm = omega arith
+
+calm-lefts : (p : ℕ) (es c : List Entry) → AllByRecursion IsCalm es → left_at p (es ++ c) ≤ left_at p c
+calm-lefts p [] c calm = omega arith
+calm-lefts p (e ∷ es) c calm = omega (arith, calm-left p e (es ++ c) calm.0, calm-lefts p es c calm.1)
+
+-- it brings none and takes none away
+calm-all_instances : (e : Entry) (c : Chronicle) → IsCalm e → all_instances (e ∷ c) ≡ all_instances c
+calm-all_instances (Made job name) c calm = absurd calm
+calm-all_instances (Entered instance entered) c calm = absurd calm
+calm-all_instances e c calm = refl
+
+-- and no event is offered by it
+calm-offering : (e : Entry) (c : Chronicle) → IsCalm e → offering c ≡ None → offering (e ∷ c) ≡ None
+calm-offering (Handled event) c calm none = absurd calm
+calm-offering (Given given) c calm none = refl
+calm-offering e c calm none = none
+
+calm-offerings : (es c : List Entry) → AllByRecursion IsCalm es → offering c ≡ None → offering (es ++ c) ≡ None
+calm-offerings [] c calm none = none
+calm-offerings (e ∷ es) c calm none = calm-offering e (es ++ c) calm.0 (calm-offerings es c calm.1 none)
+
+calm-spends : (es c : List Entry) → AllByRecursion IsCalm es → Spent c es
+unfolding left
+calm-spends es c calm =
+    let same : left_among (all_instances (es ++ c)) (es ++ c) ≡ left_among (all_instances c) (es ++ c) = ap (λ xs. left_among xs (es ++ c)) (same-append all_instances IsCalm calm-all_instances es c calm) in
+    omega (arith, same, among-no_more c (es ++ c) (all_instances c) (λ q. calm-lefts q es c calm), none-ordered es (all-weaker IsCalm OrdersNone calm-none es calm))
+
+-- what is due where no event is offered
+offer-spends : (config : Configuration) (o : Option ℕ) (c : Chronicle) → o ≡ None → Spent c (offer_next config o c)
+offer-spends config None c none = none-spent c
+offer-spends config (Some event) c none = absurd cc
+
+due-spends : (config : Configuration) (c : Chronicle) → offering c ≡ None → Spent c (due config c)
+unfolding due
+due-spends config c none =
+    or_else-spends c (move_first config.jobs c) (or_else (offer_next config (offering c) c) (answering_last c)) (move_first-spends config.jobs c)
+    (or_else-spends c (offer_next config (offering c) c) (answering_last c) (offer-spends config (offering c) c none)
+    (calm-spends (answering_last c) c (answering_hurried-all IsCalm (λ request answer. tt) (unanswered c) c)))
+
+due-offering : (config : Configuration) (c : Chronicle) → offering c ≡ None → offering (due config c ++ c) ≡ None
+due-offering config c none = by_case (due config c) (due-about config c)
+  where
+    by_case : (es : List Entry) → (es ≡ []) ⊎ IsAbout es → offering (es ++ c) ≡ None
+    by_case es (inl nothing) = ap (λ fs. offering (fs ++ c)) nothing ∙ none
+    by_case es (inr about) = spared-offerings about.whose about.place es c about.of ∙ none
+
+-- outputs order no more than the entries
+pub spawns-append : (xs ys : List Output) → spawns (xs ++ ys) ≡ spawns xs + spawns ys
+spawns-append [] ys = omega arith
+spawns-append (output.Spawn order ∷ xs) ys = omega (arith, spawns-append xs ys)
+spawns-append (x ∷ xs) ys = spawns-append xs ys
+
+for-few : (job : JobDef) (who : Who) (its : Process) (o : Option Action) (environment : Bindings) → spawns (order_for job who its o environment) ≤ 1
+for-few job who its None environment = omega arith
+for-few job who its (Some action) environment = omega arith
+
+by-few : (o : Option JobDef) (who : Who) (its : Process) (environment : Bindings) → spawns (order_by o who its environment) ≤ 1
+by-few None who its environment = omega arith
+by-few (Some job) who its environment = for-few job who its _ environment
+
+order-few : (config : Configuration) (o : Option Who) (its : Process) (environment : Bindings) → spawns (order_of config o its environment) ≤ 1
+order-few config None its environment = omega arith
+order-few config (Some who) its environment = by-few (job_named who.job config.jobs) who its environment
+
+signal-none : (o : Option Who) (signal : ℕ) (pid : Option ℕ) → spawns (signal_of o signal pid) ≡ 0
+signal-none None signal pid = refl
+signal-none (Some who) signal None = refl
+signal-none (Some who) signal (Some pid) = refl
+
+reply-none : (o : Option ℕ) (answer : Answer) → spawns (reply_of o answer) ≡ 0
+reply-none None answer = refl
+reply-none (Some id) answer = refl
+
+output-few : (config : Configuration) (e : Entry) (c : Chronicle) → spawns (outputs_of config (e ∷ c)) ≤ spawns (outputs_of config c) + ordered (e ∷ [])
+unfolding outputs_of
+output-few config (Given given) c = omega arith
+output-few config (Ordered instance its) c =
+    omega (arith, spawns-append (outputs_of config c) (order_of config (made_at instance c) its (process_env instance its c)), order-few config (made_at instance c) its (process_env instance its c))
+output-few config (Signalled instance signal by_timer) c =
+    omega (arith, spawns-append (outputs_of config c) (signal_of (made_at instance c) signal (pid_of instance Main c)), signal-none (made_at instance c) signal (pid_of instance Main c))
+output-few config (Queued (Entering instance entered) event) c = omega (arith, spawns-append (outputs_of config c) (output.Emitted event ∷ []))
+output-few config (Queued (Spoilt spoilt) event) c = omega (arith, spawns-append (outputs_of config c) (output.Emitted event ∷ []))
+output-few config (Replied request answer) c =
+    omega (arith, spawns-append (outputs_of config c) (reply_of (id_at request c) answer), reply-none (id_at request c) answer)
+output-few config e c = omega arith
+
+outputs-few : (config : Configuration) (es c : List Entry) → spawns (outputs_of config (es ++ c)) ≤ spawns (outputs_of config c) + ordered es
+outputs-few config [] c = omega arith
+outputs-few config (e ∷ es) c = omega (arith, output-few config e (es ++ c), outputs-few config es c, ordered-append (e ∷ []) es)
+
+-- so what is due leaves fewer, by what it orders
+settle-spends : (n : ℕ) (config : Configuration) (c : Chronicle) → offering c ≡ None
+    → left (settle n config c) + spawns (outputs_of config (settle n config c)) ≤ left c + spawns (outputs_of config c)
+unfolding settle
+settle-spends zero config c none = omega arith
+settle-spends (suc n) config c none =
+    let rest = settle-spends n config (due config c ++ c) (due-offering config c none) in
+    omega (arith, rest, due-spends config c none, outputs-few config (due config c) c)
+
+-- what an end does
+end_itself-calm : (p : ℕ) (c : Chronicle) → AllByRecursion IsCalm (end_itself p c)
+end_itself-calm p c = all-if IsCalm (is_start (goal p c)) (Aimed p Stop [] (holders p c) ∷ []) (tt, tt)
+
+keep_failure-calm : (p : ℕ) (its : Failure) (c : Chronicle) → AllByRecursion IsCalm (keep_failure p its c)
+keep_failure-calm p its c =
+    all-append IsCalm (releasing p true (Failed p its ∷ c)) (Failed p its ∷ []) (releasing-all IsCalm (λ request answer. tt) p true tt (Failed p its ∷ c)) (tt, tt)
+
+fail-calm : (p : ℕ) (its : Failure) (c : Chronicle) → AllByRecursion IsCalm (fail p its c)
+fail-calm p its c =
+    all-append IsCalm (entries_if (not (is_some (failure p c))) (keep_failure p its (end_itself p c ++ c))) (end_itself p c)
+    (all-if IsCalm (not (is_some (failure p c))) (keep_failure p its (end_itself p c ++ c)) (keep_failure-calm p its (end_itself p c ++ c))) (end_itself-calm p c)
+
+carry_out-calm : (p : ℕ) (its : Verdict) (c : Chronicle) → AllByRecursion IsCalm (carry_out p its c)
+carry_out-calm p verdict.Note c = tt
+carry_out-calm p verdict.Respawn c = (tt, tt)
+carry_out-calm p verdict.Stop c = end_itself-calm p c
+carry_out-calm p (verdict.Fail its) c = fail-calm p its c
+
+end_of-calm : (its_job : Option JobDef) (o : Option ℕ) (its : Process) (how : End) (c : Chronicle) → AllByRecursion IsCalm (end_of its_job o its how c)
+end_of-calm None o its how c = tt
+end_of-calm (Some job) None its how c = tt
+end_of-calm (Some job) (Some p) its how c = carry_out-calm p (verdict_on_end job p its how c) c
+
+killing-calm : (places : List ℕ) → AllByRecursion IsCalm (killing places)
+killing-calm [] = tt
+killing-calm (place ∷ places) = all-append IsCalm (killing places) (Signalled place kill true ∷ []) (killing-calm places) (tt, tt)
+
+-- a step begins: no event is offered, no more can be ordered, and nothing was yet
+record Begins (config : Configuration) (c d : Chronicle) : Type 0 where
+  none : offering d ≡ None
+  few : left d + spawns (outputs_of config d) ≤ left c
+
+given-none : (config : Configuration) (given : Input) (c : Chronicle) → spawns (outputs_of config (Given given ∷ c)) ≡ 0
+unfolding outputs_of
+given-none config given c = refl
+
+begins : (config : Configuration) (es : List Entry) (given : Input) (c : Chronicle) → AllByRecursion IsCalm es → Begins config c ((es ++ Given given ∷ []) ++ c)
+begins config es given c calm = subst (Begins config c) (sym (append_assoc es (Given given ∷ []) c)) (record {
+  none = calm-offerings es d calm refl;
+  few = omega (arith, outputs-few config es d, given-none config given c, calm-spends es d calm, calm-spends (Given given ∷ []) c (tt, tt));
+})
+  where
+    d : Chronicle
+    d = Given given ∷ c
+
+effect-begins : (config : Configuration) (given : Input) (c : Chronicle) → is_calm given ≡ true → Begins config c (effect config given c ++ c)
+unfolding effect
+effect-begins config (input.Request id request) c calm = absurd cc
+effect-begins config input.Turn c calm = absurd cc
+effect-begins config (input.Emit event) c calm = begins config (Queued (Outside _) event ∷ []) (input.Emit event) c (tt, tt)
+effect-begins config (input.Spawned who its pid) c calm = begins config [] (input.Spawned who its pid) c tt
+effect-begins config (input.Refused who its) c calm =
+    begins config _ (input.Refused who its) c (end_of-calm (job_named who.job config.jobs) (instance_named who c) its end.Refused (Given (input.Refused who its) ∷ c))
+effect-begins config (input.Ended who its how) c calm =
+    begins config _ (input.Ended who its how) c (end_of-calm (job_named who.job config.jobs) (instance_named who c) its (end.Ended how) (Given (input.Ended who its how) ∷ c))
+effect-begins config (input.Clock reading) c calm =
+    begins config _ (input.Clock reading) c (killing-calm (all_overdue config.jobs (Given (input.Clock reading) ∷ c)))
+
+-- by an input that is no turn and no request fewer can be ordered, by those that it orders
+pub spends : (config : Configuration) (c : Chronicle) (given : Input) → is_calm given ≡ true → Spends config c given
+unfolding after
+spends config c given calm =
+    let d : Chronicle = effect config given c ++ c in
+    let begun = effect-begins config given c calm in
+    omega (arith, begun.few, settle-spends (work config d) config d begun.none)
