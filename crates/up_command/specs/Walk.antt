@@ -1,14 +1,16 @@
 -- What is read of a folder on the disk.
-use Rattle.std.specs.Prelude.{◌≡◌, ℕ, ◌+◌, ◌≤◌, Bool, true, nat_eq, ◌||◌, if◌then◌else◌, List, [], ◌∷◌, ◌++◌, length, codes, string_bytes, All, ◌⊎◌}
+use Rattle.std.specs.Prelude.{◌≡◌, ℕ, ◌+◌, ◌≤◌, Bool, true, nat_eq, ◌||◌, if◌then◌else◌, List, [], ◌∷◌, ◌++◌, length, codes, string_bytes, is_some, All, ◌⊎◌}
 use Rattle.std.specs.List.{ends_with}
 use Rattle.up_conf.specs.declared.folder.File.{File}
+use Rattle.up_conf.specs.Folders.{job_name, overridden_name}
+use Rattle.up_command.specs.declared.walk.TheConstants.{MAX_ENTRIES, MAX_READ}
 use Rattle.up_command.specs.declared.walk.Level.{Level}
 use Rattle.up_command.specs.declared.walk.WalkError.{WalkError}
 use Rattle.up_command.specs.declared.walk.WalkError.TheVariants.{Unusable, Memory}
 
 -- whether a path stands for a job or an override
 abbrev pub is_source : List ℕ → Bool
-is_source path = ends_with nat_eq path (codes ".conf") || ends_with nat_eq path (codes ".override")
+is_source path = is_some (job_name path) || is_some (overridden_name path)
 
 -- the path of what lies in a folder
 abbrev pub path_in : List ℕ → List ℕ → List ℕ
@@ -17,7 +19,7 @@ path_in dir path = (if ends_with nat_eq dir (codes "/") then dir else dir ++ cod
 -- a job file or an override, of no more bytes than show that it is too long
 pub record IsSource (file : File) : Type 0 where
   pub source : is_source file.path ≡ true
-  pub bounded : length file.bytes ≤ 1048577
+  pub bounded : length file.bytes ≤ MAX_READ
 
 -- the same files, or one more, which has this path
 abbrev pub MayAdd : List ℕ → List File → List File → Type 0
@@ -43,12 +45,12 @@ TakesPath path depth files new_files levels new_levels =
 -- the files among so many entries
 pub record Keeps (files : List File) (entries : ℕ) : Type 0 where
   pub few : length files ≤ entries
-  pub within : entries ≤ 65536
+  pub within : entries ≤ MAX_ENTRIES
   pub sources : All IsSource files
 
 -- the files of a folder on the disk
 pub record IsWalked (files : List File) : Type 0 where
-  pub few : length files ≤ 65536
+  pub few : length files ≤ MAX_ENTRIES
   pub sources : All IsSource files
 
 -- an error that names this path, if it isn't that memory ran out

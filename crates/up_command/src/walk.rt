@@ -1,13 +1,14 @@
 //! Reads job files, and a folder of them with its subfolders, from the disk.
 ghost use Rattle.std.specs.Prelude.{◌≡◌, ◌≤◌, ◌<◌, ◌+◌, ◌++◌, ◌∷◌, [], map, if◌then◌else◌, true, is_some, IfOk, IfErr, IfSome, OnOk, length, string_bytes};
 ghost use Rattle.std.specs.IoError.{error_kind};
+ghost use Rattle.up_command.specs.declared.walk.TheConstants.{MAX_READ};
 ghost use Rattle.up_command.specs.Walk.{path_in, is_source, level_of, below, MayAdd, TakesPath, Keeps, IsWalked, Names, NamesDeep, NamesSource, MayFail};
 
 use std::alloc::{AllocError, Global};
 use std::io::{ErrorKind, Read};
 use std::rt::Files;
 use std::{fs, io};
-use up_conf::Folder;
+use up_conf::{Folder, job_name, overridden_name};
 use up_text::{Items, Text};
 
 /// How many folders may lie in one another below the first.
@@ -81,8 +82,7 @@ fn refused(alloc: Global, error: io::Error, path: &str) -> WalkError
 fn is_source(path: &str) -> bool
     ensures { result ≡ is_source path.now }
 {
-    let path = path.as_bytes();
-    path.ends_with(b".conf") || path.ends_with(b".override")
+    job_name(path).is_some() || overridden_name(path).is_some()
 }
 
 // The path of what lies in a folder.
@@ -116,7 +116,7 @@ fn read_source<R: Files + AllocGlobal>(
     is_file: bool,
 ) -> Result<Option<Vec<u8>>, WalkError>
     ensures read { IfOk result (λ read. IfSome read
-        (λ bytes. (is_source path.now ≡ true) × (length bytes.items ≤ 1048577))) }
+        (λ bytes. (is_source path.now ≡ true) × (length bytes.items ≤ MAX_READ))) }
     ensures all { IfOk result (λ read. is_some read ≡ is_source path.now) }
     ensures file { IfOk result (λ read. is_source path.now ≡ true → is_file ≡ true) }
     ensures refused { IfErr result (NamesSource whole.now path.now) }

@@ -5,6 +5,7 @@
 
 mod both;
 mod copies;
+pub mod ending;
 pub mod files;
 pub mod folder;
 mod gathered;
@@ -17,6 +18,7 @@ mod parsed;
 mod paths;
 pub mod report;
 
+pub use ending::{conf_path, job_name, overridden_name};
 pub use files::read_folder;
 pub use folder::{File, Folder};
 pub use job::JobDef;

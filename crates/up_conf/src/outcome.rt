@@ -1,5 +1,5 @@
 //! Reads the files of a folder, each with its override.
-ghost use Rattle.std.specs.Prelude.{◌≡◌, ◌++◌, ℕ, List, Result, [], IfOk, OnErr, true, unwrap_or, None, Some, option_map, option_and_then, option_copied, if◌then◌else◌, string_bytes};
+ghost use Rattle.std.specs.Prelude.{◌≡◌, ◌++◌, ℕ, List, Result, [], IfOk, OnErr, true, unwrap_or, None, Some, option_map, option_and_then, option_copied, if◌then◌else◌, codes};
 ghost use Rattle.std.specs.Result.{result_ok, result_err};
 ghost use Rattle.up_text.specs.Names.{is_name};
 ghost use Rattle.up_conf.specs.Folders.{bytes_at, has_conf, job_name, overridden_name, override_of, job_in, job_of_file, spot_in, spot_of_file};
@@ -9,6 +9,7 @@ ghost use Rattle.up_stanza.specs.Confs.{conf_of};
 ghost use Rattle.up_stanza.specs.Reading.{IsConf};
 ghost use Rattle.up_stanza.specs.declared.stanza.Stanza.{Stanza};
 
+use crate::ending::{conf_path, job_name, override_path, overridden_name};
 use crate::folder::File;
 use crate::job::JobDef;
 use crate::meaning::apply_override;
@@ -34,40 +35,16 @@ fn make_name(alloc: Global, text: &str) -> Result<Option<Name>, AllocError>
     }
 }
 
-// The name of the job that a path stands for.
-fn job_name(path: &str) -> Option<&str>
-    ensures { option_copied result ≡ job_name path.now }
-{
-    path.strip_suffix(".conf")
-}
-
-// The name of the job whose file a path overrides.
-fn overridden_name(path: &str) -> Option<&str>
-    ensures { option_copied result ≡ overridden_name path.now }
-{
-    path.strip_suffix(".override")
-}
-
-// The path of a job's file with this ending.
-fn path_of(alloc: Global, name: &str, ending: &str) -> Result<String, AllocError>
-    ensures { IfOk result (λ path. string_bytes path ≡ name.now ++ ending.now) }
-{
-    let mut path = String::from_str(alloc, name)?;
-    path.push_str(ending)?;
-    Ok(path)
-}
-
-// The bytes of a job's file with this ending.
-fn bytes_of<'a>(
+// The bytes of a job's override.
+fn override_bytes<'a>(
     alloc: Global,
     paths: &Paths<'a>,
     name: &str,
-    ending: &str,
 ) -> Result<Option<&'a [u8]>, AllocError>
     ensures { IfOk result (λ found. option_map (λ bytes. bytes.now) found
-        ≡ bytes_at (name.now ++ ending.now) paths.now) }
+        ≡ bytes_at (name.now ++ codes ".override") paths.now) }
 {
-    let path = path_of(alloc, name, ending)?;
+    let path = override_path(alloc, name)?;
     Ok(paths.bytes_at(path.as_str()))
 }
 
@@ -144,7 +121,7 @@ fn define<'a>(
     ensures { IfOk result (λ job. job
         ≡ job_of name (stanzas.now ++ override_of paths.now key.now)) }
 {
-    match bytes_of(alloc, paths, key, ".override")? {
+    match override_bytes(alloc, paths, key)? {
         Some(bytes) => define_over(alloc, overrides, key, bytes, name, stanzas),
         None => {
             let none = no_stanzas(alloc);
@@ -189,8 +166,8 @@ fn read_job<'a>(
 fn has_conf(alloc: Global, paths: &Paths, name: &str) -> Result<bool, AllocError>
     ensures { IfOk result (λ has. has ≡ has_conf paths.now (Some name.now)) }
 {
-    let bytes = bytes_of(alloc, paths, name, ".conf")?;
-    Ok(bytes.is_some())
+    let path = conf_path(alloc, name)?;
+    Ok(paths.bytes_at(path.as_str()).is_some())
 }
 
 // The fault of an override, if it has one.

@@ -21,6 +21,7 @@ use Rattle.up_image.specs.declared.job_parts.Numbers.{Numbers}
 use Rattle.up_image.specs.declared.job_parts.Lists.{Lists}
 use Rattle.up_image.specs.declared.job_parts.Processes.{Processes}
 use Rattle.up_image.specs.declared.job_parts.Events.{Events}
+use Rattle.up_image.specs.declared.limits.TheConstants.{MAX_NODES}
 use Rattle.up_image.specs.declared.unread.Unread.{Unread}
 use Rattle.up_image.specs.declared.unread.Unread.TheVariants.{BadTable, Memory}
 
@@ -173,7 +174,7 @@ one_tree (tree ∷ other ∷ trees) = None
 
 abbrev pub trees_by : ℕ × List ℕ → Found (Option Tree)
 trees_by counted =
-    if nat_le counted.0 4095
+    if nat_le counted.0 MAX_NODES
     then option_and_then (λ trees. option_map (λ tree. (tree, trees.1)) (one_tree trees.0))
     (trees_at counted.0 [] counted.1)
     else None

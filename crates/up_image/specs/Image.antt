@@ -16,6 +16,7 @@ use Rattle.up_stanza.specs.declared.setting.Setting.{Setting}
 use Rattle.up_conf.specs.declared.job.JobDef.{JobDef}
 use Rattle.up_image.specs.Index.{entries_of, index_part}
 use Rattle.up_image.specs.Texts.{text_part}
+use Rattle.up_image.specs.declared.limits.TheConstants.{MAX_IMAGE, MAX_ITEMS, MAX_JOBS, MAX_NODES}
 
 -- a list: how many items it has, then the items
 abbrev pub list_part : {X : Type 0} → (X → List ℕ) → List X → List ℕ
@@ -93,7 +94,7 @@ fits_number number = nat_le number 4294967295
 
 -- whether the numbers of its items fit: 65,535 in a list, and 4,095 nodes in an expression
 abbrev pub is_countable : {X : Type 0} → List X → Bool
-is_countable xs = nat_le (length xs) 65535
+is_countable xs = nat_le (length xs) MAX_ITEMS
 
 abbrev pub fits_action : Option Action → Bool
 fits_action None = true
@@ -107,7 +108,7 @@ fits_node (node.Or left right) = true
 
 abbrev pub is_short : Option Tree → Bool
 is_short None = true
-is_short (Some tree) = nat_le (size tree) 4095
+is_short (Some tree) = nat_le (size tree) MAX_NODES
 
 abbrev pub fits_condition : Option Tree → Bool
 fits_condition condition = is_short condition && list_all fits_node (nodes_in condition)
@@ -140,13 +141,13 @@ head_of jobs long = codes "UPTB" ++ big_bytes 2 1 ++ big_bytes 2 jobs ++ big_byt
 
 -- whether jobs have an image: there are 1,024 at most, their numbers and lists fit, and the whole has 16 MiB at most
 unfoldable pub has_image : List JobDef → Bool
-has_image jobs = nat_le (length jobs) 1024 && list_all fits jobs
-    && nat_le (12 + length (body_of jobs)) 16777216
+has_image jobs = nat_le (length jobs) MAX_JOBS && list_all fits jobs
+    && nat_le (12 + length (body_of jobs)) MAX_IMAGE
 
 -- bytes are the image of jobs: their head, which says how long they are, and their body; 16 MiB at most, 1,024 jobs at most, each
 -- number as large as its bytes can say, and each list as long as its number can say
 pub record IsImage (bytes : List ℕ) (jobs : List JobDef) : Type 0 where
   pub written : bytes ≡ head_of (length jobs) (length bytes) ++ body_of jobs
-  pub small : length bytes ≤ 16777216
-  pub few : length jobs ≤ 1024
+  pub small : length bytes ≤ MAX_IMAGE
+  pub few : length jobs ≤ MAX_JOBS
   pub counted : list_all fits jobs ≡ true

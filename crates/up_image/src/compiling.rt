@@ -1,18 +1,17 @@
 //! Compiles a folder of job files.
 ghost use Rattle.std.specs.Prelude.{◌≡◌, IfOk, IfErr, Ok, Err, if◌then◌else◌, length, nat_le};
 ghost use Rattle.up_image.specs.declared.refusal.CompileError.TheVariants.{ImageTooLarge, SameName, TooManyJobs};
+ghost use Rattle.up_image.specs.declared.limits.TheConstants.{MAX_JOBS};
 ghost use Rattle.up_image.specs.Compiling.{Compiles, MayRefuse};
 
 use crate::image::has_image;
+use crate::limits::MAX_JOBS;
 use crate::refusal::CompileError;
 use crate::table::Table;
 use crate::twice::has_same_path;
 use std::alloc::Global;
 use up_conf::{Folder, JobDef, Report, read_folder};
 use up_text::Items;
-
-/// The most jobs that a table has.
-pub const MAX_JOBS: usize = 1024;
 
 // Refuses a folder in which a path that is read stands twice.
 fn check_apart(twice: bool) -> Result<(), CompileError>
@@ -26,7 +25,7 @@ fn check_apart(twice: bool) -> Result<(), CompileError>
 
 // The table of so many jobs.
 fn table_of(jobs: Items<JobDef>) -> Result<Table, CompileError>
-    ensures { result ≡ (if nat_le (length jobs) 1024 then Ok jobs else Err TooManyJobs) }
+    ensures { result ≡ (if nat_le (length jobs) MAX_JOBS then Ok jobs else Err TooManyJobs) }
 {
     if jobs.as_slice().len() > MAX_JOBS {
         return Err(CompileError::TooManyJobs);

@@ -3,13 +3,11 @@ ghost use Rattle.std.specs.Prelude.{◌≡◌, true, IfOk};
 ghost use Rattle.std.specs.List.{list_all};
 ghost use Rattle.up_image.specs.Image as image;
 
+use crate::limits::MAX_ITEMS;
 use std::alloc::{AllocError, Global};
 use up_conf::JobDef;
 use up_expr::{Condition, FlatFault, Node, flatten};
 use up_stanza::Action;
-
-/// The most items that a list has.
-const MAX_ITEMS: usize = 65_535;
 
 fn fits_action(action: &Option<Action>) -> bool
     ensures { result ≡ image.fits_action action.now }

@@ -8,24 +8,13 @@ ghost use Rattle.up_image.specs.Giving as giving;
 
 use crate::giving_events::can_await;
 use crate::giving_texts::{is_shell_text, is_token, is_word};
+use crate::limits::{MAX_COUNT, MAX_ITEMS, MAX_KEYS, MAX_SECONDS};
 use crate::twice::has_twice;
 use std::alloc::{AllocError, Global};
 use up_conf::JobDef;
 use up_stanza::{Action, Exit, Setting};
 use up_text::env::is_key;
 use up_text::{Name, Text, is_expandable};
-
-/// The most keys that two files set, and that they export.
-const MAX_KEYS: usize = 60_000;
-
-/// The most words of a command.
-const MAX_WORDS: usize = 65_535;
-
-/// The most times that a job may be respawned within an interval.
-const MAX_COUNT: u32 = 65_535;
-
-/// The most seconds of an interval and of a timeout.
-const MAX_SECONDS: u32 = 2_147_483_647;
 
 fn is_setting(setting: &Setting) -> bool
     ensures { result ≡ giving.is_setting setting.now }
@@ -167,7 +156,7 @@ fn are_all_words(words: &[Text]) -> bool
 fn are_words(words: &[Text]) -> bool
     ensures { result ≡ giving.are_words words.now }
 {
-    !words.is_empty() && words.len() <= MAX_WORDS && are_all_words(words)
+    !words.is_empty() && words.len() <= MAX_ITEMS && are_all_words(words)
 }
 
 fn can_run(alloc: Global, action: &Option<Action>) -> Result<bool, AllocError>

@@ -7,12 +7,10 @@ ghost use Rattle.up_text.specs.Names.{is_name};
 ghost use Rattle.up_image.specs.Giving as giving;
 
 use crate::giving_texts::is_token;
+use crate::limits::MAX_DEPTH;
 use up_expr::{Condition, Expr, Leaf, Test};
 use up_text::env::is_key;
 use up_text::{Name, is_expandable, supported};
-
-/// How deep parentheses may stand in each other.
-const MAX_DEPTH: u16 = 256;
 
 // Whether a text is a key with a ! after it.
 fn is_negated_key(text: &str) -> bool

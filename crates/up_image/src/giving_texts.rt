@@ -3,9 +3,10 @@ ghost use Rattle.std.specs.Prelude.{◌≡◌, ◌≤◌, IfOk, length, nat_eq, 
 ghost use Rattle.std.specs.List.{list_all, list_any};
 ghost use Rattle.std.specs.Str.{is_utf8};
 ghost use Rattle.up_stanza.specs.Actions.{is_shell};
+ghost use Rattle.up_image.specs.declared.limits.TheConstants.{MAX_IMAGE};
 ghost use Rattle.up_image.specs.Giving as giving;
 
-use crate::image::MAX_IMAGE;
+use crate::limits::MAX_IMAGE;
 use std::alloc::{AllocError, Global};
 use up_text::env::is_value;
 use up_text::{Lexer, TextFault};
@@ -85,7 +86,7 @@ pub(crate) fn is_word(text: &str) -> bool
 // Whether a text is a script: the lexer finds an end line first after it.
 #[tactic(auto, unfolding(crate::specs::Giving::is_script))]
 fn is_script(alloc: Global, text: &str) -> Result<bool, AllocError>
-    requires { length text.now ≤ 16777216 }
+    requires { length text.now ≤ MAX_IMAGE }
     ensures { IfOk result (λ script. script ≡ giving.is_script text.now) }
 {
     let mut whole = String::from_str(alloc, text)?;
@@ -101,7 +102,7 @@ fn is_script(alloc: Global, text: &str) -> Result<bool, AllocError>
 // Whether a text is a command's: the lexer reads it as itself.
 #[tactic(auto, unfolding(crate::specs::Giving::is_command))]
 fn is_command(alloc: Global, text: &str) -> Result<bool, AllocError>
-    requires { length text.now ≤ 16777216 }
+    requires { length text.now ≤ MAX_IMAGE }
     ensures { IfOk result (λ command. command ≡ giving.is_command text.now) }
 {
     let mut lexer = Lexer::new(text);
@@ -120,7 +121,7 @@ fn has_shell(bytes: &[u8]) -> bool
 
 // Whether a text is a command's that needs a shell.
 fn is_shell_command(alloc: Global, text: &str) -> Result<bool, AllocError>
-    requires { length text.now ≤ 16777216 }
+    requires { length text.now ≤ MAX_IMAGE }
     ensures { IfOk result (λ command. command ≡ giving.is_shell_command text.now) }
 {
     if !has_shell(text.as_bytes()) {
@@ -131,7 +132,7 @@ fn is_shell_command(alloc: Global, text: &str) -> Result<bool, AllocError>
 
 // Whether a text is a script or what `exec` makes of a command.
 fn is_for_shell(alloc: Global, text: &str) -> Result<bool, AllocError>
-    requires { length text.now ≤ 16777216 }
+    requires { length text.now ≤ MAX_IMAGE }
     ensures { IfOk result (λ shell. shell ≡ giving.is_for_shell text.now) }
 {
     if is_script(alloc, text)? {

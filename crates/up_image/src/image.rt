@@ -2,20 +2,18 @@
 ghost use Rattle.std.specs.Prelude.{◌≡◌, ◌+◌, ◌++◌, ◌&&◌, ◌≤◌, nat_le, true, IfErr, IfOk, List, OnOk, length, ℕ};
 ghost use Rattle.std.specs.List.{list_all};
 ghost use Rattle.up_image.specs.declared.image_error.ImageError.TheVariants.{ImageTooLarge};
+ghost use Rattle.up_image.specs.declared.limits.TheConstants.{MAX_IMAGE, MAX_JOBS};
 ghost use Rattle.up_image.specs.Image.{IsImage, body_of, fits, has_image, head_of};
 ghost use Rattle.up_image.specs.Index.{entries_of, index_part};
 
 use crate::bytes::{put_four, put_two};
-use crate::compiling::MAX_JOBS;
 use crate::fits::all_fit;
 use crate::image_error::ImageError;
 use crate::index::put_index;
+use crate::limits::{MAX_IMAGE, MAX_JOBS};
 use crate::put_job::{job_len, put_jobs};
 use std::alloc::{AllocError, Global};
 use up_conf::JobDef;
-
-/// The most bytes that an image has: 16 MiB.
-pub(crate) const MAX_IMAGE: usize = 16_777_216;
 
 /// How many bytes stand before an image's jobs.
 pub(crate) const HEAD: usize = 12;
@@ -25,7 +23,7 @@ pub(crate) const VERSION: u16 = 1;
 
 // The jobs and the index.
 fn body_of(alloc: Global, jobs: &[JobDef]) -> Result<Vec<u8>, AllocError>
-    requires few { length jobs.now ≤ 1024 }
+    requires few { length jobs.now ≤ MAX_JOBS }
     requires short { list_all fits jobs.now ≡ true }
     ensures { IfOk result (λ body. body.items ≡ body_of jobs.now) }
 {
@@ -38,7 +36,7 @@ fn body_of(alloc: Global, jobs: &[JobDef]) -> Result<Vec<u8>, AllocError>
 // Whether an image can say how many jobs there are, and how long their lists are.
 fn is_countable(alloc: Global, jobs: &[JobDef]) -> Result<bool, AllocError>
     ensures { IfOk result (λ countable. countable
-        ≡ (nat_le (length jobs.now) 1024 && list_all fits jobs.now)) }
+        ≡ (nat_le (length jobs.now) MAX_JOBS && list_all fits jobs.now)) }
 {
     if jobs.len() > MAX_JOBS {
         return Ok(false);
@@ -48,7 +46,7 @@ fn is_countable(alloc: Global, jobs: &[JobDef]) -> Result<bool, AllocError>
 
 // How many bytes the index of jobs has.
 fn index_len(alloc: Global, jobs: &[JobDef]) -> Result<usize, AllocError>
-    requires few { length jobs.now ≤ 1024 }
+    requires few { length jobs.now ≤ MAX_JOBS }
     requires short { list_all fits jobs.now ≡ true }
     ensures { IfOk result (λ len. len ≡ length (index_part (entries_of jobs.now))) }
 {
@@ -60,9 +58,9 @@ fn index_len(alloc: Global, jobs: &[JobDef]) -> Result<usize, AllocError>
 // Whether the head, the jobs and the index together are as small as an image is. No more than one of them is written at a time.
 #[tactic(auto, using(crate::proofs::Lengths::length_more, crate::proofs::Lengths::too_long))]
 fn is_small(alloc: Global, jobs: &[JobDef]) -> Result<bool, AllocError>
-    requires few { length jobs.now ≤ 1024 }
+    requires few { length jobs.now ≤ MAX_JOBS }
     requires short { list_all fits jobs.now ≡ true }
-    ensures { IfOk result (λ small. small ≡ nat_le (12 + length (body_of jobs.now)) 16777216) }
+    ensures { IfOk result (λ small. small ≡ nat_le (12 + length (body_of jobs.now)) MAX_IMAGE) }
 {
     let mut len = HEAD;
     for job in jobs {

@@ -3,6 +3,7 @@ ghost use Rattle.std.specs.Prelude.{◌≡◌, ◌+◌, ◌++◌, ◌∷◌, [],
 ghost use Rattle.std.specs.List.{flat_map, list_all, prefix_len};
 ghost use Rattle.std.specs.Str.{bytes_eq};
 ghost use Rattle.up_conf.specs.Order.{in_order};
+ghost use Rattle.up_image.specs.declared.limits.TheConstants.{MAX_JOBS, MAX_NODES};
 ghost use Rattle.up_image.specs.Image.{fits, is_short};
 ghost use Rattle.up_image.specs.Index.{entries_of, entry_part, event_of, index_part, leaf_places, place_part, places_in, places_of, runs_of};
 
@@ -29,7 +30,7 @@ fn add_leaves(
     start: bool,
     nodes: &[Node],
 ) -> Result<(), AllocError>
-    requires { length nodes.now ≤ 4095 }
+    requires { length nodes.now ≤ MAX_NODES }
     ensures { OnOk result (places.new.items ≡ places.old.items ++ leaf_places job start 0 nodes.now) }
 {
     let mut at = 0;
@@ -100,7 +101,7 @@ fn add_job(alloc: Global, places: &mut Vec<Place>, at: u16, job: &JobDef) -> Res
 
 // The leaves of all jobs, in order.
 fn places_of(alloc: Global, jobs: &[JobDef]) -> Result<Vec<Place>, AllocError>
-    requires few { length jobs.now ≤ 1024 }
+    requires few { length jobs.now ≤ MAX_JOBS }
     requires short { list_all fits jobs.now ≡ true }
     ensures { IfOk result (λ places. places.items ≡ places_of 0 jobs.now) }
 {
@@ -217,7 +218,7 @@ fn put_entries(out: &mut Vec<u8>, runs: &[&[Place]]) -> Result<(), AllocError>
 /// Appends the index of jobs whose expressions aren't too long.
 #[tactic(auto, unfolding(crate::specs::Index::entries_of))]
 pub(crate) fn put_index(alloc: Global, out: &mut Vec<u8>, jobs: &[JobDef]) -> Result<(), AllocError>
-    requires few { length jobs.now ≤ 1024 }
+    requires few { length jobs.now ≤ MAX_JOBS }
     requires short { list_all fits jobs.now ≡ true }
     ensures { OnOk result (out.new.items ≡ out.old.items ++ index_part (entries_of jobs.now)) }
 {

@@ -11,7 +11,7 @@ use up_text::{Items, Text};
 const MAX_FILE: usize = 1_048_576;
 
 /// The most keys that a file sets, and that it exports.
-const MAX_KEYS: usize = 30_000;
+const MAX_FILE_KEYS: usize = 30_000;
 
 // The files of a job: what no longer goes into the first one goes into its override.
 #[derive(Drop)]
@@ -62,7 +62,7 @@ fn add_settings(alloc: Global, draft: &mut Draft, settings: &[Setting]) -> Resul
     let mut over = false;
     for (place, setting) in settings.iter().enumerate() {
         let line = setting_line(alloc, setting)?;
-        over = draft.add(line.as_str(), over || place >= MAX_KEYS)?;
+        over = draft.add(line.as_str(), over || place >= MAX_FILE_KEYS)?;
     }
     Ok(())
 }
@@ -83,7 +83,7 @@ fn add_keys(
 }
 
 fn add_exports(alloc: Global, draft: &mut Draft, keys: &[Text]) -> Result<(), AllocError> {
-    let (first, others) = keys.split_at(keys.len().min(MAX_KEYS));
+    let (first, others) = keys.split_at(keys.len().min(MAX_FILE_KEYS));
     add_keys(alloc, draft, first, false)?;
     add_keys(alloc, draft, others, true)?;
     Ok(())

@@ -4,6 +4,7 @@ ghost use Rattle.std.specs.List.{flat_map};
 ghost use Rattle.byteorder.specs.Endian.{big_bytes};
 ghost use Rattle.up_expr.specs.Flat.{nodes_of, size};
 ghost use Rattle.up_image.specs.Image.{is_short, list_part, node_part, nodes_in, test_part};
+ghost use Rattle.up_image.specs.declared.limits.TheConstants.{MAX_NODES};
 ghost use Rattle.up_image.specs.Texts.{text_part};
 
 use crate::bytes::{put_byte, put_text, put_two};
@@ -111,9 +112,9 @@ fn put_nodes(out: &mut Vec<u8>, nodes: &[Node]) -> Result<(), AllocError>
 
 /// The nodes of a condition, which must have at most 4,095.
 pub(crate) fn nodes_of(alloc: Global, condition: &Condition) -> Result<Nodes, AllocError>
-    requires { size condition.now ≤ 4095 }
+    requires { size condition.now ≤ MAX_NODES }
     ensures laid { IfOk result (λ nodes. nodes ≡ nodes_of 0 condition.now) }
-    ensures few { IfOk result (λ nodes. length nodes ≤ 4095) }
+    ensures few { IfOk result (λ nodes. length nodes ≤ MAX_NODES) }
 {
     match flatten(alloc, condition.expr()) {
         Ok(nodes) => Ok(nodes),

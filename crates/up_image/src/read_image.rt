@@ -11,8 +11,9 @@ ghost use Rattle.up_image.specs.Reading.{HasNoTable, ReadsImage, claimed_length,
 ghost use Rattle.up_image.specs.declared.unread.Unread.TheVariants.{BadTable};
 
 use crate::giving::can_all_be_given;
-use crate::image::{HEAD, MAX_IMAGE, VERSION, write_image};
+use crate::image::{HEAD, VERSION, write_image};
 use crate::image_error::ImageError;
+use crate::limits::MAX_IMAGE;
 use crate::table::Table;
 use crate::take_job::take_jobs;
 use crate::unread::Unread;

@@ -5,14 +5,12 @@ ghost use Rattle.up_expr.specs.Trees.{tree_of};
 ghost use Rattle.up_expr.specs.TreeCode.{node};
 ghost use Rattle.up_image.specs.Finding.{Reads, after_sides, condition_at, items_at, joined, joined_by, keyed_by, leaf_at, list_at, made, newest_first, node_at, one_tree, test_at, trees_at};
 
+use crate::limits::MAX_NODES;
 use crate::take::{push, take_byte, take_name, take_text, take_two};
 use crate::unread::Unread;
 use std::alloc::{AllocError, Global};
 use up_expr::{Condition, Expr, Leaf, Test};
 use up_text::{Items, Text};
-
-/// The most nodes that an expression has.
-const MAX_NODES: u16 = 4_095;
 
 // The value of this kind.
 fn setting_with(kind: u8, key: Text, value: Text) -> Result<Test, Unread>

@@ -1,6 +1,5 @@
 //! Tells whether a path that is read stands twice in a folder.
-ghost use Rattle.std.specs.Prelude.{◌≡◌, ℕ, List, ◌||◌, IfOk, map, nat_eq, codes, is_some};
-ghost use Rattle.std.specs.List.{ends_with};
+ghost use Rattle.std.specs.Prelude.{◌≡◌, ℕ, List, ◌||◌, IfOk, map, is_some};
 ghost use Rattle.std.specs.BTreeSet.{contains_by};
 ghost use Rattle.std.specs.Ordering.{nat_cmp};
 ghost use Rattle.std.specs.Cmp.Lexicographic.{slice_cmp};
@@ -10,7 +9,7 @@ ghost use Rattle.up_image.specs.Compiling.{read_paths, has_twice};
 
 use std::alloc::{AllocError, Global};
 use std::collections::BTreeSet;
-use up_conf::File;
+use up_conf::{File, conf_path, job_name, overridden_name};
 
 // The paths of files.
 fn paths_of(alloc: Global, files: &[File]) -> Result<BTreeSet<&[u8]>, AllocError>
@@ -25,26 +24,25 @@ fn paths_of(alloc: Global, files: &[File]) -> Result<BTreeSet<&[u8]>, AllocError
 }
 
 // Whether this path overrides a job whose file is among the paths.
-fn has_conf(alloc: Global, paths: &BTreeSet<&[u8]>, path: &[u8]) -> Result<bool, AllocError>
+fn has_conf(alloc: Global, paths: &BTreeSet<&[u8]>, path: &str) -> Result<bool, AllocError>
     ensures { IfOk result (λ has. (files : List File)
         → ((q : List ℕ) → contains_by (λ k. slice_cmp nat_cmp q k.now) paths.now ≡ is_some (bytes_at q files))
         → has ≡ has_conf files (overridden_name path.now)) }
 {
-    if !path.ends_with(b".override") {
+    let Some(name) = overridden_name(path) else {
         return Ok(false);
-    }
-    let mut conf: Vec<u8> = Vec::from_slice(alloc, &path[..path.len() - 9])?;
-    conf.extend_from_slice(b".conf")?;
-    Ok(paths.contains(conf.as_slice()))
+    };
+    let conf = conf_path(alloc, name)?;
+    Ok(paths.contains(conf.as_bytes()))
 }
 
 // Whether a path of a folder with these paths is read.
-fn is_read(alloc: Global, paths: &BTreeSet<&[u8]>, path: &[u8]) -> Result<bool, AllocError>
+fn is_read(alloc: Global, paths: &BTreeSet<&[u8]>, path: &str) -> Result<bool, AllocError>
     ensures { IfOk result (λ read. (files : List File)
         → ((q : List ℕ) → contains_by (λ k. slice_cmp nat_cmp q k.now) paths.now ≡ is_some (bytes_at q files))
         → read ≡ is_read files path.now) }
 {
-    if path.ends_with(b".conf") {
+    if job_name(path).is_some() {
         return Ok(true);
     }
     has_conf(alloc, paths, path)
@@ -57,9 +55,9 @@ fn read_paths(alloc: Global, files: &[File]) -> Result<Vec<&[u8]>, AllocError>
     let all = paths_of(alloc, files)?;
     let mut paths: Vec<&[u8]> = Vec::new(alloc);
     for file in files {
-        let path = file.path.as_str().as_bytes();
+        let path = file.path.as_str();
         if is_read(alloc, &all, path)? {
-            paths.push(path)?;
+            paths.push(path.as_bytes())?;
         }
     }
     Ok(paths)

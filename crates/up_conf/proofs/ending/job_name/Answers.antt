@@ -1,6 +1,6 @@
 use Rattle.std.proofs.Common.{codes}
 use Rattle.up_conf.proofs.Endings.{without_ending-from_strip}
-use Rattle.up_conf.proofs.outcome.job_name.Goals as goal
+use Rattle.up_conf.proofs.ending.job_name.Goals as goal
 
 pub returns : goal.returns
 returns c = without_ending-from_strip (codes ".conf") c.args.path.now c.strip_suffix.result c.strip_suffix.ensures.cases
