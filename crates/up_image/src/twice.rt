@@ -56,8 +56,9 @@ fn read_paths(alloc: Global, files: &[File]) -> Result<Vec<&[u8]>, AllocError>
     let mut paths: Vec<&[u8]> = Vec::new(alloc);
     for file in files {
         let path = file.path.as_str();
+        let bytes = path.as_bytes();
         if is_read(alloc, &all, path)? {
-            paths.push(path.as_bytes())?;
+            paths.push(bytes)?;
         }
     }
     Ok(paths)
