@@ -9,7 +9,7 @@ ghost use Rattle.up_stanza.specs.Confs.{conf_of};
 ghost use Rattle.up_stanza.specs.Reading.{IsConf};
 ghost use Rattle.up_stanza.specs.declared.stanza.Stanza.{Stanza};
 
-use crate::ending::{conf_path, job_name, override_path, overridden_name};
+use crate::ending::{conf_path, job_name, overridden_name, override_path};
 use crate::folder::File;
 use crate::job::JobDef;
 use crate::meaning::apply_override;
