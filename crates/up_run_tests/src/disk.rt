@@ -117,7 +117,7 @@ fn answers(rt: &HostRuntime, dir: &str) -> Result<bool, Fail> {
     let script = script.as_str();
     let checked = answer(rt, Asked::Check { dir }, Env::new(rt.alloc()))?;
     let replayed = answer(rt, Asked::Replay { dir, script }, Env::new(rt.alloc()))?;
-    Ok(checked == 0 && replayed == 2)
+    Ok(checked.number() == 0 && replayed.number() == 2)
 }
 
 // What is printed goes to the standard output of the tests.
