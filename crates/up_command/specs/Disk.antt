@@ -8,6 +8,7 @@ use Rattle.up_image.specs.Image.{IsImage}
 use Rattle.up_replay.specs.Bundle.{files_of, lines_of}
 use Rattle.up_replay.specs.Folders.{Checks, image_refusal_line, prints, unusable}
 use Rattle.up_replay.specs.Replay.{Plays}
+use Rattle.up_replay.specs.declared.replay.TheConstants.{MAX_BUNDLE}
 use Rattle.up_replay.specs.ScriptSteps.{script_inputs}
 use Rattle.up_command.specs.declared.command.Asked.{Asked}
 use Rattle.up_command.specs.declared.command.Asked.TheVariants.{Bundle, Check, Compile, Replay, Run, Show}
@@ -69,7 +70,7 @@ pub record PlaysFiles (base : List (List ℕ × List ℕ)) (script : List ℕ) (
   pub files : List File
   pub walked : IsWalked files
   pub bytes : List ℕ
-  pub bounded : length bytes ≤ 67108864
+  pub bounded : length bytes ≤ MAX_BUNDLE
   pub plays : Plays files base script (script_inputs 1 bytes) made
 
 abbrev pub PlaysDir : List ℕ → List (List ℕ × List ℕ) → List ℕ → Printed → Type 0

@@ -13,6 +13,9 @@ use std::io::Eprint;
 use up_model::ExitStatus;
 use up_text::{Env, TextFault};
 
+/// The longest pause between two rounds, in milliseconds.
+const MAX_PAUSE: u64 = 60_000;
+
 /// What the program is asked for.
 #[derive(Clone, Copy, Debug, PartialEq, Eq)]
 pub enum Asked<'a> {
@@ -85,9 +88,7 @@ fn rounds_arg<'a>(alloc: Global) -> Arg<'a> {
     Arg::new(alloc, "rounds")
         .long("rounds")
         .value_name("N")
-        .help(
-            "Ends after so many rounds, from 1 to 4294967295, which is also what it does if this is left out",
-        )
+        .help("Ends after so many rounds, 1 to 4294967295; without it, after 4294967295")
         .value_parser(value_parser!(u32).range(1..))
         .action(ArgAction::Set)
 }
@@ -99,7 +100,7 @@ fn pause_arg<'a>(alloc: Global) -> Arg<'a> {
         .help(
             "The longest pause after a round that did nothing, in milliseconds: 10 if left out. The end of a process is noticed up to so much later; with 0 there is no pause, and a processor is busy all the time",
         )
-        .value_parser(value_parser!(u64).range(0..=60000))
+        .value_parser(value_parser!(u64).range(0..=MAX_PAUSE))
         .action(ArgAction::Set)
 }
 

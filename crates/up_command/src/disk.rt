@@ -2,6 +2,7 @@
 ghost use Rattle.std.specs.Prelude.{◌≡◌, ◌≤◌, ◌⊎◌, IfOk, IfSome, length};
 ghost use Rattle.up_command.specs.Disk.{ChecksDir, PlaysDir, PlaysFiles, IsUnusable};
 ghost use Rattle.up_command.specs.Walk.{IsWalked};
+ghost use Rattle.up_replay.specs.declared.replay.TheConstants.{MAX_BUNDLE};
 
 use crate::walk::{WalkError, read_file, walk};
 use std::alloc::AllocError;
@@ -9,11 +10,9 @@ use std::io::ErrorKind;
 use std::rt::Files;
 use up_conf::Folder;
 use up_replay::check::check;
+use up_replay::replay::MAX_BUNDLE;
 use up_replay::{Printed, cannot_use, render_folder, script_inputs};
 use up_text::Env;
-
-/// The most bytes that a script has: 64 MiB.
-const MAX_LEN: usize = 67_108_864;
 
 /// What a check of a folder on the disk prints.
 pub fn check_dir<R: Files + AllocGlobal + Clone + Drop>(
@@ -29,13 +28,13 @@ pub fn check_dir<R: Files + AllocGlobal + Clone + Drop>(
     }
 }
 
-// The bytes of a script, if it can be read and isn't too long.
+// The bytes of a script, if it can be read and is no longer than a bundle may be.
 fn read_script<R: Files + AllocGlobal>(rt: &R, script: &str) -> Result<Option<Vec<u8>>, AllocError>
-    ensures { IfOk result (λ read. IfSome read (λ bytes. length bytes.items ≤ 67108864)) }
+    ensures { IfOk result (λ read. IfSome read (λ bytes. length bytes.items ≤ MAX_BUNDLE)) }
 {
-    match read_file(rt, script, MAX_LEN + 1) {
+    match read_file(rt, script, MAX_BUNDLE + 1) {
         Ok(bytes) => {
-            if bytes.len() > MAX_LEN {
+            if bytes.len() > MAX_BUNDLE {
                 return Ok(None);
             }
             Ok(Some(bytes))

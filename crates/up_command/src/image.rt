@@ -1,7 +1,9 @@
 //! Images of tables on the disk: writes the one of a folder, and prints what one says.
-ghost use Rattle.std.specs.Prelude.{◌≡◌, ◌≤◌, ◌⊎◌, IfOk, IfSome, length, true};
+ghost use Rattle.std.specs.Prelude.{◌≡◌, ◌+◌, ◌≤◌, ◌⊎◌, IfOk, IfSome, length, true};
 ghost use Rattle.up_command.specs.Disk.{CompilesDir, HasImage, IsRefusedImage, IsUnusable, ShowsFile, ShowsImage, StoresFiles, StoresTable};
 ghost use Rattle.up_command.specs.Walk.{IsWalked};
+ghost use Rattle.up_image.specs.declared.limits.TheConstants.{MAX_IMAGE};
+ghost use Rattle.up_replay.specs.declared.replay.TheConstants.{MAX_BUNDLE};
 
 use crate::walk::{WalkError, read_file, walk};
 use std::alloc::{AllocError, Global};
@@ -10,17 +12,13 @@ use std::io::{ErrorKind, Write};
 use std::rt::Files;
 use std::{fs, io};
 use up_conf::Folder;
+use up_image::limits::MAX_IMAGE;
 use up_image::{CompileError, ImageError, Table, compile, job_files};
 use up_model::ExitStatus;
-use up_replay::check::check;
+use up_replay::check::check_and_compile;
+use up_replay::replay::MAX_BUNDLE;
 use up_replay::{Printed, cannot_use, image_refused, read_bundle};
 use up_text::Items;
-
-/// The most bytes that an image has: 16 MiB.
-pub(crate) const MAX_IMAGE: usize = 16_777_216;
-
-/// The most bytes that a bundle has: 64 MiB.
-const MAX_BUNDLE: usize = 67_108_864;
 
 // Writes all bytes to a new file, and has them on the disk.
 fn fill_new<R: Files>(rt: &R, path: &str, bytes: &[u8]) -> io::Result<()> {
@@ -90,11 +88,10 @@ fn store_folder<R: Files + AllocGlobal>(
     requires { IsWalked folder.now }
     ensures { IfOk result (StoresFiles image.now) }
 {
-    let printed = check(rt.alloc(), folder)?;
-    match compile(rt.alloc(), folder) {
-        Ok((table, _)) => store(rt, &table, image, printed),
-        Err(CompileError::Memory) => Err(AllocError),
-        Err(_) => Ok(printed),
+    let (printed, table) = check_and_compile(rt.alloc(), folder)?;
+    match table {
+        Some(table) => store(rt, &table, image, printed),
+        None => Ok(printed),
     }
 }
 
@@ -119,7 +116,7 @@ pub(crate) fn read_bytes<R: Files + AllocGlobal>(
     rt: &R,
     image: &str,
 ) -> Result<Option<Vec<u8>>, AllocError>
-    ensures { IfOk result (λ read. IfSome read (λ bytes. length bytes.items ≤ 16777217)) }
+    ensures { IfOk result (λ read. IfSome read (λ bytes. length bytes.items ≤ MAX_IMAGE + 1)) }
 {
     match read_file(rt, image, MAX_IMAGE + 1) {
         Ok(bytes) => Ok(Some(bytes)),
@@ -146,7 +143,7 @@ fn bundle_of(alloc: Global, folder: &Folder) -> Result<Vec<u8>, AllocError> {
 
 // Whether the files of a bundle are compiled to a table with this image.
 fn has_image(alloc: Global, bundle: &[u8], image: &[u8]) -> Result<bool, AllocError>
-    requires { length bundle.now ≤ 67108864 }
+    requires { length bundle.now ≤ MAX_BUNDLE }
     ensures { IfOk result (λ has. has ≡ true → HasImage image.now bundle.now) }
 {
     let bundle = read_bundle(alloc, bundle)?;

@@ -73,7 +73,7 @@ fn an_index_out_of_order_is_refused(rt: HostRuntime) -> Result<(), Fail> {
     Ok(())
 }
 
-// Behind the last node there are the number of nodes of `stop on`, the number of entries and two entries: 34 bytes, before which the
+// After the last node there are the number of nodes of `stop on`, the number of entries and two entries: 34 bytes, before which the
 // node names its sides in four.
 #[test]
 fn a_node_names_no_later_one(rt: HostRuntime) -> Result<(), Fail> {

@@ -1,5 +1,5 @@
 -- What is printed of a folder.
-use Rattle.std.specs.Prelude.{◌≡◌, ℕ, nat_le, not, List, [], ◌∷◌, ◌++◌, length, Result, Ok, Err, if◌then◌else◌, codes}
+use Rattle.std.specs.Prelude.{◌≡◌, ℕ, nat_le, not, List, [], ◌∷◌, ◌++◌, length, Option, None, Some, Result, Ok, Err, if◌then◌else◌, codes}
 use Rattle.std.specs.List.{flat_map}
 use Rattle.std.specs.Fmt.{decimal}
 use Rattle.up_conf.specs.declared.folder.File.{File}
@@ -9,6 +9,7 @@ use Rattle.up_conf.specs.FaultCodes as fault
 use Rattle.up_conf.specs.Folders.{jobs_of, IsReport}
 use Rattle.up_model.specs.declared.exit_status.ExitStatus.{ExitStatus}
 use Rattle.up_model.specs.declared.exit_status.ExitStatus.TheVariants.{Done, Failed, Unusable}
+use Rattle.up_image.specs.declared.limits.TheConstants.{MAX_JOBS}
 use Rattle.up_image.specs.declared.refusal.CompileError.{CompileError}
 use Rattle.up_image.specs.declared.refusal.CompileError.TheVariants.{SameName, TooManyJobs, ImageTooLarge}
 use Rattle.up_image.specs.Compiling.{has_twice, read_paths}
@@ -51,7 +52,7 @@ status_of (found ∷ report) = Failed
 unfoldable pub compile_outcome : List Fault → List File → Result (List JobDef × List Fault) CompileError
 compile_outcome report files =
     if has_twice (read_paths files) then Err SameName
-    else (if not (nat_le (length (jobs_of files)) 1024) then Err TooManyJobs
+    else (if not (nat_le (length (jobs_of files)) MAX_JOBS) then Err TooManyJobs
     else (if has_image (jobs_of files) then Ok (jobs_of files, report)
     else Err ImageTooLarge))
 
@@ -72,8 +73,19 @@ pub record IsCompiled (files : List File) (made : Result
   pub is : IsReport files report
   pub same : made ≡ compile_outcome report files
 
+-- the table of the jobs, unless the files are refused
+abbrev pub table_of : Result (List JobDef × List Fault) CompileError → Option (List JobDef)
+table_of (Ok made) = Some made.0
+table_of (Err error) = None
+
 -- what is printed for a check of a folder's files, with some report of its faults
 pub record Checks (files : List File) (made : Printed) : Type 0 where
   pub report : List Fault
   pub is : IsReport files report
   pub same : made ≡ check_output (compile_outcome report files)
+
+-- the table of a folder's jobs, unless the folder is refused
+pub record IsTable (files : List File) (table : Option (List JobDef)) : Type 0 where
+  pub report : List Fault
+  pub is : IsReport files report
+  pub same : table ≡ table_of (compile_outcome report files)

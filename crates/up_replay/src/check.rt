@@ -1,7 +1,7 @@
 //! Checks a folder: what its faults are, and how many jobs it has.
 ghost use Rattle.std.specs.Prelude.{◌≡◌, ◌++◌, Err, IfOk, OnErr, OnOk};
 ghost use Rattle.up_image.specs.declared.refusal.CompileError.TheVariants.{Memory};
-ghost use Rattle.up_replay.specs.Folders.{check_output, compile_outcome, count_line, Checks, IsCompiled};
+ghost use Rattle.up_replay.specs.Folders.{check_output, compile_outcome, count_line, table_of, Checks, IsCompiled, IsTable};
 
 use crate::lines::{push, push_decimal};
 use crate::printed::{Printed, push_faults, refused, status_of};
@@ -50,9 +50,9 @@ fn push_counts(text: &mut Vec<u8>, jobs: usize, faults: usize) -> Result<(), All
 
 fn render_made(
     alloc: Global,
-    made: Result<(Table, Report), CompileError>,
+    made: &Result<(Table, Report), CompileError>,
 ) -> Result<Printed, AllocError>
-    ensures { IfOk result (λ printed. printed ≡ check_output made) }
+    ensures { IfOk result (λ printed. printed ≡ check_output made.now) }
 {
     match made {
         Ok((table, report)) => {
@@ -60,11 +60,34 @@ fn render_made(
             push_faults(&mut text, report.as_slice())?;
             push_counts(&mut text, table.len(), report.len())?;
             let text = Items::new(text);
-            let status = status_of(&report);
+            let status = status_of(report);
             Ok(Printed { text, status })
         }
-        Err(error) => refused(alloc, error),
+        Err(error) => refused(alloc, *error),
     }
+}
+
+fn table_of(made: Result<(Table, Report), CompileError>) -> Option<Table>
+    ensures { result ≡ table_of made }
+{
+    match made {
+        Ok((table, _)) => Some(table),
+        Err(_) => None,
+    }
+}
+
+/// What a check of a folder prints, and the table of its jobs, unless the folder is refused.
+pub fn check_and_compile(
+    alloc: Global,
+    folder: &Folder,
+) -> Result<(Printed, Option<Table>), AllocError>
+    ensures checks { IfOk result (λ made. Checks folder.now made.0) }
+    ensures table { IfOk result (λ made. IsTable folder.now made.1) }
+{
+    let made = compile_outcome(alloc, folder)?;
+    let printed = render_made(alloc, &made)?;
+    let table = table_of(made);
+    Ok((printed, table))
 }
 
 /// What a check of a folder prints: the faults of its files, and how many jobs and faults there are.
@@ -72,5 +95,5 @@ pub fn check(alloc: Global, folder: &Folder) -> Result<Printed, AllocError>
     ensures { IfOk result (Checks folder.now) }
 {
     let made = compile_outcome(alloc, folder)?;
-    render_made(alloc, made)
+    render_made(alloc, &made)
 }

@@ -456,7 +456,7 @@ fn takes(alloc: Global, lexer: &mut Lexer, step: Step) -> bool {
     }
 }
 
-// The place of the first step that a lexer doesn't take. Behind the last one is the end, but for a lexer that stays if it refuses.
+// The place of the first step that a lexer doesn't take. After the last one comes the end, but for a lexer that stays if it refuses.
 fn first_other(alloc: Global, lexer: &mut Lexer, steps: &[Step]) -> Option<usize> {
     let mut refused = false;
     for (place, step) in steps.iter().enumerate() {
