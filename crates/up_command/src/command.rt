@@ -14,7 +14,7 @@ use up_model::ExitStatus;
 use up_text::{Env, TextFault};
 
 /// The longest pause between two rounds, in milliseconds.
-const MAX_PAUSE: u64 = 60_000;
+const MAX_PAUSE: i64 = 60_000;
 
 /// What the program is asked for.
 #[derive(Clone, Copy, Debug, PartialEq, Eq)]
