@@ -2,5 +2,5 @@
 use Rattle.std.proofs.Common.{rules}
 use Rattle.up_command.proofs.disk.read_script.Goals as goal
 
-pub returns-else-len-gt-MAX_LEN : goal.returns-else-len-gt-MAX_LEN
-returns-else-len-gt-MAX_LEN c = search rules
+pub returns-else-len-gt-MAX_BUNDLE : goal.returns-else-len-gt-MAX_BUNDLE
+returns-else-len-gt-MAX_BUNDLE c = search rules
