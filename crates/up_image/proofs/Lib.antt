@@ -3,6 +3,7 @@ pub mod Ascending
 pub mod Counting
 pub mod Decoding
 pub mod Fitting
+pub mod GivenLists
 pub mod Images
 pub mod JobDecoding
 pub mod Lengths
@@ -13,6 +14,8 @@ pub mod Places
 pub mod Prefixes
 pub mod Readings
 pub mod Repeats
+pub mod Spelling
 pub mod Tables
 pub mod Telling
+pub mod Thinning
 pub mod Utf8
