@@ -4,6 +4,7 @@ pub mod Counting
 pub mod Decoding
 pub mod Fitting
 pub mod GivenLists
+pub mod GivenTrees
 pub mod Images
 pub mod JobDecoding
 pub mod Lengths
@@ -14,6 +15,7 @@ pub mod Places
 pub mod Prefixes
 pub mod Readings
 pub mod Repeats
+pub mod Rereading
 pub mod Spelling
 pub mod Tables
 pub mod Telling
