@@ -24,16 +24,16 @@ use Rattle.up_image.proofs.Rereading.{goes_on, Again, Follow, Follows, front_mar
 
 -- lists without what passes at both ends
 
-record Trimmed (ms : List Mark) : Type 0 where
-  front : List Mark
-  middle : List Mark
-  back : List Mark
-  whole : ms ≡ front ++ (middle ++ back)
-  before : list_all is_space front ≡ true
-  after : list_all is_space back ≡ true
-  is : trim_blanks ms ≡ middle
-  starts : prefix_len is_space middle ≡ 0
-  ends : suffix_len is_space middle ≡ 0
+pub record Trimmed (ms : List Mark) : Type 0 where
+  pub front : List Mark
+  pub middle : List Mark
+  pub back : List Mark
+  pub whole : ms ≡ front ++ (middle ++ back)
+  pub before : list_all is_space front ≡ true
+  pub after : list_all is_space back ≡ true
+  pub is : trim_blanks ms ≡ middle
+  pub starts : prefix_len is_space middle ≡ 0
+  pub ends : suffix_len is_space middle ≡ 0
 
 prefix_none : {X : Type 0} (p : X → Bool) (xs : List X) → prefix_len p (drop (prefix_len p xs) xs) ≡ 0
 prefix_none p [] = refl
@@ -62,7 +62,7 @@ all_reverse p (x ∷ xs) all =
     let both = and_parts (p x) (list_all p xs) all in
     ap (list_all p) (reverse-append (x ∷ []) xs) ∙ list_all-append p (reverse xs) (x ∷ []) ∙ and_from _ _ (all_reverse p xs both.1) (and_from _ _ both.0 refl)
 
-trimmed : (ms : List Mark) → Trimmed ms
+pub trimmed : (ms : List Mark) → Trimmed ms
 trimmed ms =
     let n = prefix_len is_space ms in
     let body = drop n ms in
@@ -130,11 +130,11 @@ blank_stands (QuotedEscape quote) b is = absurd (cc)
 blank_moves : (b : ℕ) → is_blank b ≡ true → mode_after (Outside false) b [] ≡ Outside false
 blank_moves b is = rw is refl
 
-record After (middle : List Mark) : Type 0 where
-  follows : Follows (Outside false) middle
-  utf8 : IsUtf8 (flat_map command_bytes middle)
+pub record After (middle : List Mark) : Type 0 where
+  pub follows : Follows (Outside false) middle
+  pub utf8 : IsUtf8 (flat_map command_bytes middle)
 
-front_dropped : (mode : Mode) (front middle : List Mark) → mode ≡ Outside false → list_all is_space front ≡ true → Follows mode (front ++ middle) → IsUtf8 (flat_map command_bytes (front ++ middle)) → After middle
+pub front_dropped : (mode : Mode) (front middle : List Mark) → mode ≡ Outside false → list_all is_space front ≡ true → Follows mode (front ++ middle) → IsUtf8 (flat_map command_bytes (front ++ middle)) → After middle
 front_dropped mode [] middle same spaces follows utf8 = record { follows = subst (λ m. Follows m middle) same follows; utf8 = utf8 }
 front_dropped mode (Blank b ∷ front) middle same spaces (next, again, later) utf8 =
     let marked : mark_of false 0 (Outside false) b [] ≡ Blank b = ap (λ m. mark_of false 0 m b []) (sym same) ∙ again.marked in
@@ -160,15 +160,15 @@ spaces_end mode (Alone b ∷ back) spaces follows = absurd (false≢true spaces)
 spaces_end mode (Stop ∷ back) spaces follows = absurd (false≢true spaces)
 spaces_end mode (Fail fault ∷ back) spaces follows = absurd (false≢true spaces)
 
-back_dropped : (mode : Mode) (middle back : List Mark) → list_all is_space back ≡ true → Follows mode (middle ++ back) → Follows mode middle
+pub back_dropped : (mode : Mode) (middle back : List Mark) → list_all is_space back ≡ true → Follows mode (middle ++ back) → Follows mode middle
 back_dropped mode [] back spaces follows = spaces_end mode back spaces follows
 back_dropped mode (mark ∷ middle) back spaces (next, follow, later) = (next, follow, back_dropped next middle back spaces later)
 
-follows_rest : (mode : Mode) (front later : List Mark) → Follows mode (front ++ later) → (next : Mode) × Follows next later
+pub follows_rest : (mode : Mode) (front later : List Mark) → Follows mode (front ++ later) → (next : Mode) × Follows next later
 follows_rest mode [] later follows = (mode, follows)
 follows_rest mode (mark ∷ front) later (next, follow, more) = follows_rest next front later more
 
-text_before : (pending : List ℕ) (mode : Mode) (back : List Mark) → list_all is_space back ≡ true → Follows mode back → IsUtf8 (pending ++ flat_map command_bytes back) → IsUtf8 pending
+pub text_before : (pending : List ℕ) (mode : Mode) (back : List Mark) → list_all is_space back ≡ true → Follows mode back → IsUtf8 (pending ++ flat_map command_bytes back) → IsUtf8 pending
 text_before pending mode [] spaces follows utf8 = subst IsUtf8 (append-nil pending) utf8
 text_before pending mode (Blank b ∷ back) spaces (next, again, later) utf8 = before_cut pending b (flat_map command_bytes back) utf8 (blank_stands mode b again.marked).0
 text_before pending mode (Passed ∷ back) spaces (next, stays, later) utf8 = text_before pending next back spaces later utf8
@@ -181,13 +181,13 @@ text_before pending mode (Fail fault ∷ back) spaces follows utf8 = absurd (fal
 
 -- the marks of the command's own text
 
-abbrev emits : Mark → Bool
+abbrev pub emits : Mark → Bool
 emits (Part b) = true
 emits (Quoting b) = true
 emits (Blank b) = true
 emits other = false
 
-emitted_same : (ms : List Mark) → (mode : Mode) → Follows mode ms → flat_map command_bytes (filter emits ms) ≡ flat_map command_bytes ms
+pub emitted_same : (ms : List Mark) → (mode : Mode) → Follows mode ms → flat_map command_bytes (filter emits ms) ≡ flat_map command_bytes ms
 emitted_same [] mode follows = refl
 emitted_same (Part b ∷ ms) mode (next, again, later) = ap (λ t. b ∷ t) (emitted_same ms next later)
 emitted_same (Quoting b ∷ ms) mode (next, again, later) = ap (λ t. b ∷ t) (emitted_same ms next later)
@@ -250,7 +250,7 @@ marks_step mode b text mark next later none again level rest =
     ∙ ap (λ m. mark ∷ marks false 0 m text) moved
     ∙ ap (λ ms. mark ∷ ms) rest
 
-marks_again : (ms : List Mark) (mode : Mode) → Follows mode ms → marks false 0 mode (flat_map command_bytes ms) ≡ filter emits ms
+pub marks_again : (ms : List Mark) (mode : Mode) → Follows mode ms → marks false 0 mode (flat_map command_bytes ms) ≡ filter emits ms
 marks_again [] mode follows = follows
 marks_again (Part b ∷ ms) mode (next, again, later) = marks_step mode b (flat_map command_bytes ms) (Part b) next (filter emits ms) (no_feeds ms next later) again refl (marks_again ms next later)
 marks_again (Quoting b ∷ ms) mode (next, again, later) = marks_step mode b (flat_map command_bytes ms) (Quoting b) next (filter emits ms) (no_feeds ms next later) again refl (marks_again ms next later)

@@ -3,6 +3,7 @@ pub mod Ascending
 pub mod Counting
 pub mod Decoding
 pub mod Fitting
+pub mod GivenActions
 pub mod GivenCommands
 pub mod GivenLists
 pub mod GivenTrees
