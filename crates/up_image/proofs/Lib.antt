@@ -6,6 +6,7 @@ pub mod Fitting
 pub mod GivenActions
 pub mod GivenCommands
 pub mod GivenLists
+pub mod GivenScripts
 pub mod GivenTrees
 pub mod GivenWords
 pub mod Images
