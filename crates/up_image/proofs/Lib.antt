@@ -7,6 +7,7 @@ pub mod GivenActions
 pub mod GivenCommands
 pub mod GivenLists
 pub mod GivenScripts
+pub mod GivenStanzas
 pub mod GivenTrees
 pub mod GivenWords
 pub mod Images
