@@ -57,7 +57,7 @@ number_range low high text number is =
 number_most : (low high : ℕ) (text : List ℕ) (number : ℕ) → number_in low high text ≡ Some number → nat_le number high ≡ true
 number_most low high text number is = (and_parts (nat_le low number) (nat_le number high) (number_range low high text number is)).1
 
-abbrev is_limit : Limit → Bool
+abbrev pub is_limit : Limit → Bool
 is_limit limit = nat_le limit.count 65535 && nat_le limit.interval 2147483647
 
 limit_same : (made limit : Limit) → Some made ≡ Some limit → is_limit made ≡ true → is_limit limit ≡ true

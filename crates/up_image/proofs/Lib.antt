@@ -6,6 +6,7 @@ pub mod Fitting
 pub mod GivenActions
 pub mod GivenCommands
 pub mod GivenLists
+pub mod GivenOrder
 pub mod GivenScripts
 pub mod GivenStanzas
 pub mod GivenTrees
