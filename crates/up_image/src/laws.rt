@@ -1,6 +1,10 @@
 //! Laws: what holds of every image.
 ghost use Rattle.std.specs.Prelude.{◌≡◌, ◌↔◌, List, true, ℕ};
+ghost use Rattle.up_conf.specs.declared.folder.File.{File};
 ghost use Rattle.up_conf.specs.declared.job.JobDef.{JobDef};
+ghost use Rattle.up_conf.specs.declared.report.Fault.{Fault};
+ghost use Rattle.up_image.specs.Compiling.{Compiles};
+ghost use Rattle.up_image.specs.Giving.{can_all_be_given};
 ghost use Rattle.up_image.specs.Image.{IsImage, has_image};
 
 /// A table has one image at most.
@@ -18,4 +22,10 @@ pub fn one_table()
 /// Jobs have an image exactly if they are few, fit and are small.
 pub fn some_image()
     ensures { (jobs : List JobDef) → (has_image jobs ≡ true) ↔ ((bytes : List ℕ) × IsImage bytes jobs) }
+{}
+
+/// What a folder is compiled to can be given by files.
+pub fn compiled_is_given()
+    ensures { (files : List File) (jobs : List JobDef) (faults : List Fault) → Compiles files jobs faults
+        → can_all_be_given jobs ≡ true }
 {}
