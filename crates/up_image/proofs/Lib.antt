@@ -5,6 +5,7 @@ pub mod Decoding
 pub mod Fitting
 pub mod GivenActions
 pub mod GivenCommands
+pub mod GivenImages
 pub mod GivenJobs
 pub mod GivenLists
 pub mod GivenOrder
