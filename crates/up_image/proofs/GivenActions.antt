@@ -1,29 +1,22 @@
 -- What a command says can be given.
-use Rattle.std.proofs.Common.{◌≡◌, ◌⊎◌, inl, inr, ℕ, zero, suc, ◌+◌, ◌-◌, ◌<◌, ◌≤◌, Bool, true, false, cond, not, ◌&&◌, ◌||◌, ◌==◌, nat_le, nat_eq, List, [], ◌∷◌, ◌++◌, length, take, drop, reverse, Option, None, Some, is_none, refl, sym, ap, ◌∙◌, subst, arith, append_assoc, append-nil, length-append, eqb-true, flat_map, filter, IsUtf8, take_while, take_all, codes, leb-true, le-leb}
-use Rattle.std.specs.List.{list_all, list_any, prefix_len, suffix_len, slice_split, onto_first, starts_with}
-use Rattle.std.specs.Str.{is_utf8, bytes_eq, IsAscii}
-use Rattle.std.proofs.lemmas.Bool.{and_from, and_parts, or_parts, or_from, or_right, or_cases, false≢true, true≢false, not-true, not_from_false, eq-eqb}
-use Rattle.std.proofs.lemmas.Bool.Decides.{nat_tests}
+use Rattle.std.proofs.Common.{◌≡◌, ℕ, ◌+◌, ◌-◌, ◌≤◌, true, false, cond, ◌&&◌, List, [], ◌∷◌, ◌++◌, length, take, drop, reverse, None, is_none, refl, sym, ap, ◌∙◌, subst, arith, length-append, flat_map, filter, IsUtf8, take_while, take_all}
+use Rattle.std.specs.List.{list_all, prefix_len, suffix_len}
+use Rattle.std.specs.Str.{bytes_eq}
+use Rattle.std.proofs.lemmas.Bool.{and_from, and_parts, false≢true, true≢false}
 use Rattle.std.proofs.lemmas.Grind.{flat_map-append}
 use Rattle.std.proofs.lemmas.List.{reverse-append, reverse-reverse}
 use Rattle.std.proofs.lemmas.List.Elements.{filter-append}
 use Rattle.std.proofs.lemmas.List.Folds.{list_all-append}
 use Rattle.std.proofs.lemmas.Slice.Eq.{bytes_eq-Decides}
-use Rattle.std.proofs.lemmas.Str.{IsUtf8-append, IsUtf8-from_ascii, is_utf8-from_IsUtf8}
 use Rattle.up_text.proofs.Readings.{take_while-all}
-use Rattle.up_text.specs.Names.{is_value}
-use Rattle.up_text.specs.Scripts.{is_filled, words_in}
-use Rattle.up_text.specs.Tokens.{Mark, Part, Quoting, Folded, Alone, Blank, Passed, Stop, Fail, Mode, Outside, Comment, Escaped, Continued, Quoted, QuotedEscape, marks, mark_of, mode_after, end_marks, is_line_feed, is_blank, is_hash, is_quote, is_backslash}
-use Rattle.up_text.specs.Places.{Place, is_space, is_stop, command_bytes, fault_in, start}
+use Rattle.up_text.specs.Tokens.{Mark, Part, Quoting, Folded, Alone, Blank, Passed, Stop, Fail, Mode, Outside, Comment, Escaped, Continued, Quoted, QuotedEscape, marks, end_marks}
+use Rattle.up_text.specs.Places.{Place, is_space, command_bytes, fault_in}
 use Rattle.up_text.specs.Commands.{command_marks_at, trim_blanks, command_in}
-use Rattle.up_stanza.specs.declared.action.Action.{Action}
-use Rattle.up_stanza.specs.declared.action.Action.TheVariants.{Words, Shell}
-use Rattle.up_stanza.specs.Actions.{is_shell, action_of, words_action}
-use Rattle.up_image.specs.Giving.{is_token_byte, is_command, is_word_byte, is_word, are_words, is_shell_text, can_run, is_script}
-use Rattle.up_image.proofs.Thinning.{Tells, told_text, told_bytes, told_short, before_cut, after_cut, push_text}
-use Rattle.up_image.proofs.Spelling.{Good, blank_low}
-use Rattle.up_image.proofs.Rereading.{goes_on, is_quoted, Again, Follow, Follows, front_marks, Told, told}
-use Rattle.up_image.proofs.GivenCommands.{Trimmed, trimmed, After, front_dropped, back_dropped, follows_rest, text_before, emits, emitted_same, marks_again}
+use Rattle.up_image.specs.Giving.{is_token_byte, is_command}
+use Rattle.up_image.proofs.Thinning.{told_text, told_bytes, told_short}
+use Rattle.up_image.proofs.Spelling.{Good}
+use Rattle.up_image.proofs.Rereading.{goes_on, is_quoted, Follows, front_marks, told}
+use Rattle.up_image.proofs.GivenCommands.{trimmed, front_dropped, back_dropped, follows_rest, text_before, emits, emitted_same, marks_again}
 
 -- the marks of the command's own text have no blanks at the ends
 
@@ -145,8 +138,8 @@ command_told text good sound =
     let last = follows_rest (Outside false) tr.middle tr.back later.follows in
     let own : Follows (Outside false) tr.middle = back_dropped (Outside false) tr.middle tr.back tr.after later.follows in
     let bytes : list_all is_token_byte (flat_map command_bytes tr.front ++ (flat_map command_bytes tr.middle ++ flat_map command_bytes tr.back)) ≡ true = ap (list_all is_token_byte) (sym split) ∙ told_bytes command_bytes text ms good.clean all.tells in
-    let some = and_parts _ _ (sym (list_all-append is_token_byte (flat_map command_bytes tr.front) (flat_map command_bytes tr.middle ++ flat_map command_bytes tr.back)) ∙ bytes) in
-    let mid = and_parts _ _ (sym (list_all-append is_token_byte (flat_map command_bytes tr.middle) (flat_map command_bytes tr.back)) ∙ some.1) in
+    let some : (list_all is_token_byte (flat_map command_bytes tr.front) ≡ true) × (list_all is_token_byte (flat_map command_bytes tr.middle ++ flat_map command_bytes tr.back) ≡ true) = and_parts _ _ (sym (list_all-append is_token_byte (flat_map command_bytes tr.front) (flat_map command_bytes tr.middle ++ flat_map command_bytes tr.back)) ∙ bytes) in
+    let mid : (list_all is_token_byte (flat_map command_bytes tr.middle) ≡ true) × (list_all is_token_byte (flat_map command_bytes tr.back) ≡ true) = and_parts _ _ (sym (list_all-append is_token_byte (flat_map command_bytes tr.middle) (flat_map command_bytes tr.back)) ∙ some.1) in
     subst CommandGood (ap (flat_map command_bytes) (sym tr.is)) (record {
       utf8 = text_before (flat_map command_bytes tr.middle) last.0 tr.back tr.after last.1 (subst IsUtf8 (flat_map-append command_bytes tr.middle tr.back) later.utf8);
       bytes = mid.0;

@@ -1,26 +1,17 @@
 -- The text of a command can be given: it is read as itself.
-use Rattle.std.proofs.Common.{◌≡◌, ◌⊎◌, inl, inr, ℕ, zero, suc, ◌+◌, ◌-◌, ◌<◌, ◌≤◌, Bool, true, false, cond, not, ◌&&◌, ◌||◌, ◌==◌, List, [], ◌∷◌, ◌++◌, length, take, drop, reverse, Option, None, Some, is_none, refl, sym, ap, ◌∙◌, subst, arith, one-add, append_assoc, append-nil, length-append, length-drop, eqb-true, flat_map, filter, IsUtf8, take_while, take-append-drop}
+use Rattle.std.proofs.Common.{◌≡◌, ℕ, ◌+◌, ◌-◌, ◌<◌, ◌≤◌, Bool, true, false, cond, ◌&&◌, ◌||◌, ◌==◌, List, [], ◌∷◌, ◌++◌, length, take, drop, reverse, refl, sym, ap, ◌∙◌, subst, arith, one-add, append-nil, length-drop, flat_map, filter, IsUtf8, take-append-drop}
 use Rattle.std.specs.List.{list_all, list_any, prefix_len, suffix_len}
-use Rattle.std.specs.Str.{is_utf8, bytes_eq}
-use Rattle.std.proofs.lemmas.Bool.{and_from, and_parts, or_parts, or_from, false≢true, true≢false, not-true, not_from_false}
-use Rattle.std.proofs.lemmas.Bool.Decides.{nat_tests}
-use Rattle.std.proofs.lemmas.Grind.{flat_map-append}
-use Rattle.std.proofs.lemmas.List.{take_at, length-reverse, reverse-append, reverse-reverse, length-take-le}
-use Rattle.std.proofs.lemmas.List.Elements.{filter-append}
+use Rattle.std.proofs.lemmas.Bool.{and_from, and_parts, or_parts, or_from, false≢true}
+use Rattle.std.proofs.lemmas.List.{take_at, length-reverse, reverse-append, reverse-reverse}
 use Rattle.std.proofs.lemmas.List.Folds.{list_all-append}
-use Rattle.std.proofs.lemmas.List.Sums.{take_while-cons}
-use Rattle.std.proofs.lemmas.Slice.Eq.{bytes_eq-Decides}
-use Rattle.std.proofs.lemmas.Str.{IsUtf8-nil, is_utf8-from_IsUtf8}
 use Rattle.up_text.proofs.Cuts.{list_all-take}
-use Rattle.up_text.proofs.Readings.{take_while-all}
 use Rattle.up_text.specs.Lists.{begins}
-use Rattle.up_text.specs.Tokens.{Mark, Part, Quoting, Folded, Alone, Blank, Passed, Stop, Fail, Mode, Outside, Comment, Escaped, Continued, Quoted, QuotedEscape, marks, mark_of, mark_outside, mark_quoted, mode_after, mode_outside, mode_quoted, open_after, end_marks, feed_mark, is_line_feed, is_blank, is_hash, is_quote, is_backslash, is_paren, reaches_feed}
-use Rattle.up_text.specs.Places.{Place, is_space, is_stop, command_bytes, fault_in, place_after, start}
-use Rattle.up_text.specs.Commands.{command_marks_at, trim_blanks, command_in}
-use Rattle.up_image.specs.Giving.{is_token_byte, is_command}
-use Rattle.up_image.proofs.Thinning.{Tells, told_text, told_bytes, told_short, before_cut, tail_text}
-use Rattle.up_image.proofs.Spelling.{Good, blank_low}
-use Rattle.up_image.proofs.Rereading.{goes_on, Again, Follow, Follows, front_marks, Told, told}
+use Rattle.up_text.specs.Tokens.{Mark, Part, Quoting, Folded, Alone, Blank, Passed, Stop, Fail, Mode, Outside, Comment, Escaped, Continued, Quoted, QuotedEscape, marks, mark_of, mark_quoted, mode_after, open_after, end_marks, is_line_feed, is_blank, is_hash, is_quote, is_backslash, reaches_feed}
+use Rattle.up_text.specs.Places.{is_space, command_bytes}
+use Rattle.up_text.specs.Commands.{trim_blanks}
+use Rattle.up_image.proofs.Thinning.{before_cut, tail_text}
+use Rattle.up_image.proofs.Spelling.{blank_low}
+use Rattle.up_image.proofs.Rereading.{Again, Follows}
 
 -- lists without what passes at both ends
 

@@ -1,8 +1,8 @@
 -- The job that readable files define can be given.
-use Rattle.std.proofs.Common.{◌≡◌, ◌⊎◌, inl, inr, ℕ, ◌+◌, ◌≤◌, Bool, true, false, cond, not, ◌&&◌, ◌||◌, nat_le, List, [], ◌∷◌, ◌++◌, length, map, filter_map, Option, None, Some, Result, Ok, Err, option_map, option_and_then, unwrap_or, refl, sym, ap, ◌∙◌, subst, arith, codes, leb-true, le-leb}
-use Rattle.std.specs.List.{list_all, list_any, cons_option}
+use Rattle.std.proofs.Common.{◌≡◌, ℕ, ◌+◌, ◌≤◌, Bool, true, false, cond, ◌&&◌, nat_le, List, [], ◌∷◌, ◌++◌, length, filter_map, Option, None, Some, Result, Ok, Err, option_map, option_and_then, unwrap_or, refl, sym, ap, ◌∙◌, subst, arith, codes, leb-true, le-leb}
+use Rattle.std.specs.List.{list_all, cons_option}
 use Rattle.std.specs.Result.{result_ok}
-use Rattle.std.proofs.lemmas.Bool.{and_from, and_parts, or_parts, not_from_false}
+use Rattle.std.proofs.lemmas.Bool.{and_from, and_parts, not_from_false}
 use Rattle.std.proofs.lemmas.Str.{is_utf8-from_IsUtf8, IsUtf8-nil}
 use Rattle.up_text.specs.Expansion.{is_expandable}
 use Rattle.up_text.specs.Names.{is_name}
@@ -11,21 +11,21 @@ use Rattle.up_stanza.specs.declared.action.Action.{Action}
 use Rattle.up_stanza.specs.declared.limit.Limit.{Limit}
 use Rattle.up_stanza.specs.declared.process.Process.TheVariants.{Main, PreStart, PostStart, PreStop, PostStop}
 use Rattle.up_stanza.specs.declared.stanza.Stanza.{Stanza}
-use Rattle.up_stanza.specs.declared.stanza.Stanza.TheVariants.{About, Emits, Env, Export, Task, Manual, Respawn, RespawnLimit, NormalExit, KillTimeout, KillSignal, ReloadSignal, Instance, Console, Chdir, Runs, StartOn, StopOn}
+use Rattle.up_stanza.specs.declared.stanza.Stanza.TheVariants.{Env, Export, Manual, RespawnLimit, NormalExit, KillTimeout, KillSignal, Instance, Chdir, Runs, StartOn, StopOn}
 use Rattle.up_stanza.specs.Confs.{keys_set, keys_exported, total, has_few_keys, conf_of}
 use Rattle.up_stanza.specs.Signals.{is_signal, term}
 use Rattle.up_stanza.proofs.Conforming.{conf_is}
-use Rattle.up_stanza.proofs.Backward.{mapped, chosen}
+use Rattle.up_stanza.proofs.Backward.{chosen}
 use Rattle.up_conf.specs.declared.folder.File.{File}
 use Rattle.up_conf.specs.declared.job.JobDef.{JobDef}
 use Rattle.up_conf.specs.Folders.{job_name, bytes_at, override_of, job_in, job_of_file, jobs_of}
-use Rattle.up_conf.specs.Jobs.{last_or, fold_stanzas, instance_in, dir_in, limit_in, kill_signal_in, kill_timeout_in, main_in, pre_start_in, post_start_in, pre_stop_in, post_stop_in, start_in, stop_in, env_with, export_with, normal_with, plain_job, job_after, job_of}
+use Rattle.up_conf.specs.Jobs.{last_or, fold_stanzas, instance_in, dir_in, limit_in, kill_signal_in, kill_timeout_in, main_in, pre_start_in, post_start_in, pre_stop_in, post_stop_in, start_in, stop_in, env_with, export_with, normal_with, job_of}
 use Rattle.up_conf.specs.declared.report.Fault.{Fault}
 use Rattle.up_image.specs.Compiling.{Compiles, has_twice, read_paths}
 use Rattle.up_image.specs.Giving.{is_token, can_set, can_export, are_exits, can_run, can_await, can_be_given, can_all_be_given}
 use Rattle.up_image.proofs.GivenLists.{AllGood, ListsGood, env_good, export_good, exits_good}
 use Rattle.up_image.proofs.GivenStanzas.{StanzaGood, is_limit, conf_good}
-use Rattle.up_image.proofs.GivenOrder.{AreNamed, sorted_up, sorted_all, names_apart}
+use Rattle.up_image.proofs.GivenOrder.{sorted_up, sorted_all, names_apart}
 
 all_good : (xs ys : List Stanza) → AllGood StanzaGood xs → AllGood StanzaGood ys → AllGood StanzaGood (xs ++ ys)
 all_good [] ys one other = other

@@ -1,8 +1,9 @@
 -- The settings, exports and normal exits of a job are apart, and few.
-use Rattle.std.proofs.Common.{◌≡◌, ◌⊎◌, inl, inr, ℕ, ◌+◌, ◌≤◌, Bool, true, false, cond, not, ◌&&◌, ◌||◌, List, [], ◌∷◌, ◌++◌, length, map, refl, sym, ap, ◌∙◌, subst, arith, length-append, append_assoc}
+use Rattle.std.proofs.Common.{◌≡◌, ℕ, ◌+◌, ◌≤◌, Bool, true, false, cond, not, List, [], ◌∷◌, ◌++◌, length, map, refl, sym, ap, ◌∙◌, arith, length-append, ◌==◌}
 use Rattle.std.specs.List.{list_all, list_any}
 use Rattle.std.specs.Str.{bytes_eq}
-use Rattle.std.proofs.lemmas.Bool.{and_from, and_parts, or_parts, or_from, not-true, not_from_false, eqb-true, eq-eqb, false≢true, both_ways}
+use Rattle.std.specs.Cmp.{both_ways}
+use Rattle.std.proofs.lemmas.Bool.{and_from, and_parts, or_parts, not-true, not_from_false, eqb-true, eq-eqb}
 use Rattle.std.proofs.lemmas.List.Folds.{list_all-append, list_any-append}
 use Rattle.std.proofs.lemmas.Slice.Eq.{bytes_eq-Decides}
 use Rattle.up_text.specs.Names.{is_key}
@@ -10,12 +11,12 @@ use Rattle.up_stanza.specs.declared.exit.Exit.{Exit}
 use Rattle.up_stanza.specs.declared.exit.Exit.TheVariants as exit
 use Rattle.up_stanza.specs.declared.setting.Setting.{Setting}
 use Rattle.up_stanza.specs.declared.stanza.Stanza.{Stanza}
-use Rattle.up_stanza.specs.declared.stanza.Stanza.TheVariants.{About, Emits, Env, Export, Task, Manual, Respawn, RespawnLimit, NormalExit, KillTimeout, KillSignal, ReloadSignal, Instance, Console, Chdir, Runs, StartOn, StopOn}
+use Rattle.up_stanza.specs.declared.stanza.Stanza.TheVariants.{Env, Export, NormalExit}
 use Rattle.up_stanza.specs.Confs.{keys_set, keys_exported, total}
 use Rattle.up_conf.specs.Jobs.{put, env_with, export_with, normal_with, with_new_item, with_new_items, same_exit, fold_stanzas}
 use Rattle.up_image.specs.Compiling.{has_twice}
 use Rattle.up_image.specs.Giving.{is_setting, is_exit, are_apart}
-use Rattle.up_image.proofs.Repeats.{bytes_eq-flip, or-false}
+use Rattle.up_image.proofs.Repeats.{has_twice-push, or-false}
 
 abbrev keys_in : List Setting → List (List ℕ)
 keys_in settings = map (λ setting. setting.key) settings
@@ -92,26 +93,18 @@ news_short : {X : Type 0} (same : X → X → Bool) (xs ys : List X) → length 
 news_short same xs [] = omega arith
 news_short same xs (y ∷ ys) = omega (arith, news_short same (with_new_item same xs y) ys, new_short same xs y)
 
--- texts of which none stands twice, and one more
-twice_push : (xs : List (List ℕ)) (x : List ℕ) → has_twice xs ≡ false → list_any (bytes_eq x) xs ≡ false → has_twice (xs ++ x ∷ []) ≡ false
-twice_push [] x apart new = refl
-twice_push (y ∷ ys) x apart new =
-    let parts = or_parts (list_any (bytes_eq y) ys) (has_twice ys) apart in
-    let others = or_parts (bytes_eq x y) (list_any (bytes_eq x) ys) new in
-    or-false _ _ (list_any-append (bytes_eq y) ys (x ∷ []) ∙ or-false _ _ parts.0 (or-false _ _ (bytes_eq-flip y x ∙ others.0) refl)) (twice_push ys x parts.1 others.1)
-
 keys_apart : (xs ys : List (List ℕ)) → has_twice xs ≡ false → has_twice (with_new_items bytes_eq xs ys) ≡ false
 keys_apart xs [] apart = apart
 keys_apart xs (y ∷ ys) apart = keys_apart (with_new_item bytes_eq xs y) ys (by_case (list_any (bytes_eq y) xs) refl)
   where
     by_case : (b : Bool) → list_any (bytes_eq y) xs ≡ b → has_twice (cond b xs (xs ++ y ∷ [])) ≡ false
     by_case true had = apart
-    by_case false new = twice_push xs y apart new
+    by_case false new = has_twice-push xs y apart new
 
 -- exits
 
-nat_flip : (a b : ℕ) → Rattle.std.specs.Prelude.nat_eq a b ≡ Rattle.std.specs.Prelude.nat_eq b a
-nat_flip a b = Rattle.std.specs.Cmp.both_ways _ _ (λ e. eq-eqb b a (sym (eqb-true a b e))) (λ e. eq-eqb a b (sym (eqb-true b a e)))
+nat_flip : (a b : ℕ) → (a == b) ≡ (b == a)
+nat_flip a b = both_ways _ _ (λ e. eq-eqb b a (sym (eqb-true a b e))) (λ e. eq-eqb a b (sym (eqb-true b a e)))
 
 same_flip : (one other : Exit) → same_exit one other ≡ same_exit other one
 same_flip (exit.Status a) (exit.Status b) = nat_flip a b

@@ -1,17 +1,17 @@
 -- The names of a folder's jobs ascend.
-use Rattle.std.proofs.Common.{◌≡◌, ◌⊎◌, inl, inr, ℕ, ◌-◌, Bool, true, false, cond, not, ◌&&◌, ◌||◌, nat_eq, List, [], ◌∷◌, ◌++◌, length, take, map, filter, filter_map, Option, None, Some, is_some, option_map, option_and_then, refl, sym, ap, ◌∙◌, subst, codes, Ordering, Less, Equal, Greater, is_lt, nat_cmp}
+use Rattle.std.proofs.Common.{◌≡◌, ℕ, ◌-◌, Bool, true, false, cond, ◌||◌, nat_eq, List, [], ◌∷◌, ◌++◌, length, take, map, filter, filter_map, Option, None, Some, is_some, refl, sym, ap, ◌∙◌, codes, Ordering, Less, Equal, Greater, is_lt, nat_cmp}
 use Rattle.std.specs.List.{list_all, list_any, ends_with, cons_option}
 use Rattle.std.specs.Str.{bytes_eq}
 use Rattle.std.specs.Cmp.Lexicographic.{slice_cmp, nat_list_cmp_total, texts_po}
 use Rattle.std.specs.Ordering.{ordering_reverse}
-use Rattle.std.proofs.lemmas.Bool.{and_from, and_parts, or_parts, or_from, or_left, false≢true, true≢false, not-true, false_from_ne_true}
+use Rattle.std.proofs.lemmas.Bool.{and_from, and_parts, or_parts, or_from, false≢true, true≢false, false_from_ne_true}
 use Rattle.std.proofs.lemmas.Bool.Decides.{Decides-eqb}
 use Rattle.std.proofs.lemmas.Slice.Eq.{bytes_eq-Decides, ends_is}
 use Rattle.up_conf.specs.declared.folder.File.{File}
 use Rattle.up_conf.specs.declared.job.JobDef.{JobDef}
-use Rattle.up_conf.specs.Folders.{without_ending, job_name, has_conf, overridden_name, is_read, job_of_file}
-use Rattle.up_conf.specs.Order.{is_below, put_by, sort_by_order, in_order}
-use Rattle.up_image.specs.Compiling.{has_twice, read_paths}
+use Rattle.up_conf.specs.Folders.{job_name, has_conf, overridden_name, is_read, job_of_file}
+use Rattle.up_conf.specs.Order.{is_below, put_by, sort_by_order}
+use Rattle.up_image.specs.Compiling.{has_twice}
 use Rattle.up_image.specs.Giving.{are_ascending}
 
 -- of two different names one is below the other

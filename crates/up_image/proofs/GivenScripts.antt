@@ -1,8 +1,8 @@
 -- A script can be given: its lines stand before an end line.
-use Rattle.std.proofs.Common.{◌≡◌, ◌⊎◌, inl, inr, ℕ, zero, suc, ◌+◌, ◌<◌, ◌≤◌, Bool, true, false, cond, not, ◌&&◌, ◌||◌, ◌==◌, nat_le, List, [], ◌∷◌, ◌++◌, length, take, drop, Option, None, Some, refl, sym, ap, ◌∙◌, subst, arith, append_assoc, append-nil, length-append, IsUtf8, codes, leb-true, le-leb}
+use Rattle.std.proofs.Common.{◌≡◌, ℕ, zero, suc, ◌+◌, ◌<◌, Bool, true, false, cond, not, ◌==◌, List, [], ◌∷◌, ◌++◌, length, drop, Option, None, Some, refl, sym, ap, ◌∙◌, subst, arith, append_assoc, length-append, IsUtf8, codes, le-leb}
 use Rattle.std.specs.List.{list_all, list_any, concat, onto_first}
-use Rattle.std.specs.Str.{is_utf8, bytes_eq, IsAscii}
-use Rattle.std.proofs.lemmas.Bool.{and_from, and_parts, or_parts, or_left, false≢true, not_from_false, not-true}
+use Rattle.std.specs.Str.{IsAscii}
+use Rattle.std.proofs.lemmas.Bool.{and_from, and_parts, or_parts, or_left, not_from_false, not-true}
 use Rattle.std.proofs.lemmas.List.{drop_at}
 use Rattle.std.proofs.lemmas.List.Folds.{concat-append}
 use Rattle.std.proofs.lemmas.Slice.Eq.{bytes_eq-Decides}
@@ -11,7 +11,7 @@ use Rattle.up_text.specs.Names.{is_value}
 use Rattle.up_text.specs.Scripts.{lines_of, script_in, is_end_line}
 use Rattle.up_text.specs.Tokens.{is_line_feed, is_blank}
 use Rattle.up_stanza.specs.declared.action.Action.TheVariants.{Shell}
-use Rattle.up_image.specs.Giving.{is_script, are_lines, is_shell_text, can_run}
+use Rattle.up_image.specs.Giving.{is_script, are_lines, can_run}
 use Rattle.up_image.proofs.Thinning.{before_cut, after_cut, push_text}
 use Rattle.up_image.proofs.Spelling.{Good, good_rest, feed_low}
 
@@ -194,6 +194,7 @@ script_good text script good is =
     let long : length text ≡ length front + length rest = ap length split ∙ length-append front rest in
     let size : length (front ++ script.1) ≡ length front + length script.1 = length-append front script.1 in
     let left : drop (length front + length script.1) text ≡ concat found.more = ap (drop (length front + length script.1)) (split ∙ sym (append_assoc front script.1 (concat found.more))) ∙ drop_at (front ++ script.1) (concat found.more) (length front + length script.1) size in
-    let clean : is_value front ≡ true = clean_front front rest (ap (list_any (λ byte. byte == 0)) (sym split) ∙ good.clean) in
-    (and_from _ _ (and_from _ _ (and_from _ _ (le-leb (length front) 16777216 (omega (arith, good.short, long))) (is_utf8-from_IsUtf8 front cut.0)) clean) (or_left _ _ (script_is script.0 found.lines found.goes_on)),
-    good_rest text (length front + length script.1) good (subst IsUtf8 (sym left) (tail_cut script.1 found.more found.tail cut.1)))
+    let clean : is_value front ≡ true = clean_front front rest (ap (list_any (λ byte. byte == 0)) (sym split) ∙ good.clean) in (
+      and_from _ _ (and_from _ _ (and_from _ _ (le-leb (length front) 16777216 (omega (arith, good.short, long))) (is_utf8-from_IsUtf8 front cut.0)) clean) (or_left _ _ (script_is script.0 found.lines found.goes_on)),
+      good_rest text (length front + length script.1) good (subst IsUtf8 (sym left) (tail_cut script.1 found.more found.tail cut.1)),
+    )

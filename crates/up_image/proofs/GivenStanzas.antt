@@ -1,8 +1,8 @@
 -- What each stanza of a readable file says can be given.
-use Rattle.std.proofs.Common.{◌≡◌, ◌⊎◌, inl, inr, ℕ, zero, suc, ◌+◌, ◌<◌, ◌≤◌, Bool, true, false, cond, not, ◌&&◌, ◌||◌, ◌==◌, nat_le, List, [], ◌∷◌, ◌++◌, length, take, drop, map, Option, None, Some, option_map, option_and_then, refl, sym, ap, ◌∙◌, subst, arith, IsUtf8, codes, leb-true, le-leb, take_while}
-use Rattle.std.specs.List.{list_all, list_any, concat, before_first, after_first}
+use Rattle.std.proofs.Common.{◌≡◌, inl, inr, ℕ, zero, suc, ◌<◌, Bool, true, false, cond, not, ◌&&◌, ◌||◌, ◌==◌, nat_le, List, [], ◌∷◌, ◌++◌, length, drop, map, Option, None, Some, option_map, refl, sym, ap, ◌∙◌, subst, IsUtf8, codes, leb-true, take_while}
+use Rattle.std.specs.List.{list_all, list_any, before_first, after_first}
 use Rattle.std.specs.Str.{is_utf8, bytes_eq}
-use Rattle.std.proofs.lemmas.Bool.{and_from, and_parts, or_parts, false≢true, true≢false, not-true}
+use Rattle.std.proofs.lemmas.Bool.{and_from, and_parts, true≢false, not-true}
 use Rattle.std.proofs.lemmas.List.Folds.{list_all-map}
 use Rattle.std.proofs.lemmas.List.Sums.{take_while-cons}
 use Rattle.std.proofs.lemmas.Str.{IsUtf8-nil, IsUtf8-from_is_utf8}
@@ -11,9 +11,9 @@ use Rattle.up_text.specs.Commands.{command_marks_at}
 use Rattle.up_text.specs.Expansion.{is_expandable}
 use Rattle.up_text.specs.Lists.{begins}
 use Rattle.up_text.specs.Names.{is_key}
-use Rattle.up_text.specs.Places.{Place, Reading, Got, Ended, start, reading, with_parens, place_after, is_finished}
+use Rattle.up_text.specs.Places.{Place, Got, Ended, start, reading, with_parens, place_after}
 use Rattle.up_text.specs.Statements.{IsStatement}
-use Rattle.up_text.specs.Tokens.{Mark, Part, Quoting, Folded, Alone, Blank, Passed, Stop, Fail, Mode, Outside, Comment, Escaped, Continued, Quoted, QuotedEscape, marks, mark_of, mark_outside, mark_quoted, mode_after, open_after, end_marks, is_line_feed, is_blank, is_hash, is_quote, is_backslash, is_paren, reaches_feed}
+use Rattle.up_text.specs.Tokens.{Mark, Part, Quoting, Folded, Blank, Passed, Stop, Mode, Outside, Comment, Escaped, Continued, Quoted, QuotedEscape, marks, mark_of, mark_outside, mark_quoted, mode_after, open_after, end_marks, is_line_feed, is_blank, is_hash, is_quote, is_backslash, reaches_feed}
 use Rattle.up_expr.specs.Values.{is_equals, has_equals}
 use Rattle.up_stanza.specs.declared.exit.Exit.{Exit}
 use Rattle.up_stanza.specs.declared.exit.Exit.TheVariants as exit
@@ -24,7 +24,7 @@ use Rattle.up_stanza.specs.declared.process.Process.TheVariants as process
 use Rattle.up_stanza.specs.declared.setting.Setting.{Setting}
 use Rattle.up_stanza.specs.declared.stanza.Stanza.{Stanza}
 use Rattle.up_stanza.specs.declared.stanza.Stanza.TheVariants.{About, Emits, Env, Export, Task, Manual, Respawn, RespawnLimit, NormalExit, KillTimeout, KillSignal, ReloadSignal, Instance, Console, Chdir, Runs, StartOn, StopOn}
-use Rattle.up_stanza.specs.Arguments.{limit_of, limit_by, unlimited}
+use Rattle.up_stanza.specs.Arguments.{limit_of, limit_by}
 use Rattle.up_stanza.specs.Confs.{is_readable}
 use Rattle.up_stanza.specs.Grammar.{Says, IsListed, IsOn, IsExec, IsScript, IsAction, IsRun, StandsAt, Written, Conf}
 use Rattle.up_stanza.specs.Numbers.{are_digits, decimal_of, number_between, number_in}
@@ -40,7 +40,7 @@ use Rattle.up_image.proofs.GivenTrees.{are_tokens, value_token, tree_given}
 use Rattle.up_image.proofs.GivenActions.{command_good}
 use Rattle.up_image.proofs.GivenWords.{action_good}
 use Rattle.up_image.proofs.GivenScripts.{script_good}
-use Rattle.up_image.proofs.GivenLists.{AllGood, ListsGood}
+use Rattle.up_image.proofs.GivenLists.{AllGood}
 
 -- numbers
 
@@ -190,11 +190,11 @@ row_rest depth mode pending (b ∷ text) utf8 =
     let mark = mark_of false depth mode b text in
     let later = marks false (open_after depth mark) (mode_after mode b text) text in
     subst (λ ms. IsUtf8 (drop (length ms) (b ∷ text))) (sym (take_while-cons goes_on mark later))
-    (by_case (goes_on mark) mark (take_while goes_on later) (λ stop. feed_low b (stop_feeds depth mode b text stop)) refl (row_rest (open_after depth mark) (mode_after mode b text) (pending ++ b ∷ []) text (push_text pending b text utf8)))
+    (by_case (goes_on mark) mark (take_while goes_on later) (λ stop. feed_low b (stop_feeds depth mode b text stop)) (row_rest (open_after depth mark) (mode_after mode b text) (pending ++ b ∷ []) text (push_text pending b text utf8)))
   where
-    by_case : (g : Bool) (mark : Mark) (later : List Mark) → (g ≡ false → b < 128) → g ≡ g → IsUtf8 (drop (length later) text) → IsUtf8 (drop (length (cond g (mark ∷ later) [])) (b ∷ text))
-    by_case true mark later low is rest = rest
-    by_case false mark later low is rest = from_cut pending b text utf8 (low refl)
+    by_case : (g : Bool) (mark : Mark) (later : List Mark) → (g ≡ false → b < 128) → IsUtf8 (drop (length later) text) → IsUtf8 (drop (length (cond g (mark ∷ later) [])) (b ∷ text))
+    by_case true mark later low rest = rest
+    by_case false mark later low rest = from_cut pending b text utf8 (low refl)
 
 row_good : (place : Place) → Good place.rest → Good (place_after (length (command_marks_at place)) place).rest
 unfolding command_marks_at
@@ -204,9 +204,10 @@ row_good place good = good_rest place.rest (length (front_marks (Outside false) 
 
 exec_good : (action : Action) (place after : Place) → Good place.rest → IsExec action place after → (can_run (Some action) ≡ true) × Good after.rest
 exec_good action place after good is =
-    let next = says_good place (codes "exec") is.next good is.first in
-    (action_good _ action (command_good is.next next is.whole) is.says,
-    end_good (place_after (length (command_marks_at is.next)) is.next) after (row_good is.next next) is.ends)
+    let next = says_good place (codes "exec") is.next good is.first in (
+      action_good _ action (command_good is.next next is.whole) is.says,
+      end_good (place_after (length (command_marks_at is.next)) is.next) after (row_good is.next next) is.ends,
+    )
 
 lines_good : (action : Action) (place after : Place) → Good place.rest → IsScript action place after → (can_run (Some action) ≡ true) × Good after.rest
 lines_good action place after good is =

@@ -1,22 +1,20 @@
 -- The tree that tokens write can be given.
-use Rattle.std.proofs.Common.{◌≡◌, ◌⊎◌, inl, inr, ℕ, zero, suc, ◌+◌, ◌-◌, ◌<◌, ◌≤◌, Bool, true, false, cond, not, ◌&&◌, ◌||◌, ◌==◌, List, [], ◌∷◌, ◌++◌, length, take, drop, map, Option, None, Some, option_map, nat_eq, codes, refl, sym, ap, ◌∙◌, subst, arith, append_assoc, get_or, nat_le, nat_lt, max, IsUtf8}
-use Rattle.std.specs.List.{list_all, list_any, before_first, after_first, position_or_len, prefix_len, ends_with}
+use Rattle.std.proofs.Common.{◌≡◌, ℕ, zero, suc, ◌+◌, ◌-◌, ◌<◌, ◌≤◌, Bool, true, false, cond, not, ◌&&◌, ◌||◌, List, [], ◌∷◌, ◌++◌, length, take, drop, Option, None, Some, nat_eq, codes, refl, sym, ap, ◌∙◌, subst, arith, get_or, nat_le}
+use Rattle.std.specs.List.{list_all, list_any, before_first, after_first, position_or_len, ends_with}
 use Rattle.std.specs.Str.{is_utf8}
-use Rattle.std.proofs.lemmas.Bool.{and_from, and_parts, or_parts, not-true, not-false, not_from_false, false≢true, le-leb, leb-true, ltb-true, eqb-true, or_right, or_left}
-use Rattle.std.proofs.lemmas.Bool.Decides.{nat_tests}
+use Rattle.std.proofs.lemmas.Bool.{and_from, and_parts, not-false, false≢true, le-leb, leb-true, ltb-true, eqb-true, or_right, or_left}
 use Rattle.std.proofs.lemmas.List.Folds.{list_all-append}
 use Rattle.std.proofs.lemmas.List.Sums.{prefix_len_stops}
 use Rattle.std.proofs.lemmas.Str.{is_utf8-from_IsUtf8, IsUtf8-from_is_utf8, IsUtf8-drop, IsCharBoundary-after_ascii}
 use Rattle.up_text.specs.Names.{is_name, is_key}
 use Rattle.up_text.specs.declared.token.Token.{Token}
 use Rattle.up_expr.specs.declared.expr.Leaf.{Leaf}
-use Rattle.up_expr.specs.declared.expr.Test.{Test}
 use Rattle.up_expr.specs.declared.expr.Test.TheVariants.{Place, Same, Differs}
 use Rattle.up_expr.specs.Trees.{Tree, One, Both, Either}
-use Rattle.up_expr.specs.Syntax.{Syntax, Bare, Group, Joined, Writes, tokens_of, is_item, is_right, tree_in, depth, join_trees, with_both}
-use Rattle.up_expr.specs.Values.{is_equals, has_equals, is_negated_key, is_good_value, is_good, is_ordered, is_symbol, is_and, is_operator, test_of, test_by, values_of, are_values, leaf_of}
-use Rattle.up_stanza.proofs.Backward.{Mapped, mapped}
-use Rattle.up_image.specs.Giving.{is_token_byte, is_token, looks_keyed, is_leaf_value, is_test, is_leaf, are_leaves, is_lone, is_shallow, can_await}
+use Rattle.up_expr.specs.Syntax.{Syntax, Bare, Group, Joined, Writes, tokens_of, is_right, tree_in, depth, join_trees, with_both}
+use Rattle.up_expr.specs.Values.{is_equals, has_equals, is_negated_key, is_good, is_ordered, is_symbol, is_and, is_operator, test_of, test_by, values_of, are_values, leaf_of}
+use Rattle.up_stanza.proofs.Backward.{mapped}
+use Rattle.up_image.specs.Giving.{is_token_byte, is_token, is_test, is_leaf, are_leaves, is_lone, is_shallow, can_await}
 
 pub all_drop : {X : Type 0} (p : X → Bool) (n : ℕ) (xs : List X) → list_all p xs ≡ true → list_all p (drop n xs) ≡ true
 all_drop p zero xs all = all

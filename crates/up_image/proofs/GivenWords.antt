@@ -1,9 +1,8 @@
 -- What a command says can be given: words, or a text for the shell.
-use Rattle.std.proofs.Common.{◌≡◌, ◌⊎◌, inl, inr, ℕ, zero, suc, ◌+◌, ◌<◌, ◌≤◌, Bool, true, false, cond, not, ◌&&◌, ◌||◌, ◌==◌, nat_le, nat_eq, List, [], ◌∷◌, ◌++◌, length, take, drop, Option, None, Some, refl, sym, ap, ◌∙◌, subst, arith, append_assoc, append-nil, length-append, eqb-true, flat_map, filter, IsUtf8, codes, leb-true, le-leb}
-use Rattle.std.specs.List.{list_all, list_any, prefix_len, slice_split, onto_first, starts_with}
-use Rattle.std.specs.Str.{is_utf8, IsAscii}
-use Rattle.std.proofs.lemmas.Bool.{and_from, and_parts, or_parts, or_from, or_right, or_left, or_cases, false≢true, true≢false, not-true, not_from_false}
-use Rattle.std.proofs.lemmas.Bool.Decides.{nat_tests}
+use Rattle.std.proofs.Common.{◌≡◌, ◌⊎◌, inl, inr, ℕ, zero, suc, ◌<◌, Bool, true, false, cond, not, ◌&&◌, ◌==◌, nat_le, List, [], ◌∷◌, ◌++◌, length, None, Some, refl, sym, ap, ◌∙◌, subst, arith, append_assoc, append-nil, eqb-true, flat_map, filter, IsUtf8, codes, le-leb}
+use Rattle.std.specs.List.{list_all, list_any, prefix_len, slice_split, onto_first}
+use Rattle.std.specs.Str.{IsAscii}
+use Rattle.std.proofs.lemmas.Bool.{and_from, and_parts, or_parts, or_from, or_right, or_cases, false≢true, true≢false, not-true, not_from_false}
 use Rattle.std.proofs.lemmas.Str.{IsUtf8-append, IsUtf8-from_ascii, is_utf8-from_IsUtf8}
 use Rattle.up_text.specs.Names.{is_value}
 use Rattle.up_text.specs.Scripts.{is_filled, words_in}
@@ -11,11 +10,11 @@ use Rattle.up_text.specs.Tokens.{Mark, Part, Quoting, Folded, Alone, Blank, Pass
 use Rattle.up_text.specs.Places.{is_space, command_bytes}
 use Rattle.up_stanza.specs.declared.action.Action.{Action}
 use Rattle.up_stanza.specs.declared.action.Action.TheVariants.{Words, Shell}
-use Rattle.up_stanza.specs.Actions.{is_shell, action_of, words_action}
-use Rattle.up_image.specs.Giving.{is_token_byte, is_command, is_word_byte, is_word, are_words, is_shell_text, is_for_shell, can_run, is_script}
+use Rattle.up_stanza.specs.Actions.{is_shell, action_of}
+use Rattle.up_image.specs.Giving.{is_token_byte, is_word_byte, is_word, are_words, is_shell_text, can_run, is_script}
 use Rattle.up_image.proofs.Thinning.{before_cut, after_cut, push_text}
 use Rattle.up_image.proofs.Spelling.{blank_low}
-use Rattle.up_image.proofs.Rereading.{Again, Follow, Follows}
+use Rattle.up_image.proofs.Rereading.{Again, Follows}
 use Rattle.up_image.proofs.GivenActions.{CommandGood}
 
 -- a text without bytes for the shell has no #
@@ -129,9 +128,10 @@ split_good pending (b ∷ text) utf8 all tokens calms =
 
     by_case : (l : Bool) → is_blank b ≡ l → (IsUtf8 text → Pieces [] (slice_split is_blank text)) → (IsUtf8 ((pending ++ b ∷ []) ++ text) → list_all is_word_byte (pending ++ b ∷ []) ≡ true → Pieces (pending ++ b ∷ []) (slice_split is_blank text))
         → Pieces pending (cond l ([] ∷ slice_split is_blank text) (onto_first b (slice_split is_blank text)))
-    by_case true el next more =
-        (record { utf8 = subst IsUtf8 (sym (append-nil pending)) (before_cut pending b text utf8 (blank_low b el)); bytes = ap (list_all is_word_byte) (append-nil pending) ∙ all },
-        none_pending (slice_split is_blank text) (next (after_cut pending b text utf8 (blank_low b el))))
+    by_case true el next more = (
+      record { utf8 = subst IsUtf8 (sym (append-nil pending)) (before_cut pending b text utf8 (blank_low b el)); bytes = ap (list_all is_word_byte) (append-nil pending) ∙ all },
+      none_pending (slice_split is_blank text) (next (after_cut pending b text utf8 (blank_low b el))),
+    )
     by_case false el next more =
         onto_good pending b (slice_split is_blank text) (more (push_text pending b text utf8) (all_push pending b all (word_byte b one.0 other.0 el)))
 

@@ -1,18 +1,13 @@
 -- The text of a command is UTF-8, and it is read as itself.
-use Rattle.std.proofs.Common.{◌≡◌, ◌⊎◌, inl, inr, ℕ, zero, suc, ◌+◌, ◌-◌, ◌<◌, ◌≤◌, Bool, true, false, cond, not, ◌&&◌, ◌||◌, ◌==◌, List, [], ◌∷◌, ◌++◌, length, take, drop, Option, None, Some, is_none, refl, sym, ap, ◌∙◌, subst, arith, one-add, append_assoc, append-nil, length-append, eqb-true, flat_map, filter, IsUtf8, take_while}
-use Rattle.std.specs.List.{list_all, list_any, prefix_len, suffix_len}
-use Rattle.std.specs.Str.{is_utf8}
-use Rattle.std.proofs.lemmas.Bool.{and_from, and_parts, or_parts, or_from, false≢true, not-true, not_from_false}
+use Rattle.std.proofs.Common.{◌≡◌, ◌⊎◌, inl, inr, ℕ, ◌<◌, Bool, true, false, cond, not, ◌||◌, ◌==◌, List, [], ◌∷◌, None, refl, sym, ap, ◌∙◌, subst, arith, eqb-true, flat_map, take_while}
+use Rattle.std.proofs.lemmas.Bool.{false≢true}
 use Rattle.std.proofs.lemmas.Bool.Decides.{nat_tests}
 use Rattle.std.proofs.lemmas.List.Sums.{take_while-cons}
-use Rattle.std.proofs.lemmas.Str.{IsUtf8-nil, is_utf8-from_IsUtf8}
 use Rattle.up_text.specs.Lists.{begins}
-use Rattle.up_text.specs.Tokens.{Mark, Part, Quoting, Folded, Alone, Blank, Passed, Stop, Fail, Mode, Outside, Comment, Escaped, Continued, Quoted, QuotedEscape, marks, mark_of, mark_outside, mark_quoted, mode_after, mode_outside, mode_quoted, open_after, end_marks, feed_mark, is_line_feed, is_blank, is_hash, is_quote, is_backslash, is_paren, reaches_feed}
-use Rattle.up_text.specs.Places.{Place, is_space, is_stop, command_bytes, fault_in, place_after, start}
-use Rattle.up_text.specs.Commands.{command_marks_at, trim_blanks, command_in}
-use Rattle.up_image.specs.Giving.{is_token_byte}
-use Rattle.up_image.proofs.Thinning.{Gives, Ends, Tells, from_cut, push_text}
-use Rattle.up_image.proofs.Spelling.{feed_low, blank_low, hash_low, quote_low, backslash_low}
+use Rattle.up_text.specs.Tokens.{Mark, Part, Quoting, Folded, Blank, Passed, Stop, Mode, Outside, Comment, Escaped, Continued, Quoted, QuotedEscape, marks, mark_of, mark_outside, mark_quoted, mode_after, mode_outside, mode_quoted, open_after, end_marks, feed_mark, is_line_feed, is_blank, is_hash, is_quote, is_backslash, reaches_feed}
+use Rattle.up_text.specs.Places.{is_stop, command_bytes, fault_in}
+use Rattle.up_image.proofs.Thinning.{Gives, Tells}
+use Rattle.up_image.proofs.Spelling.{outside_next, quoted_mark, quoted_next, feed_low, blank_low, hash_low, backslash_low}
 
 -- a mark up to the stanza's end
 abbrev pub goes_on : Mark → Bool
@@ -79,9 +74,6 @@ Command mode b mark next text =
 abbrev row_mark : ℕ → (f l r h k j q : Bool) → Mark
 row_mark b f l r h k j q = cond f Stop (cond l (cond r Passed (Blank b)) (cond h Passed (cond k (cond j Passed (Quoting b)) (cond q (Quoting b) (Part b)))))
 
-abbrev row_next : ℕ → Bool → (l h k j q : Bool) → Mode
-row_next b joined l h k j q = cond l (Outside joined) (cond h Comment (cond k (cond j (Continued joined) Escaped) (cond q (Quoted b false) (Outside false))))
-
 blank_again : (b : ℕ) → is_line_feed b ≡ false → is_blank b ≡ true → Again (Outside false) b (Blank b) (Outside false)
 blank_again b plain blank = record { marked = rw (plain, blank) refl; moved = rw blank refl; plain = plain }
 
@@ -99,7 +91,7 @@ row_command joined b text =
     by_case (is_line_feed b) (is_blank b) (joined || reaches_feed text) (is_hash b) (is_backslash b) (begins is_line_feed text) (is_quote b) refl refl refl refl refl refl
   where
     by_case : (f l r h k j q : Bool) → is_line_feed b ≡ f → is_blank b ≡ l → is_hash b ≡ h → is_backslash b ≡ k → begins is_line_feed text ≡ j → is_quote b ≡ q
-        → Command (Outside joined) b (row_mark b f l r h k j q) (row_next b joined l h k j q) text
+        → Command (Outside joined) b (row_mark b f l r h k j q) (outside_next b joined l h k j q) text
     by_case true l r h k j q ef el eh ek ej eq = inl (refl, feed_low b ef, refl)
     by_case false true true h k j q ef el eh ek ej eq = inr (inr (record { more = refl; level = refl; sound = λ later. refl; gives = inr (blank_low b el, inl refl); stands = tt; follow = (refl, refl) }))
     by_case false true false h k j q ef el eh ek ej eq = inr (inr (record { more = refl; level = refl; sound = λ later. refl; gives = inl (refl, ef); stands = tt; follow = blank_again b ef el }))
@@ -110,12 +102,6 @@ row_command joined b text =
     by_case false false r false false j false ef el eh ek ej eq = inr (inr (record { more = refl; level = refl; sound = λ later. refl; gives = inl (refl, ef); stands = tt; follow = part_again b ef el eh ek eq }))
 
 -- bytes inside quotes
-
-abbrev quoted_mark : ℕ → (s f o l r k j : Bool) → Mark
-quoted_mark b s f o l r k j = cond s (Quoting b) (cond f (cond o Folded (Part 32)) (cond l (cond r Folded (Part b)) (cond k (cond j Folded (Quoting b)) (Part b))))
-
-abbrev quoted_next : ℕ → Bool → (s f l k j : Bool) → Mode
-quoted_next quote joined s f l k j = cond s (Outside false) (cond f (Quoted quote true) (cond l (Quoted quote joined) (cond k (cond j (Quoted quote joined) (QuotedEscape quote)) (Quoted quote false))))
 
 quote_plain : (b : ℕ) → is_quote b ≡ true → is_line_feed b ≡ false
 unfolding is_quote is_line_feed

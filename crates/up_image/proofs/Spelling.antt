@@ -1,14 +1,14 @@
 -- The tokens of a text that is UTF-8: each is UTF-8 without the byte 0 and line feeds.
-use Rattle.std.proofs.Common.{◌≡◌, ◌⊎◌, inl, inr, ℕ, zero, suc, ◌+◌, ◌<◌, ◌≤◌, Bool, true, false, cond, not, ◌&&◌, ◌||◌, ◌==◌, List, [], ◌∷◌, ◌++◌, length, take, drop, Option, None, Some, refl, sym, ap, ◌∙◌, subst, arith, one-add, length-drop, eqb-true, flat_map, IsUtf8, take_while}
+use Rattle.std.proofs.Common.{◌≡◌, inl, inr, ℕ, zero, suc, ◌+◌, ◌<◌, ◌≤◌, Bool, true, false, cond, not, ◌&&◌, ◌||◌, ◌==◌, List, [], ◌∷◌, ◌++◌, length, drop, None, Some, refl, sym, ◌∙◌, subst, arith, one-add, length-drop, eqb-true, IsUtf8, take_while}
 use Rattle.std.specs.List.{list_all, list_any, prefix_len}
-use Rattle.std.specs.Str.{is_utf8, IsAscii}
+use Rattle.std.specs.Str.{IsAscii}
 use Rattle.std.proofs.lemmas.Bool.{and_from, and_parts, or_parts, false≢true}
 use Rattle.std.proofs.lemmas.Bool.Decides.{nat_tests}
 use Rattle.std.proofs.lemmas.List.Sums.{take_while-cons}
 use Rattle.std.proofs.lemmas.Str.{IsUtf8-nil, IsUtf8-from_ascii, is_utf8-from_IsUtf8}
 use Rattle.up_text.specs.Lists.{begins}
 use Rattle.up_text.specs.Tokens.{Mark, Part, Quoting, Folded, Alone, Blank, Passed, Stop, Fail, Mode, Outside, Comment, Escaped, Continued, Quoted, QuotedEscape, marks, mark_of, mark_outside, mark_quoted, mode_after, mode_outside, mode_quoted, open_after, end_marks, feed_mark, is_line_feed, is_blank, is_hash, is_quote, is_backslash, is_paren, reaches_feed}
-use Rattle.up_text.specs.Places.{Place, Reading, Got, Ended, Fails, is_gap, is_space, is_stop, is_spelled, token_bytes, fault_in, marks_at, gap_at, place_after, read_at, reading, spelling_read}
+use Rattle.up_text.specs.Places.{Place, Reading, Got, Ended, Fails, is_gap, is_spelled, token_bytes, fault_in, marks_at, gap_at, place_after, read_at, reading, spelling_read}
 use Rattle.up_image.specs.Giving.{is_token_byte, is_token}
 use Rattle.up_image.proofs.Thinning.{Gives, Ends, Thins, thins_tells, told_text, told_bytes, thinned_rest, from_cut, after_cut, push_text, tail_text}
 
@@ -70,18 +70,18 @@ Spelled true b mark next text = Gives b (token_bytes mark) × Spells next text
 Spelled false b mark next text = b < 128
 
 -- what a byte outside quotes and comments is, and where the next one stands, by what is known of it
-abbrev outside_mark : ℕ → (f z l r h k j q p : Bool) → Mark
+abbrev pub outside_mark : ℕ → (f z l r h k j q p : Bool) → Mark
 outside_mark b f z l r h k j q p =
     cond f (cond z Stop Passed) (cond l (cond r Passed (Blank b)) (cond h Passed (cond k (cond j Passed (Quoting b)) (cond q (Quoting b) (cond p (Alone b) (Part b))))))
 
-abbrev outside_next : ℕ → Bool → (l h k j q : Bool) → Mode
+abbrev pub outside_next : ℕ → Bool → (l h k j q : Bool) → Mode
 outside_next b joined l h k j q = cond l (Outside joined) (cond h Comment (cond k (cond j (Continued joined) Escaped) (cond q (Quoted b false) (Outside false))))
 
 -- the same of one inside quotes
-abbrev quoted_mark : ℕ → (s f o l r k j : Bool) → Mark
+abbrev pub quoted_mark : ℕ → (s f o l r k j : Bool) → Mark
 quoted_mark b s f o l r k j = cond s (Quoting b) (cond f (cond o Folded (Part 32)) (cond l (cond r Folded (Part b)) (cond k (cond j Folded (Quoting b)) (Part b))))
 
-abbrev quoted_next : ℕ → Bool → (s f l k j : Bool) → Mode
+abbrev pub quoted_next : ℕ → Bool → (s f l k j : Bool) → Mode
 quoted_next quote joined s f l k j = cond s (Outside false) (cond f (Quoted quote true) (cond l (Quoted quote joined) (cond k (cond j (Quoted quote joined) (QuotedEscape quote)) (Quoted quote false))))
 
 outside_spelled : (parens : Bool) (depth : ℕ) (joined : Bool) (b : ℕ) (text : List ℕ) → Spelled (is_spelled (mark_outside parens depth joined b text)) b (mark_outside parens depth joined b text) (mode_outside joined b text) text

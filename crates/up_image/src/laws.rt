@@ -1,4 +1,4 @@
-//! Laws: what holds of every image.
+//! Laws: what holds of every image, and of what a folder is compiled to.
 ghost use Rattle.std.specs.Prelude.{◌≡◌, ◌↔◌, ◌⊎◌, List, true, ℕ, Result, Ok, Err};
 ghost use Rattle.up_conf.specs.declared.folder.File.{File};
 ghost use Rattle.up_conf.specs.declared.job.JobDef.{JobDef};
