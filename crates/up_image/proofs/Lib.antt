@@ -3,6 +3,16 @@ pub mod Ascending
 pub mod Counting
 pub mod Decoding
 pub mod Fitting
+pub mod GivenActions
+pub mod GivenCommands
+pub mod GivenImages
+pub mod GivenJobs
+pub mod GivenLists
+pub mod GivenOrder
+pub mod GivenScripts
+pub mod GivenStanzas
+pub mod GivenTrees
+pub mod GivenWords
 pub mod Images
 pub mod JobDecoding
 pub mod Lengths
@@ -13,6 +23,9 @@ pub mod Places
 pub mod Prefixes
 pub mod Readings
 pub mod Repeats
+pub mod Rereading
+pub mod Spelling
 pub mod Tables
 pub mod Telling
+pub mod Thinning
 pub mod Utf8

@@ -36,7 +36,7 @@ or-zero true = refl
 or-zero false = refl
 
 -- a text at the end that isn't among those before it
-has_twice-push : (xs : List (List ℕ)) (x : List ℕ) → has_twice xs ≡ false → list_any (bytes_eq x) xs ≡ false → has_twice (xs ++ x ∷ []) ≡ false
+pub has_twice-push : (xs : List (List ℕ)) (x : List ℕ) → has_twice xs ≡ false → list_any (bytes_eq x) xs ≡ false → has_twice (xs ++ x ∷ []) ≡ false
 has_twice-push [] x apart new = refl
 has_twice-push (y ∷ ys) x apart new =
     let parts = or_parts _ _ apart in

@@ -1,8 +1,9 @@
 //! Compiles a folder of job files.
-ghost use Rattle.std.specs.Prelude.{◌≡◌, IfOk, IfErr, Ok, Err, if◌then◌else◌, length, nat_le};
+ghost use Rattle.std.specs.Prelude.{◌≡◌, IfOk, IfErr, Ok, Err, if◌then◌else◌, length, nat_le, true};
 ghost use Rattle.up_image.specs.declared.refusal.CompileError.TheVariants.{ImageTooLarge, SameName, TooManyJobs};
 ghost use Rattle.up_image.specs.declared.limits.TheConstants.{MAX_JOBS};
 ghost use Rattle.up_image.specs.Compiling.{Compiles, MayRefuse};
+ghost use Rattle.up_image.specs.Giving.{can_all_be_given};
 
 use crate::image::has_image;
 use crate::limits::MAX_JOBS;
@@ -44,8 +45,10 @@ fn check_small(small: bool) -> Result<(), CompileError>
 }
 
 /// Compiles a folder to the table of its jobs. Files that aren't readable are reported, and define no job.
+#[tactic(auto, using(crate::proofs::GivenJobs::table_given))]
 pub fn compile(alloc: Global, folder: &Folder) -> Result<(Table, Report), CompileError>
     ensures compiled { IfOk result (λ made. Compiles folder.now made.0 made.1) }
+    ensures given { IfOk result (λ made. can_all_be_given made.0 ≡ true) }
     ensures refused { IfErr result (MayRefuse folder.now) }
 {
     let twice = has_same_path(alloc, folder.as_slice())?;
