@@ -16,5 +16,9 @@ pub mod Syntax
 pub mod Parsing
 -- What the parts of a value's text say, what is kept of a tree, and the fault of what is refused.
 pub mod Parts
--- How the logic stores a tree.
+-- How a tree is stored.
 pub mod TreeCode
+-- How the nodes of several expressions lie one after another.
+pub mod Laying
+-- What stands at the root of a part of an expression.
+pub mod Branches

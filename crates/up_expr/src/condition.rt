@@ -1,57 +1,76 @@
-//! An expression that contracts see as its tree.
-ghost use Rattle.std.specs.Prelude.{◌≡◌, IfOk};
+//! An expression, kept as its nodes.
+ghost use Rattle.std.specs.Prelude.{◌≡◌, ◌<◌, IfErr, IfOk};
+ghost use Rattle.up_expr.specs.Flat.{IsFlat, size};
+ghost use Rattle.up_expr.specs.TreeCode.{tree_in};
 ghost use Rattle.up_expr.specs.Trees.{tree_of};
+ghost use Rattle.up_expr.specs.declared.flat.FlatFault.TheVariants.{ImageTooLarge};
+ghost use Rattle.up_expr.specs.declared.flat.TheConstants.{MAX_NODES};
 
-use crate::copies::copy_expr;
+use crate::branch::Branch;
+use crate::copies::copy_nodes;
 use crate::expr::Expr;
+use crate::flat::{FlatFault, flatten};
+use crate::node::Nodes;
 use std::alloc::{AllocError, Global};
 use std::marker::Model;
 
-/// An expression, seen by contracts as its tree without where its parts lie in memory.
+/// An expression of at most 4,095 nodes, seen by contracts as its tree. It is kept as its nodes in one piece of memory.
 #[derive(Debug, Drop)]
 pub struct Condition {
-    expr: Expr,
+    nodes: Nodes,
 }
 
 impl Model for Condition {
-    ghost use Rattle.up_expr.specs.Trees.{Tree, tree_of};
-    ghost use Rattle.up_expr.specs.TreeCode.{tree_code};
+    ghost use Rattle.up_expr.specs.Trees.{Tree};
+    ghost use Rattle.up_expr.specs.TreeCode.{tree_code, tree_in};
+    ghost use Rattle.up_expr.specs.Flat.{IsFlat};
 
     ghost Value = { Tree };
 
     ghost coded = { tree_code };
 
-    ghost view = { λ condition. tree_of condition.expr };
+    ghost view = { λ condition. tree_in condition.nodes };
+
+    ghost invariant = { λ condition. IsFlat condition.nodes (tree_in condition.nodes) };
 }
 
 impl Condition {
-    /// The condition that an expression states; takes no memory.
-    pub fn new(expr: Expr) -> Self
-        ensures { result ≡ tree_of expr }
+    /// The condition that an expression states. Refused with `ImageTooLarge` only if it has more than 4,095 nodes.
+    pub fn new(alloc: Global, expr: &Expr) -> Result<Self, FlatFault>
+        ensures made { IfOk result (λ made. made ≡ tree_of expr.now) }
+        ensures refused { IfErr result (λ fault. fault ≡ ImageTooLarge → MAX_NODES < size (tree_of expr.now)) }
     {
-        Condition { expr }
+        let nodes = flatten(alloc, expr)?;
+        Ok(Condition { nodes })
     }
 
-    /// Its expression.
-    pub fn expr(&self) -> &Expr
-        ensures { tree_of result.now ≡ self.now }
+    /// The condition of nodes that are laid flat.
+    pub(crate) fn of(nodes: Nodes) -> Self
+        requires { IsFlat nodes (tree_in nodes) }
+        ensures { result ≡ tree_in nodes }
     {
-        &self.expr
+        Condition { nodes }
     }
 
-    /// The expression, which keeps its memory.
-    pub fn into_expr(self) -> Expr
-        ensures { tree_of result ≡ self }
+    /// Its nodes.
+    pub fn nodes(&self) -> &Nodes
+        ensures { IsFlat result.now self.now }
     {
-        let Condition { expr } = self;
-        expr
+        &self.nodes
+    }
+
+    /// The whole of it, to be gone through from its root.
+    pub fn root(&self) -> Branch<'_>
+        ensures { result ≡ self.now }
+    {
+        Branch::new(self.nodes.as_slice())
     }
 
     /// An equal condition in memory of its own.
     pub fn copy(&self, alloc: Global) -> Result<Self, AllocError>
         ensures { IfOk result (λ copied. copied ≡ self.now) }
     {
-        let expr = copy_expr(alloc, &self.expr)?;
-        Ok(Condition { expr })
+        let nodes = copy_nodes(alloc, self.nodes.as_slice())?;
+        Ok(Condition { nodes })
     }
 }

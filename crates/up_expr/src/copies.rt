@@ -1,8 +1,8 @@
-//! Equal copies of expressions.
+//! Equal copies of the nodes of expressions.
 ghost use Rattle.std.specs.Prelude.{◌≡◌, IfOk};
-ghost use Rattle.up_expr.specs.Trees.{tree_of};
 
-use crate::expr::{Expr, Leaf, Test};
+use crate::expr::{Leaf, Test};
+use crate::node::{Node, Nodes};
 use std::alloc::{AllocError, Global};
 use up_text::Items;
 
@@ -45,24 +45,25 @@ pub(crate) fn copy_leaf(alloc: Global, leaf: &Leaf) -> Result<Leaf, AllocError>
     Ok(Leaf { event, values })
 }
 
-#[cycle(copier)]
-pub(crate) fn copy_expr(alloc: Global, expr: &Expr) -> Result<Expr, AllocError>
-    ensures { IfOk result (λ copied. tree_of copied ≡ tree_of expr.now) }
+fn copy_node(alloc: Global, node: &Node) -> Result<Node, AllocError>
+    ensures { IfOk result (λ copied. copied ≡ node.now) }
 {
-    match expr {
-        Expr::Leaf(leaf) => {
+    match node {
+        Node::Leaf(leaf) => {
             let leaf = copy_leaf(alloc, leaf)?;
-            Ok(Expr::Leaf(leaf))
+            Ok(Node::Leaf(leaf))
         }
-        Expr::And(left, right) => {
-            let left = copy_expr(alloc, left)?;
-            let right = copy_expr(alloc, right)?;
-            Ok(Expr::And(Box::new(alloc, left)?, Box::new(alloc, right)?))
-        }
-        Expr::Or(left, right) => {
-            let left = copy_expr(alloc, left)?;
-            let right = copy_expr(alloc, right)?;
-            Ok(Expr::Or(Box::new(alloc, left)?, Box::new(alloc, right)?))
-        }
+        Node::And(left, right) => Ok(Node::And(*left, *right)),
+        Node::Or(left, right) => Ok(Node::Or(*left, *right)),
     }
+}
+
+pub(crate) fn copy_nodes(alloc: Global, nodes: &[Node]) -> Result<Nodes, AllocError>
+    ensures { IfOk result (λ copied. copied ≡ nodes.now) }
+{
+    let mut copied: Vec<Node> = Vec::new(alloc);
+    for node in nodes {
+        copied.push(copy_node(alloc, node)?)?;
+    }
+    Ok(Nodes::new(Items::new(copied)))
 }

@@ -4,6 +4,8 @@
 //! expression says of the events that it has seen stands in `specs/Truth.antt`.
 #![tactic(auto)]
 
+pub mod branch;
+pub mod builder;
 pub mod condition;
 mod copies;
 pub mod expr;
@@ -14,9 +16,12 @@ pub mod leaf;
 pub mod node;
 mod operand;
 pub mod parse;
+mod parsed;
 mod symbol;
 mod value;
 
+pub use branch::{Branch, Root};
+pub use builder::Builder;
 pub use condition::Condition;
 pub use expr::{Expr, Leaf, Test};
 pub use fault::ExprFault;

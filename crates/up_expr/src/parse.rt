@@ -7,12 +7,16 @@ ghost use Rattle.up_expr.specs.Syntax.{Writes};
 ghost use Rattle.up_expr.specs.Trees.{Tree, One};
 ghost use Rattle.up_expr.specs.Parts.{Keeps};
 ghost use Rattle.up_expr.specs.declared.expr.Leaf.{Leaf};
+ghost use Rattle.up_expr.specs.declared.flat.TheConstants.{MAX_NODES};
+ghost use Rattle.up_expr.specs.Flat.{size};
 ghost use Rattle.up_expr.specs.Values as values;
 ghost use Rattle.up_expr.specs.declared.fault.ExprFault.TheVariants.{Memory};
 
 use crate::condition::Condition;
+use crate::parsed::Parsed;
 use crate::expr::Expr;
 use crate::fault::ExprFault;
+use crate::flat::FlatFault;
 use crate::operand::read_leaf;
 use crate::symbol::{is_and, is_close, is_open, is_operator, leaf_len};
 use std::alloc::{AllocError, Global};
@@ -27,18 +31,18 @@ const MAX_OPERATORS: usize = 2_047;
 // The trees with the operator between them.
 fn join_trees(
     alloc: Global,
-    left: Condition,
+    left: Parsed,
     operator: &Token,
-    right: Condition,
-) -> Result<Condition, AllocError>
+    right: Parsed,
+) -> Result<Parsed, AllocError>
     ensures { IfOk result (λ both. both ≡ Rattle.up_expr.specs.Syntax.join_trees operator.now left right) }
 {
     let left = Box::new(alloc, left.into_expr())?;
     let right = Box::new(alloc, right.into_expr())?;
     if is_and(operator) {
-        Ok(Condition::new(Expr::And(left, right)))
+        Ok(Parsed::new(Expr::And(left, right)))
     } else {
-        Ok(Condition::new(Expr::Or(left, right)))
+        Ok(Parsed::new(Expr::Or(left, right)))
     }
 }
 
@@ -46,10 +50,10 @@ fn join_trees(
 // comes before the refusal of memory.
 fn join(
     alloc: Global,
-    left: Option<Condition>,
+    left: Option<Parsed>,
     operator: &Token,
-    right: Option<Condition>,
-) -> Option<Condition>
+    right: Option<Parsed>,
+) -> Option<Parsed>
     ensures { (l r : Tree) → Keeps left l → Keeps right r
         → Keeps result (Rattle.up_expr.specs.Syntax.join_trees operator.now l r) }
 {
@@ -66,7 +70,7 @@ fn join(
 }
 
 // The leaf that the tokens write, unless memory is refused.
-fn keep_leaf(alloc: Global, tokens: &[Token]) -> Result<Option<Condition>, ExprFault>
+fn keep_leaf(alloc: Global, tokens: &[Token]) -> Result<Option<Parsed>, ExprFault>
     requires { list_any values.is_symbol tokens.now ≡ false }
     ensures read { IfOk result (λ kept. (leaf : Leaf) × (values.leaf_of tokens.now ≡ Some leaf)
         × Keeps kept (One leaf)) }
@@ -74,14 +78,14 @@ fn keep_leaf(alloc: Global, tokens: &[Token]) -> Result<Option<Condition>, ExprF
     ensures fault { IfErr result (λ fault. fault ≡ Memory → ⊥) }
 {
     match read_leaf(alloc, tokens) {
-        Ok(leaf) => Ok(Some(Condition::new(Expr::Leaf(leaf)))),
+        Ok(leaf) => Ok(Some(Parsed::new(Expr::Leaf(leaf)))),
         Err(ExprFault::Memory) => Ok(None),
         Err(fault) => Err(fault),
     }
 }
 
 // The leaf in front, and what stands after it.
-fn read_operand(alloc: Global, tokens: &[Token]) -> Result<(Option<Condition>, &[Token]), ExprFault>
+fn read_operand(alloc: Global, tokens: &[Token]) -> Result<(Option<Parsed>, &[Token]), ExprFault>
     requires { begins values.is_open tokens.now ≡ false }
     ensures read { IfOk result (λ found. (tree : Tree) × Keeps found.0 tree
         × ((outer : List Pending) (left : Pending)
@@ -134,7 +138,7 @@ fn parse_item(
     alloc: Global,
     tokens: &[Token],
     depth: usize,
-) -> Result<(Option<Condition>, &[Token]), ExprFault>
+) -> Result<(Option<Parsed>, &[Token]), ExprFault>
     ensures read { IfOk result (λ found. (tree : Tree) × Keeps found.0 tree
         × ((outer : List Pending) (left : Pending) → length outer ≡ depth
         → outcome tokens.now (at outer left Before) ≡ outcome found.1.now (at outer left (After tree)))) }
@@ -164,7 +168,7 @@ fn parse_items(
     alloc: Global,
     tokens: &[Token],
     depth: usize,
-) -> Result<(Option<Condition>, &[Token]), ExprFault>
+) -> Result<(Option<Parsed>, &[Token]), ExprFault>
     ensures read { IfOk result (λ found. (tree : Tree) × Keeps found.0 tree
         × ((outer : List Pending) → length outer ≡ depth
         → outcome tokens.now (at outer None Before) ≡ outcome found.1.now (at outer None (After tree)))) }
@@ -204,7 +208,7 @@ fn operators(tokens: &[Token]) -> usize
 }
 
 // The expression that all tokens write, however many operators it has; nothing if memory was refused.
-fn parse_all(alloc: Global, tokens: &[Token]) -> Result<Option<Condition>, ExprFault>
+fn parse_all(alloc: Global, tokens: &[Token]) -> Result<Option<Parsed>, ExprFault>
     ensures read { IfOk result (λ kept. (tree : Tree) × Keeps kept tree
         × (outcome tokens.now begin ≡ Some tree)) }
     ensures refused { OnErr result (outcome tokens.now begin ≡ None) }
@@ -222,6 +226,19 @@ fn parse_all(alloc: Global, tokens: &[Token]) -> Result<Option<Condition>, ExprF
     }
 }
 
+// A tree of few nodes as they lie one after another.
+fn lay(alloc: Global, tree: &Parsed) -> Result<Condition, ExprFault>
+    requires { size tree.now ≤ MAX_NODES }
+    ensures laid { IfOk result (λ condition. condition ≡ tree.now) }
+    ensures refused { IfErr result (λ fault. fault ≡ Memory) }
+{
+    match Condition::new(alloc, tree.expr()) {
+        Ok(condition) => Ok(condition),
+        Err(FlatFault::Memory) => Err(ExprFault::Memory),
+        Err(FlatFault::ImageTooLarge) => unreachable!(),
+    }
+}
+
 /// The expression that the tokens write (init(5), `start on`). Refused with `Memory` only if they write one, and with any other fault
 /// only if they write none.
 pub fn parse_expr(alloc: Global, tokens: &[Token]) -> Result<Condition, ExprFault>
@@ -235,7 +252,7 @@ pub fn parse_expr(alloc: Global, tokens: &[Token]) -> Result<Condition, ExprFaul
     }
     match parse_all(alloc, tokens) {
         Ok(kept) => match kept {
-            Some(tree) => Ok(tree),
+            Some(tree) => lay(alloc, &tree),
             None => Err(ExprFault::Memory),
         },
         Err(fault) => Err(fault),
