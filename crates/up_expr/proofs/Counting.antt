@@ -1,11 +1,16 @@
 -- A syntax has one leaf more than operators, and the parser's tree is the one that the grammar gives.
-use Rattle.std.proofs.Common.{◌≡◌, ◌+◌, ◌≤◌, Bool, true, false, ◌&&◌, ◌||◌, List, [], ◌∷◌, ◌++◌, Option, None, Some, refl, sym, ap, ◌∙◌, arith, append-nil, if◌then◌else◌}
-use Rattle.std.specs.Prelude.{codes}
+use Rattle.std.proofs.Common.{◌≡◌, ◌+◌, ◌≤◌, Bool, true, false, ◌&&◌, ◌||◌, List, [], ◌∷◌, ◌++◌, Option, None, Some, refl, sym, ap, ◌∙◌, arith, append-nil, if◌then◌else◌, subst, Result, Ok, Err, option_map}
+use Rattle.std.specs.Prelude.{codes, IfErr, IfOk}
 use Rattle.std.specs.List.{list_any}
 use Rattle.std.proofs.lemmas.Bool.{and_parts, or_parts, or_from}
 use Rattle.up_text.specs.declared.token.Token.{Token}
-use Rattle.up_expr.specs.Trees.{Tree}
-use Rattle.up_expr.specs.Syntax.{Syntax, Bare, Group, Joined, tokens_of, is_item, is_right, with_both, tree_in, leaves, Writes}
+use Rattle.up_expr.specs.declared.expr.Leaf.{Leaf}
+use Rattle.up_expr.specs.declared.fault.ExprFault.{ExprFault}
+use Rattle.up_expr.specs.declared.fault.ExprFault.TheVariants.{Memory}
+use Rattle.up_expr.specs.declared.flat.TheConstants.{MAX_NODES}
+use Rattle.up_expr.specs.Flat.{size}
+use Rattle.up_expr.specs.Trees.{Tree, One, Both, Either}
+use Rattle.up_expr.specs.Syntax.{Syntax, Bare, Group, Joined, tokens_of, is_item, is_right, join_trees, with_both, tree_in, leaves, Writes}
 use Rattle.up_expr.specs.Values.{is_open, is_close, is_and, is_or, is_operator, is_symbol, leaf_of}
 use Rattle.up_expr.specs.Parsing.{operators, begin, outcome}
 use Rattle.up_expr.specs.Parts.{Keeps}
@@ -98,3 +103,42 @@ none_written tokens tree none writes = clash tree (sym none ∙ (complete tokens
 pub kept_is : (kept : Option Tree) (held tree : Tree) → kept ≡ Some held → Keeps kept tree → held ≡ tree
 kept_is None held tree is keeps = cc
 kept_is (Some other) held tree is keeps = let same : other ≡ held = cc in sym same ∙ keeps
+
+-- a tree has one node less than twice the leaves of what says it
+size_joined : (operator : Token) (a b : Tree) → size (join_trees operator a b) ≡ size a + size b + 1
+size_joined operator a b = by_case (is_and operator)
+  where
+    by_case : (both : Bool) → size (if both then Both a b else Either a b) ≡ size a + size b + 1
+    by_case true = refl
+    by_case false = refl
+
+some_is : (a b : Tree) → Some a ≡ Some b → a ≡ b
+some_is a b is = cc
+
+size_leaf : (leaf : Option Leaf) (tree : Tree) → option_map One leaf ≡ Some tree → size tree ≡ 1
+size_leaf None tree says = cc
+size_leaf (Some leaf) tree says = ap size (sym (some_is (One leaf) tree says))
+
+pub sized : (syntax : Syntax) (tree : Tree) → tree_in syntax ≡ Some tree → size tree + 1 ≡ leaves syntax + leaves syntax
+sized (Bare tokens) tree says = omega (arith, size_leaf (leaf_of tokens) tree says)
+sized (Group opening inner closing) tree says = sized inner tree says
+sized (Joined l operator r) tree says =
+    let sides = both_say operator (tree_in l) (tree_in r) tree says in
+    let whole : with_both operator (Some sides.0) (Some sides.1) ≡ Some tree =
+    ap (λ x. with_both operator x (Some sides.1)) (sym sides.2) ∙ ap (λ x. with_both operator (tree_in l) x) (sym sides.3) ∙ says in
+    omega (arith, ap size (sym (some_is (join_trees operator sides.0 sides.1) tree whole)), size_joined operator sides.0 sides.1, sized l sides.0 sides.2, sized r sides.1 sides.3)
+
+-- so it has at most 4,095
+pub few_nodes : (tokens : List Token) (tree : Tree) → Writes tokens tree → size tree ≤ MAX_NODES
+few_nodes tokens tree writes = omega (arith, sized writes.syntax tree writes.says, writes.few)
+
+-- what is answered of a tree that is laid
+pub laid_writes : (tokens : List Token) (tree : Tree) (result : Result Tree ExprFault) → Writes tokens tree → IfOk result (λ laid. laid ≡ tree)
+    → IfOk result (λ laid. Writes tokens laid)
+laid_writes tokens tree (Ok laid) writes is = subst (λ t. Writes tokens t) (sym is) writes
+laid_writes tokens tree (Err fault) writes is = tt
+
+pub laid_memory : {tokens : List Token} (result : Result Tree ExprFault) → (tree : Tree) × Writes tokens tree
+    → IfErr result (λ fault. fault ≡ Memory → (tree : Tree) × Writes tokens tree)
+laid_memory (Ok laid) writes = tt
+laid_memory (Err fault) writes = λ memory. writes

@@ -1,6 +1,6 @@
 -- The nodes of a tree mean what the tree means.
-use Rattle.std.proofs.Common.{◌≡◌, ℕ, ◌+◌, ◌-◌, ◌<◌, ◌≤◌, Bool, true, false, ◌&&◌, ◌||◌, List, [], ◌∷◌, ◌++◌, refl, sym, ap, ◌∙◌, length, get_or, arith, length-append, append_assoc}
-use Rattle.std.proofs.lemmas.List.{append-nil, get_or-append_right, get_or_append_left, length_push, get_or_at}
+use Rattle.std.proofs.Common.{◌≡◌, ℕ, ◌+◌, ◌-◌, ◌<◌, ◌≤◌, Bool, false, List, [], ◌∷◌, ◌++◌, refl, sym, ap, ◌∙◌, length, get_or, arith, length-append, append_assoc}
+use Rattle.std.proofs.lemmas.List.{append-nil, get_or_append_left, length_push, get_or_at}
 use Rattle.std.specs.Prelude.{is_some}
 use Rattle.up_expr.specs.declared.node.Node.{Node}
 use Rattle.up_expr.specs.declared.node.Node.TheVariants as node

@@ -1,8 +1,7 @@
 -- How a tree is stored: as its nodes, each after those of its sides. The places that a node names aren't looked at.
 use Rattle.std.specs.Prelude.{◌≡◌, ℕ, ◌+◌, ◌-◌, Bool, true, false, List, [], ◌∷◌, ◌++◌, Option, None, Some}
 use Rattle.std.specs.Coded.{Coded, code_by, coded_list}
-use Rattle.std.proofs.Common.{refl, ap, ◌∙◌, sym}
-use Rattle.std.proofs.lemmas.List.{append_assoc, append-nil}
+use Rattle.std.proofs.Common.{refl, ap, ◌∙◌}
 use Rattle.up_expr.specs.declared.node.Node.{Node}
 use Rattle.up_expr.specs.declared.node.Node.TheVariants as node
 use Rattle.up_expr.specs.contracts.node.Node as coded

@@ -13,11 +13,11 @@ ghost use Rattle.up_expr.specs.Values as values;
 ghost use Rattle.up_expr.specs.declared.fault.ExprFault.TheVariants.{Memory};
 
 use crate::condition::Condition;
-use crate::parsed::Parsed;
 use crate::expr::Expr;
 use crate::fault::ExprFault;
 use crate::flat::FlatFault;
 use crate::operand::read_leaf;
+use crate::parsed::Parsed;
 use crate::symbol::{is_and, is_close, is_open, is_operator, leaf_len};
 use std::alloc::{AllocError, Global};
 use up_text::Token;

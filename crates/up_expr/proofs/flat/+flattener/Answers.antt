@@ -1,4 +1,4 @@
-use Rattle.std.proofs.Common.{◌≡◌, ◌<◌, ◌≤◌, arith}
+use Rattle.std.proofs.Common.{arith}
 use Rattle.up_expr.specs.Trees.{tree_of}
 use Rattle.up_expr.proofs.Flattening.{both_laid, either_laid, side_long}
 use Rattle.up_expr.proofs.flat.+flattener.Goals as goal
