@@ -1,7 +1,6 @@
 //! What an expression says of the events that it has seen.
 ghost use Rattle.std.specs.Prelude.{◌≡◌, ◌++◌, is_some, IfOk, OnOk};
 ghost use Rattle.std.specs.Option.{option_to_list};
-ghost use Rattle.up_expr.specs.Trees.{tree_of};
 ghost use Rattle.up_expr.specs.Truth as truth;
 ghost use Rattle.up_model.specs.Seen as seen;
 ghost use Rattle.up_engine.specs.Records.{wanted_of, chronicle};
@@ -11,7 +10,7 @@ use crate::reading::seen::first;
 use crate::record::{Record, Wanted};
 use crate::setup::Setup;
 use std::alloc::{AllocError, Global};
-use up_expr::{Condition, Expr};
+use up_expr::{Branch, Condition, Root};
 use up_text::Items;
 
 /// Whether an expression is true, and by which events, from left to right.
@@ -62,31 +61,33 @@ fn either(left: Verdict, right: Verdict) -> Result<Verdict, AllocError>
     Ok(Verdict { holds, taken })
 }
 
+// What a part of an expression says of what was seen.
+#[cycle(judges)]
 fn judge(
     alloc: Global,
     setup: &Setup,
     records: &[Record],
     wanted: Wanted,
-    expr: &Expr,
+    branch: &Branch,
 ) -> Result<Verdict, AllocError>
-    ensures { IfOk result (λ said. said ≡ verdict_of_tree (tree_of expr.now)
+    ensures { IfOk result (λ said. said ≡ verdict_of_tree branch.now
         (seen.seen setup.now (wanted_of wanted.entry) (chronicle records.now))) }
 {
-    match expr {
-        Expr::Leaf(leaf) => {
+    match branch.root() {
+        Root::Leaf(leaf) => {
             let found = first(alloc, setup, records, wanted, leaf)?;
             let verdict = leaf_verdict(alloc, found)?;
             Ok(verdict)
         }
-        Expr::And(left, right) => {
-            let left = judge(alloc, setup, records, wanted, left)?;
-            let right = judge(alloc, setup, records, wanted, right)?;
+        Root::And(left, right) => {
+            let left = judge(alloc, setup, records, wanted, &left)?;
+            let right = judge(alloc, setup, records, wanted, &right)?;
             let verdict = both(alloc, left, right)?;
             Ok(verdict)
         }
-        Expr::Or(left, right) => {
-            let left = judge(alloc, setup, records, wanted, left)?;
-            let right = judge(alloc, setup, records, wanted, right)?;
+        Root::Or(left, right) => {
+            let left = judge(alloc, setup, records, wanted, &left)?;
+            let right = judge(alloc, setup, records, wanted, &right)?;
             let verdict = either(left, right)?;
             Ok(verdict)
         }
@@ -106,7 +107,7 @@ pub(crate) fn verdict_of(
 {
     match condition {
         Some(condition) => {
-            let verdict = judge(alloc, setup, records, wanted, condition.expr())?;
+            let verdict = judge(alloc, setup, records, wanted, &condition.root())?;
             Ok(verdict)
         }
         None => {
@@ -129,30 +130,31 @@ fn add_first(found: Option<usize>, kept: &mut Vec<usize>) -> Result<(), AllocErr
 }
 
 // The events that the leaves keep, from left to right.
+#[cycle(keeping)]
 #[tactic(auto, using(crate::proofs::HeldLemmas::append_left))]
 fn add_leaves(
     alloc: Global,
     setup: &Setup,
     records: &[Record],
     wanted: Wanted,
-    expr: &Expr,
+    branch: &Branch,
     kept: &mut Vec<usize>,
 ) -> Result<(), AllocError>
-    ensures { OnOk result (kept.new.items ≡ kept.old.items ++ truth.kept (tree_of expr.now)
+    ensures { OnOk result (kept.new.items ≡ kept.old.items ++ truth.kept branch.now
         (seen.seen setup.now (wanted_of wanted.entry) (chronicle records.now))) }
 {
-    match expr {
-        Expr::Leaf(leaf) => {
+    match branch.root() {
+        Root::Leaf(leaf) => {
             let found = first(alloc, setup, records, wanted, leaf)?;
             add_first(found, kept)?;
         }
-        Expr::And(left, right) => {
-            add_leaves(alloc, setup, records, wanted, left, kept)?;
-            add_leaves(alloc, setup, records, wanted, right, kept)?;
+        Root::And(left, right) => {
+            add_leaves(alloc, setup, records, wanted, &left, kept)?;
+            add_leaves(alloc, setup, records, wanted, &right, kept)?;
         }
-        Expr::Or(left, right) => {
-            add_leaves(alloc, setup, records, wanted, left, kept)?;
-            add_leaves(alloc, setup, records, wanted, right, kept)?;
+        Root::Or(left, right) => {
+            add_leaves(alloc, setup, records, wanted, &left, kept)?;
+            add_leaves(alloc, setup, records, wanted, &right, kept)?;
         }
     }
     Ok(())
@@ -171,7 +173,7 @@ pub(crate) fn add_kept(
         (seen.seen setup.now (wanted_of wanted.entry) (chronicle records.now))) }
 {
     if let Some(condition) = condition {
-        add_leaves(alloc, setup, records, wanted, condition.expr(), kept)?;
+        add_leaves(alloc, setup, records, wanted, &condition.root(), kept)?;
     }
     Ok(())
 }

@@ -13,7 +13,7 @@ fn subject<'a>(alloc: Global, what: &'a str) -> Arg<'a>
 {
     Arg::new(alloc, "NAME")
         .value_name(what)
-        .help("The name of the job or the event")
+        .help("Its name")
         .required(true)
         .action(ArgAction::Set)
 }
@@ -104,7 +104,7 @@ fn job_commands<'a>(alloc: Global, line: Command<'a>) -> Result<Command<'a>, All
         alloc,
         "reload",
         "JOB",
-        "Sends an instance of a job its reload signal",
+        "Sends an instance of a job its reload signal; not supported yet",
     )?;
     let line = add(line, start)?;
     let line = add(line, stop)?;
@@ -120,7 +120,11 @@ fn other_commands<'a>(alloc: Global, line: Command<'a>) -> Result<Command<'a>, A
 {
     let emit = waiting(alloc, "emit", "EVENT", "Emits an event")?;
     let list = alone(alloc, "list", "Prints the status of every job");
-    let reread = alone(alloc, "reload-configuration", "Reads the job files again");
+    let reread = alone(
+        alloc,
+        "reload-configuration",
+        "Reads the job files again; not supported yet",
+    );
     let version = alone(alloc, "version", "Prints the version of the init");
     let line = add(line, emit)?;
     let line = add(line, list)?;
