@@ -1,8 +1,9 @@
 -- Items that are read one after another.
-use Rattle.std.proofs.Common.{◌≡◌, ◌+◌, ◌-◌, ◌<◌, ℕ, suc, List, [], ◌∷◌, ◌++◌, option_and_then, refl, ap, arith}
-use Rattle.up_expr.specs.declared.expr.Expr.{Expr}
-use Rattle.up_expr.specs.Trees.{Tree, tree_of}
-use Rattle.up_image.specs.Finding.{Found, items_at, newest_first, node_at, trees_at}
+use Rattle.std.proofs.Common.{◌≡◌, ◌+◌, ◌-◌, ◌<◌, ℕ, suc, Bool, true, false, List, [], ◌∷◌, ◌++◌, Some, option_and_then, ap, arith}
+use Rattle.up_expr.specs.Laying.{sizes}
+use Rattle.up_expr.specs.TreeCode.{joined}
+use Rattle.up_expr.specs.Trees.{Tree, Both, Either}
+use Rattle.up_image.specs.Finding.{Found, items_at, node_at, trees_at}
 
 -- the first of those that are left, and the others
 pub items_left : {X : Type 0} (one : List ℕ → Found X) (count i : ℕ) (before : List X) (rest : List ℕ) → i < count
@@ -17,7 +18,13 @@ trees_left count i trees rest within =
     let some : count - i ≡ suc (count - (i + 1)) = omega arith in
     ap (λ n. trees_at n trees rest) some
 
--- one expression more is the newest
-pub newest_more : (exprs : List Expr) (expr : Expr) → newest_first (exprs ++ expr ∷ []) ≡ tree_of expr ∷ newest_first exprs
-newest_more [] expr = refl
-newest_more (first ∷ exprs) expr = ap (λ trees. trees ++ tree_of first ∷ []) (newest_more exprs expr)
+-- a joined tree has a node more than the two that it joins
+pub joined_size : (both : Bool) (trees now : List Tree) → joined both trees ≡ Some now → sizes now ≡ sizes trees + 1
+joined_size both [] now is = absurd (cc)
+joined_size both (one ∷ []) now is = absurd (cc)
+joined_size true (right ∷ left ∷ trees) now is =
+    let joins : now ≡ Both left right ∷ trees = cc in
+    rw joins (omega arith)
+joined_size false (right ∷ left ∷ trees) now is =
+    let joins : now ≡ Either left right ∷ trees = cc in
+    rw joins (omega arith)

@@ -1,8 +1,8 @@
 -- What the parts of a job tell.
-use Rattle.std.proofs.Common.{◌≡◌, ◌⊎◌, inl, inr, ℕ, ◌+◌, ◌-◌, ◌≤◌, Bool, true, false, ◌&&◌, List, [], ◌∷◌, ◌++◌, length, drop, map, Option, None, Some, refl, sym, ap, ◌∙◌, append_assoc, arith, nat_le}
+use Rattle.std.proofs.Common.{◌≡◌, ℕ, ◌+◌, ◌≤◌, Bool, true, false, ◌&&◌, List, [], ◌∷◌, ◌++◌, length, drop, map, Option, None, Some, refl, sym, ap, ◌∙◌, arith, nat_le}
 use Rattle.std.specs.List.{list_all}
 use Rattle.std.proofs.lemmas.Bool.{and_parts, le-leb, leb-true}
-use Rattle.std.proofs.lemmas.List.{map-append, map-id, length-map}
+use Rattle.std.proofs.lemmas.List.{map-id, length-map}
 use Rattle.byteorder.specs.Endian.{big_bytes}
 use Rattle.up_expr.specs.declared.expr.Leaf.{Leaf}
 use Rattle.up_expr.specs.declared.expr.Test.{Test}
@@ -11,7 +11,7 @@ use Rattle.up_expr.specs.declared.node.Node.{Node}
 use Rattle.up_expr.specs.declared.node.Node.TheVariants as node
 use Rattle.up_expr.specs.Flat.{nodes_of, size}
 use Rattle.up_expr.specs.Trees.{Tree, One, Both, Either}
-use Rattle.up_expr.specs.TreeCode.{tree_from, tree_from-nodes, nodes}
+use Rattle.up_expr.specs.TreeCode.{newest, newest_joined, tree_in, tree_in-nodes, trees_after}
 use Rattle.up_expr.proofs.Flattening.{length_nodes}
 use Rattle.up_stanza.specs.declared.action.Action.{Action}
 use Rattle.up_stanza.specs.declared.action.Action.TheVariants.{Words, Shell}
@@ -104,10 +104,10 @@ leaf_tells =
     (both_tell (of_tells (λ (leaf : Leaf). leaf.event) text_tells) (of_tells (λ (leaf : Leaf). leaf.values) (items_tell test_tells)))
 
 -- a node, without the places of its sides
-abbrev kind : Node → Leaf ⊎ Bool
-kind (node.Leaf leaf) = inl leaf
-kind (node.And left right) = inr true
-kind (node.Or left right) = inr false
+abbrev kind : Node → Node
+kind (node.Leaf leaf) = node.Leaf leaf
+kind (node.And left right) = node.And 0 0
+kind (node.Or left right) = node.Or 0 0
 
 node_tells : Tells image.node_part kind image.fits_node
 node_tells = record { tells = by_case }
@@ -115,7 +115,7 @@ node_tells = record { tells = by_case }
     by_case : (x y : Node) (r s : List ℕ) → image.fits_node x ≡ true → image.fits_node y ≡ true → length (image.node_part x ++ r) ≤ 16777216
         → image.node_part x ++ r ≡ image.node_part y ++ s → (kind x ≡ kind y) × (r ≡ s)
     by_case (node.Leaf v) (node.Leaf w) r s tx ty small is =
-        let got = leaf_tells.tells v w r s tx ty (omega (arith, small)) (ap (drop 1) is) in (ap inl got.0, got.1)
+        let got = leaf_tells.tells v w r s tx ty (omega (arith, small)) (ap (drop 1) is) in (ap node.Leaf got.0, got.1)
     by_case (node.Leaf v) (node.And a b) r s tx ty small is = absurd (cc)
     by_case (node.Leaf v) (node.Or a b) r s tx ty small is = absurd (cc)
     by_case (node.And a b) (node.Leaf w) r s tx ty small is = absurd (cc)
@@ -125,24 +125,16 @@ node_tells = record { tells = by_case }
     by_case (node.Or a b) (node.And c d) r s tx ty small is = absurd (cc)
     by_case (node.Or a b) (node.Or c d) r s tx ty small is = (refl, ap (drop 5) is)
 
--- the kinds of both sides' nodes, and that of a node after them
-sides_kinds : (left right : List Node) (top : Node) (ls rs : List (Leaf ⊎ Bool)) → map kind left ≡ ls → map kind right ≡ rs
-    → map kind ((left ++ right) ++ top ∷ []) ≡ ls ++ (rs ++ kind top ∷ [])
-sides_kinds left right top ls rs one two =
-    map-append kind (left ++ right) (top ∷ [])
-    ∙ ap (λ xs. xs ++ kind top ∷ []) (map-append kind left right)
-    ∙ append_assoc (map kind left) (map kind right) (kind top ∷ [])
-    ∙ rw (one, two) refl
+-- the places of sides make no difference to the trees
+kinds_tell : (nodes : List Node) (trees : List Tree) → trees_after (map kind nodes) trees ≡ trees_after nodes trees
+kinds_tell [] trees = refl
+kinds_tell (node.Leaf leaf ∷ nodes) trees = kinds_tell nodes (One leaf ∷ trees)
+kinds_tell (node.And left right ∷ nodes) trees = kinds_tell nodes (newest_joined true trees)
+kinds_tell (node.Or left right ∷ nodes) trees = kinds_tell nodes (newest_joined false trees)
 
 -- the nodes of a tree tell it
-kinds_of : (start : ℕ) (tree : Tree) → map kind (nodes_of start tree) ≡ nodes tree
-kinds_of start (One leaf) = refl
-kinds_of start (Both l r) =
-    let top = node.And (start + size l - 1) (start + size l + size r - 1) in
-    sides_kinds (nodes_of start l) (nodes_of (start + size l) r) top (nodes l) (nodes r) (kinds_of start l) (kinds_of (start + size l) r)
-kinds_of start (Either l r) =
-    let top = node.Or (start + size l - 1) (start + size l + size r - 1) in
-    sides_kinds (nodes_of start l) (nodes_of (start + size l) r) top (nodes l) (nodes r) (kinds_of start l) (kinds_of (start + size l) r)
+tree_told : (tree : Tree) → tree_in (map kind (nodes_of 0 tree)) ≡ tree
+tree_told tree = ap newest (kinds_tell (nodes_of 0 tree) []) ∙ tree_in-nodes 0 tree
 
 some_size : (tree : Tree) → 1 ≤ size tree
 some_size (One leaf) = omega arith
@@ -157,7 +149,7 @@ same_tree None None is = refl
 same_tree None (Some u) is = absurd (none_laid u is)
 same_tree (Some t) None is = absurd (none_laid t (sym is))
 same_tree (Some t) (Some u) is =
-    ap Some (sym (tree_from-nodes t) ∙ ap tree_from (sym (kinds_of 0 t) ∙ is ∙ kinds_of 0 u) ∙ tree_from-nodes u)
+    ap Some (sym (tree_told t) ∙ ap tree_in is ∙ tree_told u)
 
 -- an expression
 condition_tells : Tells (λ condition. image.list_part image.node_part (image.nodes_in condition)) (λ condition. condition) image.fits_condition

@@ -4,11 +4,10 @@ use Rattle.std.specs.Str.{is_utf8}
 use Rattle.byteorder.specs.Endian.{big_number}
 use Rattle.up_text.specs.Names.{is_name}
 use Rattle.up_expr.specs.declared.expr.Leaf.{Leaf}
-use Rattle.up_expr.specs.declared.expr.Expr.{Expr}
 use Rattle.up_expr.specs.declared.expr.Test.{Test}
 use Rattle.up_expr.specs.declared.expr.Test.TheVariants.{Place, Same, Differs}
-use Rattle.up_expr.specs.Trees.{Tree, One, tree_of}
-use Rattle.up_expr.specs.TreeCode.{node}
+use Rattle.up_expr.specs.Trees.{Tree, One}
+use Rattle.up_expr.specs.TreeCode.{joined}
 use Rattle.up_stanza.specs.declared.action.Action.{Action}
 use Rattle.up_stanza.specs.declared.action.Action.TheVariants.{Words, Shell}
 use Rattle.up_stanza.specs.declared.exit.Exit.{Exit}
@@ -134,13 +133,7 @@ with_tests event = made (λ tests. record { event = event.0; values = tests }) (
 unfoldable pub leaf_at : List ℕ → Found Leaf
 leaf_at bytes = option_and_then with_tests (name_at bytes)
 
--- trees of which the newest two are joined, the newest first
-abbrev pub joined : Bool → List Tree → Option (List Tree)
-joined both [] = None
-joined both (right ∷ []) = None
-joined both (right ∷ left ∷ trees) = Some (node both left right ∷ trees)
-
--- joined by the kind of a node
+-- trees joined by the kind of a node
 abbrev pub joined_by : ℕ → List Tree → Option (List Tree)
 joined_by kind trees = if kind == 1 then joined true trees
     else (if kind == 2 then joined false trees else None)
@@ -266,11 +259,6 @@ job_at bytes =
     job_by texts.0 numbers.0 signal lists.0 processes.0 events)
     (events_at processes.1)) (processes_at lists.1)) (lists_at numbers.1)) (signal_of numbers.0.kill_signal))
     (numbers_at texts.1)) (texts_at bytes)
-
--- the trees of expressions, the newest first
-abbrev pub newest_first : List Expr → List Tree
-newest_first [] = []
-newest_first (expr ∷ exprs) = newest_first exprs ++ tree_of expr ∷ []
 
 -- what a refused reading says: out of memory nothing, else that there is nothing to read
 abbrev pub Refuses : {Y : Type 0} → Unread → Option Y → Type 0

@@ -11,6 +11,8 @@ use Rattle.up_text.specs.Tokens.{Mark, is_line_feed, is_blank, is_hash}
 use Rattle.up_expr.specs.declared.expr.Leaf.{Leaf}
 use Rattle.up_expr.specs.declared.expr.Test.{Test}
 use Rattle.up_expr.specs.declared.expr.Test.TheVariants.{Place, Same, Differs}
+use Rattle.up_expr.specs.declared.node.Node.{Node}
+use Rattle.up_expr.specs.declared.node.Node.TheVariants as node
 use Rattle.up_expr.specs.Trees.{Tree, One, Both, Either}
 use Rattle.up_expr.specs.Values.{is_equals, has_equals, is_negated_key, is_good_value, is_ordered}
 use Rattle.up_stanza.specs.declared.action.Action.{Action}
@@ -129,6 +131,12 @@ abbrev pub are_leaves : Tree → Bool
 are_leaves (One leaf) = is_leaf leaf
 are_leaves (Both left right) = are_leaves left && are_leaves right
 are_leaves (Either left right) = are_leaves left && are_leaves right
+
+-- a node, where it is a leaf
+abbrev pub is_node : Node → Bool
+is_node (node.Leaf leaf) = is_leaf leaf
+is_node (node.And left right) = true
+is_node (node.Or left right) = true
 
 abbrev pub is_lone : Tree → Bool
 is_lone (One leaf) = true

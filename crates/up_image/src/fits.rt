@@ -1,12 +1,11 @@
 //! Tells whether an image can say how long a table's lists are.
-ghost use Rattle.std.specs.Prelude.{◌≡◌, true, IfOk};
+ghost use Rattle.std.specs.Prelude.{◌≡◌};
 ghost use Rattle.std.specs.List.{list_all};
 ghost use Rattle.up_image.specs.Image as image;
 
 use crate::limits::MAX_ITEMS;
-use std::alloc::{AllocError, Global};
 use up_conf::JobDef;
-use up_expr::{Condition, FlatFault, Node, flatten};
+use up_expr::{Condition, Node};
 use up_stanza::Action;
 
 fn fits_action(action: &Option<Action>) -> bool
@@ -35,16 +34,12 @@ fn fit_nodes(nodes: &[Node]) -> bool
     nodes.iter().all(|node| fits_node(node))
 }
 
-fn fits_condition(alloc: Global, condition: &Option<Condition>) -> Result<bool, AllocError>
-    ensures { IfOk result (λ fits. fits ≡ image.fits_condition condition.now) }
+fn fits_condition(condition: &Option<Condition>) -> bool
+    ensures { result ≡ image.fits_condition condition.now }
 {
     match condition {
-        None => Ok(true),
-        Some(condition) => match flatten(alloc, condition.expr()) {
-            Ok(nodes) => Ok(fit_nodes(nodes.as_slice())),
-            Err(FlatFault::ImageTooLarge) => Ok(false),
-            Err(FlatFault::Memory) => Err(AllocError),
-        },
+        None => true,
+        Some(condition) => fit_nodes(condition.nodes().as_slice()),
     }
 }
 
@@ -79,30 +74,22 @@ fn fits_processes(job: &JobDef) -> bool
         && fits_action(&job.post_stop)
 }
 
-fn fits_events(alloc: Global, job: &JobDef) -> Result<bool, AllocError>
-    ensures { IfOk result (λ fits. fits ≡ image.fits_events job.now) }
+fn fits_events(job: &JobDef) -> bool
+    ensures { result ≡ image.fits_events job.now }
 {
-    let start = fits_condition(alloc, &job.start_on)?;
-    let stop = fits_condition(alloc, &job.stop_on)?;
-    Ok(start && stop)
+    fits_condition(&job.start_on) && fits_condition(&job.stop_on)
 }
 
 #[tactic(auto, unfolding(crate::specs::Image::fits))]
-fn fits(alloc: Global, job: &JobDef) -> Result<bool, AllocError>
-    ensures { IfOk result (λ fits. fits ≡ image.fits job.now) }
+fn fits(job: &JobDef) -> bool
+    ensures { result ≡ image.fits job.now }
 {
-    let events = fits_events(alloc, job)?;
-    Ok(fits_numbers(job) && fits_lists(job) && fits_processes(job) && events)
+    fits_numbers(job) && fits_lists(job) && fits_processes(job) && fits_events(job)
 }
 
 /// Whether all lists of the jobs are as short as an image can say.
-pub(crate) fn all_fit(alloc: Global, jobs: &[JobDef]) -> Result<bool, AllocError>
-    ensures { IfOk result (λ fit. fit ≡ list_all image.fits jobs.now) }
+pub(crate) fn all_fit(jobs: &[JobDef]) -> bool
+    ensures { result ≡ list_all image.fits jobs.now }
 {
-    for job in jobs {
-        if !fits(alloc, job)? {
-            return Ok(false);
-        }
-    }
-    Ok(true)
+    jobs.iter().all(|job| fits(job))
 }

@@ -1,14 +1,13 @@
 //! Tells whether files can give an expression.
 ghost use Rattle.std.specs.Prelude.{◌≡◌, ◌-◌};
 ghost use Rattle.std.specs.List.{list_all};
-ghost use Rattle.up_expr.specs.Trees.{tree_of};
 ghost use Rattle.up_expr.specs.Values as values;
 ghost use Rattle.up_text.specs.Names.{is_name};
 ghost use Rattle.up_image.specs.Giving as giving;
 
 use crate::giving_texts::is_token;
 use crate::limits::MAX_DEPTH;
-use up_expr::{Condition, Expr, Leaf, Test};
+use up_expr::{Branch, Condition, Leaf, Node, Root, Test};
 use up_text::env::is_key;
 use up_text::{Name, is_expandable, supported};
 
@@ -92,42 +91,53 @@ fn is_leaf(leaf: &Leaf) -> bool
     is_name(&leaf.event) && are_tests(leaf.values.as_slice()) && is_ordered(leaf.values.as_slice())
 }
 
-// Whether files can give each leaf of an expression.
-#[cycle(leaves)]
-fn are_leaves(expr: &Expr) -> bool
-    ensures { result ≡ giving.are_leaves (tree_of expr.now) }
+// Whether files can give a node, if it is a leaf.
+fn is_node(node: &Node) -> bool
+    ensures { result ≡ giving.is_node node.now }
 {
-    match expr {
-        Expr::Leaf(leaf) => is_leaf(leaf),
-        Expr::And(left, right) => are_leaves(left) && are_leaves(right),
-        Expr::Or(left, right) => are_leaves(left) && are_leaves(right),
+    match node {
+        Node::Leaf(leaf) => is_leaf(leaf),
+        Node::And(_, _) | Node::Or(_, _) => true,
     }
 }
 
-fn is_lone(expr: &Expr) -> bool
-    ensures { result ≡ giving.is_lone (tree_of expr.now) }
+fn are_nodes(nodes: &[Node]) -> bool
+    ensures { result ≡ list_all giving.is_node nodes.now }
 {
-    match expr {
-        Expr::Leaf(_) => true,
-        Expr::And(_, _) => false,
-        Expr::Or(_, _) => false,
+    nodes.iter().all(|node| is_node(node))
+}
+
+// Whether files can give each leaf of an expression.
+fn are_leaves(condition: &Condition) -> bool
+    ensures { result ≡ giving.are_leaves condition.now }
+{
+    are_nodes(condition.nodes().as_slice())
+}
+
+fn is_lone(branch: &Branch) -> bool
+    ensures { result ≡ giving.is_lone branch.now }
+{
+    match branch.root() {
+        Root::Leaf(_) => true,
+        Root::And(_, _) => false,
+        Root::Or(_, _) => false,
     }
 }
 
 // Whether parentheses so deep are enough for an expression.
 #[cycle(depths)]
-fn is_shallow(expr: &Expr, depth: u16) -> bool
-    ensures { result ≡ giving.is_shallow depth (tree_of expr.now) }
+fn is_shallow(branch: &Branch, depth: u16) -> bool
+    ensures { result ≡ giving.is_shallow depth branch.now }
 {
-    match expr {
-        Expr::Leaf(_) => true,
-        Expr::And(left, right) => {
-            is_shallow(left, depth)
-                && (is_lone(right) || (1 <= depth && is_shallow(right, depth - 1)))
+    match branch.root() {
+        Root::Leaf(_) => true,
+        Root::And(left, right) => {
+            is_shallow(&left, depth)
+                && (is_lone(&right) || (1 <= depth && is_shallow(&right, depth - 1)))
         }
-        Expr::Or(left, right) => {
-            is_shallow(left, depth)
-                && (is_lone(right) || (1 <= depth && is_shallow(right, depth - 1)))
+        Root::Or(left, right) => {
+            is_shallow(&left, depth)
+                && (is_lone(&right) || (1 <= depth && is_shallow(&right, depth - 1)))
         }
     }
 }
@@ -138,8 +148,6 @@ pub(crate) fn can_await(condition: &Option<Condition>) -> bool
 {
     match condition {
         None => true,
-        Some(condition) => {
-            are_leaves(condition.expr()) && is_shallow(condition.expr(), MAX_DEPTH)
-        }
+        Some(condition) => are_leaves(condition) && is_shallow(&condition.root(), MAX_DEPTH),
     }
 }

@@ -1,6 +1,7 @@
 //! Writes a table as bytes.
-ghost use Rattle.std.specs.Prelude.{◌≡◌, ◌+◌, ◌++◌, ◌&&◌, ◌≤◌, nat_le, true, IfErr, IfOk, List, OnOk, length, ℕ};
+ghost use Rattle.std.specs.Prelude.{◌≡◌, ◌+◌, ◌++◌, ◌&&◌, ◌≤◌, ◌<◌, ◌^◌, nat_le, drop, IfErr, IfOk, List, OnOk, length, take, ℕ};
 ghost use Rattle.std.specs.List.{list_all};
+ghost use Rattle.byteorder.specs.Endian.{big_bytes};
 ghost use Rattle.up_image.specs.declared.image_error.ImageError.TheVariants.{ImageTooLarge};
 ghost use Rattle.up_image.specs.declared.limits.TheConstants.{MAX_IMAGE, MAX_JOBS};
 ghost use Rattle.up_image.specs.Image.{IsImage, body_of, fits, has_image, head_of};
@@ -12,6 +13,7 @@ use crate::image_error::ImageError;
 use crate::index::put_index;
 use crate::limits::{MAX_IMAGE, MAX_JOBS};
 use crate::put_job::{job_len, put_jobs};
+use byteorder::{BigEndian, ByteOrder};
 use std::alloc::{AllocError, Global};
 use up_conf::JobDef;
 
@@ -21,33 +23,16 @@ pub(crate) const HEAD: usize = 12;
 /// The version of the format.
 pub(crate) const VERSION: u16 = 1;
 
-// The jobs and the index.
-fn body_of(alloc: Global, jobs: &[JobDef]) -> Result<Vec<u8>, AllocError>
-    requires few { length jobs.now ≤ MAX_JOBS }
-    requires short { list_all fits jobs.now ≡ true }
-    ensures { IfOk result (λ body. body.items ≡ body_of jobs.now) }
+/// Whether an image can say how many jobs there are, and how long their lists are.
+pub(crate) fn is_countable(jobs: &[JobDef]) -> bool
+    ensures { result ≡ (nat_le (length jobs.now) MAX_JOBS && list_all fits jobs.now) }
 {
-    let mut body = Vec::new(alloc);
-    put_jobs(alloc, &mut body, jobs)?;
-    put_index(alloc, &mut body, jobs)?;
-    Ok(body)
-}
-
-// Whether an image can say how many jobs there are, and how long their lists are.
-fn is_countable(alloc: Global, jobs: &[JobDef]) -> Result<bool, AllocError>
-    ensures { IfOk result (λ countable. countable
-        ≡ (nat_le (length jobs.now) MAX_JOBS && list_all fits jobs.now)) }
-{
-    if jobs.len() > MAX_JOBS {
-        return Ok(false);
-    }
-    all_fit(alloc, jobs)
+    jobs.len() <= MAX_JOBS && all_fit(jobs)
 }
 
 // How many bytes the index of jobs has.
 fn index_len(alloc: Global, jobs: &[JobDef]) -> Result<usize, AllocError>
-    requires few { length jobs.now ≤ MAX_JOBS }
-    requires short { list_all fits jobs.now ≡ true }
+    requires { length jobs.now ≤ MAX_JOBS }
     ensures { IfOk result (λ len. len ≡ length (index_part (entries_of jobs.now))) }
 {
     let mut index = Vec::new(alloc);
@@ -58,13 +43,13 @@ fn index_len(alloc: Global, jobs: &[JobDef]) -> Result<usize, AllocError>
 // Whether the head, the jobs and the index together are as small as an image is. No more than one of them is written at a time.
 #[tactic(auto, using(crate::proofs::Lengths::length_more, crate::proofs::Lengths::too_long))]
 fn is_small(alloc: Global, jobs: &[JobDef]) -> Result<bool, AllocError>
-    requires few { length jobs.now ≤ MAX_JOBS }
-    requires short { list_all fits jobs.now ≡ true }
+    requires { length jobs.now ≤ MAX_JOBS }
     ensures { IfOk result (λ small. small ≡ nat_le (12 + length (body_of jobs.now)) MAX_IMAGE) }
 {
+    let mut bytes = Vec::new(alloc);
     let mut len = HEAD;
     for job in jobs {
-        let more = job_len(alloc, job)?;
+        let more = job_len(&mut bytes, job)?;
         if more > MAX_IMAGE - len {
             return Ok(false);
         }
@@ -79,14 +64,14 @@ fn is_small(alloc: Global, jobs: &[JobDef]) -> Result<bool, AllocError>
 pub(crate) fn has_image(alloc: Global, jobs: &[JobDef]) -> Result<bool, AllocError>
     ensures { IfOk result (λ has. has ≡ has_image jobs.now) }
 {
-    if !is_countable(alloc, jobs)? {
+    if !is_countable(jobs) {
         return Ok(false);
     }
     is_small(alloc, jobs)
 }
 
-// Appends the head of an image with so many jobs and bytes.
-fn put_head(out: &mut Vec<u8>, jobs: usize, bytes: usize) -> Result<(), AllocError>
+/// Appends the head of an image with so many jobs and bytes.
+pub(crate) fn put_head(out: &mut Vec<u8>, jobs: usize, bytes: usize) -> Result<(), AllocError>
     ensures { OnOk result (out.new.items ≡ out.old.items ++ head_of jobs bytes) }
 {
     out.extend_from_slice(b"UPTB")?;
@@ -96,15 +81,26 @@ fn put_head(out: &mut Vec<u8>, jobs: usize, bytes: usize) -> Result<(), AllocErr
     Ok(())
 }
 
-// The image with this body.
-fn with_head(alloc: Global, jobs: usize, body: &[u8]) -> Result<Vec<u8>, AllocError>
-    requires { length body.now ≤ 16777204 }
-    ensures { IfOk result (λ bytes. bytes.items ≡ head_of jobs (12 + length body.now) ++ body.now) }
+// The head, the jobs and the index. For the length, which isn't known yet, the head says 0.
+fn write_parts(alloc: Global, jobs: &[JobDef]) -> Result<Vec<u8>, AllocError>
+    requires { length jobs.now ≤ MAX_JOBS }
+    ensures { IfOk result (λ bytes. bytes.items ≡ head_of (length jobs.now) 0 ++ body_of jobs.now) }
 {
     let mut bytes = Vec::new(alloc);
-    put_head(&mut bytes, jobs, HEAD + body.len())?;
-    bytes.extend_from_slice(body)?;
+    put_head(&mut bytes, jobs.len(), 0)?;
+    put_jobs(&mut bytes, jobs)?;
+    put_index(alloc, &mut bytes, jobs)?;
     Ok(bytes)
+}
+
+// Sets the length in the head of an image to that of these bytes.
+fn set_length(bytes: &mut [u8])
+    requires long { 12 ≤ length bytes.old }
+    requires short { length bytes.old < 2 ^ 32 }
+    ensures { bytes.new ≡ take 8 bytes.old ++ (big_bytes 4 (length bytes.old) ++ drop 12 bytes.old) }
+{
+    let len = bytes.len() as u32;
+    BigEndian::write_u32(&mut bytes[8..], len);
 }
 
 /// The image of jobs. Refused with `ImageTooLarge` only if they have none.
@@ -113,13 +109,13 @@ pub(crate) fn write_image(alloc: Global, jobs: &[JobDef]) -> Result<Vec<u8>, Ima
     ensures refused { IfErr result (λ error. error ≡ ImageTooLarge → (bytes : List ℕ) → IsImage bytes jobs.now
         → ⊥) }
 {
-    if !is_countable(alloc, jobs)? {
+    if !is_countable(jobs) {
         return Err(ImageError::ImageTooLarge);
     }
-    let body = body_of(alloc, jobs)?;
-    if body.len() > MAX_IMAGE - HEAD {
+    let mut bytes = write_parts(alloc, jobs)?;
+    if bytes.len() > MAX_IMAGE {
         return Err(ImageError::ImageTooLarge);
     }
-    let bytes = with_head(alloc, jobs.len(), body.as_slice())?;
+    set_length(bytes.as_mut_slice());
     Ok(bytes)
 }

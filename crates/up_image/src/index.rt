@@ -1,14 +1,12 @@
 //! The index of a table's events.
 ghost use Rattle.std.specs.Prelude.{◌≡◌, ◌+◌, ◌++◌, ◌∷◌, [], ◌<◌, ◌≤◌, true, false, IfOk, OnOk, MatchOption, length, map};
-ghost use Rattle.std.specs.List.{flat_map, list_all, prefix_len};
+ghost use Rattle.std.specs.List.{flat_map, prefix_len};
 ghost use Rattle.std.specs.Str.{bytes_eq};
 ghost use Rattle.up_conf.specs.Order.{in_order};
 ghost use Rattle.up_image.specs.declared.limits.TheConstants.{MAX_JOBS, MAX_NODES};
-ghost use Rattle.up_image.specs.Image.{fits, is_short};
 ghost use Rattle.up_image.specs.Index.{entries_of, entry_part, event_of, index_part, leaf_places, place_part, places_in, places_of, runs_of};
 
 use crate::bytes::{put_byte, put_four, put_text, put_two};
-use crate::put_nodes::nodes_of;
 use std::alloc::{AllocError, Global};
 use up_conf::JobDef;
 use up_expr::{Condition, Node};
@@ -68,47 +66,39 @@ fn add_leaf(
 
 // Appends the leaves of a condition, if there is one.
 fn add_condition(
-    alloc: Global,
     places: &mut Vec<Place>,
     job: u16,
     start: bool,
     condition: &Option<Condition>,
 ) -> Result<(), AllocError>
-    requires { is_short condition.now ≡ true }
     ensures { OnOk result (places.new.items ≡ places.old.items ++ places_in job start condition.now) }
 {
     match condition {
         None => {}
-        Some(condition) => {
-            let nodes = nodes_of(alloc, condition)?;
-            add_leaves(places, job, start, nodes.as_slice())?;
-        }
+        Some(condition) => add_leaves(places, job, start, condition.nodes().as_slice())?,
     }
     Ok(())
 }
 
 // Appends the leaves of a job.
-#[tactic(auto, unfolding(crate::specs::Image::fits))]
-fn add_job(alloc: Global, places: &mut Vec<Place>, at: u16, job: &JobDef) -> Result<(), AllocError>
-    requires { fits job.now ≡ true }
+fn add_job(places: &mut Vec<Place>, at: u16, job: &JobDef) -> Result<(), AllocError>
     ensures { OnOk result (places.new.items ≡ places.old.items
         ++ (places_in at false job.now.stop_on ++ places_in at true job.now.start_on)) }
 {
-    add_condition(alloc, places, at, false, &job.stop_on)?;
-    add_condition(alloc, places, at, true, &job.start_on)?;
+    add_condition(places, at, false, &job.stop_on)?;
+    add_condition(places, at, true, &job.start_on)?;
     Ok(())
 }
 
 // The leaves of all jobs, in order.
 fn places_of(alloc: Global, jobs: &[JobDef]) -> Result<Vec<Place>, AllocError>
-    requires few { length jobs.now ≤ MAX_JOBS }
-    requires short { list_all fits jobs.now ≡ true }
+    requires { length jobs.now ≤ MAX_JOBS }
     ensures { IfOk result (λ places. places.items ≡ places_of 0 jobs.now) }
 {
     let mut places = Vec::new(alloc);
     let mut at = 0;
     for job in jobs {
-        add_job(alloc, &mut places, at, job)?;
+        add_job(&mut places, at, job)?;
         at += 1;
     }
     Ok(places)
@@ -215,11 +205,10 @@ fn put_entries(out: &mut Vec<u8>, runs: &[&[Place]]) -> Result<(), AllocError>
     Ok(())
 }
 
-/// Appends the index of jobs whose expressions aren't too long.
+/// Appends the index of jobs.
 #[tactic(auto, unfolding(crate::specs::Index::entries_of))]
 pub(crate) fn put_index(alloc: Global, out: &mut Vec<u8>, jobs: &[JobDef]) -> Result<(), AllocError>
-    requires few { length jobs.now ≤ MAX_JOBS }
-    requires short { list_all fits jobs.now ≡ true }
+    requires { length jobs.now ≤ MAX_JOBS }
     ensures { OnOk result (out.new.items ≡ out.old.items ++ index_part (entries_of jobs.now)) }
 {
     let mut places = places_of(alloc, jobs)?;

@@ -140,7 +140,7 @@ fn add_condition(
         return Ok(());
     };
     let mut line = String::from_str(alloc, words)?;
-    put_expr(alloc, &mut line, condition.expr(), false)?;
+    put_expr(alloc, &mut line, &condition.root(), false)?;
     line.push('\n')?;
     draft.add(line.as_str(), false)?;
     Ok(())

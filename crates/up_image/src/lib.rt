@@ -20,6 +20,7 @@ mod put_lists;
 mod put_nodes;
 mod read_image;
 pub mod refusal;
+mod same_image;
 mod stanza_text;
 pub mod table;
 mod take;

@@ -1,12 +1,12 @@
 //! Writes jobs.
-ghost use Rattle.std.specs.Prelude.{◌≡◌, ◌++◌, ◌≤◌, true, IfOk, OnOk, length};
-ghost use Rattle.std.specs.List.{flat_map, list_all};
-ghost use Rattle.up_image.specs.Image.{bit, event_part, field_part, fits, fits_events, flags, job_part, number_parts, process_part, set_part, text_parts};
+ghost use Rattle.std.specs.Prelude.{◌≡◌, ◌++◌, ◌≤◌, IfOk, OnOk, length};
+ghost use Rattle.std.specs.List.{flat_map};
+ghost use Rattle.up_image.specs.Image.{bit, event_part, field_part, flags, job_part, number_parts, process_part, set_part, text_parts};
 
 use crate::bytes::{put_byte, put_four, put_text};
 use crate::put_lists::{put_action, put_exits, put_settings, put_texts};
 use crate::put_nodes::put_condition;
-use std::alloc::{AllocError, Global};
+use std::alloc::AllocError;
 use up_conf::JobDef;
 
 fn bit(number: u8, set: bool) -> u8
@@ -70,44 +70,40 @@ fn put_processes(out: &mut Vec<u8>, job: &JobDef) -> Result<(), AllocError>
     Ok(())
 }
 
-fn put_events(alloc: Global, out: &mut Vec<u8>, job: &JobDef) -> Result<(), AllocError>
-    requires { fits_events job.now ≡ true }
+fn put_events(out: &mut Vec<u8>, job: &JobDef) -> Result<(), AllocError>
     ensures { OnOk result (out.new.items ≡ out.old.items ++ event_part job.now) }
 {
-    put_condition(alloc, out, &job.start_on)?;
-    put_condition(alloc, out, &job.stop_on)?;
+    put_condition(out, &job.start_on)?;
+    put_condition(out, &job.stop_on)?;
     Ok(())
 }
 
-#[tactic(auto, unfolding(crate::specs::Image::job_part, crate::specs::Image::fits))]
-fn put_job(alloc: Global, out: &mut Vec<u8>, job: &JobDef) -> Result<(), AllocError>
-    requires { fits job.now ≡ true }
+#[tactic(auto, unfolding(crate::specs::Image::job_part))]
+pub(crate) fn put_job(out: &mut Vec<u8>, job: &JobDef) -> Result<(), AllocError>
     ensures { OnOk result (out.new.items ≡ out.old.items ++ job_part job.now) }
 {
     put_fields(out, job)?;
     put_sets(out, job)?;
     put_processes(out, job)?;
-    put_events(alloc, out, job)?;
+    put_events(out, job)?;
     Ok(())
 }
 
-/// How many bytes a job has whose lists aren't too long.
-pub(crate) fn job_len(alloc: Global, job: &JobDef) -> Result<usize, AllocError>
-    requires { fits job.now ≡ true }
+/// How many bytes a job has. They are written to `out`, in the place of what it had.
+pub(crate) fn job_len(out: &mut Vec<u8>, job: &JobDef) -> Result<usize, AllocError>
     ensures { IfOk result (λ len. len ≡ length (job_part job.now)) }
 {
-    let mut bytes = Vec::new(alloc);
-    put_job(alloc, &mut bytes, job)?;
-    Ok(bytes.len())
+    out.clear();
+    put_job(out, job)?;
+    Ok(out.len())
 }
 
-/// Appends jobs whose lists aren't too long.
-pub(crate) fn put_jobs(alloc: Global, out: &mut Vec<u8>, jobs: &[JobDef]) -> Result<(), AllocError>
-    requires { list_all fits jobs.now ≡ true }
+/// Appends jobs.
+pub(crate) fn put_jobs(out: &mut Vec<u8>, jobs: &[JobDef]) -> Result<(), AllocError>
     ensures { OnOk result (out.new.items ≡ out.old.items ++ flat_map job_part jobs.now) }
 {
     for job in jobs {
-        put_job(alloc, out, job)?;
+        put_job(out, job)?;
     }
     Ok(())
 }

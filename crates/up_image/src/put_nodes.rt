@@ -1,15 +1,13 @@
 //! Writes the nodes of expressions.
-ghost use Rattle.std.specs.Prelude.{◌≡◌, ◌++◌, ◌≤◌, true, IfOk, OnOk, length};
+ghost use Rattle.std.specs.Prelude.{◌≡◌, ◌++◌, OnOk, length};
 ghost use Rattle.std.specs.List.{flat_map};
 ghost use Rattle.byteorder.specs.Endian.{big_bytes};
-ghost use Rattle.up_expr.specs.Flat.{nodes_of, size};
-ghost use Rattle.up_image.specs.Image.{is_short, list_part, node_part, nodes_in, test_part};
-ghost use Rattle.up_image.specs.declared.limits.TheConstants.{MAX_NODES};
+ghost use Rattle.up_image.specs.Image.{list_part, node_part, nodes_in, test_part};
 ghost use Rattle.up_image.specs.Texts.{text_part};
 
 use crate::bytes::{put_byte, put_text, put_two};
-use std::alloc::{AllocError, Global};
-use up_expr::{Condition, FlatFault, Leaf, Node, Nodes, Test, flatten};
+use std::alloc::AllocError;
+use up_expr::{Condition, Leaf, Node, Test};
 
 fn put_pair(out: &mut Vec<u8>, key: &str, value: &str) -> Result<(), AllocError>
     ensures { OnOk result (out.new.items ≡ out.old.items ++ (text_part key.now ++ text_part value.now)) }
@@ -110,34 +108,16 @@ fn put_nodes(out: &mut Vec<u8>, nodes: &[Node]) -> Result<(), AllocError>
     Ok(())
 }
 
-/// The nodes of a condition, which must have at most 4,095.
-pub(crate) fn nodes_of(alloc: Global, condition: &Condition) -> Result<Nodes, AllocError>
-    requires { size condition.now ≤ MAX_NODES }
-    ensures laid { IfOk result (λ nodes. nodes ≡ nodes_of 0 condition.now) }
-    ensures few { IfOk result (λ nodes. length nodes ≤ MAX_NODES) }
-{
-    match flatten(alloc, condition.expr()) {
-        Ok(nodes) => Ok(nodes),
-        Err(FlatFault::Memory) => Err(AllocError),
-        Err(FlatFault::ImageTooLarge) => unreachable!(),
-    }
-}
-
-/// Appends the nodes of a condition, which must have at most 4,095; none without one.
+/// Appends the nodes of a condition; none without one.
 pub(crate) fn put_condition(
-    alloc: Global,
     out: &mut Vec<u8>,
     condition: &Option<Condition>,
 ) -> Result<(), AllocError>
-    requires { is_short condition.now ≡ true }
     ensures { OnOk result (out.new.items ≡ out.old.items ++ list_part node_part (nodes_in condition.now)) }
 {
     match condition {
         None => put_two(out, 0)?,
-        Some(condition) => {
-            let nodes = nodes_of(alloc, condition)?;
-            put_nodes(out, nodes.as_slice())?;
-        }
+        Some(condition) => put_nodes(out, condition.nodes().as_slice())?,
     }
     Ok(())
 }

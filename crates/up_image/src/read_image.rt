@@ -11,9 +11,10 @@ ghost use Rattle.up_image.specs.Reading.{HasNoTable, ReadsImage, claimed_length,
 ghost use Rattle.up_image.specs.declared.unread.Unread.TheVariants.{BadTable};
 
 use crate::giving::can_all_be_given;
-use crate::image::{HEAD, VERSION, write_image};
+use crate::image::{HEAD, VERSION};
 use crate::image_error::ImageError;
 use crate::limits::MAX_IMAGE;
+use crate::same_image::is_image;
 use crate::table::Table;
 use crate::take_job::take_jobs;
 use crate::unread::Unread;
@@ -85,17 +86,10 @@ fn check_image(alloc: Global, jobs: &[JobDef], bytes: &[u8]) -> Result<(), Unrea
     ensures image { OnOk result (IsImage bytes.now jobs.now) }
     ensures refused { IfErr result (λ unread. unread ≡ BadTable → IsImage bytes.now jobs.now → ⊥) }
 {
-    match write_image(alloc, jobs) {
-        Ok(image) => {
-            if image.as_slice() == bytes {
-                Ok(())
-            } else {
-                Err(Unread::BadTable)
-            }
-        }
-        Err(ImageError::ImageTooLarge) => Err(Unread::BadTable),
-        Err(_) => Err(Unread::Memory),
+    if is_image(alloc, jobs, bytes)? {
+        return Ok(());
     }
+    Err(Unread::BadTable)
 }
 
 // Refuses jobs that no files give.

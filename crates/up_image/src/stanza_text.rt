@@ -1,7 +1,7 @@
 //! Writes what a job file says: tokens, commands and expressions.
 
 use std::alloc::{AllocError, Global};
-use up_expr::{Expr, Leaf, Test};
+use up_expr::{Branch, Leaf, Root, Test};
 use up_stanza::Action;
 use up_text::Text;
 
@@ -150,23 +150,23 @@ fn close(out: &mut String, grouped: bool) -> Result<(), AllocError> {
 pub(crate) fn put_expr(
     alloc: Global,
     out: &mut String,
-    expr: &Expr,
+    branch: &Branch,
     grouped: bool,
 ) -> Result<(), AllocError> {
-    match expr {
-        Expr::Leaf(leaf) => put_leaf(alloc, out, leaf),
-        Expr::And(left, right) => {
+    match branch.root() {
+        Root::Leaf(leaf) => put_leaf(alloc, out, leaf),
+        Root::And(left, right) => {
             open(out, grouped)?;
-            put_expr(alloc, out, left, false)?;
+            put_expr(alloc, out, &left, false)?;
             out.push_str(" and")?;
-            put_expr(alloc, out, right, true)?;
+            put_expr(alloc, out, &right, true)?;
             close(out, grouped)
         }
-        Expr::Or(left, right) => {
+        Root::Or(left, right) => {
             open(out, grouped)?;
-            put_expr(alloc, out, left, false)?;
+            put_expr(alloc, out, &left, false)?;
             out.push_str(" or")?;
-            put_expr(alloc, out, right, true)?;
+            put_expr(alloc, out, &right, true)?;
             close(out, grouped)
         }
     }

@@ -12,7 +12,8 @@ use std::marker::Model;
 use up_conf::JobDef;
 use up_text::Items;
 
-/// The jobs of a folder, seen by contracts as their list in byte order of names.
+/// The jobs of a folder, seen by contracts as their list in byte order of names. The expressions of each are kept as flat nodes
+/// (`up_expr::Condition`).
 #[derive(Debug, Drop)]
 pub struct Table {
     jobs: Items<JobDef>,
@@ -69,7 +70,8 @@ impl Table {
         write_image(alloc, self.as_slice())
     }
 
-    /// The table whose image these bytes are. Takes no more memory than in proportion to the bytes, whatever lengths they claim.
+    /// The table whose image these bytes are. Takes no more memory than in proportion to the bytes, whatever lengths they claim: beside
+    /// them stand the jobs, and one job or the index as it is written for the comparison.
     pub fn from_bytes(alloc: Global, bytes: &[u8]) -> Result<Table, ImageError>
         ensures { ReadsImage bytes.now (head_error bytes.now) result }
     {

@@ -1,15 +1,16 @@
 //! Reads expressions from their nodes. Which places a node names isn't looked at: the image is written again from what was read, and
 //! is taken only if it is the same.
-ghost use Rattle.std.specs.Prelude.{◌≡◌, [], ◌∷◌, ◌++◌, IfOk};
-ghost use Rattle.up_expr.specs.Trees.{tree_of};
-ghost use Rattle.up_expr.specs.TreeCode.{node};
-ghost use Rattle.up_image.specs.Finding.{Reads, after_sides, condition_at, items_at, joined, joined_by, keyed_by, leaf_at, list_at, made, newest_first, node_at, one_tree, test_at, trees_at};
+ghost use Rattle.std.specs.Prelude.{◌≡◌, ◌+◌, ◌<◌, ◌≤◌, [], ◌∷◌, ◌++◌, OnOk};
+ghost use Rattle.up_expr.specs.Laying.{sizes};
+ghost use Rattle.up_expr.specs.TreeCode.{joined};
+ghost use Rattle.up_image.specs.declared.limits.TheConstants.{MAX_NODES};
+ghost use Rattle.up_image.specs.Finding.{Reads, after_sides, condition_at, items_at, joined_by, keyed_by, leaf_at, list_at, made, node_at, one_tree, test_at, trees_at};
 
 use crate::limits::MAX_NODES;
 use crate::take::{push, take_byte, take_name, take_text, take_two};
 use crate::unread::Unread;
-use std::alloc::{AllocError, Global};
-use up_expr::{Condition, Expr, Leaf, Test};
+use std::alloc::Global;
+use up_expr::{Builder, Condition, Leaf, Test};
 use up_text::{Items, Text};
 
 // The value of this kind.
@@ -84,91 +85,69 @@ fn skip_sides(bytes: &[u8]) -> Result<&[u8], Unread>
     Ok(rest)
 }
 
-// The expression of two sides: both of them, or one or the other.
-fn joined(alloc: Global, both: bool, left: Expr, right: Expr) -> Result<Expr, AllocError>
-    ensures { IfOk result (λ expr. tree_of expr ≡ node both (tree_of left) (tree_of right)) }
+// Joins the newest two of the trees read so far.
+fn join(builder: &mut Builder, both: bool) -> Result<(), Unread>
+    requires { sizes builder.old < MAX_NODES }
+    ensures { Reads (λ _. builder.new) result (joined both builder.old) }
 {
-    let left = Box::new(alloc, left)?;
-    let right = Box::new(alloc, right)?;
-    if both {
-        Ok(Expr::And(left, right))
-    } else {
-        Ok(Expr::Or(left, right))
+    if builder.join(both)? {
+        return Ok(());
     }
-}
-
-// Joins the newest two of the expressions read so far.
-#[tactic(auto, using(crate::proofs::Counting::newest_more))]
-fn join(alloc: Global, exprs: &mut Vec<Expr>, both: bool) -> Result<(), Unread>
-    ensures { Reads (λ _. newest_first exprs.new.items) result (joined both (newest_first exprs.old.items)) }
-{
-    match exprs.pop() {
-        Some(right) => match exprs.pop() {
-            Some(left) => {
-                let expr = joined(alloc, both, left, right)?;
-                push(exprs, expr)?;
-                Ok(())
-            }
-            None => Err(Unread::BadTable),
-        },
-        None => Err(Unread::BadTable),
-    }
+    Err(Unread::BadTable)
 }
 
 // Joins by the kind of a node.
-fn join_by(alloc: Global, exprs: &mut Vec<Expr>, kind: u8) -> Result<(), Unread>
-    ensures { Reads (λ _. newest_first exprs.new.items) result
-        (joined_by kind (newest_first exprs.old.items)) }
+fn join_by(builder: &mut Builder, kind: u8) -> Result<(), Unread>
+    requires { sizes builder.old < MAX_NODES }
+    ensures { Reads (λ _. builder.new) result (joined_by kind builder.old) }
 {
     match kind {
-        1 => join(alloc, exprs, true),
-        2 => join(alloc, exprs, false),
+        1 => join(builder, true),
+        2 => join(builder, false),
         _ => Err(Unread::BadTable),
     }
 }
 
-// Reads a node: a leaf is an expression of its own, and another joins the newest two.
-#[tactic(auto, unfolding(crate::specs::Finding::node_at), using(crate::proofs::Counting::newest_more))]
-fn take_node<'a>(alloc: Global, exprs: &mut Vec<Expr>, bytes: &'a [u8]) -> Result<&'a [u8], Unread>
-    ensures { Reads (λ rest. (newest_first exprs.new.items, rest.now)) result
-        (node_at (newest_first exprs.old.items) bytes.now) }
+// Reads a node: a leaf is a tree of its own, and another joins the newest two.
+#[tactic(auto, unfolding(crate::specs::Finding::node_at))]
+fn take_node<'a>(alloc: Global, builder: &mut Builder, bytes: &'a [u8]) -> Result<&'a [u8], Unread>
+    requires { sizes builder.old < MAX_NODES }
+    ensures read { Reads (λ rest. (builder.new, rest.now)) result (node_at builder.old bytes.now) }
+    ensures few { OnOk result (sizes builder.new ≤ sizes builder.old + 1) }
 {
     let (kind, rest) = take_byte(bytes)?;
     if kind == 0 {
         let (leaf, rest) = take_leaf(alloc, rest)?;
-        push(exprs, Expr::Leaf(leaf))?;
+        builder.leaf(leaf)?;
         return Ok(rest);
     }
     let rest = skip_sides(rest)?;
-    join_by(alloc, exprs, kind)?;
+    join_by(builder, kind)?;
     Ok(rest)
 }
 
-// The expressions that so many nodes make.
+// The trees that so many nodes make.
 #[tactic(auto, using(crate::proofs::Counting::trees_left))]
-fn take_exprs(alloc: Global, bytes: &[u8], count: u16) -> Result<(Vec<Expr>, &[u8]), Unread>
-    ensures { Reads (λ x. (newest_first x.0.items, x.1.now)) result (trees_at count [] bytes.now) }
+fn take_trees(alloc: Global, bytes: &[u8], count: u16) -> Result<(Builder, &[u8]), Unread>
+    requires { count ≤ MAX_NODES }
+    ensures { Reads (λ x. (x.0, x.1.now)) result (trees_at count [] bytes.now) }
 {
     let mut rest = bytes;
-    let mut exprs = Vec::new(alloc);
+    let mut builder = Builder::new(alloc);
     for i in 0..count {
-        rest = take_node(alloc, &mut exprs, rest)?;
+        rest = take_node(alloc, &mut builder, rest)?;
     }
-    Ok((exprs, rest))
+    Ok((builder, rest))
 }
 
-// The one expression, or that there is none.
-#[tactic(auto, using(crate::proofs::Counting::newest_more))]
-fn one_expr(exprs: Vec<Expr>) -> Result<Option<Condition>, Unread>
-    ensures { Reads (λ x. x) result (one_tree (newest_first exprs.items)) }
+// The one tree, or that there is none.
+fn one_tree(builder: Builder) -> Result<Option<Condition>, Unread>
+    ensures { Reads (λ x. x) result (one_tree builder) }
 {
-    let mut exprs = exprs;
-    match exprs.pop() {
-        None => Ok(None),
-        Some(expr) => match exprs.pop() {
-            None => Ok(Some(Condition::new(expr))),
-            Some(_) => Err(Unread::BadTable),
-        },
+    match builder.len() {
+        0 => Ok(None),
+        1 => Ok(Some(builder.finish())),
+        _ => Err(Unread::BadTable),
     }
 }
 
@@ -184,7 +163,7 @@ pub(crate) fn take_condition(
     if count > MAX_NODES {
         return Err(Unread::BadTable);
     }
-    let (exprs, rest) = take_exprs(alloc, rest, count)?;
-    let condition = one_expr(exprs)?;
+    let (trees, rest) = take_trees(alloc, rest, count)?;
+    let condition = one_tree(trees)?;
     Ok((condition, rest))
 }

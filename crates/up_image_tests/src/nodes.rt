@@ -2,26 +2,12 @@
 use crate::folders::table_of;
 use std::alloc::Global;
 use std::test::Fail;
-use up_expr::{Node, Nodes, flatten};
+use up_expr::{Node, Nodes};
 
 const FILES: &'static [(&'static str, &'static [u8])] = &[(
     "a.conf",
     b"start on (A and B) or (C and D)\nexec x\n",
 )];
-
-fn nodes_of(alloc: Global) -> Result<Option<Nodes>, Fail> {
-    let table = table_of(alloc, FILES)?;
-    if table.len() != 1 {
-        return Ok(None);
-    }
-    match &table.job(0).start_on {
-        Some(condition) => {
-            let nodes = flatten(alloc, condition.expr())?;
-            Ok(Some(nodes))
-        }
-        None => Ok(None),
-    }
-}
 
 // What a node says: an event's name, or an operator and its sides.
 fn says(alloc: Global, node: &Node) -> Result<String, Fail> {
@@ -34,14 +20,23 @@ fn says(alloc: Global, node: &Node) -> Result<String, Fail> {
 
 const SAID: &'static [&'static str] = &["A", "B", "and 0 1", "C", "D", "and 3 4", "or 2 5"];
 
+// Whether nodes say this, one after another.
+fn say(alloc: Global, nodes: &Nodes, said: &[&str]) -> Result<bool, Fail> {
+    for (node, words) in nodes.as_slice().iter().zip(said) {
+        if says(alloc, node)?.as_str() != *words {
+            return Ok(false);
+        }
+    }
+    Ok(nodes.len() == said.len())
+}
+
 #[test]
 fn nodes_stand_in_post_order(rt: HostRuntime) -> Result<(), Fail> {
-    let nodes = nodes_of(rt.alloc())?.ok_or("no expression")?;
-    assert_eq!(rt; nodes.len(), SAID.len());
-    for (place, said) in SAID.iter().enumerate() {
-        assert!(rt; place < nodes.len());
-        let text = says(rt.alloc(), nodes.node(place))?;
-        assert_eq!(rt; text.as_str(), *said);
-    }
+    let table = table_of(rt.alloc(), FILES)?;
+    assert_eq!(rt; table.len(), 1);
+    let Some(condition) = &table.job(0).start_on else {
+        return Err(Fail::from("no expression"));
+    };
+    assert!(rt; say(rt.alloc(), condition.nodes(), SAID)?);
     Ok(())
 }

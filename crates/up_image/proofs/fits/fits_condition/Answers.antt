@@ -4,6 +4,6 @@ use Rattle.up_image.specs.Image.{fits_node}
 use Rattle.up_image.proofs.Fitting.{fits_laid}
 use Rattle.up_image.proofs.fits.fits_condition.Goals as goal
 
-pub returns-in-Ok : goal.returns-in-Ok
-returns-in-Ok c =
-    rw (c.in-Some.is, ← c.expr.ensures) (fits_laid _ _ c.fit_nodes.result c.in-Ok.ensures.flat (c.fit_nodes.ensures ∙ ap (λ nodes. list_all fits_node nodes) c.as_slice.ensures))
+pub returns-in-Some : goal.returns-in-Some
+returns-in-Some c =
+    rw c.in-Some.is (fits_laid _ _ c.fit_nodes.result c.nodes.ensures (c.fit_nodes.ensures ∙ ap (λ nodes. list_all fits_node nodes) c.as_slice.ensures))

@@ -1,0 +1,111 @@
+//! Tells whether bytes are the image of jobs. The image isn't kept for it: a part is written, compared with the bytes, and let go.
+ghost use Rattle.std.specs.Prelude.{◌≡◌, ◌++◌, ◌≤◌, Decides, IfOk, List, MatchOption, length, ℕ};
+ghost use Rattle.std.specs.List.{flat_map};
+ghost use Rattle.up_image.specs.declared.limits.TheConstants.{MAX_JOBS};
+ghost use Rattle.up_image.specs.Image.{IsImage, body_of, head_of, job_part};
+ghost use Rattle.up_image.specs.Index.{entries_of, index_part};
+
+use crate::image::{is_countable, put_head};
+use crate::index::put_index;
+use crate::limits::MAX_IMAGE;
+use crate::put_job::put_job;
+use std::alloc::{AllocError, Global};
+use up_conf::JobDef;
+
+// The bytes after a part, if they begin with it.
+fn after<'a>(part: &[u8], bytes: &'a [u8]) -> Option<&'a [u8]>
+    ensures { MatchOption result ((back : List ℕ) → bytes.now ≡ part.now ++ back → ⊥)
+        (λ back. bytes.now ≡ part.now ++ back.now) }
+{
+    bytes.strip_prefix(part)
+}
+
+// The bytes after the head of their image, if they begin with it.
+fn after_head(alloc: Global, jobs: usize, bytes: &[u8]) -> Result<Option<&[u8]>, AllocError>
+    ensures { IfOk result (λ after. MatchOption after
+        ((back : List ℕ) → bytes.now ≡ head_of jobs (length bytes.now) ++ back → ⊥)
+        (λ back. bytes.now ≡ head_of jobs (length bytes.now) ++ back.now)) }
+{
+    let mut head = Vec::new(alloc);
+    put_head(&mut head, jobs, bytes.len())?;
+    Ok(after(head.as_slice(), bytes))
+}
+
+// The bytes after a job, if they begin with it. The job is written to `part`, in the place of what it had.
+fn after_job<'a>(
+    part: &mut Vec<u8>,
+    job: &JobDef,
+    bytes: &'a [u8],
+) -> Result<Option<&'a [u8]>, AllocError>
+    ensures { IfOk result (λ after. MatchOption after
+        ((back : List ℕ) → bytes.now ≡ job_part job.now ++ back → ⊥)
+        (λ back. bytes.now ≡ job_part job.now ++ back.now)) }
+{
+    part.clear();
+    put_job(part, job)?;
+    Ok(after(part.as_slice(), bytes))
+}
+
+// The bytes after the jobs, if they begin with them.
+fn after_jobs<'a>(
+    alloc: Global,
+    jobs: &[JobDef],
+    bytes: &'a [u8],
+) -> Result<Option<&'a [u8]>, AllocError>
+    ensures { IfOk result (λ after. MatchOption after
+        ((back : List ℕ) → bytes.now ≡ flat_map job_part jobs.now ++ back → ⊥)
+        (λ back. bytes.now ≡ flat_map job_part jobs.now ++ back.now)) }
+{
+    let mut part = Vec::new(alloc);
+    let mut rest = bytes;
+    for job in jobs {
+        match after_job(&mut part, job, rest)? {
+            Some(back) => rest = back,
+            None => return Ok(None),
+        }
+    }
+    Ok(Some(rest))
+}
+
+// Whether bytes are the index of jobs.
+fn is_index(alloc: Global, jobs: &[JobDef], bytes: &[u8]) -> Result<bool, AllocError>
+    requires { length jobs.now ≤ MAX_JOBS }
+    ensures { IfOk result (λ is. Decides is (bytes.now ≡ index_part (entries_of jobs.now))) }
+{
+    let mut index = Vec::new(alloc);
+    put_index(alloc, &mut index, jobs)?;
+    Ok(index.as_slice() == bytes)
+}
+
+// Whether bytes are the jobs and their index.
+fn is_body(alloc: Global, jobs: &[JobDef], bytes: &[u8]) -> Result<bool, AllocError>
+    requires { length jobs.now ≤ MAX_JOBS }
+    ensures { IfOk result (λ is. Decides is (bytes.now ≡ body_of jobs.now)) }
+{
+    match after_jobs(alloc, jobs, bytes)? {
+        None => Ok(false),
+        Some(index) => {
+            let is = is_index(alloc, jobs, index)?;
+            Ok(is)
+        }
+    }
+}
+
+/// Whether bytes are the image of jobs.
+pub(crate) fn is_image(alloc: Global, jobs: &[JobDef], bytes: &[u8]) -> Result<bool, AllocError>
+    ensures { IfOk result (λ is. Decides is (IsImage bytes.now jobs.now)) }
+{
+    if bytes.len() > MAX_IMAGE {
+        return Ok(false);
+    }
+    if !is_countable(jobs) {
+        return Ok(false);
+    }
+    match after_head(alloc, jobs.len(), bytes)? {
+        None => Ok(false),
+        Some(body) => {
+            let is = is_body(alloc, jobs, body)?;
+            Ok(is)
+        }
+    }
+}
