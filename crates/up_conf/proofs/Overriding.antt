@@ -1,5 +1,5 @@
 -- The fault of an override is the one that its bytes have.
-use Rattle.std.proofs.Common.{◌≡◌, ◌∙◌, ℕ, List, true, Option, Some, None, option_map}
+use Rattle.std.proofs.Common.{◌≡◌, ℕ, List, true, Option, Some, None, option_map}
 use Rattle.std.specs.Result.{result_err}
 use Rattle.up_stanza.specs.Confs.{conf_of}
 use Rattle.up_conf.specs.declared.folder.File.{File}

@@ -7,7 +7,7 @@ use Rattle.up_value.specs.Values.{Bytes}
 
 -- what a byte is: one that a token is given; a quote or a backslash, which belongs to a token and gives it nothing; one of a
 -- quoted piece that is joined with others to one space; a parenthesis that is a token of its own; a blank between tokens; one of a
--- comment, or joined with other blanks; a line end that ends the stanza. Behind the last byte: why the token is refused
+-- comment, or joined with other blanks; a line end that ends the stanza. After the last byte: why the token is refused
 pub data Mark : Type 0 where
   Part : (byte : ℕ) → Mark
   Quoting : (byte : ℕ) → Mark
