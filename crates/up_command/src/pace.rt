@@ -9,7 +9,13 @@ pub(crate) const MOST_PAUSE: u64 = 10;
 /// After so many quiet rounds the pause grows by a millisecond.
 const ROUNDS_PER_STEP: u64 = 16;
 
-/// How long a run pauses: a millisecond while something happened lately, and longer the longer nothing does.
+/// So many pauses after something happened are short.
+const SHORT_PAUSES: u64 = 8;
+
+/// How long a short pause is, in microseconds.
+pub(crate) const SHORT_PAUSE: u64 = 100;
+
+/// How long a run pauses: a moment right after something happened, and longer the longer nothing does.
 #[derive(Clone, Copy, Debug, PartialEq, Eq)]
 pub(crate) struct Pace {
     // how many rounds did nothing since one did something
@@ -50,6 +56,16 @@ impl Pace {
         }
         let wanted = 1 + self.quiet / ROUNDS_PER_STEP;
         wanted.min(self.most)
+    }
+
+    /// Whether to pause now for a tenth of a millisecond instead.
+    pub(crate) fn is_short(&self) -> bool
+        ensures none { self.now.most ≡ 0 → result ≡ false }
+        ensures busy { self.now.quiet ≡ 0 → result ≡ false }
+        ensures lately { 0 < self.now.most → 0 < self.now.quiet → self.now.quiet ≤ 8 → result ≡ true }
+        ensures later { 8 < self.now.quiet → result ≡ false }
+    {
+        self.most > 0 && self.quiet > 0 && self.quiet <= SHORT_PAUSES
     }
 }
 

@@ -2,16 +2,16 @@
 
 use crate::answer::print;
 use crate::jobs::read_jobs;
-use crate::pace::{Pace, is_idle};
+use crate::pace::{Pace, SHORT_PAUSE, is_idle};
 use crate::teller::{Teller, Telling, log_head};
 use std::alloc::{AllocError, Global};
 use std::fs::File;
-use std::io;
 use std::io::{Eprint, Write};
 use std::net::Net;
 use std::process::Processes;
 use std::rt::{Clock, Files};
 use std::time::Duration;
+use std::{io, thread};
 use up_daemon::{Daemon, Door, SocketFault, UnixDoor};
 use up_engine::Engine;
 use up_host::{Host, RealHost};
@@ -67,8 +67,20 @@ fn started(alloc: Global, table: Table, inputs: Vec<Input>) -> Result<Daemon, Al
     }
 }
 
+// The pause after a round, if there is one. A short one isn't ended by clients, as a door's pause has whole milliseconds.
+fn rest<R: Clock>(rt: &R, door: &mut UnixDoor, pace: &Pace) {
+    if pace.is_short() {
+        thread::sleep(rt, Duration::from_micros(SHORT_PAUSE));
+        return;
+    }
+    let pause = pace.pause();
+    if pause > 0 {
+        let _ = door.pause(Duration::from_millis(pause));
+    }
+}
+
 // One round, what is told of it, and the pause after it if it did nothing. False if it was refused.
-fn round<R: Print + Eprint + AllocGlobal, H: Host, W: Write + Drop>(
+fn round<R: Clock + Print + Eprint + AllocGlobal, H: Host, W: Write + Drop>(
     rt: &R,
     daemon: &mut Daemon,
     (host, door): (&mut H, &mut UnixDoor),
@@ -82,15 +94,12 @@ fn round<R: Print + Eprint + AllocGlobal, H: Host, W: Write + Drop>(
     teller.tell(rt, rt.alloc(), &round, idle);
     drop(round);
     pace.note(idle);
-    let pause = pace.pause();
-    if pause > 0 {
-        let _ = door.pause(Duration::from_millis(pause));
-    }
+    rest(rt, door, pace);
     true
 }
 
 // The rounds, until they are over or one is refused, and the status.
-fn all_rounds<R: Print + Eprint + AllocGlobal, H: Host, W: Write + Drop>(
+fn all_rounds<R: Clock + Print + Eprint + AllocGlobal, H: Host, W: Write + Drop>(
     rt: &R,
     daemon: &mut Daemon,
     host: &mut H,
