@@ -7,7 +7,7 @@ mod limits;
 use std::alloc::{AllocError, Global};
 use std::test::Fail;
 use up_conf::{Action, Folder, Process, Stanza, read_conf};
-use up_expr::{Condition, Expr};
+use up_expr::{Condition, Root};
 use up_stanza::read_bytes;
 use up_text::{Items, Text};
 
@@ -37,9 +37,9 @@ fn is_event(condition: &Option<Condition>, name: &str) -> bool {
     let Some(condition) = condition else {
         return false;
     };
-    match condition.expr() {
-        Expr::Leaf(leaf) => leaf.event.as_str() == name && leaf.values.as_slice().is_empty(),
-        Expr::And(_, _) | Expr::Or(_, _) => false,
+    match condition.root().root() {
+        Root::Leaf(leaf) => leaf.event.as_str() == name && leaf.values.as_slice().is_empty(),
+        Root::And(_, _) | Root::Or(_, _) => false,
     }
 }
 

@@ -4,7 +4,7 @@ ghost use Rattle.std.specs.Prelude.{◌≡◌, ◌<◌, length};
 use crate::text::env_of;
 use std::alloc::{AllocError, Global};
 use std::test::Fail;
-use up_expr::{Condition, Expr, ExprFault, Leaf, Test, leaf_matches, parse_expr};
+use up_expr::{Branch, Condition, ExprFault, Leaf, Node, Root, Test, leaf_matches, parse_expr};
 use up_text::{Env, Items, Lexer, Name, Text, Token};
 
 // The tokens of a stanza, where parentheses are tokens.
@@ -61,34 +61,38 @@ fn write_leaf(out: &mut String, leaf: &Leaf) -> Result<(), AllocError> {
 }
 
 // A tree with parentheses round each operator.
-fn write_tree(out: &mut String, expr: &Expr) -> Result<(), AllocError> {
-    let (left, word, right) = match expr {
-        Expr::Leaf(leaf) => return write_leaf(out, leaf),
-        Expr::And(left, right) => (left, " and ", right),
-        Expr::Or(left, right) => (left, " or ", right),
+fn write_tree(out: &mut String, branch: &Branch) -> Result<(), AllocError> {
+    let (left, word, right) = match branch.root() {
+        Root::Leaf(leaf) => return write_leaf(out, leaf),
+        Root::And(left, right) => (left, " and ", right),
+        Root::Or(left, right) => (left, " or ", right),
     };
     out.push_str("(")?;
-    write_tree(out, left)?;
+    write_tree(out, &left)?;
     out.push_str(word)?;
-    write_tree(out, right)?;
+    write_tree(out, &right)?;
     out.push_str(")")
 }
 
 // Whether this tree is written so.
-fn is_written(alloc: Global, expr: &Expr, tree: &str) -> Result<bool, AllocError> {
+pub(crate) fn is_written(
+    alloc: Global,
+    condition: &Condition,
+    tree: &str,
+) -> Result<bool, AllocError> {
     let mut written = String::new(alloc);
-    write_tree(&mut written, expr)?;
+    write_tree(&mut written, &condition.root())?;
     Ok(written.as_str() == tree)
 }
 
 fn copy_is_written(alloc: Global, condition: &Condition, tree: &str) -> Result<bool, AllocError> {
     let copied = condition.copy(alloc)?;
-    is_written(alloc, copied.expr(), tree)
+    is_written(alloc, &copied, tree)
 }
 
 // Whether a tree is written so, and its copy too.
 fn are_written(alloc: Global, condition: &Condition, tree: &str) -> Result<bool, Fail> {
-    let is_tree = is_written(alloc, condition.expr(), tree)?;
+    let is_tree = is_written(alloc, condition, tree)?;
     Ok(is_tree && copy_is_written(alloc, condition, tree)?)
 }
 
@@ -208,13 +212,12 @@ fn refuses_names_and_values(rt: HostRuntime) -> Result<(), Fail> {
     check_refused(rt.alloc(), NO_NAMES_OR_VALUES)
 }
 
-fn leaves(expr: &Expr) -> usize {
-    match expr {
-        Expr::Leaf(_) => 1,
-        Expr::And(left, right) | Expr::Or(left, right) => {
-            leaves(left).saturating_add(leaves(right))
-        }
-    }
+fn leaves(condition: &Condition) -> usize {
+    let nodes = condition.nodes().as_slice();
+    nodes
+        .iter()
+        .filter(|node| matches!(node, Node::Leaf(_)))
+        .count()
 }
 
 // A text of pieces in a row, an end, and parentheses that close; with how many leaves it is read, or that it is too large.
@@ -230,7 +233,7 @@ struct Large {
 
 // At each limit a text and the next larger one.
 const LARGE: &'static [Large] = &[
-    // The tree is as deep as it has leaves; dropping it is part of the test.
+    // The tree is as deep as it has leaves.
     Large {
         name: "most leaves",
         piece: "a or ",
@@ -299,7 +302,7 @@ fn text_of(alloc: Global, case: &Large) -> Result<String, AllocError> {
 // How many leaves a text has, or the number of its fault.
 fn read_leaves(alloc: Global, text: &str) -> Result<Result<usize, u8>, Fail> {
     match parse(alloc, text)? {
-        Ok(condition) => Ok(Ok(leaves(condition.expr()))),
+        Ok(condition) => Ok(Ok(leaves(&condition))),
         Err(fault) => Ok(Err(fault.number())),
     }
 }
@@ -525,19 +528,19 @@ fn is_match(alloc: Global, leaf: &Leaf, vars: &Env, case: &Match) -> Result<bool
 }
 
 // The same for the leaf that an expression is.
-fn is_leaf_match(alloc: Global, expr: &Expr, case: &Match) -> Result<bool, Fail> {
-    match expr {
-        Expr::Leaf(leaf) => {
+fn is_leaf_match(alloc: Global, condition: &Condition, case: &Match) -> Result<bool, Fail> {
+    match condition.root().root() {
+        Root::Leaf(leaf) => {
             let vars = env_of(alloc, case.vars)?;
             is_match(alloc, leaf, &vars, case)
         }
-        Expr::And(_, _) | Expr::Or(_, _) => Ok(false),
+        Root::And(_, _) | Root::Or(_, _) => Ok(false),
     }
 }
 
 fn holds(alloc: Global, case: &Match) -> Result<bool, Fail> {
     match parse(alloc, case.leaf)? {
-        Ok(condition) => is_leaf_match(alloc, condition.expr(), case),
+        Ok(condition) => is_leaf_match(alloc, &condition, case),
         Err(_) => Ok(false),
     }
 }

@@ -7,6 +7,8 @@ mod conf;
 #[cfg(test)]
 mod expr;
 #[cfg(test)]
+mod flat;
+#[cfg(test)]
 mod image;
 #[cfg(test)]
 mod model;

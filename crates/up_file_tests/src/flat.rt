@@ -1,0 +1,89 @@
+//! Expressions that are made by hand, and their nodes.
+use crate::expr::is_written;
+use std::alloc::{AllocError, Global};
+use std::test::Fail;
+use up_expr::{Builder, Condition, Expr, Leaf, Node, Nodes, flatten};
+use up_text::{Items, Name};
+
+fn leaf_of(alloc: Global, event: &str) -> Result<Leaf, Fail> {
+    let event = Name::new(alloc, event)?;
+    Ok(Leaf {
+        event,
+        values: Items::new(Vec::new(alloc)),
+    })
+}
+
+fn boxed_leaf(alloc: Global, event: &str) -> Result<Box<Expr>, Fail> {
+    let leaf = leaf_of(alloc, event)?;
+    Ok(Box::new(alloc, Expr::Leaf(leaf))?)
+}
+
+// The expression `a and (b or c)`.
+fn expr_of(alloc: Global) -> Result<Expr, Fail> {
+    let either = Expr::Or(boxed_leaf(alloc, "b")?, boxed_leaf(alloc, "c")?);
+    let right = Box::new(alloc, either)?;
+    Ok(Expr::And(boxed_leaf(alloc, "a")?, right))
+}
+
+// What a node says: an event's name, or an operator and its sides.
+fn says(alloc: Global, node: &Node) -> Result<String, AllocError> {
+    match node {
+        Node::Leaf(leaf) => String::from_str(alloc, leaf.event.as_str()),
+        Node::And(left, right) => format!(in alloc; "and {left} {right}"),
+        Node::Or(left, right) => format!(in alloc; "or {left} {right}"),
+    }
+}
+
+const TREE: &'static str = "(a and (b or c))";
+
+const SAID: &'static [&'static str] = &["a", "b", "c", "or 1 2", "and 0 3"];
+
+// Whether nodes say this, one after another.
+fn say(alloc: Global, nodes: &Nodes, said: &[&str]) -> Result<bool, AllocError> {
+    for (node, words) in nodes.as_slice().iter().zip(said) {
+        if says(alloc, node)?.as_str() != *words {
+            return Ok(false);
+        }
+    }
+    Ok(nodes.len() == said.len())
+}
+
+#[test]
+fn an_expression_is_laid_flat(rt: HostRuntime) -> Result<(), Fail> {
+    let expr = expr_of(rt.alloc())?;
+    let nodes = flatten(rt.alloc(), &expr)?;
+    assert!(rt; say(rt.alloc(), &nodes, SAID)?);
+    Ok(())
+}
+
+#[test]
+fn a_condition_is_made_of_an_expression(rt: HostRuntime) -> Result<(), Fail> {
+    let expr = expr_of(rt.alloc())?;
+    let condition = Condition::new(rt.alloc(), &expr)?;
+    assert!(rt; say(rt.alloc(), condition.nodes(), SAID)?);
+    assert!(rt; is_written(rt.alloc(), &condition, TREE)?);
+    Ok(())
+}
+
+// The condition of a leaf for each event, joined from the last one back: with `or`, and at last with `and`.
+fn built(alloc: Global) -> Result<Condition, Fail> {
+    let mut builder = Builder::new(alloc);
+    builder.leaf(leaf_of(alloc, "a")?)?;
+    if builder.join(true)? {
+        return Err(Fail::from("one leaf was joined"));
+    }
+    builder.leaf(leaf_of(alloc, "b")?)?;
+    builder.leaf(leaf_of(alloc, "c")?)?;
+    if !builder.join(false)? || !builder.join(true)? || builder.len() != 1 {
+        return Err(Fail::from("three leaves weren't joined"));
+    }
+    Ok(builder.finish())
+}
+
+#[test]
+fn a_condition_is_built(rt: HostRuntime) -> Result<(), Fail> {
+    let condition = built(rt.alloc())?;
+    assert!(rt; say(rt.alloc(), condition.nodes(), SAID)?);
+    assert!(rt; is_written(rt.alloc(), &condition, TREE)?);
+    Ok(())
+}
