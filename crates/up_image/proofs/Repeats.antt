@@ -1,11 +1,12 @@
 -- Texts of which none stands twice, one after another.
-use Rattle.std.proofs.Common.{◌≡◌, ℕ, ◌+◌, ◌<◌, Bool, true, false, ◌||◌, not, List, [], ◌∷◌, ◌++◌, length, get_or, take, drop, map, cond, refl, sym, ◌∙◌, ap, suc}
+use Rattle.std.proofs.Common.{◌≡◌, ℕ, ◌+◌, ◌<◌, ◌≤◌, Bool, true, false, ◌||◌, not, List, [], ◌∷◌, ◌++◌, length, get_or, take, drop, map, cond, refl, sym, ◌∙◌, ap, suc, arith}
 use Rattle.std.specs.List.{list_any}
 use Rattle.std.specs.Str.{bytes_eq}
 use Rattle.std.specs.Cmp.{both_ways}
 use Rattle.std.proofs.lemmas.List.{take_more, map-append}
 use Rattle.std.proofs.Math.Seq.{split_at}
 use Rattle.std.proofs.lemmas.Slice.Eq.{bytes_eq-Decides}
+use Rattle.up_stanza.specs.declared.setting.Setting.{Setting}
 use Rattle.up_image.specs.Compiling.{has_twice}
 
 pub bytes_eq-flip : (xs ys : List ℕ) → bytes_eq xs ys ≡ bytes_eq ys xs
@@ -90,3 +91,14 @@ from_not-false false e = absurd (cc)
 pub from_not-true : (b : Bool) → not b ≡ true → b ≡ false
 from_not-true true e = absurd (cc)
 from_not-true false e = refl
+
+-- one text doesn't stand twice
+pub few_apart : (texts : List (List ℕ)) → length texts ≤ 1 → has_twice texts ≡ false
+few_apart [] few = refl
+few_apart (text ∷ []) few = refl
+few_apart (text ∷ other ∷ texts) few = absurd (omega (arith, few))
+
+pub few_keys : (settings : List Setting) → length settings ≤ 1 → has_twice (map (λ setting. setting.key) settings) ≡ false
+few_keys [] few = refl
+few_keys (setting ∷ []) few = refl
+few_keys (setting ∷ other ∷ settings) few = absurd (omega (arith, few))

@@ -96,9 +96,11 @@ is_command text = reads_command text (command_marks_at (start text))
 abbrev pub is_shell_command : List ℕ → Bool
 is_shell_command text = list_any is_shell text && is_command text
 
+abbrev pub is_exec : List ℕ → Bool
+is_exec text = starts_with nat_eq text (codes "exec ") && is_shell_command (drop 5 text)
+
 abbrev pub is_for_shell : List ℕ → Bool
-is_for_shell text =
-    is_script text || (starts_with nat_eq text (codes "exec ") && is_shell_command (drop 5 text))
+is_for_shell text = is_script text || is_exec text
 
 abbrev pub is_shell_text : List ℕ → Bool
 is_shell_text text =

@@ -89,7 +89,8 @@ fn is_script(alloc: Global, text: &str) -> Result<bool, AllocError>
     requires { length text.now ≤ MAX_IMAGE }
     ensures { IfOk result (λ script. script ≡ giving.is_script text.now) }
 {
-    let mut whole = String::from_str(alloc, text)?;
+    let mut whole = String::with_capacity(alloc, text.len() + 10)?;
+    whole.push_str(text)?;
     whole.push_str("end script")?;
     let mut lexer = Lexer::new(whole.as_str());
     match lexer.script_lines(alloc) {
@@ -130,18 +131,26 @@ fn is_shell_command(alloc: Global, text: &str) -> Result<bool, AllocError>
     is_command(alloc, text)
 }
 
-// Whether a text is a script or what `exec` makes of a command.
-fn is_for_shell(alloc: Global, text: &str) -> Result<bool, AllocError>
+// Whether a text is what `exec` makes of a command.
+fn is_exec(alloc: Global, text: &str) -> Result<bool, AllocError>
     requires { length text.now ≤ MAX_IMAGE }
-    ensures { IfOk result (λ shell. shell ≡ giving.is_for_shell text.now) }
+    ensures { IfOk result (λ exec. exec ≡ giving.is_exec text.now) }
 {
-    if is_script(alloc, text)? {
-        return Ok(true);
-    }
     match text.strip_prefix("exec ") {
         Some(command) => is_shell_command(alloc, command),
         None => Ok(false),
     }
+}
+
+// Whether a text is a script or what `exec` makes of a command. A script takes longer to tell.
+fn is_for_shell(alloc: Global, text: &str) -> Result<bool, AllocError>
+    requires { length text.now ≤ MAX_IMAGE }
+    ensures { IfOk result (λ shell. shell ≡ giving.is_for_shell text.now) }
+{
+    if is_exec(alloc, text)? {
+        return Ok(true);
+    }
+    is_script(alloc, text)
 }
 
 /// Whether files can give a text to the shell.
