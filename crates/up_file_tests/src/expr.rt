@@ -61,6 +61,7 @@ fn write_leaf(out: &mut String, leaf: &Leaf) -> Result<(), AllocError> {
 }
 
 // A tree with parentheses round each operator.
+#[cycle(trees)]
 fn write_tree(out: &mut String, branch: &Branch) -> Result<(), AllocError> {
     let (left, word, right) = match branch.root() {
         Root::Leaf(leaf) => return write_leaf(out, leaf),

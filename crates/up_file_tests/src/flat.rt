@@ -65,25 +65,31 @@ fn a_condition_is_made_of_an_expression(rt: HostRuntime) -> Result<(), Fail> {
     Ok(())
 }
 
-// The condition of a leaf for each event, joined from the last one back: with `or`, and at last with `and`.
-fn built(alloc: Global) -> Result<Condition, Fail> {
+// Whether one leaf alone is joined.
+fn joins_one(alloc: Global) -> Result<bool, Fail> {
     let mut builder = Builder::new(alloc);
-    builder.leaf(leaf_of(alloc, "a")?)?;
-    if builder.join(true)? {
-        return Err(Fail::from("one leaf was joined"));
-    }
+    builder.leaf(leaf_of(alloc, "b")?)?;
+    Ok(builder.join(true)?)
+}
+
+// The condition of two leaves: both, or one or the other.
+fn built(alloc: Global, both: bool) -> Result<Condition, Fail> {
+    let mut builder = Builder::new(alloc);
     builder.leaf(leaf_of(alloc, "b")?)?;
     builder.leaf(leaf_of(alloc, "c")?)?;
-    if !builder.join(false)? || !builder.join(true)? || builder.len() != 1 {
-        return Err(Fail::from("three leaves weren't joined"));
+    if !builder.join(both)? || builder.len() != 1 {
+        return Err(Fail::from("two leaves weren't joined"));
     }
     Ok(builder.finish())
 }
 
 #[test]
 fn a_condition_is_built(rt: HostRuntime) -> Result<(), Fail> {
-    let condition = built(rt.alloc())?;
-    assert!(rt; say(rt.alloc(), condition.nodes(), SAID)?);
-    assert!(rt; is_written(rt.alloc(), &condition, TREE)?);
+    assert!(rt; !joins_one(rt.alloc())?);
+    let either = built(rt.alloc(), false)?;
+    assert!(rt; say(rt.alloc(), either.nodes(), &["b", "c", "or 0 1"])?);
+    assert!(rt; is_written(rt.alloc(), &either, "(b or c)")?);
+    let both = built(rt.alloc(), true)?;
+    assert!(rt; say(rt.alloc(), both.nodes(), &["b", "c", "and 0 1"])?);
     Ok(())
 }

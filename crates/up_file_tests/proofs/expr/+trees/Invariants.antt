@@ -1,5 +1,5 @@
 use Rattle.up_expr.specs.Flat.{size}
-use Rattle.up_file_tests.proofs.expr.write_tree.Given as goal
+use Rattle.up_file_tests.proofs.expr.+trees.Given as goal
 
 -- a side is smaller
 abbrev pub decreases-write_tree : goal.decreases-write_tree
