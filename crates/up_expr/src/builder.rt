@@ -1,5 +1,5 @@
 //! Makes an expression from its nodes.
-ghost use Rattle.std.specs.Prelude.{◌≡◌, ◌-◌, ◌++◌, ◌∷◌, [], ◌<◌, IfOk, OnErr, OnOk, Some, None, if◌then◌else◌, length, get_or, take};
+ghost use Rattle.std.specs.Prelude.{◌≡◌, ◌-◌, ◌++◌, ◌∷◌, [], ◌<◌, IfOk, OnErr, OnOk, Some, None, false, if◌then◌else◌, length, get_or, take};
 ghost use Rattle.up_expr.specs.declared.flat.TheConstants.{MAX_NODES};
 ghost use Rattle.up_expr.specs.Laying.{join_node, sizes};
 ghost use Rattle.up_expr.specs.TreeCode.{joined};
@@ -111,11 +111,12 @@ impl Builder {
         }
     }
 
-    /// Joins the newest two, the older one on the left, to what both or either says. Returns whether there are two. Where memory is
-    /// refused nothing changes.
+    /// Joins the newest two, the older one on the left, to what both or either says. Returns whether there are two. Where there
+    /// aren't, or memory is refused, nothing changes.
     pub fn join(&mut self, both: bool) -> Result<bool, AllocError>
         requires { sizes self.old < MAX_NODES }
         ensures joined { IfOk result (λ done. joined both self.old ≡ (if done then Some self.new else None)) }
+        ensures few { IfOk result (λ done. done ≡ false → self.new ≡ self.old) }
         ensures unchanged { OnErr result (self.new ≡ self.old) }
     {
         if self.starts.len() < 2 {
