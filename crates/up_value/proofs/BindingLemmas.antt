@@ -1,16 +1,14 @@
 -- What a map's entries say of the bindings that contracts see.
-use Rattle.std.proofs.Common.{◌≡◌, ℕ, ◌+◌, ◌<◌, add-one, Bool, true, false, List, [], ◌∷◌, ◌++◌, length, take, Option, None, Some, cond, refl, sym, ◌∙◌, ap, subst, slice_get, zero, suc, arith}
-use Rattle.std.specs.Prelude.{slice_set, slice_index_or}
-use Rattle.std.specs.Prelude.{String, Result, Ok, Err, OnOk, OnErr}
-use Rattle.std.specs.BTreeMap.{BTreeMap, get_by_text}
-use Rattle.std.specs.Cmp.{both_ways as both_same}
-use Rattle.std.specs.Option.{option_map}
+use Rattle.std.proofs.Common.{◌≡◌, ℕ, ◌+◌, add-one, Bool, true, false, List, [], ◌∷◌, ◌++◌, take, Some, cond, refl, sym, ◌∙◌, ap, subst, slice_get, zero, suc}
+use Rattle.std.specs.Prelude.{String, string_bytes, Result, Ok, Err, OnOk, OnErr}
 use Rattle.std.specs.Str.{bytes_eq}
+use Rattle.std.specs.Map.{lookup}
+use Rattle.indexmap.specs.IndexMap.{insert_entry}
 use Rattle.std.proofs.lemmas.Bool.{and_parts, not-true, false_from_ne_true, both_ways}
 use Rattle.std.proofs.lemmas.Slice.Eq.{bytes_eq-Decides}
 use Rattle.std.proofs.lemmas.List.{append-nil, append_assoc}
 use Rattle.up_value.specs.Names.{is_key, is_value}
-use Rattle.up_value.specs.Bindings.{value_of, set_in, set_all, has_key, are_bindings, place_of, AreIndexed}
+use Rattle.up_value.specs.Bindings.{value_of, set_in, set_all, has_key, are_bindings, bindings_of}
 
 -- tests of bytes don't mind the order
 flip : (xs ys : List ℕ) → bytes_eq xs ys ≡ false → bytes_eq ys xs ≡ false
@@ -51,77 +49,6 @@ leads binding bindings are =
 
 led : (binding : List ℕ × List ℕ) (bindings : List (List ℕ × List ℕ)) → Leads binding bindings → are_bindings (binding ∷ bindings) ≡ true
 led binding bindings h = rw (h.key, h.value, h.apart, h.rest) refl
-
-bytes_eq-flip : (xs ys : List ℕ) → bytes_eq xs ys ≡ bytes_eq ys xs
-bytes_eq-flip xs ys =
-    both_same _ _ (λ e. (bytes_eq-Decides ys xs).1 (sym ((bytes_eq-Decides xs ys).0 e))) (λ e. (bytes_eq-Decides xs ys).1 (sym ((bytes_eq-Decides ys xs).0 e)))
-
--- what a place says of its key
-pub record StandsAt (key : List ℕ) (bindings : List (List ℕ × List ℕ)) (place : ℕ) : Type 0 where
-  pub within : place < length bindings
-  pub value : (d : List ℕ × List ℕ) → value_of key bindings ≡ Some (slice_index_or bindings place d).1
-  pub set : (value : List ℕ) (d : List ℕ × List ℕ) → set_in key value bindings ≡ slice_set bindings place ((slice_index_or bindings place d).0, value)
-  pub places : (value other : List ℕ) → place_of other (set_in key value bindings) ≡ place_of other bindings
-
-pub stands_at : (key : List ℕ) (bindings : List (List ℕ × List ℕ)) (place : ℕ) → place_of key bindings ≡ Some place → StandsAt key bindings place
-stands_at key [] place is = cc
-stands_at key (binding ∷ bindings) place is = by_case (bytes_eq key binding.0) refl (place_of key bindings) refl (stands_at key bindings) place is
-  where
-    by_case : (here : Bool) → bytes_eq key binding.0 ≡ here → (there : Option ℕ) → place_of key bindings ≡ there
-        → ((place : ℕ) → place_of key bindings ≡ Some place → StandsAt key bindings place)
-        → (place : ℕ) → cond here (Some 0) (option_map (λ p. suc p) there) ≡ Some place → StandsAt key (binding ∷ bindings) place
-    by_case true same there found rest place is =
-        let first : place ≡ 0 = cc in
-        rw first (record { within = omega arith; value = λ d. rw same refl; set = λ value d. rw same refl; places = λ value other. rw same refl })
-    by_case false differ None found rest place is = cc
-    by_case false differ (Some later) found rest place is =
-        let next : place ≡ suc later = cc in
-        let h = rest later found in
-        let within = h.within in
-        rw next (record {
-          within = omega (arith, within);
-          value = λ d. rw differ (h.value d);
-          set = λ value d. rw differ (ap (λ others. binding ∷ others) (h.set value d));
-          places = λ value other. rw differ (ap (λ p. cond (bytes_eq other binding.0) (Some 0) (option_map (λ n. suc n) p)) (h.places value other));
-        })
-
--- what it says that a key has no place
-pub record IsAbsent (key : List ℕ) (bindings : List (List ℕ × List ℕ)) : Type 0 where
-  pub value : value_of key bindings ≡ None
-  pub set : (value : List ℕ) → set_in key value bindings ≡ bindings ++ (key, value) ∷ []
-  pub places : (value other : List ℕ) → place_of other (set_in key value bindings) ≡ cond (bytes_eq key other) (Some (length bindings)) (place_of other bindings)
-
-pub is_absent : (key : List ℕ) (bindings : List (List ℕ × List ℕ)) → place_of key bindings ≡ None → IsAbsent key bindings
-is_absent key [] is = record {
-  value = refl;
-  set = λ value. refl;
-  places = λ value other. ap (λ b. cond b (Some 0) None) (bytes_eq-flip other key);
-}
-is_absent key (binding ∷ bindings) is = by_case (bytes_eq key binding.0) refl (place_of key bindings) refl (is_absent key bindings) is
-  where
-    later : (other : List ℕ) (same here : Bool) → bytes_eq key other ≡ same → bytes_eq other binding.0 ≡ here → bytes_eq key binding.0 ≡ false
-        → cond here (Some 0) (option_map (λ n. suc n) (cond same (Some (length bindings)) (place_of other bindings)))
-        ≡ cond same (Some (suc (length bindings))) (cond here (Some 0) (option_map (λ n. suc n) (place_of other bindings)))
-    later other true true equal first differ =
-        let is : key ≡ other = (bytes_eq-Decides key other).0 equal in
-        absurd (both_ways (bytes_eq key binding.0) differ (rw is first))
-    later other true false equal first differ = refl
-    later other false here equal first differ = refl
-
-    by_case : (here : Bool) → bytes_eq key binding.0 ≡ here → (there : Option ℕ) → place_of key bindings ≡ there
-        → (place_of key bindings ≡ None → IsAbsent key bindings)
-        → cond here (Some 0) (option_map (λ p. suc p) there) ≡ None → IsAbsent key (binding ∷ bindings)
-    by_case true same there found rest is = cc
-    by_case false differ (Some place) found rest is = cc
-    by_case false differ None found rest is =
-        let h = rest found in
-        record {
-          value = rw differ h.value;
-          set = λ value. rw differ (ap (λ others. binding ∷ others) (h.set value));
-          places = λ value other.
-              rw differ (ap (λ p. cond (bytes_eq other binding.0) (Some 0) (option_map (λ n. suc n) p)) (h.places value other)
-              ∙ later other (bytes_eq key other) (bytes_eq other binding.0) refl refl differ);
-        }
 
 -- each of the pairs that an environment has may be set in another
 pub good_at : (bindings : List (List ℕ × List ℕ)) (i : ℕ) (key value : List ℕ) → are_bindings bindings ≡ true → slice_get bindings i ≡ Some (key, value) → (is_key key ≡ true) × (is_value value ≡ true)
@@ -185,45 +112,29 @@ set_all-apart front (pair ∷ pairs) are =
 pub set_all-nil : (pairs : List (List ℕ × List ℕ)) → are_bindings pairs ≡ true → set_all [] pairs ≡ pairs
 set_all-nil pairs are = set_all-apart [] pairs are
 
--- a key that is there takes another value
-pub put_there : {A : Type 0} (key value : List ℕ) (old new : List (List ℕ × List ℕ)) (places : BTreeMap (String A) ℕ) (place : ℕ)
-    → (are_bindings old ≡ true) × AreIndexed places old → is_key key ≡ true → is_value value ≡ true → get_by_text places key ≡ Some place
-    → ((d : List ℕ × List ℕ) → new ≡ slice_set old place ((slice_index_or old place d).0, value))
-    → ((are_bindings new ≡ true) × AreIndexed places new) × (new ≡ set_in key value old)
-put_there key value old new places place is good fit found set =
-    let h = stands_at key old place (sym (is.1 key) ∙ found) in
-    let same : new ≡ set_in key value old = set (key, value) ∙ sym (h.set value (key, value)) in
-    rw same ((are_bindings-set_in key value old is.0 good fit, λ other. is.1 other ∙ sym (h.places value other)), refl)
+-- what a map has at a key is the value of the bindings that its entries are
+pub lookup_value : {A : Type 0} (key : List ℕ) (entries : List (String A × List ℕ))
+    → lookup (λ k. bytes_eq key (string_bytes k)) entries ≡ value_of key (bindings_of entries)
+lookup_value key [] = refl
+lookup_value key (entry ∷ entries) = ap (λ rest. cond (bytes_eq key (string_bytes entry.0)) (Some entry.1) rest) (lookup_value key entries)
 
--- a key that isn't there is added
-pub put_new : {A : Type 0} (key value : List ℕ) (old new : List (List ℕ × List ℕ)) (places more : BTreeMap (String A) ℕ)
-    → (are_bindings old ≡ true) × AreIndexed places old → is_key key ≡ true → is_value value ≡ true → get_by_text places key ≡ None
-    → new ≡ old ++ (key, value) ∷ []
-    → ((other : List ℕ) → get_by_text more other ≡ cond (bytes_eq key other) (Some (length old)) (get_by_text places other))
-    → ((are_bindings new ≡ true) × AreIndexed more new) × (new ≡ set_in key value old)
-put_new key value old new places more is good fit none added noted =
-    let h = is_absent key old (sym (is.1 key) ∙ none) in
-    let same : new ≡ set_in key value old = added ∙ sym (h.set value) in
-    rw same (
-      (
-        are_bindings-set_in key value old is.0 good fit,
-        λ other. noted other ∙ ap (cond (bytes_eq key other) (Some (length old))) (is.1 other) ∙ sym (h.places value other),
-      ),
-      refl,
-    )
+-- an entry that is inserted sets its key
+pub inserted_sets : {A : Type 0} (eq : String A → String A → Bool) (entries : List (String A × List ℕ)) (key : String A) (value : List ℕ)
+    → ((a b : String A) → eq a b ≡ bytes_eq (string_bytes a) (string_bytes b))
+    → bindings_of (insert_entry eq entries key value) ≡ set_in (string_bytes key) value (bindings_of entries)
+inserted_sets eq [] key value same = refl
+inserted_sets eq (entry ∷ entries) key value same =
+    rw (same key entry.0) (by_case (bytes_eq (string_bytes key) (string_bytes entry.0)) (inserted_sets eq entries key value same))
+  where
+    by_case : (here : Bool) → bindings_of (insert_entry eq entries key value) ≡ set_in (string_bytes key) value (bindings_of entries)
+        → bindings_of (cond here ((entry.0, value) ∷ entries) (entry ∷ insert_entry eq entries key value))
+        ≡ cond here ((string_bytes entry.0, value) ∷ bindings_of entries) ((string_bytes entry.0, entry.1) ∷ set_in (string_bytes key) value (bindings_of entries))
+    by_case true rest = refl
+    by_case false rest = ap (λ others. (string_bytes entry.0, entry.1) ∷ others) rest
 
--- if neither changes, nothing does
-pub put_not : {A : Type 0} (old new : List (List ℕ × List ℕ)) (places more : BTreeMap (String A) ℕ) → (are_bindings old ≡ true) × AreIndexed places old
-    → new ≡ old → ((other : List ℕ) → get_by_text more other ≡ get_by_text places other) → (are_bindings new ≡ true) × AreIndexed more new
-put_not old new places more is same noted = rw same (is.0, λ other. noted other ∙ is.1 other)
-
--- either is so, by whether memory was refused
-pub put_result : {A E : Type 0} (key value : List ℕ) (old new : List (List ℕ × List ℕ)) (places more : BTreeMap (String A) ℕ) (result : Result (Unit {0}) E)
-    → (are_bindings old ≡ true) × AreIndexed places old → is_key key ≡ true → is_value value ≡ true → get_by_text places key ≡ None
-    → OnOk result (new ≡ old ++ (key, value) ∷ [])
-    → OnOk result ((other : List ℕ) → get_by_text more other ≡ cond (bytes_eq key other) (Some (length old)) (get_by_text places other))
-    → OnErr result (new ≡ old)
-    → OnErr result ((other : List ℕ) → get_by_text more other ≡ get_by_text places other)
-    → ((are_bindings new ≡ true) × AreIndexed more new) × OnOk result (new ≡ set_in key value old)
-put_result key value old new places more (Ok done) is good fit none added noted kept stay = put_new key value old new places more is good fit none added noted
-put_result key value old new places more (Err refused) is good fit none added noted kept stay = (put_not old new places more is kept stay, tt)
+-- bindings are bindings after a key is set, and where memory was refused
+pub set_or_kept : {A E : Type 0} (key value : List ℕ) (old new : List (String A × List ℕ)) (result : Result (Unit {0}) E)
+    → are_bindings (bindings_of old) ≡ true → is_key key ≡ true → is_value value ≡ true
+    → OnOk result (bindings_of new ≡ set_in key value (bindings_of old)) → OnErr result (new ≡ old) → are_bindings (bindings_of new) ≡ true
+set_or_kept key value old new (Ok done) are good fit set kept = rw set (are_bindings-set_in key value (bindings_of old) are good fit)
+set_or_kept key value old new (Err refused) are good fit set kept = rw kept are

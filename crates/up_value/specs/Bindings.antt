@@ -1,5 +1,4 @@
-use Rattle.std.specs.Prelude.{◌≡◌, ℕ, suc, Bool, true, false, ◌&&◌, not, List, [], ◌∷◌, Option, None, Some, option_map, if◌then◌else◌, String}
-use Rattle.std.specs.BTreeMap.{BTreeMap, get_by_text}
+use Rattle.std.specs.Prelude.{Bool, true, false, ◌&&◌, not, List, [], ◌∷◌, Option, None, Some, map, if◌then◌else◌, String, string_bytes}
 use Rattle.std.specs.Str.{bytes_eq}
 use Rattle.up_value.specs.Names.{is_key, is_value}
 use Rattle.up_value.specs.Values.{Bytes, Bindings}
@@ -33,12 +32,9 @@ are_bindings [] = true
 are_bindings (binding ∷ bindings) = is_key binding.0 && is_value binding.1
     && not (has_key binding.0 bindings) && are_bindings bindings
 
--- the place of a key among those of the bindings
-abbrev pub place_of : Bytes → Bindings → Option ℕ
-place_of key [] = None
-place_of key (binding ∷ bindings) = if bytes_eq key binding.0 then Some 0
-    else option_map (λ place. suc place) (place_of key bindings)
+-- the bindings that a map's entries are
+abbrev pub binding_of : {A : Type 0} → String A × Bytes → Bytes × Bytes
+binding_of entry = (string_bytes entry.0, entry.1)
 
--- a map from keys to their places among the bindings
-abbrev pub AreIndexed : {A : Type 0} → BTreeMap (String A) ℕ → Bindings → Type 0
-AreIndexed places bindings = (key : Bytes) → get_by_text places key ≡ place_of key bindings
+abbrev pub bindings_of : {A : Type 0} → List (String A × Bytes) → Bindings
+bindings_of entries = map binding_of entries

@@ -1,36 +1,30 @@
 //! Environments: distinct keys with values, in order.
-ghost use Rattle.std.specs.Prelude.{◌≡◌, ◌<◌, ◌↔◌, ◌++◌, ◌∷◌, [], List, ℕ, Some, true, length, OnOk, OnErr, IfOk, IfErr, IsTrue, if◌then◌else◌, ◌&&◌, slice_get, slice_set, slice_index_or, option_map, string_bytes};
-ghost use Rattle.std.specs.BTreeMap.{get_by_text};
-ghost use Rattle.std.specs.Str.{bytes_eq};
+ghost use Rattle.std.specs.Prelude.{◌≡◌, ◌<◌, ◌↔◌, [], true, length, OnOk, OnErr, IfOk, IfErr, IsTrue, if◌then◌else◌, ◌&&◌, slice_get, option_map, string_bytes, Some};
 ghost use Rattle.std.specs.List.{list_all};
 ghost use Rattle.up_value.specs.Names.{is_key, is_key_start, is_key_byte, is_value};
-ghost use Rattle.up_value.specs.Bindings.{value_of, set_in, set_all};
-ghost use Rattle.up_value.specs.Values.{Bytes};
+ghost use Rattle.up_value.specs.Bindings.{value_of, set_in, set_all, bindings_of};
 
 use crate::fault::TextFault;
 use crate::text::Text;
+use indexmap::IndexMap;
 use std::alloc::{AllocError, Global};
-use std::collections::BTreeMap;
 use std::marker::Model;
 
 /// Distinct keys with values, seen by contracts as the list of their pairs in order.
 #[derive(Debug, Drop)]
 pub struct Env {
-    // Each key with its value, in order.
-    pairs: Vec<(Text, Text)>,
-    // Where each key stands. A tree and no hashed map, so that keys chosen by whoever writes a job file cost no more than others.
-    places: BTreeMap<String, usize>,
+    pairs: IndexMap<String, Text>,
 }
 
 impl Model for Env {
     ghost use Rattle.std.specs.Prelude.{◌≡◌, List, ℕ, true};
-    ghost use Rattle.up_value.specs.Bindings.{are_bindings, AreIndexed};
+    ghost use Rattle.up_value.specs.Bindings.{are_bindings, bindings_of};
 
     ghost Value = { List (List ℕ × List ℕ) };
 
-    ghost view = { λ e. e.pairs.items };
+    ghost view = { λ e. bindings_of e.pairs.entries };
 
-    ghost invariant = { λ e. (are_bindings e.pairs.items ≡ true) × AreIndexed e.places e.pairs.items };
+    ghost invariant = { λ e. are_bindings (bindings_of e.pairs.entries) ≡ true };
 }
 
 /// Whether a key may begin with the byte: a letter or `_`.
@@ -72,70 +66,20 @@ pub fn is_value(text: &str) -> bool
     text.as_bytes().iter().all(|byte| *byte != 0)
 }
 
-fn find(places: &BTreeMap<String, usize>, key: &str) -> Option<usize>
-    ensures { result ≡ get_by_text places.now key.now }
+// Sets a key: one that is there keeps its place.
+fn insert(pairs: &mut IndexMap<String, Text>, key: String, value: Text) -> Result<(), AllocError>
+    ensures set { OnOk result (bindings_of pairs.new.entries
+        ≡ set_in (string_bytes key) value (bindings_of pairs.old.entries)) }
+    ensures unchanged { OnErr result (pairs.new.entries ≡ pairs.old.entries) }
 {
-    match places.get(key) {
-        Some(place) => Some(*place),
-        None => None,
-    }
-}
-
-fn value_at(pairs: &[(Text, Text)], place: usize) -> &str
-    requires { place < length pairs.now }
-    ensures { (d : Bytes × Bytes) → result.now ≡ (slice_index_or pairs.now place d).1 }
-{
-    let (_, value) = &pairs[place];
-    value.as_str()
-}
-
-// Gives the key at a place another value.
-fn set_value(pairs: &mut Vec<(Text, Text)>, place: usize, value: Text)
-    requires { place < length pairs.old.items }
-    ensures { (d : Bytes × Bytes) → pairs.new.items
-        ≡ slice_set pairs.old.items place ((slice_index_or pairs.old.items place d).0, value) }
-{
-    let pair = &mut pairs[place];
-    pair.1 = value;
-}
-
-// Notes where a key stands.
-fn index(places: &mut BTreeMap<String, usize>, key: String, place: usize) -> Result<(), AllocError>
-    ensures noted { OnOk result ((other : Bytes)
-        → get_by_text places.new other ≡ (if bytes_eq (string_bytes key) other then Some place
-        else get_by_text places.old other)) }
-    ensures unchanged { OnErr result ((other : Bytes)
-        → get_by_text places.new other ≡ get_by_text places.old other) }
-{
-    places.insert(key, place)?;
-    Ok(())
-}
-
-// Adds a key that isn't there.
-fn add(
-    pairs: &mut Vec<(Text, Text)>,
-    places: &mut BTreeMap<String, usize>,
-    key: &str,
-    value: Text,
-) -> Result<(), AllocError>
-    ensures pairs { OnOk result (pairs.new.items ≡ pairs.old.items ++ (key.now, value) ∷ []) }
-    ensures places { OnOk result ((other : Bytes)
-        → get_by_text places.new other ≡ (if bytes_eq key.now other then Some (length pairs.old.items)
-        else get_by_text places.old other)) }
-    ensures pairs_stay { OnErr result (pairs.new.items ≡ pairs.old.items) }
-    ensures places_stay { OnErr result ((other : Bytes)
-        → get_by_text places.new other ≡ get_by_text places.old other) }
-{
-    let alloc = *pairs.allocator();
-    let name = Text::from_str(alloc, key)?;
-    let key = String::from_str(alloc, key)?;
-    let place = pairs.len();
-    pairs.push((name, value))?;
-    match index(places, key, place) {
-        Ok(()) => Ok(()),
-        Err(error) => {
-            pairs.truncate(place);
-            Err(error)
+    match pairs.insert(key, value) {
+        Ok(earlier) => {
+            drop(earlier);
+            Ok(())
+        }
+        Err(refused) => {
+            drop(refused);
+            Err(AllocError)
         }
     }
 }
@@ -146,8 +90,7 @@ impl Env {
         ensures { result ≡ [] }
     {
         Env {
-            pairs: Vec::new(alloc),
-            places: BTreeMap::new(alloc),
+            pairs: IndexMap::new(alloc),
         }
     }
 
@@ -169,8 +112,8 @@ impl Env {
     pub fn get(&self, key: &str) -> Option<&str>
         ensures { option_map (λ value. value.now) result ≡ value_of key.now self.now }
     {
-        match find(&self.places, key) {
-            Some(place) => Some(value_at(self.pairs.as_slice(), place)),
+        match self.pairs.get(key) {
+            Some(value) => Some(value.as_str()),
             None => None,
         }
     }
@@ -182,8 +125,10 @@ impl Env {
         ensures key { is_key result.0.now ≡ true }
         ensures value { is_value result.1.now ≡ true }
     {
-        let (key, value) = &self.pairs[i];
-        (key.as_str(), value.as_str())
+        match self.pairs.get_index(i) {
+            Some((key, value)) => (key.as_str(), value.as_str()),
+            None => unreachable!(),
+        }
     }
 
     /// Sets a key: one that is there keeps its place and takes the new value, and a new one goes last. Refused with `BadName` for
@@ -211,13 +156,8 @@ impl Env {
     {
         let alloc = *self.pairs.allocator();
         let value = Text::from_str(alloc, value)?;
-        match find(&self.places, key) {
-            Some(place) => {
-                set_value(&mut self.pairs, place, value);
-                Ok(())
-            }
-            None => add(&mut self.pairs, &mut self.places, key, value),
-        }
+        let key = String::from_str(alloc, key)?;
+        insert(&mut self.pairs, key, value)
     }
 
     // Sets each key of `other` in turn, as far as memory goes.

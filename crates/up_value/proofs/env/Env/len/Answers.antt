@@ -1,6 +1,6 @@
--- For the gate's time alone: with this answer a wrong body is refused sooner.
-use Rattle.std.proofs.Common.{rules}
+use Rattle.std.proofs.Common.{◌∙◌, sym}
+use Rattle.std.proofs.lemmas.List.{length-map}
 use Rattle.up_value.proofs.env.Env.len.Goals as goal
 
 pub returns : goal.returns
-returns c = search rules
+returns c = rw (← c.self.view_is) (c.len.ensures.len ∙ sym (length-map c.self.inside.pairs.entries _))
