@@ -1,5 +1,5 @@
 -- An instance waits for an event of its own in starting and stopping alone, and does nothing before that has finished.
-use Rattle.std.proofs.Common.{◌≡◌, ℕ, zero, suc, ◌==◌, Bool, true, false, ◌&&◌, not, nat_lt, List, [], ◌∷◌, ◌++◌, length, Option, None, Some, is_some, if◌then◌else◌, refl, sym, ◌∙◌, ap, subst, eqb-true, eq-eqb, append_assoc}
+use Rattle.std.proofs.Common.{◌≡◌, ℕ, zero, suc, ◌==◌, Bool, true, false, ◌&&◌, not, nat_lt, List, [], ◌∷◌, ◌++◌, length, filter, Option, None, Some, is_some, if◌then◌else◌, refl, sym, ◌∙◌, ap, subst, eqb-true, eq-eqb, append_assoc}
 use Rattle.std.specs.List.{AllByRecursion}
 use Rattle.up_expr.specs.Truth.{Sight}
 use Rattle.up_conf.specs.declared.job.JobDef.{JobDef}
@@ -20,7 +20,7 @@ use Rattle.up_model.specs.declared.state.State.{State}
 use Rattle.up_model.specs.declared.state.State.TheVariants.{Starting, Stopping}
 use Rattle.up_model.specs.declared.who.Who.{Who}
 use Rattle.up_model.specs.Answers.{after, next, is_expected, after_all}
-use Rattle.up_model.specs.Blocks.{IsPatient}
+use Rattle.up_model.specs.Blocks.{IsPatient, unfinished}
 use Rattle.up_model.specs.Chronicle.{Chronicle, Entry, Given, Queued, Handled, Offered, Fired, Finished, Made, Aimed, Failed, Entered, Ordered, Signalled, Outside, Entering, Spoilt, StartOn, StopOn}
 use Rattle.up_model.specs.Clock.{is_killed, kill_due, overdue, all_overdue, has_passed, kill_moment, now, milliseconds, kill, killing}
 use Rattle.up_model.specs.Configuration.{Configuration, job_named}
@@ -44,10 +44,30 @@ use Rattle.up_model.specs.Work.{work, settle}
 use Rattle.up_model.proofs.ReplyLaws.{Allows, releasing-all, answering_waiter-all, answering_hurried-all, start_of-all, stop_of-all, outcome-all}
 use Rattle.up_model.proofs.Sparing.{all-append, all-if}
 
--- in a state that asks for no event of its own an instance waits for none, and none did anything while it waited
+-- an event, if there is one
+abbrev pub listed : Option ℕ → List ℕ
+listed None = []
+listed (Some event) = event ∷ []
+
+-- in a state that asks for no event of its own an instance waits for none; the one that it waits for is the only one of its own that
+-- hasn't finished; and none did anything while it waited
 pub record Keeps (c : Chronicle) : Type 0 where
   pub waiting : (instance : ℕ) → is_blocking (state_of instance c) ≡ false → blocker instance c ≡ None
+  pub single : (instance : ℕ) → unfinished instance c ≡ listed (blocker instance c)
   pub patient : IsPatient c
+
+-- an event that finishes is waited for no longer
+finished-listed : (event : ℕ) (waits : Option ℕ) → filter (λ other. not (other == event)) (listed waits) ≡ listed (without event waits)
+finished-listed event None = refl
+finished-listed event (Some other) = by_case (other == event)
+  where
+    by_case : (b : Bool) → (if not b then other ∷ [] else []) ≡ listed (if b then None else Some other)
+    by_case true = refl
+    by_case false = refl
+
+-- an instance that waits for no event has none of its own that hasn't finished
+none-unfinished : (p : ℕ) (c : Chronicle) → blocker p c ≡ None → Keeps c → unfinished p c ≡ []
+none-unfinished p c free keeps = keeps.single p ∙ ap listed free
 
 -- an entry by which no instance changes its state, comes to wait or does anything
 abbrev IsIdle : Entry → Type 0
@@ -65,11 +85,12 @@ idle-keeps (Ordered instance process) c idle keeps = absurd idle
 idle-keeps (Signalled instance signal by_timer) c idle keeps = absurd idle
 idle-keeps (Finished event) c idle keeps = record {
   waiting = λ instance apart. ap (without event) (keeps.waiting instance apart);
+  single = λ instance. ap (filter (λ other. not (other == event))) (keeps.single instance) ∙ finished-listed event (blocker instance c);
   patient = keeps.patient;
 }
-idle-keeps (Queued (Outside given) event) c idle keeps = record { waiting = keeps.waiting; patient = keeps.patient }
-idle-keeps (Queued (Spoilt spoilt) event) c idle keeps = record { waiting = keeps.waiting; patient = keeps.patient }
-idle-keeps e c idle keeps = record { waiting = keeps.waiting; patient = keeps.patient }
+idle-keeps (Queued (Outside given) event) c idle keeps = record { waiting = keeps.waiting; single = keeps.single; patient = keeps.patient }
+idle-keeps (Queued (Spoilt spoilt) event) c idle keeps = record { waiting = keeps.waiting; single = keeps.single; patient = keeps.patient }
+idle-keeps e c idle keeps = record { waiting = keeps.waiting; single = keeps.single; patient = keeps.patient }
 
 -- so do several
 idles-keep : (es c : Chronicle) → AllByRecursion IsIdle es → Keeps c → Keeps (es ++ c)
@@ -93,6 +114,7 @@ releasing-idle p failed c = releasing-all IsIdle (λ request answer. tt) p faile
 entered-keeps : (p : ℕ) (to : State) (c : Chronicle) → blocker p c ≡ None → Keeps c → Keeps (Entered p to ∷ c)
 entered-keeps p to c free keeps = record {
   waiting = λ instance. by_case instance (p == instance) refl;
+  single = keeps.single;
   patient = keeps.patient;
 }
   where
@@ -102,19 +124,27 @@ entered-keeps p to c free keeps = record {
 
 -- it orders a process
 ordered-keeps : (p : ℕ) (its : Process) (c : Chronicle) → blocker p c ≡ None → Keeps c → Keeps (Ordered p its ∷ c)
-ordered-keeps p its c free keeps = record { waiting = keeps.waiting; patient = (free, keeps.patient) }
+ordered-keeps p its c free keeps = record { waiting = keeps.waiting; single = keeps.single; patient = (none-unfinished p c free keeps, keeps.patient) }
 
 -- its main gets a signal
 signalled-keeps : (p signal : ℕ) (by_timer : Bool) (c : Chronicle) → blocker p c ≡ None → Keeps c → Keeps (Signalled p signal by_timer ∷ c)
-signalled-keeps p signal by_timer c free keeps = record { waiting = keeps.waiting; patient = (free, keeps.patient) }
+signalled-keeps p signal by_timer c free keeps = record { waiting = keeps.waiting; single = keeps.single; patient = (none-unfinished p c free keeps, keeps.patient) }
 
 -- an instance emits the event of the state that it is in
-queued-keeps : (p : ℕ) (to : State) (event : Event) (c : Chronicle) → state_of p c ≡ to → Keeps c → Keeps (Queued (Entering p to) event ∷ c)
-queued-keeps p to event c here keeps = record {
+queued-keeps : (p : ℕ) (to : State) (event : Event) (c : Chronicle) → state_of p c ≡ to → blocker p c ≡ None → Keeps c → Keeps (Queued (Entering p to) event ∷ c)
+queued-keeps p to event c here free keeps = record {
   waiting = λ instance apart. by_case instance apart (p == instance) refl (is_blocking to) refl;
+  single = λ instance. by_one instance (p == instance) refl (is_blocking to);
   patient = keeps.patient;
 }
   where
+    by_one : (instance : ℕ) (b : Bool) → (p == instance) ≡ b → (blocks : Bool)
+        → (if b && blocks then length c ∷ unfinished instance c else unfinished instance c) ≡ listed (if b && blocks then Some (length c) else blocker instance c)
+    by_one instance false differs blocks = keeps.single instance
+    by_one instance true same false = keeps.single instance
+    by_one instance true same true =
+        ap (λ rest. length c ∷ rest) (subst (λ place. unfinished place c ≡ []) (eqb-true p instance same) (none-unfinished p c free keeps))
+
     by_case : (instance : ℕ) → is_blocking (state_of instance c) ≡ false → (b : Bool) → (p == instance) ≡ b → (blocks : Bool) → is_blocking to ≡ blocks
         → (if b && blocks then Some (length c) else blocker instance c) ≡ None
     by_case instance apart false differs blocks e = keeps.waiting instance apart
@@ -157,7 +187,7 @@ ordering-ready job p to (Some its) c ready = by_case (has_process job its)
 emitting-keeps : (job : JobDef) (who : Who) (p : ℕ) (to : State) (kind : Option JobEvent) (d c : Chronicle) → Ready p to c
     → Keeps (emitting job who p to kind d ++ c) × (state_of p (emitting job who p to kind d ++ c) ≡ to)
 emitting-keeps job who p to None d c ready = (ready.keeps, ready.here)
-emitting-keeps job who p to (Some kind) d c ready = (queued-keeps p to (job_event job who p kind d) c ready.here ready.keeps, ready.here)
+emitting-keeps job who p to (Some kind) d c ready = (queued-keeps p to (job_event job who p kind d) c ready.here ready.free ready.keeps, ready.here)
 
 -- and its main gets its signal, if the state asks for no event
 signal-keeps : (kills alive : Bool) (p signal : ℕ) (to : State) (c : Chronicle) → (kills ≡ true → is_blocking to ≡ false)
@@ -460,7 +490,7 @@ after_all-keeps config c (given ∷ inputs) keeps = after_all-keeps config (next
 
 -- at the start they are kept, and so in every chronicle that is reached
 pub reached-keeps : (config : Configuration) (inputs : List Input) → Keeps (after_all config [] inputs)
-reached-keeps config inputs = after_all-keeps config [] inputs (record { waiting = λ instance apart. refl; patient = tt })
+reached-keeps config inputs = after_all-keeps config [] inputs (record { waiting = λ instance apart. refl; single = λ instance. refl; patient = tt })
 
 -- so no instance does anything while it waits for its own event
 pub patient : (config : Configuration) (inputs : List Input) → IsPatient (after_all config [] inputs)

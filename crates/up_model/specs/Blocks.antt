@@ -1,19 +1,27 @@
 -- What the laws say of what instances do: none does anything while its own starting or stopping event hasn't finished, and none has two
 -- main processes.
-use Rattle.std.specs.Prelude.{◌≡◌, ⊤, false, List, [], ◌∷◌, None, Some}
+use Rattle.std.specs.Prelude.{◌≡◌, ⊤, ℕ, false, ◌==◌, ◌&&◌, not, List, [], ◌∷◌, length, filter, Some, if◌then◌else◌}
 use Rattle.std.specs.List.{AllByRecursion}
 use Rattle.up_conf.specs.declared.job.JobDef.{JobDef}
 use Rattle.up_stanza.specs.declared.process.Process.TheVariants.{Main}
-use Rattle.up_model.specs.Chronicle.{Chronicle, Ordered, Signalled}
+use Rattle.up_model.specs.Chronicle.{Chronicle, Queued, Entering, Finished, Ordered, Signalled}
 use Rattle.up_model.specs.Configuration.{job_named}
-use Rattle.up_model.specs.Readings.{blocker, lives}
+use Rattle.up_model.specs.Readings.{is_blocking, lives}
 
--- an instance that ordered a process, or whose main got a signal, waited for no starting or stopping event of its own (starting(7),
--- stopping(7))
+-- the events of an instance's starting and stopping that haven't finished (starting(7), stopping(7))
+abbrev pub unfinished : ℕ → Chronicle → List ℕ
+unfinished instance [] = []
+unfinished instance (Queued (Entering other entered) event ∷ c) =
+    if (other == instance) && is_blocking entered then length c ∷ unfinished instance c
+    else unfinished instance c
+unfinished instance (Finished event ∷ c) = filter (λ other. not (other == event)) (unfinished instance c)
+unfinished instance (entry ∷ c) = unfinished instance c
+
+-- when an instance ordered a process, or its main got a signal, each of these had finished
 abbrev pub IsPatient : Chronicle → Type 0
 IsPatient [] = ⊤
-IsPatient (Ordered instance process ∷ c) = (blocker instance c ≡ None) × IsPatient c
-IsPatient (Signalled instance signal by_timer ∷ c) = (blocker instance c ≡ None) × IsPatient c
+IsPatient (Ordered instance process ∷ c) = (unfinished instance c ≡ []) × IsPatient c
+IsPatient (Signalled instance signal by_timer ∷ c) = (unfinished instance c ≡ []) × IsPatient c
 IsPatient (entry ∷ c) = IsPatient c
 
 -- each of the jobs is the one that its name finds, as is so if no two have one name
