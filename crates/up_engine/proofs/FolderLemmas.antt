@@ -1,5 +1,5 @@
 -- The jobs of a folder whose paths are apart have names that are apart, so that each is the one that its name finds.
-use Rattle.std.proofs.Common.{◌≡◌, ℕ, ◌-◌, Bool, true, false, ◌||◌, nat_eq, if◌then◌else◌, List, [], ◌∷◌, ◌++◌, length, take, map, filter, Option, None, Some, option_map, refl, sym, ◌∙◌, ap, cond}
+use Rattle.std.proofs.Common.{◌≡◌, ℕ, ◌-◌, Bool, true, false, ◌||◌, nat_eq, List, [], ◌∷◌, ◌++◌, length, take, map, filter, Option, None, Some, option_map, refl, sym, ◌∙◌, ap, cond}
 use Rattle.std.specs.Prelude.{codes, option_and_then}
 use Rattle.std.specs.List.{list_any, filter_map, cons_option, ends_with, AllByRecursion}
 use Rattle.std.specs.Result.{result_ok}
@@ -14,9 +14,13 @@ use Rattle.up_stanza.specs.Confs.{conf_of}
 use Rattle.up_text.specs.Names.{is_name}
 use Rattle.up_conf.specs.Folders.{is_read, job_in, job_name, job_of_file, jobs_of, override_of, without_ending}
 use Rattle.up_conf.specs.Jobs.{job_of}
-use Rattle.up_conf.specs.Order.{in_order, is_below, put_by, sort_by_order}
+use Rattle.up_conf.specs.Order.{is_below, put_by, sort_by_order}
 use Rattle.up_image.specs.Compiling.{has_twice, read_paths}
 use Rattle.up_image.proofs.Repeats.{bytes_eq-flip, or-false, or_parts}
+use Rattle.up_isolation.specs.Views.{jobs_called}
+use Rattle.up_isolation.proofs.Ones.{AreApart, one-called}
+use Rattle.std.proofs.Common.{◌≤◌}
+use Rattle.up_model.specs.Values.{Bytes}
 use Rattle.up_model.specs.Blocks.{AreFound}
 use Rattle.up_model.specs.Configuration.{job_named}
 use Rattle.up_engine.proofs.Entries.{some_same}
@@ -186,3 +190,15 @@ pub found : (files : List File) → has_twice (read_paths files) ≡ false → A
 unfolding jobs_of
 found files apart =
     found-apart _ (apart-sorted (λ job other. is_below job.name other.name) (filter_map (job_of_file files) files) (names-apart files files apart))
+
+-- so at most one of them has a name
+apart-names : (jobs : List JobDef) → has_twice (map (λ (job : JobDef). job.name) jobs) ≡ false → AreApart jobs
+apart-names [] apart = tt
+apart-names (x ∷ xs) apart = let parts = or_parts _ _ apart in (parts.0, apart-names xs parts.1)
+
+pub one-named : (job : Bytes) (files : List File) → has_twice (read_paths files) ≡ false
+    → length (jobs_called job (jobs_of files)) ≤ 1
+unfolding jobs_of
+one-named job files apart =
+    one-called job _ (apart-names _ (apart-sorted (λ job other. is_below job.name other.name)
+    (filter_map (job_of_file files) files) (names-apart files files apart)))

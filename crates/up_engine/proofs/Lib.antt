@@ -19,3 +19,4 @@ pub mod RunLemmas
 pub mod SeenLemmas
 pub mod SettleLemmas
 pub mod LeftLemmas
+pub mod IsolationLemmas

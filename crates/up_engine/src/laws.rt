@@ -1,18 +1,22 @@
 //! Laws: what holds of every run of a folder that is compiled.
-ghost use Rattle.std.specs.Prelude.{◌≡◌, [], List};
+ghost use Rattle.std.specs.Prelude.{◌≡◌, [], false, List, Ok};
 ghost use Rattle.up_conf.specs.declared.folder.File.{File};
 ghost use Rattle.up_conf.specs.declared.job.JobDef.{JobDef};
 ghost use Rattle.up_conf.specs.declared.report.Fault.{Fault};
 ghost use Rattle.up_engine.specs.declared.engine.Engine.{Engine};
-ghost use Rattle.up_engine.specs.Stands.{Stands, left_of};
+ghost use Rattle.up_engine.specs.declared.run.Run.{Run};
+ghost use Rattle.up_engine.specs.Stands.{RunMeans, Stands, left_of};
 ghost use Rattle.up_image.specs.Compiling.{Compiles};
+ghost use Rattle.up_isolation.specs.Isolation.{MeanTheSame};
+ghost use Rattle.up_isolation.specs.Steps.{AreStepsOf, deeds_by_step, joined, orders_of, outputs_in};
+ghost use Rattle.up_isolation.specs.Views.{deeds, view};
 ghost use Rattle.up_model.specs.declared.input.Input.{Input};
 ghost use Rattle.up_model.specs.Answers.{after_all};
 ghost use Rattle.up_model.specs.Blocks.{IsLone};
 ghost use Rattle.up_model.specs.Chronicle.{Chronicle};
 ghost use Rattle.up_model.specs.Configuration.{Configuration};
 ghost use Rattle.up_model.specs.Left.{left};
-ghost use Rattle.up_model.specs.Values.{Bindings};
+ghost use Rattle.up_model.specs.Values.{Bindings, Bytes};
 
 /// An instance doesn't order its main process while that lives, whatever folder is compiled and whatever is given.
 pub fn one_main()
@@ -25,4 +29,30 @@ pub fn one_main()
 pub fn left_as_told()
     ensures { (engine : Engine) (config : Configuration) (c : Chronicle) → Stands engine config c
         → left_of engine ≡ left c }
+{}
+
+/// In two runs of compiled folders in which the same comes to a job's notice, the job does the same: if the bases are one and the
+/// folders give the job the same meaning, or neither has it.
+pub fn isolation()
+    ensures { (files others : List File) (first second : Configuration) (report told : List Fault) (job : Bytes)
+        (inputs given : List Input)
+        → Compiles files first.jobs report → Compiles others second.jobs told → MeanTheSame job first second
+        → view job first (after_all first [] inputs) ≡ view job second (after_all second [] given)
+        → deeds job first (after_all first [] inputs) ≡ deeds job second (after_all second [] given) }
+{}
+
+/// The same of the steps of two engines, neither of which ran out of memory: what the job does in each step is among the outputs
+/// of that step, in their order, and all that it does is the same in both runs. So are the starts and signals among the outputs
+/// that name the job.
+pub fn isolated_runs()
+    ensures { (files others : List File) (first second : Configuration) (report told : List Fault) (job : Bytes)
+        (inputs given : List Input) (engine other : Engine) (run another : Run)
+        → Compiles files first.jobs report → Compiles others second.jobs told → MeanTheSame job first second
+        → view job first (after_all first [] inputs) ≡ view job second (after_all second [] given)
+        → RunMeans (Ok run) engine first [] inputs → run.down ≡ false
+        → RunMeans (Ok another) other second [] given → another.down ≡ false
+        → AreStepsOf (deeds_by_step job first [] inputs) run.steps
+        × AreStepsOf (deeds_by_step job second [] given) another.steps
+        × (joined (deeds_by_step job first [] inputs) ≡ joined (deeds_by_step job second [] given))
+        × (orders_of job (outputs_in run.steps) ≡ orders_of job (outputs_in another.steps)) }
 {}

@@ -2,6 +2,7 @@
 mod distribution;
 mod expressions;
 mod inputs;
+mod isolation;
 mod lines;
 mod reader;
 mod requests;

@@ -1,0 +1,741 @@
+-- Requests that name the job.
+use Rattle.std.proofs.Common.{◌≡◌, ℕ, ◌==◌, Bool, true, false, ◌&&◌, List, [], ◌∷◌, ◌++◌, Option, None, Some}
+use Rattle.std.proofs.Common.{length, if◌then◌else◌, bytes_eq, refl, sym, ◌∙◌, ap, subst, subst₂, arith}
+use Rattle.std.proofs.Common.{eq-eqb}
+use Rattle.std.specs.List.{AllByRecursion}
+use Rattle.up_conf.specs.declared.job.JobDef.{JobDef}
+use Rattle.up_text.specs.Bindings.{set_all}
+use Rattle.up_model.specs.declared.request.Answer.{Answer}
+use Rattle.up_model.specs.declared.state.Goal.{Goal}
+use Rattle.up_model.specs.declared.who.Who.{Who}
+use Rattle.up_model.specs.Chronicle.{Chronicle, Entry, Given, Made, Aimed, Restarted, Replied}
+use Rattle.up_model.specs.Configuration.{Configuration, job_named}
+use Rattle.up_model.specs.Instances.{Instance, instances_of}
+use Rattle.up_model.specs.Readings.{entry_at, holders}
+use Rattle.up_model.specs.Values.{Bytes, Bindings}
+use Rattle.up_model.proofs.Places.{bytes_same, bytes_refl}
+use Rattle.up_model.proofs.NameLaws.{called}
+use Rattle.up_isolation.specs.Views.{jobs_called, was_asked}
+use Rattle.up_isolation.specs.Parts.{contents}
+use Rattle.up_isolation.proofs.Lives.{Life}
+use Rattle.up_isolation.proofs.Twins.{Twins}
+use Rattle.up_isolation.proofs.Known.{AreOlder}
+use Rattle.up_isolation.proofs.Likes.{only, Twin, Like}
+use Rattle.up_isolation.proofs.Pairs.{Pair, Carries, made-same}
+use Rattle.std.proofs.Common.{append_assoc, not}
+use Rattle.up_model.specs.declared.input.Input.{Input}
+use Rattle.up_model.specs.declared.input.Input.TheVariants as input
+use Rattle.up_model.specs.Due.{effect}
+use Rattle.up_model.specs.Instances.{instance_named}
+use Rattle.up_model.specs.Offers.{offering}
+use Rattle.up_model.specs.Predicates.{entries_if}
+use Rattle.up_model.specs.Replies.{asked, unanswered}
+use Rattle.up_isolation.specs.Views.{Received, view}
+use Rattle.up_isolation.proofs.Twins.{At}
+use Rattle.up_isolation.proofs.Entries.{named-only}
+use Rattle.up_isolation.proofs.Steps.{like_given}
+use Rattle.up_isolation.proofs.Offering.{pair-at, found, Found, Neither, Two}
+use Rattle.up_isolation.proofs.Ends.{IsMute}
+use Rattle.up_isolation.proofs.Hurry.{Waits}
+use Rattle.up_isolation.proofs.Acting.{Plain, None'}
+use Rattle.std.proofs.Common.{nat_lt, codes, lt-ltb}
+use Rattle.up_model.specs.Status.{who_name}
+use Rattle.up_text.specs.Expansion.{expand}
+use Rattle.up_text.specs.Scripts.{is_filled}
+use Rattle.up_model.specs.declared.request.Command.{Command}
+use Rattle.up_model.specs.declared.request.Command.TheVariants as command
+use Rattle.up_model.specs.declared.state.Goal.TheVariants.{Start, Stop}
+use Rattle.up_model.specs.Commands.{Refused, Told as Said, Done, Target, Nobody, Concerns, target_as}
+use Rattle.up_model.specs.Commands.{target_in, target_of, start_at, start, stop_at, stop, is_running}
+use Rattle.up_model.specs.Commands.{restart_at, restart, status_at, status, holders_of, outcome_by}
+use Rattle.up_model.specs.Commands.{outcome_of, entries_of}
+use Rattle.up_model.specs.Environments.{env_of_job}
+use Rattle.up_model.specs.Events.{with_instance}
+use Rattle.up_model.specs.Offers.{max_instances, start_of, stop_of}
+use Rattle.up_model.specs.Predicates.{is_start}
+use Rattle.up_model.specs.Readings.{goal, state_of}
+use Rattle.up_model.specs.Replies.{request_in, was_answered, unless_answered, request_instance, status_of}
+use Rattle.up_model.specs.Replies.{releasing}
+use Rattle.up_model.specs.Requests.{RequestValue}
+use Rattle.up_model.proofs.ReplyLaws.{outcome-all}
+use Rattle.up_isolation.specs.Views.{names_job, asks}
+use Rattle.up_isolation.specs.Parts.{content_of}
+use Rattle.up_isolation.proofs.Releases.{entry-append}
+use Rattle.up_isolation.proofs.Alone.{begin, Effected, Noticed, Hurried, Base, mutes-view, given-view}
+use Rattle.up_isolation.proofs.Alone.{mutes-offering, mutes-asked}
+use Rattle.up_isolation.proofs.Requesting.{named-name, target-name, mute-allows}
+use Rattle.up_isolation.proofs.Twins.{at-twins}
+use Rattle.up_isolation.proofs.Making.{instance-at, twins-with, twins-names}
+use Rattle.up_isolation.proofs.Entries.{pair_aimed, pair_restarted}
+use Rattle.up_isolation.proofs.Others.{like_replied, env-only}
+use Rattle.up_isolation.proofs.Releases.{carries-append, pair_releasing, later-contents, later-older}
+use Rattle.up_isolation.proofs.Releases.{status-same}
+use Rattle.up_isolation.proofs.Offering.{pair_start_new, twins-length}
+use Rattle.up_isolation.proofs.Locals.{IsMoving}
+use Rattle.up_isolation.proofs.Hurry.{below, movings-held, IsUnsaid, unsaid-releasing, unsaid-same}
+use Rattle.up_isolation.proofs.Hurry.{twins-more, twins-more_there}
+use Rattle.up_model.proofs.Sparing.{same-append}
+use Rattle.up_model.proofs.ReplyLaws.{releasing-all}
+
+-- all that the instances hold is below a place
+abbrev Held : Bytes → ℕ → Chronicle → Chronicle → Type 0
+Held job r c d = Twins (λ u v. below r (holders u.place c) ≡ true) (instances_of job c) (instances_of job d)
+
+abbrev HeldThere : Bytes → ℕ → Chronicle → Chronicle → Type 0
+HeldThere job q c d =
+    Twins (λ u v. true ≡ below q (holders v.place d)) (instances_of job c) (instances_of job d)
+
+-- what a request of the job does in both: it is answered, or it acts on two instances
+data Does (job : Bytes) (config : Configuration) (r q : ℕ) (its hers : List ℕ) (c d : Chronicle)
+    (es fs : List Entry) : Type 0 where
+  Reply : (answer : Answer) → es ≡ Replied r answer ∷ [] → fs ≡ Replied q answer ∷ []
+      → Does job config r q its hers c d es fs
+  Act : (x y : Instance) → Pair job config (es ++ c) (fs ++ d) x y → request_instance (es ++ c) ≡ Some x.place
+      → request_instance (fs ++ d) ≡ Some y.place
+      → was_answered r (es ++ c) ≡ false → was_answered q (fs ++ d) ≡ false
+      → (its ≡ [] → Held job r (es ++ c) (fs ++ d)) → (hers ≡ [] → HeldThere job q (es ++ c) (fs ++ d))
+      → Does job config r q its hers c d es fs
+
+releasing-moving : (i : ℕ) (c : Chronicle) → AllByRecursion IsMoving (releasing i false c)
+releasing-moving i c = releasing-all IsMoving (λ request answer. tt) i false tt c
+
+-- the goal of two that are there changes, or a restart is taken
+record Acts (job : Bytes) (config : Configuration) (r q : ℕ) (c d : Chronicle) : Type 0 where
+  like : Like job config c d
+  held : Held job r c d
+  held_there : HeldThere job q c d
+  unsaid : was_answered r c ≡ false
+  unsaid_there : was_answered q d ≡ false
+
+aimed-held : (r i k : ℕ) (aim : Goal) (environment : Bindings) (c : Chronicle) → below r (holders k c) ≡ true
+    → below r (holders k (Aimed i aim environment [] ∷ c)) ≡ true
+aimed-held r i k aim environment c h = by_case (i == k)
+  where
+    by_case : (b : Bool) → below r (if b then [] else holders k c) ≡ true
+    by_case true = refl
+    by_case false = h
+
+restarted-held : (r i k : ℕ) (c : Chronicle) → below r (holders k c) ≡ true
+    → below r (holders k (Restarted i [] ∷ c)) ≡ true
+restarted-held r i k c h = by_case (i == k)
+  where
+    by_case : (b : Bool) → below r (if b then [] else holders k c) ≡ true
+    by_case true = refl
+    by_case false = h
+
+act-aimed : (job : Bytes) (config : Configuration) (r q : ℕ) (its hers : List ℕ) (c d : Chronicle)
+    (x y : Instance) (aim : Goal) (environment : Bindings) → At x y (instances_of job c) (instances_of job d)
+    → contents its c ≡ contents hers d → AreOlder (length c) its → AreOlder (length d) hers
+    → Acts job config r q c d
+    → Does job config r q its hers c d (Aimed x.place aim environment its ∷ releasing x.place false c)
+    (Aimed y.place aim environment hers ∷ releasing y.place false d)
+act-aimed job config r q its hers c d x y aim environment at same older there acts =
+    Act x y carries.pair refl refl
+    (same-append (was_answered r) (IsUnsaid r) (unsaid-same r) (releasing x.place false c) c
+    (unsaid-releasing r x.place false c (at-twins (λ u v. below r (holders u.place c) ≡ true) x y
+    (instances_of job c) (instances_of job d) at acts.held)) ∙ acts.unsaid)
+    (same-append (was_answered q) (IsUnsaid q) (unsaid-same q) (releasing y.place false d) d
+    (unsaid-releasing q y.place false d
+    (sym (at-twins (λ u v. true ≡ below q (holders v.place d)) x y (instances_of job c)
+    (instances_of job d) at acts.held_there))) ∙ acts.unsaid_there)
+    (λ none. subst (λ (ps : List ℕ). Held job r (Aimed x.place aim environment ps ∷ releasing x.place false c
+    ++ c) ((Aimed y.place aim environment hers ∷ releasing y.place false d) ++ d)) (sym none)
+    (twins-more (λ u. below r (holders u.place c)) (λ u. true)
+    (λ u. below r (holders u.place (Aimed x.place aim environment [] ∷ releasing x.place false c ++ c)))
+    (λ u. true) _ _
+    (λ u h. aimed-held r x.place u.place aim environment (releasing x.place false c ++ c)
+    (movings-held r u.place (releasing x.place false c) c (releasing-moving x.place c) h))
+    (carries.shrinks (λ u. below r (holders u.place c)) (λ v. true) acts.held)))
+    (λ none. subst (λ (ps : List ℕ). HeldThere job q
+    ((Aimed x.place aim environment its ∷ releasing x.place false c) ++ c)
+    (Aimed y.place aim environment ps ∷ releasing y.place false d ++ d)) (sym none)
+    (twins-more_there (λ v. below q (holders v.place d))
+    (λ v. below q (holders v.place (Aimed y.place aim environment [] ∷ releasing y.place false d ++ d))) _
+    _
+    (λ v h. aimed-held q y.place v.place aim environment (releasing y.place false d ++ d)
+    (movings-held q v.place (releasing y.place false d) d (releasing-moving y.place d) h))
+    (carries.shrinks (λ u. true) (λ v. below q (holders v.place d)) acts.held_there)))
+  where
+    pair : Pair job config c d x y
+    pair = pair-at job config c d x y at acts.like
+
+    carries : Carries job config c d ((Aimed x.place aim environment its ∷ releasing x.place false c) ++ c)
+        ((Aimed y.place aim environment hers ∷ releasing y.place false d) ++ d) x y
+    carries =
+        carries-append job config c d x y (Aimed x.place aim environment its ∷ []) (releasing x.place false c)
+        (Aimed y.place aim environment hers ∷ []) (releasing y.place false d)
+        (pair_releasing job config c d x y false pair)
+        (λ next. pair_aimed job config (releasing x.place false c ++ c) (releasing y.place false d ++ d) x y
+        aim environment its hers
+        (later-contents its c (releasing x.place false c) older ∙ same
+        ∙ sym (later-contents hers d (releasing y.place false d) there))
+        (later-older its c (releasing x.place false c) older)
+        (later-older hers d (releasing y.place false d) there) next)
+
+act-restarted : (job : Bytes) (config : Configuration) (r q : ℕ) (its hers : List ℕ) (c d : Chronicle)
+    (x y : Instance) → At x y (instances_of job c) (instances_of job d)
+    → contents its c ≡ contents hers d → AreOlder (length c) its → AreOlder (length d) hers
+    → Acts job config r q c d
+    → Does job config r q its hers c d (Restarted x.place its ∷ releasing x.place false c)
+    (Restarted y.place hers ∷ releasing y.place false d)
+act-restarted job config r q its hers c d x y at same older there acts =
+    Act x y carries.pair refl refl
+    (same-append (was_answered r) (IsUnsaid r) (unsaid-same r) (releasing x.place false c) c
+    (unsaid-releasing r x.place false c (at-twins (λ u v. below r (holders u.place c) ≡ true) x y
+    (instances_of job c) (instances_of job d) at acts.held)) ∙ acts.unsaid)
+    (same-append (was_answered q) (IsUnsaid q) (unsaid-same q) (releasing y.place false d) d
+    (unsaid-releasing q y.place false d
+    (sym (at-twins (λ u v. true ≡ below q (holders v.place d)) x y (instances_of job c)
+    (instances_of job d) at acts.held_there))) ∙ acts.unsaid_there)
+    (λ none. subst (λ (ps : List ℕ). Held job r (Restarted x.place ps ∷ releasing x.place false c ++ c)
+    ((Restarted y.place hers ∷ releasing y.place false d) ++ d)) (sym none)
+    (twins-more (λ u. below r (holders u.place c)) (λ u. true)
+    (λ u. below r (holders u.place (Restarted x.place [] ∷ releasing x.place false c ++ c))) (λ u. true) _
+    _
+    (λ u h. restarted-held r x.place u.place (releasing x.place false c ++ c)
+    (movings-held r u.place (releasing x.place false c) c (releasing-moving x.place c) h))
+    (carries.shrinks (λ u. below r (holders u.place c)) (λ v. true) acts.held)))
+    (λ none. subst (λ (ps : List ℕ). HeldThere job q ((Restarted x.place its ∷ releasing x.place false c)
+    ++ c) (Restarted y.place ps ∷ releasing y.place false d ++ d)) (sym none)
+    (twins-more_there (λ v. below q (holders v.place d))
+    (λ v. below q (holders v.place (Restarted y.place [] ∷ releasing y.place false d ++ d))) _ _
+    (λ v h. restarted-held q y.place v.place (releasing y.place false d ++ d)
+    (movings-held q v.place (releasing y.place false d) d (releasing-moving y.place d) h))
+    (carries.shrinks (λ u. true) (λ v. below q (holders v.place d)) acts.held_there)))
+  where
+    pair : Pair job config c d x y
+    pair = pair-at job config c d x y at acts.like
+
+    carries : Carries job config c d ((Restarted x.place its ∷ releasing x.place false c) ++ c)
+        ((Restarted y.place hers ∷ releasing y.place false d) ++ d) x y
+    carries =
+        carries-append job config c d x y (Restarted x.place its ∷ []) (releasing x.place false c)
+        (Restarted y.place hers ∷ []) (releasing y.place false d)
+        (pair_releasing job config c d x y false pair)
+        (λ next. pair_restarted job config (releasing x.place false c ++ c) (releasing y.place false d ++ d) x
+        y its hers
+        (later-contents its c (releasing x.place false c) older ∙ same
+        ∙ sym (later-contents hers d (releasing y.place false d) there))
+        (later-older its c (releasing x.place false c) older)
+        (later-older hers d (releasing y.place false d) there) next)
+
+act-new : (job : Bytes) (config : Configuration) (r q : ℕ) (its hers : List ℕ) (c d : Chronicle)
+    (name : Bytes) (environment : Bindings) → instance_named (called job name) c ≡ None
+    → contents its c ≡ contents hers d → AreOlder (length c) its → AreOlder (length d) hers
+    → Acts job config r q c d
+    → Does job config r q its hers c d (Aimed (length c) Start environment its ∷ Made job name ∷ [])
+    (Aimed (length d) Start environment hers ∷ Made job name ∷ [])
+act-new job config r q its hers c d name environment none same older there acts =
+    Act (instance-at (length c) name) (instance-at (length d) name)
+    (pair_start_new job config c d name environment its hers same older there none acts.like) refl refl
+    acts.unsaid acts.unsaid_there
+    (λ empty. subst (λ (ps : List ℕ). Held job r (Aimed (length c) Start environment ps ∷ Made job name ∷ c)
+    (Aimed (length d) Start environment hers ∷ Made job name ∷ d)) (sym empty)
+    (rw (bytes_refl job) (twins-with (λ u v. below r (holders u.place e) ≡ true) x y (instances_of job c)
+    (instances_of job d) refl (rw (eq-eqb (length c) (length c) refl) refl) names
+    (twins-more (λ u. below r (holders u.place c)) (λ u. true) (λ u. below r (holders u.place e)) (λ u. true)
+    (instances_of job c) (instances_of job d)
+    (λ u h. aimed-held r (length c) u.place Start environment (Made job name ∷ c) h) acts.held))))
+    (λ empty. subst (λ (ps : List ℕ). HeldThere job q (Aimed (length c) Start environment its ∷ Made job name
+    ∷ c) (Aimed (length d) Start environment ps ∷ Made job name ∷ d)) (sym empty)
+    (rw (bytes_refl job) (twins-with (λ u v. true ≡ below q (holders v.place f)) x y (instances_of job c)
+    (instances_of job d) refl (rw (eq-eqb (length d) (length d) refl) refl) names
+    (twins-more_there (λ v. below q (holders v.place d)) (λ v. below q (holders v.place f))
+    (instances_of job c) (instances_of job d)
+    (λ v h. aimed-held q (length d) v.place Start environment (Made job name ∷ d) h) acts.held_there))))
+  where
+    x : Instance
+    x = instance-at (length c) name
+
+    y : Instance
+    y = instance-at (length d) name
+
+    e : Chronicle
+    e = Aimed (length c) Start environment [] ∷ Made job name ∷ c
+
+    f : Chronicle
+    f = Aimed (length d) Start environment [] ∷ Made job name ∷ d
+
+    names : Twins (λ u v. u.name ≡ v.name) (instances_of job c) (instances_of job d)
+    names = twins-names job config c d (instances_of job c) (instances_of job d) acts.like.twins
+
+-- `start`
+does-start : (job : Bytes) (config : Configuration) (r q : ℕ) (its hers : List ℕ) (c d : Chronicle)
+    (name : Bytes) (environment : Bindings)
+    → contents its c ≡ contents hers d → AreOlder (length c) its → AreOlder (length d) hers
+    → Acts job config r q c d
+    → Does job config r q its hers c d
+    (entries_of r (start_at its (called job name) environment (instance_named (called job name) c) c))
+    (entries_of q (start_at hers (called job name) environment (instance_named (called job name) d) d))
+does-start job config r q its hers c d name environment same older there acts =
+    by_found (found job config c d name (instances_of job c) (instances_of job d) acts.like.twins)
+  where
+    who : Who
+    who = called job name
+
+    by_room : instance_named who c ≡ None → (b a : Bool)
+        → nat_lt (length (instances_of job c)) max_instances ≡ b
+        → nat_lt (length (instances_of job d)) max_instances ≡ a → b ≡ a
+        → Does job config r q its hers c d
+        (entries_of r (if b then Done (start_of who environment its None c)
+        else Refused (codes "Too many instances: " ++ job)))
+        (entries_of q (if a then Done (start_of who environment hers None d)
+        else Refused (codes "Too many instances: " ++ job)))
+    by_room none true true left right equal =
+        subst₂ (λ (es fs : List Entry). Does job config r q its hers c d es fs)
+        (ap (λ b. entries_if b (Aimed (length c) Start environment its ∷ Made job name ∷ [])) (sym left))
+        (ap (λ b. entries_if b (Aimed (length d) Start environment hers ∷ Made job name ∷ [])) (sym right))
+        (act-new job config r q its hers c d name environment none same older there acts)
+    by_room none false false left right equal = Reply _ refl refl
+    by_room none true false left right equal = absurd (cc)
+    by_room none false true left right equal = absurd (cc)
+
+    by_goal : (x y : Instance) → At x y (instances_of job c) (instances_of job d) → (b a : Bool)
+        → is_start (goal x.place c) ≡ b → is_start (goal y.place d) ≡ a → b ≡ a
+        → Does job config r q its hers c d
+        (entries_of r (if b then Refused (codes "Job is already running: " ++ who_name who)
+        else Done (start_of who environment its (Some x.place) c)))
+        (entries_of q (if a then Refused (codes "Job is already running: " ++ who_name who)
+        else Done (start_of who environment hers (Some y.place) d)))
+    by_goal x y at true true left right equal = Reply _ refl refl
+    by_goal x y at false false left right equal =
+        subst₂ (λ (es fs : List Entry). Does job config r q its hers c d es fs)
+        (ap (λ b. entries_if (not b) (Aimed x.place Start environment its ∷ releasing x.place false c))
+        (sym left))
+        (ap (λ b. entries_if (not b) (Aimed y.place Start environment hers ∷ releasing y.place false d))
+        (sym right))
+        (act-aimed job config r q its hers c d x y Start environment at same older there acts)
+    by_goal x y at true false left right equal = absurd (cc)
+    by_goal x y at false true left right equal = absurd (cc)
+
+    by_found : Found name (instances_of job c) (instances_of job d)
+        → Does job config r q its hers c d
+        (entries_of r (start_at its who environment (instance_named who c) c))
+        (entries_of q (start_at hers who environment (instance_named who d) d))
+    by_found (Neither none void) =
+        subst₂ (λ o u. Does job config r q its hers c d (entries_of r (start_at its who environment o c))
+        (entries_of q (start_at hers who environment u d))) (sym none) (sym void)
+        (by_room none (nat_lt (length (instances_of job c)) max_instances)
+        (nat_lt (length (instances_of job d)) max_instances) refl refl
+        (ap (λ n. nat_lt n max_instances)
+        (twins-length (Twin job config c d) (instances_of job c) (instances_of job d) acts.like.twins)))
+    by_found (Two x y at left right) =
+        subst₂ (λ o u. Does job config r q its hers c d (entries_of r (start_at its who environment o c))
+        (entries_of q (start_at hers who environment u d))) (sym left) (sym right)
+        (by_goal x y at (is_start (goal x.place c)) (is_start (goal y.place d)) refl refl
+        (ap (λ (l : Life). is_start l.goal)
+        (at-twins (Twin job config c d) x y (instances_of job c) (instances_of job d) at
+        acts.like.twins).bond.alike))
+
+-- `stop`
+does-stop : (job : Bytes) (config : Configuration) (r q : ℕ) (its hers : List ℕ) (c d : Chronicle)
+    (name : Bytes) (vars : Bindings)
+    → contents its c ≡ contents hers d → AreOlder (length c) its → AreOlder (length d) hers
+    → Acts job config r q c d
+    → Does job config r q its hers c d
+    (entries_of r (stop_at its vars (called job name) (instance_named (called job name) c) c))
+    (entries_of q (stop_at hers vars (called job name) (instance_named (called job name) d) d))
+does-stop job config r q its hers c d name vars same older there acts =
+    by_found (found job config c d name (instances_of job c) (instances_of job d) acts.like.twins)
+  where
+    who : Who
+    who = called job name
+
+    by_goal : (x y : Instance) → At x y (instances_of job c) (instances_of job d) → (b a : Bool) → b ≡ a
+        → Does job config r q its hers c d
+        (entries_of r (if b then Done (stop_of x.place vars its c)
+        else Refused (codes "Job has already been stopped: " ++ who_name who)))
+        (entries_of q (if a then Done (stop_of y.place vars hers d)
+        else Refused (codes "Job has already been stopped: " ++ who_name who)))
+    by_goal x y at true true equal =
+        act-aimed job config r q its hers c d x y Stop vars at same older there acts
+    by_goal x y at false false equal = Reply _ refl refl
+    by_goal x y at true false equal = absurd (cc)
+    by_goal x y at false true equal = absurd (cc)
+
+    by_found : Found name (instances_of job c) (instances_of job d)
+        → Does job config r q its hers c d (entries_of r (stop_at its vars who (instance_named who c) c))
+        (entries_of q (stop_at hers vars who (instance_named who d) d))
+    by_found (Neither none void) =
+        subst₂ (λ o u. Does job config r q its hers c d (entries_of r (stop_at its vars who o c))
+        (entries_of q (stop_at hers vars who u d))) (sym none) (sym void) (Reply _ refl refl)
+    by_found (Two x y at left right) =
+        subst₂ (λ o u. Does job config r q its hers c d (entries_of r (stop_at its vars who o c))
+        (entries_of q (stop_at hers vars who u d))) (sym left) (sym right)
+        (by_goal x y at (is_start (goal x.place c)) (is_start (goal y.place d))
+        (ap (λ (l : Life). is_start l.goal)
+        (at-twins (Twin job config c d) x y (instances_of job c) (instances_of job d) at
+        acts.like.twins).bond.alike))
+
+-- `restart`
+does-restart : (job : Bytes) (config : Configuration) (r q : ℕ) (its hers : List ℕ) (c d : Chronicle)
+    (name : Bytes)
+    → contents its c ≡ contents hers d → AreOlder (length c) its → AreOlder (length d) hers
+    → Acts job config r q c d
+    → Does job config r q its hers c d
+    (entries_of r (restart_at its (called job name) (instance_named (called job name) c) c))
+    (entries_of q (restart_at hers (called job name) (instance_named (called job name) d) d))
+does-restart job config r q its hers c d name same older there acts =
+    by_found (found job config c d name (instances_of job c) (instances_of job d) acts.like.twins)
+  where
+    who : Who
+    who = called job name
+
+    by_state : (x y : Instance) → At x y (instances_of job c) (instances_of job d) → (b a : Bool) → b ≡ a
+        → Does job config r q its hers c d
+        (entries_of r (if b then Done (Restarted x.place its ∷ releasing x.place false c)
+        else Refused (codes "Job is not running: " ++ who_name who)))
+        (entries_of q (if a then Done (Restarted y.place hers ∷ releasing y.place false d)
+        else Refused (codes "Job is not running: " ++ who_name who)))
+    by_state x y at true true equal = act-restarted job config r q its hers c d x y at same older there acts
+    by_state x y at false false equal = Reply _ refl refl
+    by_state x y at true false equal = absurd (cc)
+    by_state x y at false true equal = absurd (cc)
+
+    by_found : Found name (instances_of job c) (instances_of job d)
+        → Does job config r q its hers c d (entries_of r (restart_at its who (instance_named who c) c))
+        (entries_of q (restart_at hers who (instance_named who d) d))
+    by_found (Neither none void) =
+        subst₂ (λ o u. Does job config r q its hers c d (entries_of r (restart_at its who o c))
+        (entries_of q (restart_at hers who u d))) (sym none) (sym void) (Reply _ refl refl)
+    by_found (Two x y at left right) =
+        subst₂ (λ o u. Does job config r q its hers c d (entries_of r (restart_at its who o c))
+        (entries_of q (restart_at hers who u d))) (sym left) (sym right)
+        (by_state x y at (is_running (state_of x.place c)) (is_running (state_of y.place d))
+        (ap (λ (l : Life). is_running l.state)
+        (at-twins (Twin job config c d) x y (instances_of job c) (instances_of job d) at
+        acts.like.twins).bond.alike))
+
+-- `status`
+does-status : (job : Bytes) (config : Configuration) (def : JobDef) (r q : ℕ) (its hers : List ℕ)
+    (c d : Chronicle) (name : Bytes) → Acts job config r q c d
+    → Does job config r q its hers c d
+    (entries_of r (status_at def (called job name) (instance_named (called job name) c) c))
+    (entries_of q (status_at def (called job name) (instance_named (called job name) d) d))
+does-status job config def r q its hers c d name acts =
+    by_found (found job config c d name (instances_of job c) (instances_of job d) acts.like.twins)
+  where
+    who : Who
+    who = called job name
+
+    by_filled : (b : Bool) (one two : Bytes)
+        → Does job config r q its hers c d (entries_of r (if b then Refused one else Said two))
+        (entries_of q (if b then Refused one else Said two))
+    by_filled true one two = Reply _ refl refl
+    by_filled false one two = Reply _ refl refl
+
+    by_found : Found name (instances_of job c) (instances_of job d)
+        → Does job config r q its hers c d (entries_of r (status_at def who (instance_named who c) c))
+        (entries_of q (status_at def who (instance_named who d) d))
+    by_found (Neither none void) =
+        subst₂ (λ o u. Does job config r q its hers c d (entries_of r (status_at def who o c))
+        (entries_of q (status_at def who u d))) (sym none) (sym void)
+        (by_filled (is_filled def.instance) _ _)
+    by_found (Two x y at left right) =
+        let pair = pair-at job config c d x y at acts.like in
+        subst₂ (λ o u. Does job config r q its hers c d (entries_of r (status_at def who o c))
+        (entries_of q (status_at def who u d))) (sym left) (sym right)
+        (Reply (record { ok = true; text = status_of x.place c }) refl
+        (ap (λ (text : Bytes). Replied q (record { ok = true; text = text }) ∷ [])
+        (sym (status-same x.place y.place c d (made-same job config c d x y pair) pair.twin.bond.alike))))
+
+-- whom it names is the same
+target-same : (job : Bytes) (config : Configuration) (name : Bytes) (vars : Bindings) → name ≡ job
+    → target_of config name vars ≡ target_of (only job config) name vars
+target-same job config name vars is =
+    by_job (job_named name config.jobs) refl ∙ ap (λ o. target_in (only job config) name o vars) defs
+  where
+    defs : job_named name config.jobs ≡ job_named name (jobs_called job config.jobs)
+    defs = ap (λ k. job_named k config.jobs) is ∙ named-only job config.jobs
+        ∙ ap (λ k. job_named k (jobs_called job config.jobs)) (sym is)
+
+    by_job : (o : Option JobDef) → job_named name config.jobs ≡ o
+        → target_in config name o vars ≡ target_in (only job config) name o vars
+    by_job None some = refl
+    by_job (Some def) some =
+        let called : def.name ≡ job = named-name name config.jobs def some ∙ is in
+        let same : env_of_job config def.name ≡ env_of_job (only job config) def.name =
+        ap (λ k. env_of_job config k) called ∙ env-only job config ∙ ap (λ k. env_of_job (only job config) k)
+        (sym called) in
+        ap (λ (environment : Bindings). target_as def (set_all environment vars)
+        (expand def.instance (set_all environment vars))) same
+
+whom : (job : Bytes) (who : Who) → who.job ≡ job → called job who.instance ≡ who
+whom job who is = ap (λ (k : Bytes). called k who.instance) (sym is)
+
+-- what a request of the job does
+does-outcome : (job : Bytes) (config : Configuration) (r q : ℕ) (request : RequestValue) (c d : Chronicle)
+    → asks job request ≡ true
+    → contents (holders_of r request.wait) c ≡ contents (holders_of q request.wait) d
+    → AreOlder (length c) (holders_of r request.wait) → AreOlder (length d) (holders_of q request.wait)
+    → Acts job config r q c d
+    → Does job config r q (holders_of r request.wait) (holders_of q request.wait) c d
+    (entries_of r (outcome_of config r request c)) (entries_of q (outcome_of (only job config) q request d))
+does-outcome job config r q request c d asks same older there acts = by_command request.command refl
+  where
+    its : List ℕ
+    its = holders_of r request.wait
+
+    hers : List ℕ
+    hers = holders_of q request.wait
+
+    named : (b : Bool) → (b && bytes_eq request.name job) ≡ true → bytes_eq request.name job ≡ true
+    named true h = h
+    named false h = absurd (cc)
+
+    name : request.name ≡ job
+    name = bytes_same request.name job (named (names_job request.command) asks)
+
+    target : Target
+    target = target_of config request.name request.vars
+
+    target_there : target ≡ target_of (only job config) request.name request.vars
+    target_there = target-same job config request.name request.vars name
+
+    whose : (t : Target) → target ≡ t → (def : JobDef) (who : Who) (environment : Bindings)
+        → t ≡ Concerns def who environment → who.job ≡ job
+    whose t is def who environment some =
+        target-name config request.name request.vars def who environment (is ∙ some) ∙ name
+
+    starts : (t : Target) → target ≡ t
+        → Does job config r q its hers c d (entries_of r (start its t c)) (entries_of q (start hers t d))
+    starts (Nobody text) is = Reply _ refl refl
+    starts (Concerns def who environment) is =
+        subst (λ (w : Who). Does job config r q its hers c d
+        (entries_of r (start_at its w (with_instance w environment) (instance_named w c) c))
+        (entries_of q (start_at hers w (with_instance w environment) (instance_named w d) d)))
+        (whom job who (whose (Concerns def who environment) is def who environment refl))
+        (does-start job config r q its hers c d who.instance
+        (with_instance (called job who.instance) environment) same older there acts)
+
+    stops : (t : Target) → target ≡ t
+        → Does job config r q its hers c d (entries_of r (stop its request.vars t c))
+        (entries_of q (stop hers request.vars t d))
+    stops (Nobody text) is = Reply _ refl refl
+    stops (Concerns def who environment) is =
+        subst (λ (w : Who). Does job config r q its hers c d
+        (entries_of r (stop_at its request.vars w (instance_named w c) c))
+        (entries_of q (stop_at hers request.vars w (instance_named w d) d)))
+        (whom job who (whose (Concerns def who environment) is def who environment refl))
+        (does-stop job config r q its hers c d who.instance request.vars same older there acts)
+
+    restarts : (t : Target) → target ≡ t
+        → Does job config r q its hers c d (entries_of r (restart its t c)) (entries_of q (restart hers t d))
+    restarts (Nobody text) is = Reply _ refl refl
+    restarts (Concerns def who environment) is =
+        subst (λ (w : Who). Does job config r q its hers c d
+        (entries_of r (restart_at its w (instance_named w c) c))
+        (entries_of q (restart_at hers w (instance_named w d) d)))
+        (whom job who (whose (Concerns def who environment) is def who environment refl))
+        (does-restart job config r q its hers c d who.instance same older there acts)
+
+    statuses : (t : Target) → target ≡ t
+        → Does job config r q its hers c d (entries_of r (status t c)) (entries_of q (status t d))
+    statuses (Nobody text) is = Reply _ refl refl
+    statuses (Concerns def who environment) is =
+        subst (λ (w : Who). Does job config r q its hers c d
+        (entries_of r (status_at def w (instance_named w c) c))
+        (entries_of q (status_at def w (instance_named w d) d)))
+        (whom job who (whose (Concerns def who environment) is def who environment refl))
+        (does-status job config def r q its hers c d who.instance acts)
+
+    not-named : (asked : Command) → request.command ≡ asked → names_job asked ≡ false → ⊥
+    not-named asked is none = bad (names_job request.command) (ap names_job is ∙ none) asks
+      where
+        bad : (b : Bool) → b ≡ false → (b && bytes_eq request.name job) ≡ true → ⊥
+        bad true is h = cc
+        bad false is h = cc
+
+    by_command : (asked : Command) → request.command ≡ asked
+        → Does job config r q its hers c d (entries_of r (outcome_by asked config r request c))
+        (entries_of q (outcome_by asked (only job config) q request d))
+    by_command command.Start is = subst
+        (λ t. Does job config r q its hers c d (entries_of r (start its target c))
+        (entries_of q (start hers t d))) target_there (starts target refl)
+    by_command command.Stop is = subst
+        (λ t. Does job config r q its hers c d (entries_of r (stop its request.vars target c))
+        (entries_of q (stop hers request.vars t d))) target_there (stops target refl)
+    by_command command.Restart is = subst
+        (λ t. Does job config r q its hers c d (entries_of r (restart its target c))
+        (entries_of q (restart hers t d))) target_there (restarts target refl)
+    by_command command.Status is = subst
+        (λ t. Does job config r q its hers c d (entries_of r (status target c)) (entries_of q (status t d)))
+        target_there (statuses target refl)
+    by_command command.List is = absurd (not-named command.List is refl)
+    by_command command.Emit is = absurd (not-named command.Emit is refl)
+    by_command command.Version is = absurd (not-named command.Version is refl)
+    by_command command.Reload is = absurd (not-named command.Reload is refl)
+    by_command command.ReloadConfiguration is = absurd (not-named command.ReloadConfiguration is refl)
+
+-- a request that names the job
+below-older : (n : ℕ) (ps : List ℕ) → AreOlder n ps → below n ps ≡ true
+below-older n [] older = refl
+below-older n (p ∷ ps) older = rw (lt-ltb p n older.0) (below-older n ps older.1)
+
+held-base : (job : Bytes) (config : Configuration) (c d : Chronicle) (xs ys : List Instance)
+    → Twins (Twin job config c d) xs ys → Twins (λ u v. below (length c) (holders u.place c) ≡ true) xs ys
+held-base job config c d [] [] twins = tt
+held-base job config c d (x ∷ xs) (y ∷ ys) twins =
+    (below-older (length c) (holders x.place c) twins.0.bond.older, held-base job config c d xs ys twins.1)
+held-base job config c d [] (y ∷ ys) twins = twins
+held-base job config c d (x ∷ xs) [] twins = twins
+
+held-base_there : (job : Bytes) (config : Configuration) (c d : Chronicle) (xs ys : List Instance)
+    → Twins (Twin job config c d) xs ys → Twins (λ u v. true ≡ below (length d) (holders v.place d)) xs ys
+held-base_there job config c d [] [] twins = tt
+held-base_there job config c d (x ∷ xs) (y ∷ ys) twins = (
+  sym
+      (below-older (length d) (holders y.place d) twins.0.bond.older_there),
+  held-base_there job config c d xs
+      ys twins.1,
+)
+held-base_there job config c d [] (y ∷ ys) twins = twins
+held-base_there job config c d (x ∷ xs) [] twins = twins
+
+pub effect-own : (job : Bytes) (config : Configuration) (id : ℕ) (request : RequestValue) (c d : Chronicle)
+    → asks job request ≡ true → Base job config c d
+    → Effected job config c d (effect config (input.Request id request) c ++ c)
+unfolding effect
+effect-own job config id request c d own base =
+    rw append_assoc (by_does request.wait refl
+    (does-outcome job config r q request e f own same older older_there acts))
+  where
+    g : Input
+    g = input.Request id request
+
+    r : ℕ
+    r = length c
+
+    q : ℕ
+    q = length d
+
+    e : Chronicle
+    e = Given g ∷ c
+
+    f : Chronicle
+    f = Given g ∷ d
+
+    es : List Entry
+    es = entries_of r (outcome_of config r request e)
+
+    fs : List Entry
+    fs = entries_of q (outcome_of (only job config) q request f)
+
+    here : entry_at r e ≡ Some (Given g)
+    here = rw (eq-eqb r r refl) refl
+
+    there : entry_at q f ≡ Some (Given g)
+    there = rw (eq-eqb q q refl) refl
+
+    next : Like job config e f
+    next = like_given job config g c d base.like
+
+    holds : (wait : Bool) → contents (holders_of r wait) e ≡ contents (holders_of q wait) f
+    holds true = ap (λ (o : Option Entry). content_of o ∷ []) (here ∙ sym there)
+    holds false = refl
+
+    olds : (wait : Bool) → AreOlder (length e) (holders_of r wait)
+    olds true = (omega arith, tt)
+    olds false = tt
+
+    olds_there : (wait : Bool) → AreOlder (length f) (holders_of q wait)
+    olds_there true = (omega arith, tt)
+    olds_there false = tt
+
+    same : contents (holders_of r request.wait) e ≡ contents (holders_of q request.wait) f
+    same = holds request.wait
+
+    older : AreOlder (length e) (holders_of r request.wait)
+    older = olds request.wait
+
+    older_there : AreOlder (length f) (holders_of q request.wait)
+    older_there = olds_there request.wait
+
+    acts : Acts job config r q e f
+    acts = record {
+      like = next;
+      held = held-base job config c d (instances_of job c) (instances_of job d) base.like.twins;
+      held_there = held-base_there job config c d (instances_of job c) (instances_of job d) base.like.twins;
+      unsaid = refl;
+      unsaid_there = refl;
+    }
+
+    mute : AllByRecursion IsMute es
+    mute = outcome-all IsMute mute-allows (λ its name. tt) config r request e
+
+    mute_there : AllByRecursion IsMute fs
+    mute_there = outcome-all IsMute mute-allows (λ its name. tt) (only job config) q request f
+
+    noticed-view : view job config (es ++ e) ≡ Received g ∷ view job config c
+    noticed-view = mutes-view job config es e mute ∙ given-view job config g c own
+
+    begun : fs ++ f ≡ begin job config (Received g) d
+    begun = sym (append_assoc fs (Given g ∷ []) d)
+
+    offers : offering (es ++ e) ≡ None
+    offers = mutes-offering es e mute
+
+    offers_there : offering (fs ++ f) ≡ None
+    offers_there = mutes-offering fs f mute_there
+
+    plain : Like job config (es ++ e) (fs ++ f) → unanswered (es ++ e) ≡ None → unanswered (fs ++ f) ≡ None
+        → Effected job config c d (es ++ e)
+    plain like silent silent_there =
+        Noticed (Received g) noticed-view (subst (λ (t : Chronicle). Plain job config (es ++ e) t) begun
+        (record {
+          like = like;
+          offers = None' offers offers_there;
+          silent = silent;
+          silent_there =
+              silent_there;
+        }))
+
+    does-like : Does job config r q (holders_of r request.wait) (holders_of q request.wait) e f es fs
+        → Like job config (es ++ e) (fs ++ f)
+    does-like (Reply answer left right) =
+        subst₂ (λ (s t : List Entry). Like job config (s ++ e) (t ++ f)) (sym left) (sym right)
+        (like_replied job config e f r q answer (here ∙ sym there) next)
+    does-like (Act x y pair acted acted_there silent silent_there held held_there) = pair.like
+
+    asking : (wait : Bool) → request.wait ≡ wait → asked (es ++ e) ≡ (if wait then None else Some r)
+    asking wait is = mutes-asked es e mute ∙ ap (λ b. if b then None else Some r) is
+
+    asking_there : (wait : Bool) → request.wait ≡ wait → asked (fs ++ f) ≡ (if wait then None else Some q)
+    asking_there wait is = mutes-asked fs f mute_there ∙ ap (λ b. if b then None else Some q) is
+
+    by_does : (wait : Bool) → request.wait ≡ wait
+        → Does job config r q (holders_of r request.wait) (holders_of q request.wait) e f es fs
+        → Effected job config c d (es ++ e)
+    by_does true is does = plain (does-like does) (ap (λ o. unless_answered o (es ++ e)) (asking true is))
+        (ap (λ o. unless_answered o (fs ++ f)) (asking_there true is))
+    by_does false is (Reply answer left right) =
+        plain (does-like (Reply answer left right))
+        (ap (λ o. unless_answered o (es ++ e)) (asking false is)
+        ∙ ap (λ (s : List Entry). unless_answered (Some r) (s ++ e)) left ∙ rw (eq-eqb r r refl) refl)
+        (ap (λ o. unless_answered o (fs ++ f)) (asking_there false is)
+        ∙ ap (λ (t : List Entry). unless_answered (Some q) (t ++ f)) right ∙ rw (eq-eqb q q refl) refl)
+    by_does false is (Act x y pair acted acted_there silent silent_there held held_there) =
+        let none : holders_of r request.wait ≡ [] = ap (holders_of r) is in
+        let void : holders_of q request.wait ≡ [] = ap (holders_of q) is in
+        let one = entry-append r es e (omega arith) in
+        let two = entry-append q fs f (omega arith) in
+        Hurried (Received g) noticed-view r q x y
+        (subst (λ (t : Chronicle). Waits job config (es ++ e) t r q x y) begun
+        (record {
+          like = pair.like;
+          offers = offers;
+          offers_there = offers_there;
+          asking = asking false is;
+          asking_there = asking_there false is;
+          silent = silent;
+          silent_there = silent_there;
+          request = one.1 ∙ here ∙ sym there ∙ sym two.1;
+          older = one.0;
+          older_there = two.0;
+          own = ap (λ o. was_asked job (request_in o)) (one.1 ∙ here) ∙ own;
+          acted = acted;
+          acted_there = acted_there;
+          guest = record { twin = pair.twin; left = pair.left; right = pair.right; match = pair.match };
+          held = held none;
+          held_there = held_there void;
+        }))

@@ -1,0 +1,661 @@
+-- Readings of the clock, and turns.
+use Rattle.std.proofs.Common.{◌≡◌, ℕ, ◌+◌, ◌<◌, ◌≤◌, ◌==◌, inl, inr, Bool, true, false, ◌&&◌, List, [], ◌∷◌}
+use Rattle.std.proofs.Common.{◌++◌, Option, None, Some, is_some, length, if◌then◌else◌, bytes_eq, refl, sym}
+use Rattle.std.proofs.Common.{◌∙◌, ap, ap₂, subst, subst₂, arith, eq-eqb, eqb-true, append-nil}
+use Rattle.std.specs.List.{AllByRecursion}
+use Rattle.up_conf.specs.declared.job.JobDef.{JobDef}
+use Rattle.up_stanza.specs.declared.process.Process.TheVariants.{Main}
+use Rattle.up_model.specs.declared.event.Event.{Event}
+use Rattle.up_model.specs.Chronicle.{Chronicle, Entry, Given, Queued, Handled, Finished, Signalled, Entering}
+use Rattle.up_model.specs.Chronicle.{Outside}
+use Rattle.up_model.specs.Clock.{now}
+use Rattle.up_model.specs.Configuration.{Configuration}
+use Rattle.up_model.specs.Instances.{Instance, instances_of}
+use Rattle.up_model.specs.Readings.{entry_at, made_at, event_at}
+use Rattle.up_model.specs.Replies.{request_at}
+use Rattle.up_model.specs.Values.{Bytes}
+use Rattle.up_model.proofs.Places.{bytes_same}
+use Rattle.up_model.proofs.NameLaws.{called}
+use Rattle.up_isolation.specs.Views.{jobs_called, is_named, is_of, was_asked}
+use Rattle.up_isolation.specs.Parts.{is_named_event}
+use Rattle.up_isolation.proofs.Lives.{Life, life}
+use Rattle.up_isolation.proofs.Sights.{told}
+use Rattle.up_isolation.proofs.Twins.{Twins, Match}
+use Rattle.up_isolation.proofs.Known.{IsKnown}
+use Rattle.up_isolation.proofs.Likes.{Twin, Like}
+use Rattle.up_isolation.proofs.Pairs.{Pair}
+use Rattle.std.proofs.Common.{append_assoc, not, suc}
+use Rattle.up_model.specs.declared.input.Input.{Input}
+use Rattle.up_model.specs.declared.input.Input.TheVariants as input
+use Rattle.up_model.specs.Clock.{kill_due, overdue, all_overdue, kill, killing, milliseconds, has_passed}
+use Rattle.up_model.specs.Clock.{is_killed}
+use Rattle.up_model.specs.Due.{effect}
+use Rattle.up_model.specs.Instances.{place_named, instance_named}
+use Rattle.up_model.specs.Offers.{offering}
+use Rattle.up_model.specs.Predicates.{entries_if}
+use Rattle.up_model.specs.Readings.{blocker}
+use Rattle.up_model.specs.Replies.{asked}
+use Rattle.up_model.proofs.Sparing.{all-append, all-weaker}
+use Rattle.up_isolation.specs.Views.{Received, Arrived, Unblocked, view}
+use Rattle.up_isolation.proofs.Twins.{At}
+use Rattle.up_isolation.proofs.Likes.{IsOther, foreign, owns-later}
+use Rattle.up_isolation.proofs.Locals.{NotGiven, silent-more}
+use Rattle.up_isolation.proofs.Steps.{like_given}
+use Rattle.up_isolation.proofs.Offering.{pair-at, found, Found, Neither, Two}
+use Rattle.up_isolation.proofs.Ends.{IsMute}
+use Rattle.up_isolation.proofs.Resting.{AreApart, like-apart}
+use Rattle.up_isolation.proofs.Acting.{Plain, None', Open}
+use Rattle.up_model.specs.Due.{telling, failed_event_of, finishing, turn_event, turn_of}
+use Rattle.up_model.specs.Held.{is_spoilt}
+use Rattle.up_model.specs.Offers.{is_open}
+use Rattle.up_model.specs.Queue.{Live, queue}
+use Rattle.up_model.specs.Readings.{event_of, made_of}
+use Rattle.up_model.specs.Replies.{request_in, if_waits, waiter_in, waiter, answering_waiter}
+use Rattle.up_model.specs.Requests.{RequestValue}
+use Rattle.up_model.proofs.Places.{count, one_if}
+use Rattle.up_model.proofs.ReplyLaws.{answering_waiter-all}
+use Rattle.up_isolation.specs.Views.{is_blocked_by, unblocked, arrivals}
+use Rattle.up_isolation.proofs.Known.{known, entry-later}
+use Rattle.up_isolation.proofs.Releases.{entry-append}
+use Rattle.up_model.proofs.Sparing.{same-append}
+use Rattle.up_isolation.proofs.Likes.{IsOuter}
+use Rattle.up_isolation.proofs.Entries.{pair_signalled}
+use Rattle.up_isolation.proofs.Steps.{like_turn, like_queued, like_handled, like_finished, waits-own}
+use Rattle.up_isolation.proofs.Steps.{blocker-own, emitter}
+use Rattle.up_isolation.proofs.Twins.{at-twins, twins_map}
+use Rattle.up_isolation.proofs.Offering.{event-content}
+use Rattle.std.proofs.Common.{◌||◌}
+use Rattle.up_model.specs.Laws.{AreByAge}
+use Rattle.up_model.specs.Held.{is_held}
+use Rattle.up_model.specs.Replies.{unless_answered}
+use Rattle.up_model.proofs.QueueLaws.{queue_by_age}
+use Rattle.up_isolation.proofs.Offering.{at-known-left, once-of}
+use Rattle.up_isolation.proofs.Alone.{freeing, blocker_of, begin, Effected, Unnoticed, Noticed, Base}
+use Rattle.up_isolation.proofs.Alone.{still-of, mutes-view, given-view, other-view, mutes-offering}
+use Rattle.up_isolation.proofs.Alone.{mutes-asked, unnoticed, mute-given}
+use Rattle.up_isolation.proofs.Acting.{same-later}
+
+-- KILL by the timer
+due-same : (def : JobDef) (i j : ℕ) (c d : Chronicle) → life i c ≡ life j d → now c ≡ now d
+    → kill_due def i c ≡ kill_due def j d
+due-same def i j c d same today =
+    ap₂ (λ (l : Life) n. (is_killed l.state && is_some (l.pid Main)) && has_passed l.kill n
+    (milliseconds def.kill_timeout)) same today
+
+killing-append : (is js : List ℕ) → killing (is ++ js) ≡ killing js ++ killing is
+killing-append [] js = sym (append-nil (killing js))
+killing-append (i ∷ is) js = ap (λ (es : List Entry). es ++ Signalled i kill true ∷ []) (killing-append is js)
+    ∙ append_assoc (killing js) (killing is) (Signalled i kill true ∷ [])
+
+kill-one : (i : ℕ) (is : List ℕ) (b : Bool) (c : Chronicle)
+    → killing (entries_if b (i ∷ []) ++ is) ++ c
+    ≡ killing is ++ (entries_if b (Signalled i kill true ∷ []) ++ c)
+kill-one i is true c = append_assoc (killing is) (Signalled i kill true ∷ []) c
+kill-one i is false c = refl
+
+-- of the job's instances, after what was done to those before
+kill-own : (job : Bytes) (config : Configuration) (def : JobDef) (c d later after : Chronicle)
+    (xs ys : List Instance) → now c ≡ now d → Twins (Twin job config c d) xs ys
+    → ((x y : Instance) → At x y xs ys → At x y (instances_of job later) (instances_of job after))
+    → Like job config later after
+    → Like job config (killing (overdue def xs c) ++ later) (killing (overdue def ys d) ++ after)
+kill-own job config def c d later after [] [] today twins at like = like
+kill-own job config def c d later after (x ∷ xs) (y ∷ ys) today twins at like =
+    subst₂ (λ (s t : Chronicle). Like job config s t)
+    (sym (kill-one x.place (overdue def xs c) (kill_due def x.place c) later))
+    (sym (kill-one y.place (overdue def ys d) (kill_due def y.place d) after))
+    (by_case (kill_due def x.place c) (kill_due def y.place d)
+    (due-same def x.place y.place c d twins.0.bond.alike today)
+    (λ s t more grown. kill-own job config def c d s t xs ys today twins.1
+    (λ u v there. more u v (at u v (inr there))) grown))
+  where
+    by_case : (b a : Bool) → b ≡ a
+        → ((s t : Chronicle) → ((u v : Instance) → At u v (instances_of job later) (instances_of job after)
+        → At u v (instances_of job s) (instances_of job t)) → Like job config s t
+        → Like job config (killing (overdue def xs c) ++ s) (killing (overdue def ys d) ++ t))
+        → Like job config (killing (overdue def xs c)
+        ++ (entries_if b (Signalled x.place kill true ∷ []) ++ later))
+        (killing (overdue def ys d) ++ (entries_if a (Signalled y.place kill true ∷ []) ++ after))
+    by_case true true same next =
+        next (Signalled x.place kill true ∷ later) (Signalled y.place kill true ∷ after) (λ u v there. there)
+        (pair_signalled job config later after x y kill true
+        (pair-at job config later after x y (at x y (inl (refl, refl))) like)).pair.like
+    by_case false false same next = next later after (λ u v there. there) like
+    by_case true false same next = absurd (cc)
+    by_case false true same next = absurd (cc)
+kill-own job config def c d later after [] (y ∷ ys) today twins at like = absurd twins
+kill-own job config def c d later after (x ∷ xs) [] today twins at like = absurd twins
+
+-- of another job's
+kill-other : (job : Bytes) (config : Configuration) (def : JobDef) (c later d : Chronicle)
+    (xs : List Instance) → AllByRecursion (λ x. IsOther job x.place later) xs → Like job config later d
+    → Like job config (killing (overdue def xs c) ++ later) d
+kill-other job config def c later d [] other like = like
+kill-other job config def c later d (x ∷ xs) other like =
+    subst (λ (s : Chronicle). Like job config s d)
+    (sym (kill-one x.place (overdue def xs c) (kill_due def x.place c) later))
+    (by_case (kill_due def x.place c) (λ s all grown. kill-other job config def c s d xs all grown))
+  where
+    more : (ys : List Instance) → AllByRecursion (λ y. IsOther job y.place later) ys
+        → AllByRecursion (λ y. IsOther job y.place (Signalled x.place kill true ∷ later)) ys
+    more [] all = tt
+    more (y ∷ ys) all = (
+      (
+        owns-later job y.place (Signalled x.place kill true) later all.0.1
+            ∙ all.0.0,
+        omega (arith, all.0.1),
+      ),
+      more ys all.1,
+    )
+
+    by_case : (b : Bool)
+        → ((s : Chronicle) → AllByRecursion (λ y. IsOther job y.place s) xs → Like job config s d
+        → Like job config (killing (overdue def xs c) ++ s) d)
+        → Like job config (killing (overdue def xs c)
+        ++ (entries_if b (Signalled x.place kill true ∷ []) ++ later)) d
+    by_case true next = next (Signalled x.place kill true ∷ later) (more xs other.1)
+        (foreign job config (Signalled x.place kill true) later d other.0 like)
+    by_case false next = next later other.1 like
+
+-- signals leave the instances
+abbrev IsSignal : Entry → Type 0
+IsSignal (Signalled i signal by_timer) = Unit {0}
+IsSignal e = ⊥
+
+are-signals : (is : List ℕ) → AllByRecursion IsSignal (killing is)
+are-signals [] = tt
+are-signals (i ∷ is) = all-append IsSignal (killing is) (Signalled i kill true ∷ []) (are-signals is) (tt, tt)
+
+signal-instances : (k : Bytes) (e : Entry) (c : Chronicle) → IsSignal e
+    → instances_of k (e ∷ c) ≡ instances_of k c
+signal-instances k (Signalled i signal by_timer) c is = refl
+signal-instances k e c is = absurd is
+
+kills-instances : (k : Bytes) (is : List ℕ) (c : Chronicle)
+    → instances_of k (killing is ++ c) ≡ instances_of k c
+kills-instances k is c =
+    same-append (instances_of k) IsSignal (signal-instances k) (killing is) c (are-signals is)
+
+-- a chronicle in which the instances are those of another
+record Later (c later : Chronicle) : Type 0 where
+  instances : (k : Bytes) → instances_of k later ≡ instances_of k c
+  made : (i : ℕ) → i < length c → (i < length later) × (made_at i later ≡ made_at i c)
+
+later-kills : (is : List ℕ) (c later : Chronicle) → Later c later → Later c (killing is ++ later)
+later-kills is c later l = record {
+  instances = λ k. kills-instances k is later ∙ l.instances k;
+  made = λ i h.
+      let one = l.made i h in
+      let more = entry-append i (killing is) later one.0 in
+      (more.0, ap made_of more.1 ∙ one.1);
+}
+
+others-later : (job : Bytes) (name : Bytes) (c later : Chronicle) (xs : List Instance)
+    → bytes_eq name job ≡ false → Later c later → AllByRecursion (IsKnown name c) xs
+    → AllByRecursion (λ x. IsOther job x.place later) xs
+others-later job name c later [] other l known = tt
+others-later job name c later (x ∷ xs) other l known =
+    let one = l.made x.place known.0.0 in
+    ((ap (is_of job) (one.1 ∙ known.0.1) ∙ other, one.0), others-later job name c later xs other l known.1)
+
+-- job by job
+kill-all : (job : Bytes) (config : Configuration) (js : List JobDef) (c d later after : Chronicle)
+    → Like job config c d → Later c later → Later d after
+    → Like job config later after
+    → Like job config (killing (all_overdue js c) ++ later) (killing (all_overdue (jobs_called job js) d)
+    ++ after)
+kill-all job config [] c d later after base l m like = like
+kill-all job config (def ∷ js) c d later after base l m like =
+    by_case (bytes_eq def.name job) refl (λ s t grown more like. kill-all job config js c d s t base grown
+    more like)
+  where
+    here : List ℕ
+    here = overdue def (instances_of def.name c) c
+
+    there : List ℕ
+    there = overdue def (instances_of def.name d) d
+
+    own : def.name ≡ job → Like job config (killing here ++ later) (killing there ++ after)
+    own name =
+        subst (λ k. Like job config (killing (overdue def (instances_of k c) c) ++ later)
+        (killing (overdue def (instances_of k d) d) ++ after)) (sym name)
+        (kill-own job config def c d later after (instances_of job c) (instances_of job d) base.today
+        base.twins
+        (λ x y at. subst₂ (λ (xs ys : List Instance). At x y xs ys) (sym (l.instances job))
+        (sym (m.instances job)) at) like)
+
+    joined : (is js : List ℕ) (t : Chronicle) → killing (is ++ js) ++ t ≡ killing js ++ (killing is ++ t)
+    joined is js t =
+        ap (λ (es : List Entry). es ++ t) (killing-append is js) ∙ append_assoc (killing js) (killing is) t
+
+    by_case : (b : Bool) → bytes_eq def.name job ≡ b
+        → ((s t : Chronicle) → Later c s → Later d t → Like job config s t
+        → Like job config (killing (all_overdue js c) ++ s) (killing (all_overdue (jobs_called job js) d)
+        ++ t))
+        → Like job config (killing (here ++ all_overdue js c) ++ later)
+        (killing (all_overdue (if b then def ∷ jobs_called job js else jobs_called job js) d) ++ after)
+    by_case true is next =
+        subst₂ (λ (s t : Chronicle). Like job config s t) (sym (joined here (all_overdue js c) later))
+        (sym (joined there (all_overdue (jobs_called job js) d) after))
+        (next (killing here ++ later) (killing there ++ after) (later-kills here c later l)
+        (later-kills there d after m) (own (bytes_same def.name job is)))
+    by_case false is next =
+        subst (λ (s : Chronicle). Like job config s (killing (all_overdue (jobs_called job js) d) ++ after))
+        (sym (joined here (all_overdue js c) later))
+        (next (killing here ++ later) after (later-kills here c later l) m
+        (kill-other job config def c later after (instances_of def.name c)
+        (others-later job def.name c later (instances_of def.name c) is l (known def.name c)) like))
+
+pub effect-clock : (job : Bytes) (config : Configuration) (reading : ℕ) (c d : Chronicle)
+    → Base job config c d → Effected job config c d (effect config (input.Clock reading) c ++ c)
+unfolding effect
+effect-clock job config reading c d base = rw append_assoc
+    (Noticed (Received g) (mutes-view job config es (Given g ∷ c) mute ∙ given-view job config g c refl)
+    (subst (λ (t : Chronicle). Plain job config (es ++ Given g ∷ c) t)
+    (sym (append_assoc fs (Given g ∷ []) d))
+    (record {
+      like = kill-all job config config.jobs (Given g ∷ c) (Given g ∷ d) (Given g ∷ c) (Given g ∷ d) next
+          (record { instances = λ k. refl; made = λ i h. (h, refl) })
+          (record { instances = λ k. refl; made = λ i h. (h, refl) }) next;
+      offers = None' (mutes-offering es (Given g ∷ c) mute) (mutes-offering fs (Given g ∷ d) mute_there);
+      silent = silent-more es (Given g ∷ c) (all-weaker IsMute NotGiven mute-given es mute) refl;
+      silent_there = silent-more fs (Given g ∷ d) (all-weaker IsMute NotGiven mute-given fs mute_there) refl;
+    })))
+  where
+    g : Input
+    g = input.Clock reading
+
+    next : Like job config (Given g ∷ c) (Given g ∷ d)
+    next = like_given job config g c d base.like
+
+    killing-mute : (is : List ℕ) → AllByRecursion IsMute (killing is)
+    killing-mute [] = tt
+    killing-mute (i ∷ is) =
+        all-append IsMute (killing is) (Signalled i kill true ∷ []) (killing-mute is) (tt, tt)
+
+    es : List Entry
+    es = killing (all_overdue config.jobs (Given g ∷ c))
+
+    fs : List Entry
+    fs = killing (all_overdue (jobs_called job config.jobs) (Given g ∷ d))
+
+    mute : AllByRecursion IsMute es
+    mute = killing-mute (all_overdue config.jobs (Given g ∷ c))
+
+    mute_there : AllByRecursion IsMute fs
+    mute_there = killing-mute (all_overdue (jobs_called job config.jobs) (Given g ∷ d))
+
+clash : (o : Option ℕ) (a : ℕ) → o ≡ None → o ≡ Some a → ⊥
+clash o a none some = absurd (cc)
+
+same-some : (o : Option ℕ) (a b : ℕ) → o ≡ Some a → o ≡ Some b → a ≡ b
+same-some o a b one other = cc
+
+none-not-some : (r : ℕ) → None ≡ Some r → ⊥
+none-not-some r bad = cc
+
+-- a turn that touches no event
+turn-none : (job : Bytes) (config : Configuration) (c d : Chronicle) → Base job config c d
+    → Effected job config c d (Given input.Turn ∷ c)
+turn-none job config c d base =
+    unnoticed job config input.Turn [] c d base refl tt tt (λ r some. absurd (none-some r some))
+  where
+    none-some : (r : ℕ) → None ≡ Some r → ⊥
+    none-some r bad = none-not-some r bad
+
+-- a turn takes an event up
+taken-up : (job : Bytes) (config : Configuration) (p : ℕ) (c d : Chronicle) → p < length c
+    → Base job config c d → Effected job config c d (Handled p ∷ Given input.Turn ∷ c)
+unfolding view
+taken-up job config p c d older base = by_event (event_at p e) refl
+  where
+    own : List JobDef
+    own = jobs_called job config.jobs
+
+    e : Chronicle
+    e = Given input.Turn ∷ c
+
+    next : Like job config e d
+    next = foreign job config (Given input.Turn) c d refl base.like
+
+    none-some : (r : ℕ) → None ≡ Some r → ⊥
+    none-some r bad = none-not-some r bad
+
+    some-same : (k : ℕ) → Some p ≡ Some k → p ≡ k
+    some-same k same = cc
+
+    quiet : arrivals own (event_at p e) ≡ [] → is_named_event own (event_at p e) ≡ false
+        → Effected job config c d (Handled p ∷ e)
+    quiet none unnamed =
+        Unnoticed (record {
+          like = foreign job config (Handled p) e d none next;
+          still = still-of job config d base.rest;
+          calm = base.calm;
+          offers = λ k some.
+              subst (λ q. (q < length (Handled p ∷ e))
+              × (is_named_event own (event_at q (Handled p ∷ e)) ≡ false)) (some-same k some) (
+                omega (arith, older),
+                ap (λ o. is_named_event own (event_of o))
+                    (entry-later p (Handled p) e (omega (arith, older))) ∙ unnamed,
+              );
+          asks = λ r some. absurd (none-some r some);
+        }) (ap (λ ns. ns ++ view job config c) none)
+
+    noted : (event : Event) → event_at p e ≡ Some event → is_named event.name own ≡ true
+        → Effected job config c d (Handled p ∷ e)
+    noted event is named =
+        Noticed (Arrived event) (ap (λ o. arrivals own o ++ view job config c) is ∙ rw named refl)
+        (record {
+          like = like_handled job config e there p q same base.facts.twice
+              (like_queued job config e (Given input.Turn ∷ d) (length d) event
+              (like_turn job config e d next));
+          offers = Open p q refl refl
+              (same-later e there p q (Handled p ∷ []) (Handled q ∷ []) (record {
+                event = same;
+                content = event-content (entry_at p e) event is
+                    ∙ sym (event-content (entry_at q there) event right);
+                older = omega (arith, older);
+                older_there = omega arith;
+              })) refl refl
+              (twins_map (Twin job config c d) (λ x y. is_open x.place (Handled p ∷ e)
+              ≡ is_open y.place (Handled q ∷ there)) (λ x y twin. refl) (instances_of job c)
+              (instances_of job d) base.like.twins);
+          silent = refl;
+          silent_there = refl;
+        })
+      where
+        q : ℕ
+        q = suc (length d)
+
+        there : Chronicle
+        there = Queued (Outside (length d)) event ∷ Given input.Turn ∷ d
+
+        right : event_at q there ≡ Some event
+        right = rw (eq-eqb q q refl) refl
+
+        same : event_at p e ≡ event_at q there
+        same = is ∙ sym right
+
+    by_name : (event : Event) → event_at p e ≡ Some event → (b : Bool) → is_named event.name own ≡ b
+        → Effected job config c d (Handled p ∷ e)
+    by_name event is true named = noted event is named
+    by_name event is false unnamed =
+        quiet (ap (arrivals own) is ∙ rw unnamed refl) (ap (is_named_event own) is ∙ unnamed)
+
+    by_event : (o : Option Event) → event_at p e ≡ o → Effected job config c d (Handled p ∷ e)
+    by_event None is = quiet (ap (arrivals own) is) (ap (is_named_event own) is)
+    by_event (Some event) is = by_name event is (is_named event.name own) refl
+
+-- whether one of the job's instances waits for the event
+data Freeing (p : ℕ) (c : Chronicle) (xs ys : List Instance) : Type 0 where
+  NoneFreed : unblocked p xs c ≡ [] → Freeing p c xs ys
+  OneFreed : (x y : Instance) → At x y xs ys → is_blocked_by p (blocker x.place c) ≡ true → Freeing p c xs ys
+
+freeing-of : (p : ℕ) (c : Chronicle) (xs ys : List Instance) → Twins (λ x y. Unit {0}) xs ys
+    → Freeing p c xs ys
+freeing-of p c [] [] twins = NoneFreed refl
+freeing-of p c (x ∷ xs) (y ∷ ys) twins =
+    by_case (is_blocked_by p (blocker x.place c)) refl (freeing-of p c xs ys twins.1)
+  where
+    by_case : (b : Bool) → is_blocked_by p (blocker x.place c) ≡ b → Freeing p c xs ys
+        → Freeing p c (x ∷ xs) (y ∷ ys)
+    by_case true is ih = OneFreed x y (inl (refl, refl)) is
+    by_case false is (NoneFreed none) = NoneFreed (rw is none)
+    by_case false is (OneFreed u v at waits) = OneFreed u v (inr at) waits
+freeing-of p c [] (y ∷ ys) twins = absurd twins
+freeing-of p c (x ∷ xs) [] twins = absurd twins
+
+none-freed : (p i : ℕ) (c : Chronicle) (xs : List Instance)
+    → ((k : ℕ) → is_blocked_by p (blocker k c) ≡ (k == i)) → count i xs ≡ 0 → unblocked p xs c ≡ []
+none-freed p i c [] own none = refl
+none-freed p i c (x ∷ xs) own none = by_case (x.place == i) refl none (none-freed p i c xs own)
+  where
+    by_case : (b : Bool) → (x.place == i) ≡ b → one_if b + count i xs ≡ 0
+        → (count i xs ≡ 0 → unblocked p xs c ≡ [])
+        → (if is_blocked_by p (blocker x.place c) then Unblocked x.name ∷ unblocked p xs c
+        else unblocked p xs c) ≡ []
+    by_case true is none ih = absurd (omega arith)
+    by_case false is none ih = rw (own x.place ∙ is) (ih (omega arith))
+
+at-count : (x y : Instance) (xs ys : List Instance) → At x y xs ys → 0 < count x.place xs
+at-count x y (u ∷ us) (v ∷ vs) (inl here) =
+    let one : one_if (u.place == x.place) ≡ 1 =
+    ap one_if (eq-eqb u.place x.place (ap (λ w. w.place) here.0)) in
+    omega (arith, one)
+at-count x y (u ∷ us) (v ∷ vs) (inr there) = omega (arith, at-count x y us vs there)
+at-count x y [] vs at = absurd at
+at-count x y (u ∷ us) [] at = absurd at
+
+one-freed : (p : ℕ) (c : Chronicle) (x y : Instance) (xs ys : List Instance)
+    → ((k : ℕ) → is_blocked_by p (blocker k c) ≡ (k == x.place)) → At x y xs ys → count x.place xs ≤ 1
+    → unblocked p xs c ≡ Unblocked x.name ∷ []
+one-freed p c x y (u ∷ us) (v ∷ vs) own (inl here) once =
+    let is : (u.place == x.place) ≡ true = eq-eqb u.place x.place (ap (λ w. w.place) here.0) in
+    let one : one_if (u.place == x.place) ≡ 1 = ap one_if is in
+    rw (own u.place ∙ is) (ap₂ (λ name rest. Unblocked name ∷ rest) (ap (λ w. w.name) here.0)
+    (none-freed p x.place c us own (omega (arith, one, once))))
+one-freed p c x y (u ∷ us) (v ∷ vs) own (inr there) once =
+    by_case (u.place == x.place) refl once (one-freed p c x y us vs own there) (at-count x y us vs there)
+  where
+    by_case : (b : Bool) → (u.place == x.place) ≡ b → one_if b + count x.place us ≤ 1
+        → (count x.place us ≤ 1 → unblocked p us c ≡ Unblocked x.name ∷ []) → 0 < count x.place us
+        → (if is_blocked_by p (blocker u.place c) then Unblocked u.name ∷ unblocked p us c
+        else unblocked p us c) ≡ Unblocked x.name ∷ []
+    by_case true is once ih some = absurd (omega arith)
+    by_case false is once ih some = rw (own u.place ∙ is) (ih (omega arith))
+one-freed p c x y [] vs own at once = absurd at
+one-freed p c x y (u ∷ us) [] own at once = absurd at
+
+pub waits-some : (p : ℕ) (o : Option ℕ) → is_blocked_by p o ≡ true → o ≡ Some p
+waits-some p None h = absurd (cc)
+waits-some p (Some other) h = ap (λ k. Some k) (eqb-true other p h)
+
+some-of : (o : Option ℕ) → is_some o ≡ true → (q : ℕ) × (o ≡ Some q)
+some-of None h = absurd (cc)
+some-of (Some q) h = (q, refl)
+
+-- who waits for an event asked for that event
+waiter-foreign : (job : Bytes) (o : Option Entry) (c : Chronicle) (r : ℕ) → IsOuter job o c
+    → waiter_in o c ≡ Some r → (r < length c) × (was_asked job (request_at r c) ≡ false)
+waiter-foreign job (Some (Queued (Outside given) event)) c r outer some =
+    by_request (request_at given c) refl some
+  where
+    by_wait : (b : Bool) → (if b then Some given else None) ≡ Some r → given ≡ r
+    by_wait true some = cc
+    by_wait false some = absurd (cc)
+
+    by_request : (o : Option RequestValue) → request_at given c ≡ o → if_waits given o ≡ Some r
+        → (r < length c) × (was_asked job (request_at r c) ≡ false)
+    by_request None is some = absurd (cc)
+    by_request (Some request) is some = subst (λ k. (k < length c) × (was_asked job (request_at k c) ≡ false))
+        (by_wait request.wait some) outer
+waiter-foreign job o c r outer some = absurd (cc)
+
+emitter-waiter : (o : Option Entry) (i : ℕ) (c : Chronicle) → emitter o ≡ Some i → waiter_in o c ≡ None
+emitter-waiter (Some (Queued (Entering k to) event)) i c is = refl
+emitter-waiter o i c is = absurd (cc)
+
+telling-apart : (job : Bytes) (config : Configuration) (p : ℕ) (o : Option Event) (c : Chronicle)
+    → AreApart job config (telling p o) c
+telling-apart job config p None c = tt
+telling-apart job config p (Some told) c = (tt, tt)
+
+telling-mute : (p : ℕ) (o : Option Event) → AllByRecursion IsMute (telling p o)
+telling-mute p None = tt
+telling-mute p (Some told) = (tt, tt)
+
+waiting-apart : (job : Bytes) (config : Configuration) (p : ℕ) (o : Option ℕ) (b : Bool) (c : Chronicle)
+    → ((r : ℕ) → o ≡ Some r → (r < length c) × (was_asked job (request_at r c) ≡ false))
+    → AreApart job config (answering_waiter o b) (Finished p ∷ c)
+waiting-apart job config p None b c other = tt
+waiting-apart job config p (Some r) b c other =
+    let h = other r refl in
+    (ap (λ o. was_asked job (request_in o)) (entry-later r (Finished p) c h.0) ∙ h.1, tt)
+
+finished-view : (job : Bytes) (config : Configuration) (p : ℕ) (c : Chronicle)
+    → view job config (Finished p ∷ c) ≡ unblocked p (instances_of job c) c ++ view job config c
+unfolding view
+finished-view job config p c = refl
+
+-- a turn finishes an event
+finished : (job : Bytes) (config : Configuration) (p : ℕ) (c d : Chronicle) → Base job config c d
+    → Effected job config c d (finishing p (Given input.Turn ∷ c) ++ Given input.Turn ∷ c)
+finished job config p c d base =
+    subst (λ (t : Chronicle). Effected job config c d t) (sym whole)
+    (by_freeing (freeing-of p e (instances_of job c) (instances_of job d)
+    (twins_map (Twin job config c d) (λ x y. Unit {0}) (λ x y twin. tt) (instances_of job c)
+    (instances_of job d) base.like.twins)))
+  where
+    e : Chronicle
+    e = Given input.Turn ∷ c
+
+    next : Like job config e d
+    next = foreign job config (Given input.Turn) c d refl base.like
+
+    tells : List Entry
+    tells = telling p (failed_event_of p e)
+
+    waits : List Entry
+    waits = answering_waiter (waiter p e) (is_spoilt p e)
+
+    whole : finishing p e ++ e ≡ tells ++ (waits ++ Finished p ∷ e)
+    whole = append_assoc tells (waits ++ Finished p ∷ []) e ∙ ap (λ (es : List Entry). tells ++ es)
+        (append_assoc waits (Finished p ∷ []) e)
+
+    none-some : (r : ℕ) → None ≡ Some r → ⊥
+    none-some r bad = none-not-some r bad
+
+    mute-waits : AllByRecursion IsMute waits
+    mute-waits = answering_waiter-all IsMute (λ request answer. tt) (waiter p e) (is_spoilt p e)
+
+    mute-tells : AllByRecursion IsMute tells
+    mute-tells = telling-mute p (failed_event_of p e)
+
+    offers : offering (tells ++ (waits ++ Finished p ∷ e)) ≡ None
+    offers = mutes-offering tells (waits ++ Finished p ∷ e) mute-tells ∙ mutes-offering waits (Finished p ∷ e)
+        mute-waits
+
+    asks : asked (tells ++ (waits ++ Finished p ∷ e)) ≡ None
+    asks =
+        mutes-asked tells (waits ++ Finished p ∷ e) mute-tells ∙ mutes-asked waits (Finished p ∷ e) mute-waits
+
+    seen-view : view job config (tells ++ (waits ++ Finished p ∷ e)) ≡ unblocked p (instances_of job c) e
+        ++ view job config c
+    seen-view =
+        mutes-view job config tells (waits ++ Finished p ∷ e) mute-tells
+        ∙ mutes-view job config waits (Finished p ∷ e) mute-waits ∙ finished-view job config p e
+        ∙ ap (λ ns. unblocked p (instances_of job c) e ++ ns) (other-view job config input.Turn c refl)
+
+    told : (t : Chronicle) → Like job config (waits ++ Finished p ∷ e) t
+        → Like job config (tells ++ (waits ++ Finished p ∷ e)) t
+    told t like = like-apart job config tells (waits ++ Finished p ∷ e) t
+        (telling-apart job config p (failed_event_of p e) (waits ++ Finished p ∷ e)) like
+
+    by_freeing : Freeing p e (instances_of job c) (instances_of job d)
+        → Effected job config c d (tells ++ (waits ++ Finished p ∷ e))
+    by_freeing (NoneFreed none) =
+        Unnoticed (record {
+          like = told d (like-apart job config waits (Finished p ∷ e) d
+              (waiting-apart job config p (waiter p e) (is_spoilt p e) e
+              (λ r some. waiter-foreign job (entry_at p e) e r (next.fair.outer p) some))
+              (foreign job config (Finished p) e d none next));
+          still = still-of job config d base.rest;
+          calm = base.calm;
+          offers = λ k some. absurd (none-some k (sym offers ∙ some));
+          asks = λ r some. absurd (none-some r (sym asks ∙ some));
+        }) (seen-view ∙ ap (λ ns. ns ++ view job config c) none)
+    by_freeing (OneFreed x y at waiting) =
+        Noticed (Unblocked x.name)
+        (seen-view ∙ ap (λ ns. ns ++ view job config c)
+        (one-freed p e x y (instances_of job c) (instances_of job d) (λ k. waits-own x.place k p e is) at
+        (once-of job c x.place)))
+        (subst (λ (t : Chronicle). Plain job config (tells ++ (waits ++ Finished p ∷ e)) t) there
+        (record {
+          like = told (Finished q ∷ f)
+              (subst (λ (es : List Entry). Like job config (es ++ Finished p ∷ e) (Finished q ∷ f))
+              (sym silence) (like_finished job config e f x y p q is are pair));
+          offers = None' offers refl;
+          silent = ap (λ o. unless_answered o (tells ++ (waits ++ Finished p ∷ e))) asks;
+          silent_there = refl;
+        }))
+      where
+        f : Chronicle
+        f = Given input.Turn ∷ d
+
+        is : blocker x.place e ≡ Some p
+        is = waits-some p (blocker x.place e) waiting
+
+        silence : waits ≡ []
+        silence = ap (λ o. answering_waiter o (is_spoilt p e))
+            (emitter-waiter (entry_at p e) x.place e (blocker-own x.place p e is).1)
+
+        pair : Pair job config e f x y
+        pair = pair-at job config e f x y at (like_turn job config e d next)
+
+        blocked : is_some (blocker y.place d) ≡ true
+        blocked =
+            sym (ap (λ (l : Life). l.blocked) pair.twin.bond.alike) ∙ ap (λ (o : Option ℕ). is_some o) is
+
+        found-one : (q : ℕ) × (blocker y.place d ≡ Some q)
+        found-one = some-of (blocker y.place d) blocked
+
+        q : ℕ
+        q = found-one.0
+
+        are : blocker y.place f ≡ Some q
+        are = found-one.1
+
+        single : place_named x.name (instances_of job c) ≡ Some x.place
+        single = at-known-left (λ u. place_named u.name (instances_of job c) ≡ Some u.place) x y
+            (instances_of job c) (instances_of job d) at (base.like.singles job)
+
+        named : Found x.name (instances_of job c) (instances_of job d)
+            → instance_named (called job x.name) d ≡ Some y.place
+        named (Neither none void) =
+            absurd (clash (place_named x.name (instances_of job c)) x.place none single)
+        named (Two u v beside left right) =
+            let same : u.place ≡ x.place =
+            same-some (place_named x.name (instances_of job c)) u.place x.place left single in
+            let match = at-twins (Match x.place y.place) u v (instances_of job c) (instances_of job d) beside
+            pair.match in
+            right ∙ ap (λ k. Some k) (eqb-true v.place y.place (sym match ∙ eq-eqb u.place x.place same))
+
+        there : Finished q ∷ f ≡ begin job config (Unblocked x.name) d
+        there = sym (ap (λ o. freeing (blocker_of o d) d)
+            (named (found job config c d x.name (instances_of job c) (instances_of job d) base.like.twins))
+            ∙ ap (λ o. freeing o d) found-one.1)
+
+-- a turn
+older-live : (config : Configuration) (n : ℕ) (lives : List Live) (c : Chronicle) (live : Live)
+    → AllByRecursion (λ l. l.place < n) lives → turn_event config lives c ≡ Some live → live.place < n
+older-live config n [] c live older some = absurd (cc)
+older-live config n (l ∷ lives) c live older some =
+    by_case (not l.handled || not (is_held config l.place c)) some (older-live config n lives c live older.1)
+  where
+    by_case : (b : Bool) → (if b then Some l else turn_event config lives c) ≡ Some live
+        → (turn_event config lives c ≡ Some live → live.place < n) → live.place < n
+    by_case true some ih = let same : l ≡ live = cc in subst (λ k. k.place < n) same older.0
+    by_case false some ih = ih some
+
+all-older : (lives : List Live) (n : ℕ) → AreByAge lives n → AllByRecursion (λ l. l.place < n) lives
+all-older [] n by = tt
+all-older (l ∷ lives) n by = (by.0, all-older lives n by.2)
+
+pub effect-turn : (job : Bytes) (config : Configuration) (c d : Chronicle) → Base job config c d
+    → Effected job config c d (effect config input.Turn c ++ c)
+unfolding effect
+effect-turn job config c d base = rw append_assoc (by_event (turn_event config (queue c) c) refl)
+  where
+    by_handled : (live : Live) → live.place < length c → (b : Bool)
+        → Effected job config c d
+        ((if b then finishing live.place (Given input.Turn ∷ c) else Handled live.place ∷ [])
+        ++ Given input.Turn ∷ c)
+    by_handled live older true = finished job config live.place c d base
+    by_handled live older false = taken-up job config live.place c d older base
+
+    by_event : (o : Option Live) → turn_event config (queue c) c ≡ o
+        → Effected job config c d (turn_of o (Given input.Turn ∷ c) ++ Given input.Turn ∷ c)
+    by_event None is = turn-none job config c d base
+    by_event (Some live) is = by_handled live
+        (older-live config (length c) (queue c) c live (all-older (queue c) (length c) (queue_by_age c)) is)
+        live.handled
