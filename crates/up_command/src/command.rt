@@ -129,45 +129,94 @@ fn log_arg<'a>(alloc: Global) -> Arg<'a> {
         .action(ArgAction::Set)
 }
 
+// A command with no arguments yet. What builds one hands it on as a `Result`, so that none is owned at a `?`, where it would be dropped
+// field by field.
+fn named<'a>(alloc: Global, name: &'a str, about: &'a str) -> Result<Command<'a>, AllocError> {
+    Ok(Command::new(alloc, name).about(about))
+}
+
+// A command with one argument more.
+fn with<'a>(
+    command: Result<Command<'a>, AllocError>,
+    arg: Arg<'a>,
+) -> Result<Command<'a>, AllocError> {
+    match command {
+        Ok(command) => command.arg(arg),
+        Err(refused) => {
+            drop(arg);
+            Err(refused)
+        }
+    }
+}
+
+// A command line with one command more.
+fn add<'a>(
+    line: Command<'a>,
+    command: Result<Command<'a>, AllocError>,
+) -> Result<Command<'a>, AllocError> {
+    match command {
+        Ok(command) => line.subcommand(command),
+        Err(refused) => {
+            drop(line);
+            Err(refused)
+        }
+    }
+}
+
+fn check_command<'a>(alloc: Global) -> Result<Command<'a>, AllocError> {
+    let command = named(alloc, "check", "Prints the faults of a folder's job files");
+    with(command, dir_arg(alloc))
+}
+
+fn compile_command<'a>(alloc: Global) -> Result<Command<'a>, AllocError> {
+    let command = named(
+        alloc,
+        "compile",
+        "Writes the image of a folder's jobs, and prints the faults of its job files",
+    );
+    with(with(command, dir_arg(alloc)), image_arg(alloc))
+}
+
+fn show_command<'a>(alloc: Global) -> Result<Command<'a>, AllocError> {
+    let command = named(alloc, "show", "Prints the jobs of an image as job files");
+    with(command, image_arg(alloc))
+}
+
 fn replay_command<'a>(alloc: Global) -> Result<Command<'a>, AllocError> {
-    Command::new(alloc, "replay")
-        .about("Prints what a script of events makes the jobs of a folder do")
-        .arg(dir_arg(alloc))?
-        .arg(script_arg(alloc))?
-        .arg(env_arg(alloc))
+    let command = named(
+        alloc,
+        "replay",
+        "Prints what a script of events makes the jobs of a folder do",
+    );
+    let command = with(command, dir_arg(alloc));
+    let command = with(command, script_arg(alloc));
+    with(command, env_arg(alloc))
 }
 
 fn run_command<'a>(alloc: Global) -> Result<Command<'a>, AllocError> {
-    Command::new(alloc, "run")
-        .about("Runs the jobs of a folder or of an image, and answers clients at a socket")
-        .arg(source_arg(alloc))?
-        .arg(socket_arg(alloc))?
-        .arg(rounds_arg(alloc))?
-        .arg(pause_arg(alloc))?
-        .arg(verbose_arg(alloc))?
-        .arg(log_arg(alloc))
+    let command = named(
+        alloc,
+        "run",
+        "Runs the jobs of a folder or of an image, and answers clients at a socket",
+    );
+    let command = with(command, source_arg(alloc));
+    let command = with(command, socket_arg(alloc));
+    let command = with(command, rounds_arg(alloc));
+    let command = with(command, pause_arg(alloc));
+    let command = with(command, verbose_arg(alloc));
+    with(command, log_arg(alloc))
 }
 
 // The commands of the program. Without a word it reads a bundle from standard input.
 fn command<'a>(alloc: Global) -> Result<Command<'a>, AllocError> {
-    let check = Command::new(alloc, "check")
-        .about("Prints the faults of a folder's job files")
-        .arg(dir_arg(alloc))?;
-    let compile = Command::new(alloc, "compile")
-        .about("Writes the image of a folder's jobs, and prints the faults of its job files")
-        .arg(dir_arg(alloc))?
-        .arg(image_arg(alloc))?;
-    let show = Command::new(alloc, "show")
-        .about("Prints the jobs of an image as job files")
-        .arg(image_arg(alloc))?;
-    Command::new(alloc, "initd")
-        .version("0.1.0")
-        .about("Runs and replays job files; without a command, replays a bundle on standard input")
-        .subcommand(check)?
-        .subcommand(compile)?
-        .subcommand(show)?
-        .subcommand(replay_command(alloc)?)?
-        .subcommand(run_command(alloc)?)
+    let line = Command::new(alloc, "initd").version("0.1.0").about(
+        "Runs and replays job files; without a command, replays a bundle on standard input",
+    );
+    let line = add(line, check_command(alloc))?;
+    let line = add(line, compile_command(alloc))?;
+    let line = add(line, show_command(alloc))?;
+    let line = add(line, replay_command(alloc))?;
+    add(line, run_command(alloc))
 }
 
 fn asked_compile<'a>(given: &ArgMatches<'a>) -> Option<Asked<'a>> {
@@ -236,11 +285,12 @@ fn base_in(alloc: Global, word: &str, given: &ArgMatches) -> Result<Env, TextFau
     base_of(alloc, given.get_strs("env").unwrap_or(&[]))
 }
 
-/// What the words of a command line, the program's name first, ask for, and the base environment that they set for a replay. An error is
-/// also the text of `--help` and `--version`.
-pub fn read_words<'a>(alloc: Global, words: &'a [String]) -> Result<(Asked<'a>, Env), Error> {
-    let mut command = command(alloc)?;
-    let matches = command.try_get_matches_from_mut(words)?;
+// What the matches of a command line ask for.
+fn read_matches<'a>(
+    alloc: Global,
+    command: &mut Command<'a>,
+    matches: &ArgMatches<'a>,
+) -> Result<(Asked<'a>, Env), Error> {
     let Some((word, given)) = matches.subcommand() else {
         return Ok((Asked::Bundle, Env::new(alloc)));
     };
@@ -251,6 +301,35 @@ pub fn read_words<'a>(alloc: Global, words: &'a [String]) -> Result<(Asked<'a>, 
         Ok(base) => Ok((asked, base)),
         Err(TextFault::Memory) => Err(Error::from(AllocError)),
         Err(_) => Err(command.error(ErrorKind::InvalidValue, "--env takes KEY=VALUE")?),
+    }
+}
+
+// What the words of a command line ask for.
+fn read_by<'a>(
+    alloc: Global,
+    command: &mut Command<'a>,
+    words: &'a [String],
+) -> Result<(Asked<'a>, Env), Error> {
+    match command.try_get_matches_from_mut(words) {
+        Ok(matches) => {
+            let read = read_matches(alloc, command, &matches);
+            drop(matches);
+            read
+        }
+        Err(error) => Err(error),
+    }
+}
+
+/// What the words of a command line, the program's name first, ask for, and the base environment that they set for a replay. An error is
+/// also the text of `--help` and `--version`.
+pub fn read_words<'a>(alloc: Global, words: &'a [String]) -> Result<(Asked<'a>, Env), Error> {
+    match command(alloc) {
+        Ok(mut command) => {
+            let read = read_by(alloc, &mut command, words);
+            drop(command);
+            read
+        }
+        Err(refused) => Err(Error::from(refused)),
     }
 }
 

@@ -6,14 +6,14 @@ use std::marker::Model;
 use up_text::{Items, Text};
 
 /// A file by its path below the folder.
-#[derive(Debug, Drop)]
+#[derive(Drop)]
 pub struct File {
     pub path: Text,
     pub bytes: Items<u8>,
 }
 
 /// A folder, seen by contracts as the list of its files in order.
-#[derive(Debug, Drop)]
+#[derive(Drop)]
 pub struct Folder {
     files: Vec<File>,
 }

@@ -103,9 +103,19 @@ fn define_over<'a>(
         ≡ job_of name (stanzas.now ++ unwrap_or (result_ok (conf_of bytes.now)) [])) }
 {
     let over = overrides.take(alloc, key, bytes)?;
-    let job = define_with(alloc, name, stanzas, &over)?;
-    overrides.keep(key, bytes, over)?;
-    Ok(job)
+    match define_with(alloc, name, stanzas, &over) {
+        Ok(job) => match overrides.keep(key, bytes, over) {
+            Ok(()) => Ok(job),
+            Err(refused) => {
+                drop(job);
+                Err(refused)
+            }
+        },
+        Err(refused) => {
+            drop(over);
+            Err(refused)
+        }
+    }
 }
 
 // The job that its file's stanzas define, followed by those of its override.

@@ -254,32 +254,41 @@ impl<'a> Outline<'a> {
             copy_tree(alloc, self.start_on),
             copy_tree(alloc, self.stop_on),
         );
-        let (texts, (runs, trees)) = both(texts, both(runs, trees))?;
-        let (instance, dir) = texts;
-        let (main, (starts, stops)) = runs;
-        let (pre_start, post_start) = starts;
-        let (pre_stop, post_stop) = stops;
-        let (start_on, stop_on) = trees;
-        Ok(JobDef {
-            name,
-            task: self.task,
-            respawn: self.respawn,
-            silent: self.silent,
-            instance,
-            dir,
-            limit: self.limit,
-            kill_signal: self.kill_signal,
-            kill_timeout: self.kill_timeout,
-            env,
-            export,
-            normal: self.normal,
-            main,
-            pre_start,
-            post_start,
-            pre_stop,
-            post_stop,
-            start_on,
-            stop_on,
-        })
+        match both(texts, both(runs, trees)) {
+            Ok((texts, (runs, trees))) => {
+                let (instance, dir) = texts;
+                let (main, (starts, stops)) = runs;
+                let (pre_start, post_start) = starts;
+                let (pre_stop, post_stop) = stops;
+                let (start_on, stop_on) = trees;
+                Ok(JobDef {
+                    name,
+                    task: self.task,
+                    respawn: self.respawn,
+                    silent: self.silent,
+                    instance,
+                    dir,
+                    limit: self.limit,
+                    kill_signal: self.kill_signal,
+                    kill_timeout: self.kill_timeout,
+                    env,
+                    export,
+                    normal: self.normal,
+                    main,
+                    pre_start,
+                    post_start,
+                    pre_stop,
+                    post_stop,
+                    start_on,
+                    stop_on,
+                })
+            }
+            Err(refused) => {
+                drop(name);
+                drop(env);
+                drop(export);
+                Err(refused)
+            }
+        }
     }
 }

@@ -6,7 +6,7 @@ use up_stanza::FaultCode;
 use up_text::Text;
 
 /// A fault of a file, at one of its lines.
-#[derive(Debug, Drop)]
+#[derive(Drop)]
 pub struct Fault {
     pub path: Text,
     /// The line, counted from 1.
@@ -15,7 +15,7 @@ pub struct Fault {
 }
 
 /// The faults of a folder's files, seen by contracts as their list in byte order of paths.
-#[derive(Debug, Drop)]
+#[derive(Drop)]
 pub struct Report {
     faults: Vec<Fault>,
 }

@@ -56,12 +56,20 @@ fn an_expression_is_laid_flat(rt: HostRuntime) -> Result<(), Fail> {
     Ok(())
 }
 
+// Whether the nodes of a condition say this, and it is written so.
+fn shows(alloc: Global, condition: &Condition, said: &[&str], tree: &str) -> Result<bool, Fail> {
+    Ok(say(alloc, condition.nodes(), said)? && is_written(alloc, condition, tree)?)
+}
+
+fn is_made(alloc: Global, expr: &Expr) -> Result<bool, Fail> {
+    let condition = Condition::new(alloc, expr)?;
+    shows(alloc, &condition, SAID, TREE)
+}
+
 #[test]
 fn a_condition_is_made_of_an_expression(rt: HostRuntime) -> Result<(), Fail> {
     let expr = expr_of(rt.alloc())?;
-    let condition = Condition::new(rt.alloc(), &expr)?;
-    assert!(rt; say(rt.alloc(), condition.nodes(), SAID)?);
-    assert!(rt; is_written(rt.alloc(), &condition, TREE)?);
+    assert!(rt; is_made(rt.alloc(), &expr)?);
     Ok(())
 }
 
@@ -83,13 +91,19 @@ fn built(alloc: Global, both: bool) -> Result<Condition, Fail> {
     Ok(builder.finish())
 }
 
+fn is_built(alloc: Global, both: bool, said: &[&str], tree: &str) -> Result<bool, Fail> {
+    let condition = built(alloc, both)?;
+    shows(alloc, &condition, said, tree)
+}
+
+const EITHER: &'static [&'static str] = &["b", "c", "or 0 1"];
+
+const BOTH: &'static [&'static str] = &["b", "c", "and 0 1"];
+
 #[test]
 fn a_condition_is_built(rt: HostRuntime) -> Result<(), Fail> {
     assert!(rt; !joins_one(rt.alloc())?);
-    let either = built(rt.alloc(), false)?;
-    assert!(rt; say(rt.alloc(), either.nodes(), &["b", "c", "or 0 1"])?);
-    assert!(rt; is_written(rt.alloc(), &either, "(b or c)")?);
-    let both = built(rt.alloc(), true)?;
-    assert!(rt; say(rt.alloc(), both.nodes(), &["b", "c", "and 0 1"])?);
+    assert!(rt; is_built(rt.alloc(), false, EITHER, "(b or c)")?);
+    assert!(rt; is_built(rt.alloc(), true, BOTH, "(b and c)")?);
     Ok(())
 }

@@ -1,5 +1,6 @@
 //! Tables and their images.
 use crate::folders::{EMPTY_IMAGE, MANY, STARTUP, STARTUP_IMAGE, again, image_of};
+use std::alloc::Global;
 use std::test::Fail;
 use up_image::{ImageError, Table};
 
@@ -12,15 +13,29 @@ fn image_bytes(rt: HostRuntime) -> Result<(), Fail> {
     Ok(())
 }
 
+// Whether there is one job, with this name.
+fn has_one(table: &Table, name: &str) -> bool {
+    table.len() == 1 && table.job(0).name.as_str() == name
+}
+
+// Whether an image is that of one job, with this name.
+fn reads_one(alloc: Global, image: &[u8], name: &str) -> Result<bool, ImageError> {
+    let table = Table::from_bytes(alloc, image)?;
+    Ok(has_one(&table, name))
+}
+
+// How many jobs an image has.
+fn count(alloc: Global, image: &[u8]) -> Result<usize, ImageError> {
+    let table = Table::from_bytes(alloc, image)?;
+    Ok(table.len())
+}
+
 #[test]
 fn an_image_gives_its_table_back(rt: HostRuntime) -> Result<(), Fail> {
-    let table = Table::from_bytes(rt.alloc(), STARTUP_IMAGE)?;
-    assert_eq!(rt; table.len(), 1);
-    assert!(rt; table.job(0).name.as_str() == "a");
-    let image = table.to_bytes(rt.alloc())?;
+    assert!(rt; reads_one(rt.alloc(), STARTUP_IMAGE, "a")?);
+    let image = again(rt.alloc(), STARTUP_IMAGE)?;
     assert_eq!(rt; image.as_slice(), STARTUP_IMAGE);
-    let empty = Table::from_bytes(rt.alloc(), EMPTY_IMAGE)?;
-    assert_eq!(rt; empty.len(), 0);
+    assert_eq!(rt; count(rt.alloc(), EMPTY_IMAGE)?, 0);
     Ok(())
 }
 

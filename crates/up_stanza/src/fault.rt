@@ -3,63 +3,56 @@ ghost use Rattle.std.specs.Prelude.{◌≡◌, codes};
 ghost use Rattle.up_stanza.specs.FaultCodes.{number_of, name_of};
 
 use std::alloc::AllocError;
+use std::error::Error as StdError;
+use std::fmt;
 use thiserror::Error;
 
 /// Why a file isn't read.
-#[derive(Clone, Copy, Debug, PartialEq, Eq, Error)]
+#[derive(Clone, Copy, Debug, PartialEq, Eq)]
 pub enum FaultCode {
     /// A stanza is none that is known.
-    #[error("UnknownStanza")]
     UnknownStanza,
     /// A stanza is known and not supported.
-    #[error("NotInProfile")]
     NotInProfile,
     /// A token is missing.
-    #[error("ExpectedToken")]
     ExpectedToken,
     /// A token is one too many.
-    #[error("UnexpectedToken")]
     UnexpectedToken,
     /// A quote is still open at the end of the text.
-    #[error("UnterminatedQuote")]
     UnterminatedQuote,
     /// A block is still open at the end of the text.
-    #[error("UnterminatedBlock")]
     UnterminatedBlock,
     /// A backslash stands at the end of the text.
-    #[error("TrailingBackslash")]
     TrailingBackslash,
     /// An expression of events isn't well formed.
-    #[error("BadExpression")]
     BadExpression,
     /// A value stands before a key.
-    #[error("ValueBeforeKey")]
     ValueBeforeKey,
     /// A number isn't well formed or out of range.
-    #[error("BadNumber")]
     BadNumber,
     /// A signal is none that is known.
-    #[error("BadSignal")]
     BadSignal,
     /// A name has a byte that it may not have.
-    #[error("BadName")]
     BadName,
     /// A pattern isn't well formed.
-    #[error("BadPattern")]
     BadPattern,
     /// An expansion isn't well formed.
-    #[error("BadExpansion")]
     BadExpansion,
     /// The bytes are no text.
-    #[error("NotText")]
     NotText,
     /// The file is too large.
-    #[error("TooLarge")]
     TooLarge,
     /// Memory was refused. No file has this fault.
-    #[error("Memory")]
     Memory,
 }
+
+impl fmt::Display for FaultCode {
+    fn fmt<W: fmt::Write>(&self, f: &mut fmt::Formatter<W>) -> fmt::Result {
+        f.write_str(self.name())
+    }
+}
+
+impl StdError for FaultCode {}
 
 impl FaultCode {
     /// The number by which a report names this code.

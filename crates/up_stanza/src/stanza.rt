@@ -10,7 +10,7 @@ use up_expr::Condition;
 use up_text::{Items, Text};
 
 /// Where the output of a job's processes goes (init(5), `console`).
-#[derive(Clone, Copy, Debug, PartialEq, Eq)]
+#[derive(Clone, Copy, PartialEq, Eq)]
 pub enum Console {
     None,
     Log,
@@ -18,7 +18,7 @@ pub enum Console {
 }
 
 /// What a stanza says (init(5)).
-#[derive(Debug, Drop)]
+#[derive(Drop)]
 pub enum Stanza {
     /// `description`, `author`, `version` or `usage`, and its text. It has no effect.
     About(Text),

@@ -74,43 +74,94 @@ fn alone<'a>(alloc: Global, name: &'a str, help: &'a str) -> Command<'a>
 }
 
 // A command line with one command more.
-fn add<'a>(line: Command<'a>, command: Command<'a>) -> Result<Command<'a>, AllocError>
+fn join<'a>(line: Command<'a>, command: Command<'a>) -> Result<Command<'a>, AllocError>
     ensures { (app its : App) → IsUsage app line.entry → IsUsage its command.entry
         → IfOk result (IsUsage (with_subcommand app its.top)) }
 {
     line.subcommand(command)
 }
 
+// The same, if the command could be made.
+fn add<'a>(
+    line: Command<'a>,
+    made: Result<Command<'a>, AllocError>,
+) -> Result<Command<'a>, AllocError>
+    ensures { (app its : App) → IsUsage app line.entry → IfOk made.entry (IsUsage its)
+        → IfOk result (IsUsage (with_subcommand app its.top)) }
+{
+    match made {
+        Ok(command) => join(line, command),
+        Err(refused) => {
+            drop(line);
+            Err(refused)
+        }
+    }
+}
+
+fn add_about<'a>(
+    alloc: Global,
+    line: Command<'a>,
+    name: &'a str,
+    help: &'a str,
+) -> Result<Command<'a>, AllocError>
+    ensures { (app : App) → IsUsage app line.entry
+        → IfOk result (IsUsage (with_subcommand app (about_app name.entry.now).top)) }
+{
+    add(line, about(alloc, name, "JOB", help))
+}
+
+fn add_waiting<'a>(
+    alloc: Global,
+    line: Command<'a>,
+    name: &'a str,
+    what: &'a str,
+    help: &'a str,
+) -> Result<Command<'a>, AllocError>
+    ensures { (app : App) → IsUsage app line.entry
+        → IfOk result (IsUsage (with_subcommand app (waiting_app name.entry.now).top)) }
+{
+    add(line, waiting(alloc, name, what, help))
+}
+
+fn add_alone<'a>(
+    alloc: Global,
+    line: Command<'a>,
+    name: &'a str,
+    help: &'a str,
+) -> Result<Command<'a>, AllocError>
+    ensures { (app : App) → IsUsage app line.entry
+        → IfOk result (IsUsage (with_subcommand app (new_app name.entry.now).top)) }
+{
+    join(line, alone(alloc, name, help))
+}
+
+// Nothing but the line is owned at a `?`: a command there would be dropped field by field at each.
 fn job_commands<'a>(alloc: Global, line: Command<'a>) -> Result<Command<'a>, AllocError>
     ensures { (app : App) → IsUsage app line.entry
         → IfOk result (IsUsage (with_commands app (asked.Start ∷ asked.Stop ∷ asked.Restart ∷ asked.Status
         ∷ asked.Reload ∷ []))) }
 {
-    let start = waiting(alloc, "start", "JOB", "Starts an instance of a job")?;
-    let stop = waiting(alloc, "stop", "JOB", "Stops an instance of a job")?;
-    let restart = waiting(
+    let line = add_waiting(alloc, line, "start", "JOB", "Starts an instance of a job")?;
+    let line = add_waiting(alloc, line, "stop", "JOB", "Stops an instance of a job")?;
+    let line = add_waiting(
         alloc,
+        line,
         "restart",
         "JOB",
         "Stops an instance of a job and starts it again",
     )?;
-    let status = about(
+    let line = add_about(
         alloc,
+        line,
         "status",
-        "JOB",
         "Prints the status of an instance of a job",
     )?;
-    let reload = about(
+    add_about(
         alloc,
+        line,
         "reload",
-        "JOB",
         "Sends an instance of a job its reload signal; not supported yet",
-    )?;
-    let line = add(line, start)?;
-    let line = add(line, stop)?;
-    let line = add(line, restart)?;
-    let line = add(line, status)?;
-    add(line, reload)
+    )
 }
 
 fn other_commands<'a>(alloc: Global, line: Command<'a>) -> Result<Command<'a>, AllocError>
@@ -118,18 +169,15 @@ fn other_commands<'a>(alloc: Global, line: Command<'a>) -> Result<Command<'a>, A
         → IfOk result (IsUsage (with_commands app (asked.Emit ∷ asked.List ∷ asked.ReloadConfiguration
         ∷ asked.Version ∷ []))) }
 {
-    let emit = waiting(alloc, "emit", "EVENT", "Emits an event")?;
-    let list = alone(alloc, "list", "Prints the status of every job");
-    let reread = alone(
+    let line = add_waiting(alloc, line, "emit", "EVENT", "Emits an event")?;
+    let line = add_alone(alloc, line, "list", "Prints the status of every job")?;
+    let line = add_alone(
         alloc,
+        line,
         "reload-configuration",
         "Reads the job files again; not supported yet",
-    );
-    let version = alone(alloc, "version", "Prints the version of the init");
-    let line = add(line, emit)?;
-    let line = add(line, list)?;
-    let line = add(line, reread)?;
-    add(line, version)
+    )?;
+    add_alone(alloc, line, "version", "Prints the version of the init")
 }
 
 fn program<'a>(alloc: Global) -> Command<'a>

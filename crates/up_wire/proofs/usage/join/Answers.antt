@@ -3,7 +3,7 @@ use Rattle.std.proofs.lemmas.Result.{IfOk-weaker}
 use Rattle.clap.specs.Words.{App, AddsSubcommand, with_subcommand}
 use Rattle.clap.specs.declared.builder.command.Command.{Command}
 use Rattle.up_wire.specs.Usage.{IsUsage}
-use Rattle.up_wire.proofs.usage.add.Goals as goal
+use Rattle.up_wire.proofs.usage.join.Goals as goal
 
 added : (app its : App) (line command result : Command) → IsUsage app line → IsUsage its command → AddsSubcommand line command result → IsUsage (with_subcommand app its.top) result
 added app its line command result h k adds = record {
