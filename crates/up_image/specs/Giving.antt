@@ -1,5 +1,6 @@
 -- Which jobs a job file with its override can give, however long the two are (init(5)).
-use Rattle.std.specs.Prelude.{ℕ, ◌-◌, Bool, true, false, ◌==◌, ◌&&◌, ◌||◌, not, nat_le, nat_eq, List, [], ◌∷◌, ◌++◌, length, drop, map, Option, None, Some, is_none, codes}
+use Rattle.std.specs.Prelude.{◌≡◌, ◌≤◌, ℕ, ◌-◌, Bool, true, false, ◌==◌, ◌&&◌, ◌||◌, not, nat_le, nat_eq, List, [], ◌∷◌, ◌++◌, length, drop, map, Option, None, Some, is_none, codes}
+use Rattle.up_image.specs.declared.limits.TheConstants.{MAX_JOBS}
 use Rattle.std.specs.List.{list_all, list_any, before_first, concat, starts_with}
 use Rattle.std.specs.Str.{bytes_eq, is_utf8}
 use Rattle.up_text.specs.Commands.{command_marks_at, command_in}
@@ -188,3 +189,8 @@ are_ascending (name ∷ next ∷ names) = is_below name next && are_ascending (n
 -- whether files can give these jobs
 unfoldable pub can_all_be_given : List JobDef → Bool
 can_all_be_given jobs = are_ascending (map (λ job. job.name) jobs) && list_all can_be_given jobs
+
+-- what a table is: at most 1,024 jobs that files can give
+pub record IsTable (jobs : List JobDef) : Type 0 where
+  pub few : length jobs ≤ MAX_JOBS
+  pub given : can_all_be_given jobs ≡ true

@@ -26,6 +26,7 @@ fn check_apart(twice: bool) -> Result<(), CompileError>
 
 // The table of so many jobs.
 fn table_of(jobs: Items<JobDef>) -> Result<Table, CompileError>
+    requires { can_all_be_given jobs ≡ true }
     ensures { result ≡ (if nat_le (length jobs) MAX_JOBS then Ok jobs else Err TooManyJobs) }
 {
     if jobs.as_slice().len() > MAX_JOBS {
