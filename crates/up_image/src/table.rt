@@ -1,6 +1,6 @@
 //! The jobs of a folder.
-ghost use Rattle.std.specs.Prelude.{◌≡◌, ◌<◌, IfErr, IfOk, List, Some, length, slice_get, ℕ};
-ghost use Rattle.up_image.specs.declared.image_error.ImageError.TheVariants.{ImageTooLarge};
+ghost use Rattle.std.specs.Prelude.{◌≡◌, ◌<◌, IfErr, IfOk, Some, length, slice_get};
+ghost use Rattle.up_image.specs.declared.image_error.ImageError.TheVariants.{Memory};
 ghost use Rattle.up_conf.specs.Order.{in_order};
 ghost use Rattle.up_image.specs.Image.{IsImage};
 ghost use Rattle.up_image.specs.Index.{places_of};
@@ -48,7 +48,7 @@ impl Table {
         Table { jobs }
     }
 
-    /// Its jobs are ones that files can give: no two of them have one name.
+    /// Its jobs are ones that files can give, so that no two have one name, and they have an image.
     pub fn is_given(&self)
         ensures { IsTable self.now }
     {
@@ -86,13 +86,16 @@ impl Table {
         sorted_places(alloc, jobs.as_slice())
     }
 
-    /// The table's image. Refused with `ImageTooLarge` only if it has none, else with `Memory`.
+    /// The table's image. Refused only with `Memory`.
     pub fn to_bytes(&self, alloc: Global) -> Result<Vec<u8>, ImageError>
         ensures image { IfOk result (λ bytes. IsImage bytes.items self.now) }
-        ensures refused { IfErr result (λ error. error ≡ ImageTooLarge → (bytes : List ℕ)
-            → IsImage bytes self.now → ⊥) }
+        ensures refused { IfErr result (λ error. error ≡ Memory) }
     {
-        write_image(alloc, self.as_slice())
+        let Table { jobs } = self;
+        match write_image(alloc, jobs.as_slice()) {
+            Ok(bytes) => Ok(bytes),
+            Err(_) => Err(ImageError::Memory),
+        }
     }
 
     /// The table whose image these bytes are. Takes no more memory than in proportion to the bytes, whatever lengths they claim: beside
