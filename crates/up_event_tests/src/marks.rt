@@ -47,30 +47,32 @@ fn numbers(alloc: Global, ids: &Items<EventId>) -> Result<Vec<usize>, Fail> {
     Ok(numbers)
 }
 
-// Offers the events of these names to an expression, numbered from 1.
-fn offer_each(
+// Offers an event to the leaves that name it. Its variables, of which it has none, are the environment too.
+fn offer_one(
     alloc: Global,
+    marks: &mut Marks,
     index: &Index,
     condition: &Condition,
-    names: &[&str],
-) -> Result<Outcome, Fail> {
-    let env = Env::new(alloc);
-    let mut marks = Marks::new(alloc, condition)?;
-    let mut last = Offer {
-        kept: 0,
-        holds: false,
-    };
-    for (before, name) in names.iter().enumerate() {
-        if !marks.fits(condition) {
-            return Err(Fail::from("the marks are of another expression"));
-        }
-        let event = event(alloc, name)?;
-        let places = index.leaves(&event.name, 0, true);
-        let id = EventId {
-            key: before.saturating_add(1),
-        };
-        last = marks.offer(alloc, condition, places, id, &event, &env)?;
+    id: EventId,
+    name: &str,
+) -> Result<Offer, Fail> {
+    if !marks.fits(condition) {
+        return Err(Fail::from("the marks are of another expression"));
     }
+    let event = event(alloc, name)?;
+    let places = index.leaves(&event.name, 0, true);
+    let offer = marks.offer(alloc, condition, places, id, &event, &event.vars);
+    drop(event);
+    Ok(offer?)
+}
+
+// What an expression takes, and what it gives up after that.
+fn clear(
+    alloc: Global,
+    marks: &mut Marks,
+    condition: &Condition,
+    last: Offer,
+) -> Result<Outcome, Fail> {
     if !marks.fits(condition) {
         return Err(Fail::from("the marks are of another expression"));
     }
@@ -84,6 +86,39 @@ fn offer_each(
     })
 }
 
+// Offers the events of these names to an expression, numbered from 1.
+fn offer_each(
+    alloc: Global,
+    index: &Index,
+    condition: &Condition,
+    names: &[&str],
+) -> Result<Outcome, Fail> {
+    let mut marks = Marks::new(alloc, condition)?;
+    let mut last = Offer {
+        kept: 0,
+        holds: false,
+    };
+    for (before, name) in names.iter().enumerate() {
+        let id = EventId {
+            key: before.saturating_add(1),
+        };
+        last = offer_one(alloc, &mut marks, index, condition, id, name)?;
+    }
+    clear(alloc, &mut marks, condition, last)
+}
+
+// The same to the first job's `start on`.
+fn offer_to(alloc: Global, table: &Table, names: &[&str]) -> Result<Outcome, Fail> {
+    let Some(job) = table.as_slice().first() else {
+        return Err(Fail::from("there is no job"));
+    };
+    let Some(condition) = &job.start_on else {
+        return Err(Fail::from("there is no expression"));
+    };
+    let index = Index::of(alloc, table)?;
+    offer_each(alloc, &index, condition, names)
+}
+
 // Whether the events of these names, offered to a job's `start on`, leave what is told: how many leaves the
 // last one is new to, whether the expression is true, by which events, and which it gives up.
 fn leaves(
@@ -95,14 +130,9 @@ fn leaves(
     cleared: &[usize],
 ) -> Result<bool, Fail> {
     let table = table_of(alloc, start_on)?;
-    let Some(job) = table.as_slice().first() else {
-        return Err(Fail::from("there is no job"));
-    };
-    let Some(condition) = &job.start_on else {
-        return Err(Fail::from("there is no expression"));
-    };
-    let index = Index::of(alloc, &table)?;
-    let outcome = offer_each(alloc, &index, condition, names)?;
+    let outcome = offer_to(alloc, &table, names);
+    drop(table);
+    let outcome = outcome?;
     Ok(
         (outcome.last.kept, outcome.last.holds) == last
             && outcome.taken.as_slice() == taken

@@ -11,6 +11,7 @@ use crate::work::{find_all, offer_all};
 use std::alloc::Global;
 use std::rt::Env;
 use std::{env, io};
+use up_image::Table;
 
 // The words of the command line: what to do, with how many leaves or jobs, and how often.
 fn words_of(rt: &(impl Env + AllocGlobal)) -> io::Result<Vec<String>> {
@@ -21,22 +22,25 @@ fn words_of(rt: &(impl Env + AllocGlobal)) -> io::Result<Vec<String>> {
     Ok(words)
 }
 
-// What is done, and how many leaves it came to.
-fn count(alloc: Global, what: &str, size: usize, times: usize) -> Result<usize, FileFault> {
+// The table of one job that waits for a long expression, or of many jobs.
+fn table_for(alloc: Global, what: &str, size: usize) -> Result<Table, FileFault> {
     match what {
-        "row" => {
-            let table = table_of(alloc, row_of(alloc, size)?.as_str())?;
-            offer_all(alloc, &table, times)
-        }
-        "tree" => {
-            let table = table_of(alloc, tree_of(alloc, size)?.as_str())?;
-            offer_all(alloc, &table, times)
-        }
-        _ => {
-            let table = waiting_files(alloc, size)?;
-            find_all(alloc, &table, times)
-        }
+        "row" => table_of(alloc, row_of(alloc, size)?.as_str()),
+        "tree" => table_of(alloc, tree_of(alloc, size)?.as_str()),
+        _ => waiting_files(alloc, size),
     }
+}
+
+// How many leaves came to keep an event, or were found.
+fn count(alloc: Global, what: &str, size: usize, times: usize) -> Result<usize, FileFault> {
+    let table = table_for(alloc, what, size)?;
+    let count = if what == "places" {
+        find_all(alloc, &table, times)
+    } else {
+        offer_all(alloc, &table, times)
+    };
+    drop(table);
+    count
 }
 
 fn number(word: &str) -> usize {

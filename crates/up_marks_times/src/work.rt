@@ -22,13 +22,12 @@ fn events_of(alloc: Global, places: &[Place]) -> Result<Vec<Event>, AllocError> 
 // Offers events so often, one leaf after another. Once each leaf keeps its own, all are forgotten.
 fn offer_each(
     alloc: Global,
+    marks: &mut Marks,
     condition: &Condition,
     places: &[Place],
+    events: &[Event],
     times: usize,
 ) -> Result<usize, FileFault> {
-    let events = events_of(alloc, places)?;
-    let env = Env::new(alloc);
-    let mut marks = Marks::new(alloc, condition)?;
     let mut kept: usize = 0;
     let mut next: usize = 0;
     for key in 0..times {
@@ -39,19 +38,39 @@ fn offer_each(
         if next >= events.len() || next >= places.len() || !marks.fits(condition) {
             return Err(FileFault);
         }
+        let event = &events[next];
         let id = EventId { key };
         let offer = marks.offer(
             alloc,
             condition,
             &places[next..next + 1],
             id,
-            &events[next],
-            &env,
+            event,
+            &event.vars,
         )?;
         kept = kept.saturating_add(offer.kept);
         next += 1;
     }
     Ok(kept)
+}
+
+// The same to a condition's leaves, which are at these places.
+fn offer_to(
+    alloc: Global,
+    condition: &Condition,
+    places: &[Place],
+    times: usize,
+) -> Result<usize, FileFault> {
+    let mut marks = Marks::new(alloc, condition)?;
+    let events = events_of(alloc, places)?;
+    offer_each(
+        alloc,
+        &mut marks,
+        condition,
+        places,
+        events.as_slice(),
+        times,
+    )
 }
 
 /// Offers events to the leaves of the first job's `start on`.
@@ -63,13 +82,11 @@ pub(crate) fn offer_all(alloc: Global, table: &Table, times: usize) -> Result<us
         return Err(FileFault);
     };
     let places = table.places(alloc)?;
-    offer_each(alloc, condition, places.as_slice(), times)
+    offer_to(alloc, condition, places.as_slice(), times)
 }
 
-/// Looks up the leaves that name an event, one event after another.
-pub(crate) fn find_all(alloc: Global, table: &Table, times: usize) -> Result<usize, FileFault> {
-    let places = table.places(alloc)?;
-    let index = Index::of(alloc, table)?;
+// Looks up the leaves that name these places' events, so often, one event after another.
+fn find_each(index: &Index, places: &[Place], times: usize) -> usize {
     let mut found: usize = 0;
     let mut next: usize = 0;
     for _ in 0..times {
@@ -77,10 +94,17 @@ pub(crate) fn find_all(alloc: Global, table: &Table, times: usize) -> Result<usi
             next = 0;
         }
         if next >= places.len() {
-            return Err(FileFault);
+            return found;
         }
         found = found.saturating_add(index.places(&places[next].event).len());
         next += 1;
     }
-    Ok(found)
+    found
+}
+
+/// Looks up the leaves that name an event.
+pub(crate) fn find_all(alloc: Global, table: &Table, times: usize) -> Result<usize, FileFault> {
+    let places = table.places(alloc)?;
+    let index = Index::of(alloc, table)?;
+    Ok(find_each(&index, places.as_slice(), times))
 }
