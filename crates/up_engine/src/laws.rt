@@ -6,6 +6,7 @@ ghost use Rattle.up_conf.specs.declared.report.Fault.{Fault};
 ghost use Rattle.up_engine.specs.declared.engine.Engine.{Engine};
 ghost use Rattle.up_engine.specs.Stands.{Stands, left_of};
 ghost use Rattle.up_image.specs.Compiling.{Compiles};
+ghost use Rattle.up_image.specs.Giving.{IsTable};
 ghost use Rattle.up_model.specs.declared.input.Input.{Input};
 ghost use Rattle.up_model.specs.Answers.{after_all};
 ghost use Rattle.up_model.specs.Blocks.{IsLone};
@@ -19,6 +20,12 @@ pub fn one_main()
     ensures { (files : List File) (table : List JobDef) (report : List Fault) (base : Bindings)
         (inputs : List Input)
         → Compiles files table report → IsLone (after_all (record { base = base; jobs = table }) [] inputs) }
+{}
+
+/// The same of every table, whether it was compiled or read from an image.
+pub fn one_main_of_tables()
+    ensures { (jobs : List JobDef) (base : Bindings) (inputs : List Input)
+        → IsTable jobs → IsLone (after_all (record { base = base; jobs = jobs }) [] inputs) }
 {}
 
 /// What the instances of an engine may still order is what the chronicle says that it stands for.

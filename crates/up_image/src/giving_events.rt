@@ -160,9 +160,7 @@ pub(crate) fn can_await(condition: &Option<Condition>) -> bool
     match condition {
         None => true,
         Some(condition) => {
-            are_leaves(condition)
-                && is_shallow(&condition.root(), MAX_DEPTH)
-                && is_short(condition)
+            are_leaves(condition) && is_shallow(&condition.root(), MAX_DEPTH) && is_short(condition)
         }
     }
 }
