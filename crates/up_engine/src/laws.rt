@@ -7,6 +7,7 @@ ghost use Rattle.up_engine.specs.declared.engine.Engine.{Engine};
 ghost use Rattle.up_engine.specs.declared.run.Run.{Run};
 ghost use Rattle.up_engine.specs.Stands.{RunMeans, Stands, left_of};
 ghost use Rattle.up_image.specs.Compiling.{Compiles};
+ghost use Rattle.up_image.specs.Giving.{IsTable};
 ghost use Rattle.up_isolation.specs.Isolation.{MeanTheSame};
 ghost use Rattle.up_isolation.specs.Steps.{AreStepsOf, deeds_by_step, joined, orders_of, outputs_in};
 ghost use Rattle.up_isolation.specs.Views.{deeds, view};
@@ -23,6 +24,12 @@ pub fn one_main()
     ensures { (files : List File) (table : List JobDef) (report : List Fault) (base : Bindings)
         (inputs : List Input)
         → Compiles files table report → IsLone (after_all (record { base = base; jobs = table }) [] inputs) }
+{}
+
+/// The same of every table, whether it was compiled or read from an image.
+pub fn one_main_of_tables()
+    ensures { (jobs : List JobDef) (base : Bindings) (inputs : List Input)
+        → IsTable jobs → IsLone (after_all (record { base = base; jobs = jobs }) [] inputs) }
 {}
 
 /// What the instances of an engine may still order is what the chronicle says that it stands for.

@@ -1,6 +1,7 @@
 //! A part of an expression, within its nodes.
 ghost use Rattle.std.specs.Prelude.{◌≡◌, ◌-◌, ◌++◌, ◌∷◌, [], ◌<◌, ◌≤◌, length, take, drop};
 ghost use Rattle.up_expr.specs.Branches.{tree_at};
+ghost use Rattle.up_expr.specs.Flat.{size};
 ghost use Rattle.up_expr.specs.Laying.{IsLaid};
 ghost use Rattle.up_expr.specs.TreeCode.{tree_in};
 
@@ -65,6 +66,14 @@ impl<'a> Branch<'a> {
         ensures { result ≡ tree_in nodes.now }
     {
         Branch { nodes }
+    }
+
+    /// How many nodes it has.
+    pub fn len(&self) -> usize
+        ensures count { result ≡ size self.now }
+        ensures some { 0 < result }
+    {
+        self.nodes.len()
     }
 
     /// Its root, with the parts on both sides.

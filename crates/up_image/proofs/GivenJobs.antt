@@ -218,7 +218,7 @@ all_given all (file ∷ files) = by_job (job_of_file all file) refl (all_given a
     by_job None is later = later
     by_job (Some job) is later = and_from _ _ (file_given all file job is).0 later
 
-folder_given : (files : List File) → has_twice (read_paths files) ≡ false → can_all_be_given (jobs_of files) ≡ true
+pub folder_given : (files : List File) → has_twice (read_paths files) ≡ false → can_all_be_given (jobs_of files) ≡ true
 unfolding can_all_be_given jobs_of
 folder_given files apart =
     let jobs = filter_map (job_of_file files) files in

@@ -10,7 +10,9 @@ use Rattle.up_text.specs.Names.{is_name, is_key}
 use Rattle.up_text.specs.declared.token.Token.{Token}
 use Rattle.up_expr.specs.declared.expr.Leaf.{Leaf}
 use Rattle.up_expr.specs.declared.expr.Test.TheVariants.{Place, Same, Differs}
+use Rattle.up_expr.specs.Flat.{size}
 use Rattle.up_expr.specs.Trees.{Tree, One, Both, Either}
+use Rattle.up_expr.proofs.Counting.{sized}
 use Rattle.up_expr.specs.Syntax.{Syntax, Bare, Group, Joined, Writes, tokens_of, is_right, tree_in, depth, join_trees, with_both}
 use Rattle.up_expr.specs.Values.{is_equals, has_equals, is_negated_key, is_good, is_ordered, is_symbol, is_and, is_operator, test_of, test_by, values_of, are_values, leaf_of}
 use Rattle.up_stanza.proofs.Backward.{mapped}
@@ -99,7 +101,7 @@ good_leaf (token ∷ tokens) leaf all is =
         let values = and_parts (list_all is_good (values_of tokens) && is_ordered (values_of tokens)) _ parts.1 in
         let good = and_parts (list_all is_good (values_of tokens)) (is_ordered (values_of tokens)) values.0 in
         let tests = good_values tokens (and_parts (is_token token.text) (are_tokens tokens) all).1 good.0 in
-        and_from _ _ (and_from _ _ (and_parts (not (list_any is_symbol (token ∷ tokens))) (is_name token.text) parts.0).1 tests) good.1
+        and_from _ _ (and_from _ _ (and_from _ _ (and_parts (not (list_any is_symbol (token ∷ tokens))) (is_name token.text) parts.0).1 tests) good.1) values.1
 
 -- what a syntax says
 
@@ -195,4 +197,6 @@ tree_shallow (Joined left operator (Joined one middle other)) tree around good f
 -- an expression that tokens write
 pub tree_given : (tokens : List Token) (tree : Tree) → are_tokens tokens ≡ true → Writes tokens tree → can_await (Some tree) ≡ true
 tree_given tokens tree all writes =
-    and_from _ _ (tree_leaves writes.syntax tree (ap are_tokens writes.written ∙ all) writes.says) (tree_shallow writes.syntax tree 256 writes.right writes.shallow writes.says)
+    and_from _ _
+    (and_from _ _ (tree_leaves writes.syntax tree (ap are_tokens writes.written ∙ all) writes.says) (tree_shallow writes.syntax tree 256 writes.right writes.shallow writes.says))
+    (le-leb (size tree) 4095 (omega (arith, sized writes.syntax tree writes.says, writes.few)))

@@ -47,7 +47,8 @@ condition_decodes = record { finds = by_case }
     by_case (Some tree) r is small =
         let nodes = nodes_of 0 tree in
         let parts = and_parts (giving.can_await (Some tree)) (image.fits_condition (Some tree)) is in
-        let leaves = and_parts (giving.are_leaves tree) _ parts.0 in
+        let whole = and_parts (giving.are_leaves tree && giving.is_shallow 256 tree) (image.is_short (Some tree)) parts.0 in
+        let leaves = and_parts (giving.are_leaves tree) (giving.is_shallow 256 tree) whole.0 in
         let fits = and_parts (nat_le (size tree) 4095) (list_all image.fits_node nodes) parts.1 in
         let apart = append_assoc (big_bytes 2 (length nodes)) (flat_map image.node_part nodes) r in
         let small_whole : length (big_bytes 2 (length nodes) ++ (flat_map image.node_part nodes ++ r)) ≤ 16777216 = omega (arith, small, ap length apart) in

@@ -3,9 +3,11 @@ pub mod Ascending
 pub mod Comparing
 pub mod Counting
 pub mod Decoding
+pub mod Entries
 pub mod Fitting
 pub mod GivenActions
 pub mod GivenCommands
+pub mod GivenFits
 pub mod GivenImages
 pub mod GivenJobs
 pub mod GivenLists
@@ -20,6 +22,7 @@ pub mod Lengths
 pub mod Numbering
 pub mod PartDecoding
 pub mod Paths
+pub mod PlaceOrder
 pub mod Places
 pub mod Prefixes
 pub mod Readings

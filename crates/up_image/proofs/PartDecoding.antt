@@ -13,6 +13,7 @@ use Rattle.up_expr.specs.declared.expr.Test.TheVariants.{Place, Same, Differs}
 use Rattle.up_expr.specs.declared.node.Node.{Node}
 use Rattle.up_expr.specs.declared.node.Node.TheVariants as node
 use Rattle.up_expr.specs.Flat.{nodes_of, size}
+use Rattle.up_expr.specs.Values.{is_ordered}
 use Rattle.up_expr.specs.Trees.{Tree, One, Both, Either}
 use Rattle.up_stanza.specs.declared.action.Action.{Action}
 use Rattle.up_stanza.specs.declared.action.Action.TheVariants.{Words, Shell}
@@ -133,7 +134,8 @@ leaf_found : (leaf : Leaf) (r : List ℕ) → giving.is_leaf leaf ≡ true → i
     → length (text_part leaf.event ++ image.list_part image.test_part leaf.values ++ r) ≤ 16777216 → leaf_at (text_part leaf.event ++ image.list_part image.test_part leaf.values ++ r) ≡ Some (leaf, r)
 unfolding leaf_at
 leaf_found leaf r is few small =
-    let parts = and_parts (is_name leaf.event && list_all giving.is_test leaf.values) _ is in
+    let whole = and_parts (is_name leaf.event && list_all giving.is_test leaf.values && is_ordered leaf.values) (image.is_countable leaf.values) is in
+    let parts = and_parts (is_name leaf.event && list_all giving.is_test leaf.values) (is_ordered leaf.values) whole.0 in
     let front = and_parts (is_name leaf.event) (list_all giving.is_test leaf.values) parts.0 in
     both_found (λ event tests. record { event = event; values = tests }) name_decodes (list_decodes test_decodes) leaf.event leaf.values r front.0 (rw (few, front.1) refl) small
 

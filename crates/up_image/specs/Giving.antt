@@ -1,5 +1,5 @@
 -- Which jobs a job file with its override can give, however long the two are (init(5)).
-use Rattle.std.specs.Prelude.{ℕ, ◌-◌, Bool, true, false, ◌==◌, ◌&&◌, ◌||◌, not, nat_le, nat_eq, List, [], ◌∷◌, ◌++◌, length, drop, map, Option, None, Some, is_none, codes}
+use Rattle.std.specs.Prelude.{◌≡◌, ◌≤◌, ℕ, ◌-◌, Bool, true, false, ◌==◌, ◌&&◌, ◌||◌, not, nat_le, nat_eq, List, [], ◌∷◌, ◌++◌, length, drop, map, Option, None, Some, is_none, codes}
 use Rattle.std.specs.List.{list_all, list_any, before_first, concat, starts_with}
 use Rattle.std.specs.Str.{bytes_eq, is_utf8}
 use Rattle.up_text.specs.Commands.{command_marks_at, command_in}
@@ -25,8 +25,9 @@ use Rattle.up_stanza.specs.Signals.{is_signal}
 use Rattle.up_conf.specs.declared.job.JobDef.{JobDef}
 use Rattle.up_conf.specs.Jobs.{same_exit}
 use Rattle.up_conf.specs.Order.{is_below}
-use Rattle.up_image.specs.declared.limits.TheConstants.{MAX_COUNT, MAX_DEPTH, MAX_IMAGE, MAX_ITEMS, MAX_KEYS, MAX_SECONDS}
+use Rattle.up_image.specs.declared.limits.TheConstants.{MAX_COUNT, MAX_DEPTH, MAX_IMAGE, MAX_ITEMS, MAX_JOBS, MAX_KEYS, MAX_SECONDS}
 use Rattle.up_image.specs.Compiling.{has_twice}
+use Rattle.up_image.specs.Image.{has_image, is_countable, is_short}
 
 -- a byte of a token: quotes and backslashes give any but 0 and a line feed
 abbrev pub is_token_byte : ℕ → Bool
@@ -128,6 +129,7 @@ is_test (Differs key value) = is_key key && is_leaf_value value
 
 abbrev pub is_leaf : Leaf → Bool
 is_leaf leaf = is_name leaf.event && list_all is_test leaf.values && is_ordered leaf.values
+    && is_countable leaf.values
 
 abbrev pub are_leaves : Tree → Bool
 are_leaves (One leaf) = is_leaf leaf
@@ -155,7 +157,7 @@ is_shallow depth (Either left right) =
 
 abbrev pub can_await : Option Tree → Bool
 can_await None = true
-can_await (Some tree) = are_leaves tree && is_shallow MAX_DEPTH tree
+can_await (Some tree) = are_leaves tree && is_shallow MAX_DEPTH tree && is_short (Some tree)
 
 -- a job's fields
 abbrev pub has_texts : JobDef → Bool
@@ -188,3 +190,9 @@ are_ascending (name ∷ next ∷ names) = is_below name next && are_ascending (n
 -- whether files can give these jobs
 unfoldable pub can_all_be_given : List JobDef → Bool
 can_all_be_given jobs = are_ascending (map (λ job. job.name) jobs) && list_all can_be_given jobs
+
+-- what the jobs of a table are: at most 1,024, as files can give them, with an image
+pub record IsTable (jobs : List JobDef) : Type 0 where
+  pub few : length jobs ≤ MAX_JOBS
+  pub given : can_all_be_given jobs ≡ true
+  pub imaged : has_image jobs ≡ true

@@ -1,6 +1,6 @@
 -- The index of a table: where the leaves of each event stand.
-use Rattle.std.specs.Prelude.{ℕ, ◌+◌, Bool, true, false, List, [], ◌∷◌, ◌++◌, length, Option, None, Some, if◌then◌else◌}
-use Rattle.std.specs.List.{flat_map}
+use Rattle.std.specs.Prelude.{◌≡◌, ℕ, ◌+◌, Bool, true, false, List, [], ◌∷◌, ◌++◌, length, filter, Option, None, Some, if◌then◌else◌}
+use Rattle.std.specs.List.{flat_map, list_all}
 use Rattle.std.specs.Str.{bytes_eq}
 use Rattle.byteorder.specs.Endian.{big_bytes}
 use Rattle.up_expr.specs.declared.node.Node.{Node}
@@ -8,7 +8,7 @@ use Rattle.up_expr.specs.declared.node.Node.TheVariants as node
 use Rattle.up_expr.specs.Flat.{nodes_of}
 use Rattle.up_expr.specs.Trees.{Tree}
 use Rattle.up_conf.specs.declared.job.JobDef.{JobDef}
-use Rattle.up_conf.specs.Order.{in_order}
+use Rattle.up_conf.specs.Order.{in_order, is_below}
 use Rattle.up_image.specs.declared.index.Place.{Place}
 use Rattle.up_image.specs.Texts.{text_part}
 
@@ -62,3 +62,26 @@ entry_part places = text_part (event_of places) ++ big_bytes 4 (length places) +
 
 abbrev pub index_part : List (List Place) → List ℕ
 index_part entries = big_bytes 4 (length entries) ++ flat_map entry_part entries
+
+-- whether places are an entry: at least one, and all of one event
+abbrev pub is_entry : List Place → Bool
+is_entry [] = false
+is_entry (place ∷ places) = list_all (λ other. bytes_eq other.event place.event) places
+
+-- the places of all entries
+abbrev pub all_places : List (List Place) → List Place
+all_places entries = flat_map (λ entry. entry) entries
+
+-- the places of the leaves that name an event
+abbrev pub named : List ℕ → List Place → List Place
+named name places = filter (λ place. bytes_eq place.event name) places
+
+-- no event of these is below this one
+abbrev pub NoneBelow : List ℕ → List Place → Type 0
+NoneBelow event [] = Unit {0}
+NoneBelow event (place ∷ places) = (is_below place.event event ≡ false) × NoneBelow event places
+
+-- no event is below one before it
+abbrev pub IsAscending : List Place → Type 0
+IsAscending [] = Unit {0}
+IsAscending (place ∷ places) = NoneBelow place.event places × IsAscending places

@@ -1,7 +1,6 @@
 //! Compiles a folder of job files.
-ghost use Rattle.std.specs.Prelude.{◌≡◌, IfOk, IfErr, Ok, Err, if◌then◌else◌, length, nat_le, true};
+ghost use Rattle.std.specs.Prelude.{◌≡◌, IfOk, IfErr, Ok, Err, if◌then◌else◌, true};
 ghost use Rattle.up_image.specs.declared.refusal.CompileError.TheVariants.{ImageTooLarge, SameName, TooManyJobs};
-ghost use Rattle.up_image.specs.declared.limits.TheConstants.{MAX_JOBS};
 ghost use Rattle.up_image.specs.Compiling.{Compiles, MayRefuse};
 ghost use Rattle.up_image.specs.Giving.{can_all_be_given};
 
@@ -11,8 +10,7 @@ use crate::refusal::CompileError;
 use crate::table::Table;
 use crate::twice::has_same_path;
 use std::alloc::Global;
-use up_conf::{Folder, JobDef, Report, read_folder};
-use up_text::Items;
+use up_conf::{Folder, Report, read_folder};
 
 // Refuses a folder in which a path that is read stands twice.
 fn check_apart(twice: bool) -> Result<(), CompileError>
@@ -24,14 +22,14 @@ fn check_apart(twice: bool) -> Result<(), CompileError>
     Ok(())
 }
 
-// The table of so many jobs.
-fn table_of(jobs: Items<JobDef>) -> Result<Table, CompileError>
-    ensures { result ≡ (if nat_le (length jobs) MAX_JOBS then Ok jobs else Err TooManyJobs) }
+// Refuses more jobs than a table may have.
+fn check_few(few: bool) -> Result<(), CompileError>
+    ensures { result ≡ (if few then Ok tt else Err TooManyJobs) }
 {
-    if jobs.as_slice().len() > MAX_JOBS {
-        return Err(CompileError::TooManyJobs);
+    if few {
+        return Ok(());
     }
-    Ok(Table::new(jobs))
+    Err(CompileError::TooManyJobs)
 }
 
 // Refuses jobs that have no image.
@@ -56,8 +54,9 @@ pub fn compile(alloc: Global, folder: &Folder) -> Result<(Table, Report), Compil
     let Ok((jobs, report)) = read_folder(alloc, folder) else {
         return Err(CompileError::Memory);
     };
-    let table = table_of(jobs)?;
-    let small = has_image(alloc, table.as_slice())?;
+    check_few(jobs.as_slice().len() <= MAX_JOBS)?;
+    let small = has_image(alloc, jobs.as_slice())?;
     check_small(small)?;
+    let table = Table::new(jobs);
     Ok((table, report))
 }

@@ -1,12 +1,13 @@
 //! Tells whether files can give an expression.
-ghost use Rattle.std.specs.Prelude.{◌≡◌, ◌-◌};
+ghost use Rattle.std.specs.Prelude.{◌≡◌, ◌-◌, Some};
 ghost use Rattle.std.specs.List.{list_all};
 ghost use Rattle.up_expr.specs.Values as values;
 ghost use Rattle.up_text.specs.Names.{is_name};
 ghost use Rattle.up_image.specs.Giving as giving;
+ghost use Rattle.up_image.specs.Image.{is_short};
 
 use crate::giving_texts::is_token;
-use crate::limits::MAX_DEPTH;
+use crate::limits::{MAX_DEPTH, MAX_ITEMS, MAX_NODES};
 use up_expr::{Branch, Condition, Leaf, Node, Root, Test};
 use up_text::env::is_key;
 use up_text::{Name, is_expandable, supported};
@@ -88,7 +89,10 @@ fn is_name(name: &Name) -> bool
 fn is_leaf(leaf: &Leaf) -> bool
     ensures { result ≡ giving.is_leaf leaf.now }
 {
-    is_name(&leaf.event) && are_tests(leaf.values.as_slice()) && is_ordered(leaf.values.as_slice())
+    is_name(&leaf.event)
+        && are_tests(leaf.values.as_slice())
+        && is_ordered(leaf.values.as_slice())
+        && leaf.values.as_slice().len() <= MAX_ITEMS
 }
 
 // Whether files can give a node, if it is a leaf.
@@ -142,12 +146,21 @@ fn is_shallow(branch: &Branch, depth: u16) -> bool
     }
 }
 
+// Whether an expression has few nodes. Each has.
+fn is_short(condition: &Condition) -> bool
+    ensures { result ≡ is_short (Some condition.now) }
+{
+    condition.root().len() <= usize::from(MAX_NODES)
+}
+
 /// Whether files can give an expression, or that there is none.
 pub(crate) fn can_await(condition: &Option<Condition>) -> bool
     ensures { result ≡ giving.can_await condition.now }
 {
     match condition {
         None => true,
-        Some(condition) => are_leaves(condition) && is_shallow(&condition.root(), MAX_DEPTH),
+        Some(condition) => {
+            are_leaves(condition) && is_shallow(&condition.root(), MAX_DEPTH) && is_short(condition)
+        }
     }
 }

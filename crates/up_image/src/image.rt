@@ -1,15 +1,13 @@
 //! Writes a table as bytes.
-ghost use Rattle.std.specs.Prelude.{◌≡◌, ◌+◌, ◌++◌, ◌&&◌, ◌≤◌, ◌<◌, ◌^◌, nat_le, drop, IfErr, IfOk, List, OnOk, length, take, ℕ};
+ghost use Rattle.std.specs.Prelude.{◌≡◌, ◌+◌, ◌++◌, ◌&&◌, ◌≤◌, ◌<◌, ◌^◌, nat_le, drop, IfOk, OnOk, length, take, true};
 ghost use Rattle.std.specs.List.{list_all};
 ghost use Rattle.byteorder.specs.Endian.{big_bytes};
-ghost use Rattle.up_image.specs.declared.image_error.ImageError.TheVariants.{ImageTooLarge};
 ghost use Rattle.up_image.specs.declared.limits.TheConstants.{MAX_IMAGE, MAX_JOBS};
 ghost use Rattle.up_image.specs.Image.{IsImage, body_of, fits, has_image, head_of};
 ghost use Rattle.up_image.specs.Index.{entries_of, index_part};
 
 use crate::bytes::{put_four, put_two};
 use crate::fits::all_fit;
-use crate::image_error::ImageError;
 use crate::index::put_index;
 use crate::limits::{MAX_IMAGE, MAX_JOBS};
 use crate::put_job::{job_len, put_jobs};
@@ -103,19 +101,24 @@ fn set_length(bytes: &mut [u8])
     BigEndian::write_u32(&mut bytes[8..], len);
 }
 
-/// The image of jobs. Refused with `ImageTooLarge` only if they have none.
-pub(crate) fn write_image(alloc: Global, jobs: &[JobDef]) -> Result<Vec<u8>, ImageError>
-    ensures image { IfOk result (λ bytes. IsImage bytes.items jobs.now) }
-    ensures refused { IfErr result (λ error. error ≡ ImageTooLarge → (bytes : List ℕ) → IsImage bytes jobs.now
-        → ⊥) }
+// The same in a vector.
+#[tactic(auto, using(crate::proofs::Images::written))]
+fn set_length_in(bytes: &mut Vec<u8>)
+    requires long { 12 ≤ length bytes.old.items }
+    requires short { length bytes.old.items < 2 ^ 32 }
+    ensures { bytes.new.items ≡ take 8 bytes.old.items
+        ++ (big_bytes 4 (length bytes.old.items) ++ drop 12 bytes.old.items) }
 {
-    if !is_countable(jobs) {
-        return Err(ImageError::ImageTooLarge);
-    }
-    let mut bytes = write_parts(alloc, jobs)?;
-    if bytes.len() > MAX_IMAGE {
-        return Err(ImageError::ImageTooLarge);
-    }
     set_length(bytes.as_mut_slice());
+}
+
+/// The image of jobs that have one.
+#[tactic(auto, using(crate::proofs::Images::parts_of, crate::proofs::Images::written_of))]
+pub(crate) fn write_image(alloc: Global, jobs: &[JobDef]) -> Result<Vec<u8>, AllocError>
+    requires { has_image jobs.now ≡ true }
+    ensures { IfOk result (λ bytes. IsImage bytes.items jobs.now) }
+{
+    let mut bytes = write_parts(alloc, jobs)?;
+    set_length_in(&mut bytes);
     Ok(bytes)
 }

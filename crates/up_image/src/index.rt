@@ -14,7 +14,7 @@ use up_text::Name;
 
 /// A leaf of a job's expression: its event, the job's place in the table, whether it starts the job, and the leaf's place among the nodes.
 #[derive(Debug, Drop)]
-pub(crate) struct Place {
+pub struct Place {
     pub event: Name,
     pub job: u16,
     pub start: bool,
@@ -109,6 +109,16 @@ fn sort_places(places: &mut Vec<Place>) -> Result<(), AllocError>
     ensures { OnOk result (places.new.items ≡ in_order (λ place. place.event) places.old.items) }
 {
     places.sort_by(|place, other| place.event.as_str().cmp(other.event.as_str()))
+}
+
+/// The leaves of jobs by the byte order of their events; those of one event job by job, first what stops it and then what starts it.
+pub(crate) fn sorted_places(alloc: Global, jobs: &[JobDef]) -> Result<Vec<Place>, AllocError>
+    requires { length jobs.now ≤ MAX_JOBS }
+    ensures { IfOk result (λ places. places.items ≡ in_order (λ place. place.event) (places_of 0 jobs.now)) }
+{
+    let mut places = places_of(alloc, jobs)?;
+    sort_places(&mut places)?;
+    Ok(places)
 }
 
 // How many places from the first one on have this event.
@@ -211,8 +221,7 @@ pub(crate) fn put_index(alloc: Global, out: &mut Vec<u8>, jobs: &[JobDef]) -> Re
     requires { length jobs.now ≤ MAX_JOBS }
     ensures { OnOk result (out.new.items ≡ out.old.items ++ index_part (entries_of jobs.now)) }
 {
-    let mut places = places_of(alloc, jobs)?;
-    sort_places(&mut places)?;
+    let places = sorted_places(alloc, jobs)?;
     let runs = runs_of(alloc, places.as_slice())?;
     put_entries(out, runs.as_slice())?;
     Ok(())

@@ -1,11 +1,15 @@
 //! Laws: what holds of every image, and of what a folder is compiled to.
-ghost use Rattle.std.specs.Prelude.{◌≡◌, ◌↔◌, ◌⊎◌, List, true, ℕ, Result, Ok, Err};
+ghost use Rattle.std.specs.Prelude.{◌≡◌, ◌+◌, ◌↔◌, ◌⊎◌, List, false, length, map, nat_le, true, ℕ, Result, Ok, Err};
+ghost use Rattle.std.specs.List.{list_all};
 ghost use Rattle.up_conf.specs.declared.folder.File.{File};
 ghost use Rattle.up_conf.specs.declared.job.JobDef.{JobDef};
 ghost use Rattle.up_conf.specs.declared.report.Fault.{Fault};
-ghost use Rattle.up_image.specs.Compiling.{Compiles};
-ghost use Rattle.up_image.specs.Giving.{can_all_be_given};
-ghost use Rattle.up_image.specs.Image.{IsImage, has_image};
+ghost use Rattle.up_conf.specs.Folders.{jobs_of};
+ghost use Rattle.up_image.specs.Compiling.{Compiles, has_twice, read_paths};
+ghost use Rattle.up_image.specs.Giving.{are_ascending, can_all_be_given};
+ghost use Rattle.up_image.specs.Image.{IsImage, body_of, fits, has_image};
+ghost use Rattle.up_image.specs.declared.limits.TheConstants.{MAX_IMAGE, MAX_JOBS};
+ghost use Rattle.up_image.specs.Index.{all_places, entries_of, event_of, is_entry, named, places_of};
 ghost use Rattle.up_image.specs.Reading.{ReadsImage, head_error};
 ghost use Rattle.up_image.specs.declared.image_error.ImageError.{ImageError};
 ghost use Rattle.up_image.specs.declared.image_error.ImageError.TheVariants.{Memory};
@@ -38,4 +42,25 @@ pub fn compiled_is_read()
     ensures { (files : List File) (jobs : List JobDef) (faults : List Fault) (bytes : List ℕ)
         (result : Result (List JobDef) ImageError) → Compiles files jobs faults → IsImage bytes jobs
         → ReadsImage bytes (head_error bytes) result → (result ≡ Ok jobs) ⊎ (result ≡ Err Memory) }
+{}
+
+/// The jobs of a folder have numbers and lists that an image can say.
+pub fn files_fit()
+    ensures { (files : List File) → has_twice (read_paths files) ≡ false → list_all fits (jobs_of files) ≡ true }
+{}
+
+/// So a folder of at most 1,024 jobs has no image exactly if that would have more than 16 MiB.
+pub fn only_large_ones_have_none()
+    ensures { (files : List File) → has_twice (read_paths files) ≡ false
+        → nat_le (length (jobs_of files)) MAX_JOBS ≡ true
+        → has_image (jobs_of files) ≡ nat_le (12 + length (body_of (jobs_of files))) MAX_IMAGE }
+{}
+
+/// The index of an image is whole: its events strictly ascend; each entry has places of one event alone; and the places of an event are
+/// exactly the leaves that name it, each once and in order.
+pub fn index_is_whole()
+    ensures ascending { (jobs : List JobDef) → are_ascending (map event_of (entries_of jobs)) ≡ true }
+    ensures apart { (jobs : List JobDef) → list_all is_entry (entries_of jobs) ≡ true }
+    ensures leaves { (jobs : List JobDef) (name : List ℕ)
+        → named name (all_places (entries_of jobs)) ≡ named name (places_of 0 jobs) }
 {}

@@ -1,13 +1,17 @@
 //! The jobs of a folder.
-ghost use Rattle.std.specs.Prelude.{◌≡◌, ◌<◌, IfErr, IfOk, List, Some, length, slice_get, ℕ};
-ghost use Rattle.up_image.specs.declared.image_error.ImageError.TheVariants.{ImageTooLarge};
+ghost use Rattle.std.specs.Prelude.{◌≡◌, ◌<◌, IfErr, IfOk, Some, length, slice_get};
+ghost use Rattle.up_image.specs.declared.image_error.ImageError.TheVariants.{Memory};
+ghost use Rattle.up_conf.specs.Order.{in_order};
 ghost use Rattle.up_image.specs.Image.{IsImage};
+ghost use Rattle.up_image.specs.Index.{places_of};
+ghost use Rattle.up_image.specs.Giving.{IsTable};
 ghost use Rattle.up_image.specs.Reading.{ReadsImage, head_error};
 
 use crate::image::write_image;
 use crate::image_error::ImageError;
+use crate::index::{Place, sorted_places};
 use crate::read_image::read_image;
-use std::alloc::Global;
+use std::alloc::{AllocError, Global};
 use std::marker::Model;
 use up_conf::JobDef;
 use up_text::Items;
@@ -30,13 +34,25 @@ impl Model for Table {
     ghost coded = { coded_list job.the_row.coded };
 
     ghost view = { λ t. t.jobs };
+
+    ghost use Rattle.up_image.specs.Giving.{IsTable};
+
+    ghost invariant = { λ t. IsTable t.jobs };
 }
 
 impl Table {
     pub(crate) fn new(jobs: Items<JobDef>) -> Self
+        requires { IsTable jobs }
         ensures { result ≡ jobs }
     {
         Table { jobs }
+    }
+
+    /// Its jobs are ones that files can give, so that no two have one name, and they have an image.
+    pub fn is_given(&self)
+        ensures { IsTable self.now }
+    {
+        let _jobs = &self.jobs;
     }
 
     /// How many jobs there are.
@@ -61,13 +77,25 @@ impl Table {
         self.jobs.as_slice()
     }
 
-    /// The table's image. Refused with `ImageTooLarge` only if it has none, else with `Memory`.
+    /// The leaves of the jobs' expressions, in byte order of the events that they name; those of one event job by job, first what stops
+    /// the job and then what starts it, from left to right.
+    pub fn places(&self, alloc: Global) -> Result<Vec<Place>, AllocError>
+        ensures { IfOk result (λ places. places.items ≡ in_order (λ place. place.event) (places_of 0 self.now)) }
+    {
+        let Table { jobs } = self;
+        sorted_places(alloc, jobs.as_slice())
+    }
+
+    /// The table's image. Refused only with `Memory`.
     pub fn to_bytes(&self, alloc: Global) -> Result<Vec<u8>, ImageError>
         ensures image { IfOk result (λ bytes. IsImage bytes.items self.now) }
-        ensures refused { IfErr result (λ error. error ≡ ImageTooLarge → (bytes : List ℕ)
-            → IsImage bytes self.now → ⊥) }
+        ensures refused { IfErr result (λ error. error ≡ Memory) }
     {
-        write_image(alloc, self.as_slice())
+        let Table { jobs } = self;
+        match write_image(alloc, jobs.as_slice()) {
+            Ok(bytes) => Ok(bytes),
+            Err(_) => Err(ImageError::Memory),
+        }
     }
 
     /// The table whose image these bytes are. Takes no more memory than in proportion to the bytes, whatever lengths they claim: beside

@@ -1,0 +1,160 @@
+//! From an event's name to the leaves that name it.
+ghost use Rattle.std.specs.Prelude.{◌≡◌, ◌≤◌, ◌<◌, ◌==◌, not, nat_lt, ℕ, Bool, IfOk, length, map, true, false, slice_index_or};
+ghost use Rattle.std.specs.List.{prefix_len};
+ghost use Rattle.std.specs.List.Sorted.{IsPartitionPoint};
+ghost use Rattle.up_conf.specs.Order.{is_below};
+ghost use Rattle.up_conf.specs.declared.job.JobDef.{JobDef as JobDefValue};
+ghost use Rattle.up_image.specs.Index.{places_of};
+ghost use Rattle.up_value.specs.Values.{Bytes};
+ghost use Rattle.up_image.specs.Index.{IsAscending, named};
+ghost use Rattle.up_marks.specs.Naming.{Rising, from_expression, rank, rank_of, naming_in, of_expression, side_of};
+
+use std::alloc::{AllocError, Global};
+use std::marker::Model;
+use up_image::{Place, Table};
+use up_text::Name;
+
+/// The leaves of all jobs. Contracts see their places in byte order of the events that they name.
+#[derive(Debug, Drop)]
+pub struct Index {
+    places: Vec<Place>,
+}
+
+impl Model for Index {
+    ghost use Rattle.std.specs.Prelude.{List};
+    ghost use Rattle.up_image.specs.declared.index.Place.{Place};
+    ghost use Rattle.up_marks.specs.Naming.{IsIndexed};
+
+    ghost Value = { List Place };
+
+    ghost view = { λ index. index.places.items };
+
+    ghost invariant = { λ index. IsIndexed index.places.items };
+}
+
+fn is_below(name: &Name, other: &Name) -> bool
+    ensures { result ≡ is_below name.now other.now }
+{
+    name.as_str().cmp(other.as_str()).is_lt()
+}
+
+// How many of these events are below one.
+fn below_len(places: &[Place], name: &Name) -> usize
+    requires { IsAscending places.now }
+    ensures below { IsPartitionPoint (λ place. is_below place.event name.now ≡ true)
+        (λ place. is_below place.event name.now ≡ false) places.now result }
+    ensures within { result ≤ length places.now }
+{
+    places.partition_point(|place| is_below(&place.event, name))
+}
+
+// How many of these events aren't above one.
+fn upto_len(places: &[Place], name: &Name) -> usize
+    requires { IsAscending places.now }
+    ensures upto { IsPartitionPoint (λ place. not (is_below name.now place.event) ≡ true)
+        (λ place. not (is_below name.now place.event) ≡ false) places.now result }
+    ensures within { result ≤ length places.now }
+{
+    places.partition_point(|place| !is_below(name, &place.event))
+}
+
+// Those of ascending places that name an event.
+fn run_of<'a>(places: &'a [Place], name: &Name) -> &'a [Place]
+    requires { IsAscending places.now }
+    ensures { result.now ≡ named name.now places.now }
+{
+    let (_, rest) = places.split_at(below_len(places, name));
+    let (run, _) = rest.split_at(upto_len(rest, name));
+    run
+}
+
+// The number of an expression in the order in which events are offered.
+fn rank(job: u16, start: bool) -> u32
+    ensures { result ≡ rank job start }
+{
+    let stops = u32::from(job) * 2;
+    if start { stops + 1 } else { stops }
+}
+
+fn rank_of(place: &Place) -> u32
+    ensures { result ≡ rank_of place.now }
+{
+    rank(place.job, place.start)
+}
+
+// How many of these places are of earlier expressions.
+fn earlier_len(places: &[Place], rank: u32) -> usize
+    requires { Rising 0 places.now }
+    ensures earlier { IsPartitionPoint (λ place. nat_lt (rank_of place) rank ≡ true)
+        (λ place. nat_lt (rank_of place) rank ≡ false) places.now result }
+    ensures within { result ≤ length places.now }
+{
+    places.partition_point(|place| rank_of(place) < rank)
+}
+
+// How many places from the first one on are of one expression.
+fn leaves_len(places: &[Place], rank: u32) -> usize
+    ensures counted { result ≡ prefix_len (λ place. rank_of place == rank) places.now }
+    ensures within { result ≤ length places.now }
+{
+    places
+        .iter()
+        .take_while(|place| rank_of(place) == rank)
+        .count()
+}
+
+// Those of rising places that are of an expression or a later one.
+fn later_of(places: &[Place], job: u16, start: bool) -> &[Place]
+    requires { Rising 0 places.now }
+    ensures { result.now ≡ from_expression job start places.now }
+{
+    let (_, later) = places.split_at(earlier_len(places, rank(job, start)));
+    later
+}
+
+// Those that are of an expression.
+fn leaves_of(places: &[Place], job: u16, start: bool) -> &[Place]
+    requires { Rising 0 places.now }
+    ensures { result.now ≡ of_expression job start places.now }
+{
+    let later = later_of(places, job, start);
+    let (leaves, _) = later.split_at(leaves_len(later, rank(job, start)));
+    leaves
+}
+
+impl Index {
+    /// The index of a table.
+    pub fn of(alloc: Global, table: &Table) -> Result<Self, AllocError>
+        ensures places { IfOk result (λ index. (name : Bytes)
+            → named name index ≡ named name (places_of 0 table.now)) }
+        ensures leaves { IfOk result (λ index. (name : Bytes) (k : ℕ) (start : Bool) (job : JobDefValue)
+            → k < length table.now → map (λ place. place.node) (of_expression k start (named name index))
+            ≡ naming_in (side_of start (slice_index_or table.now k job)) name) }
+    {
+        let places = table.places(alloc)?;
+        Ok(Index { places })
+    }
+
+    /// The leaves that name an event: job by job, first those that stop it and then those that start it, from
+    /// left to right. Takes no memory.
+    pub fn places(&self, name: &Name) -> &[Place]
+        ensures leaves { result.now ≡ named name.now self.now }
+        ensures order { Rising 0 result.now }
+    {
+        run_of(self.places.as_slice(), name)
+    }
+
+    /// Those of one expression: of what stops a job, or of what starts it. Takes no memory.
+    pub fn leaves(&self, name: &Name, job: u16, start: bool) -> &[Place]
+        ensures { result.now ≡ of_expression job start (named name.now self.now) }
+    {
+        leaves_of(self.places(name), job, start)
+    }
+
+    /// Those of an expression and later ones. Takes no memory.
+    pub fn leaves_from(&self, name: &Name, job: u16, start: bool) -> &[Place]
+        ensures { result.now ≡ from_expression job start (named name.now self.now) }
+    {
+        later_of(self.places(name), job, start)
+    }
+}

@@ -1,0 +1,19 @@
+//! What the expressions of jobs remember: for each leaf the first event that it matches, and which of their
+//! nodes are true by that.
+#![tactic(auto)]
+
+pub mod index;
+mod keeping;
+pub mod laws;
+pub mod mark;
+pub mod marks;
+mod matching;
+mod reset;
+mod taking;
+pub mod trigger;
+
+pub use index::Index;
+pub use mark::Mark;
+pub use marks::{Marks, Offer};
+pub use trigger::{Firing, Trigger};
+pub use up_image::Place;
