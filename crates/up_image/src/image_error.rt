@@ -3,35 +3,33 @@ ghost use Rattle.std.specs.Prelude.{◌≡◌, codes};
 ghost use Rattle.up_image.specs.ImageErrors.{number_of, name_of};
 
 use std::alloc::AllocError;
-use std::error::Error as StdError;
-use std::fmt;
+use thiserror::Error;
 
 /// Why bytes aren't read as a table, and why a table isn't written.
-#[derive(Clone, Copy, Debug, PartialEq, Eq)]
+#[derive(Clone, Copy, Debug, PartialEq, Eq, Error)]
 pub enum ImageError {
     /// The table has too many jobs, items in a list or nodes in an expression, or its image would have more than 16 MiB.
+    #[error("ImageTooLarge")]
     ImageTooLarge,
     /// The bytes don't begin as an image does.
+    #[error("BadMagic")]
     BadMagic,
     /// The image has another version.
+    #[error("BadVersion")]
     BadVersion,
     /// Bytes are missing at the end.
+    #[error("Truncated")]
     Truncated,
     /// There are more bytes than the image says.
+    #[error("Trailing")]
     Trailing,
     /// The bytes are no table's image, or a table's that no files define.
+    #[error("BadTable")]
     BadTable,
     /// Memory was refused.
+    #[error("Memory")]
     Memory,
 }
-
-impl fmt::Display for ImageError {
-    fn fmt<W: fmt::Write>(&self, f: &mut fmt::Formatter<W>) -> fmt::Result {
-        f.write_str(self.name())
-    }
-}
-
-impl StdError for ImageError {}
 
 impl From<AllocError> for ImageError {
     ghost use Rattle.std.specs.Prelude.{◌≡◌};

@@ -3,29 +3,24 @@ ghost use Rattle.std.specs.Prelude.{◌≡◌, codes};
 ghost use Rattle.up_image.specs.Refusals.{number_of, name_of};
 
 use std::alloc::AllocError;
-use std::error::Error as StdError;
-use std::fmt;
+use thiserror::Error;
 
 /// Why a folder isn't compiled.
-#[derive(Clone, Copy, Debug, PartialEq, Eq)]
+#[derive(Clone, Copy, Debug, PartialEq, Eq, Error)]
 pub enum CompileError {
     /// There are more jobs than a table may have.
+    #[error("TooManyJobs")]
     TooManyJobs,
     /// Two files define one job.
+    #[error("SameName")]
     SameName,
     /// The image of the jobs would have more than 16 MiB.
+    #[error("ImageTooLarge")]
     ImageTooLarge,
     /// Memory was refused.
+    #[error("Memory")]
     Memory,
 }
-
-impl fmt::Display for CompileError {
-    fn fmt<W: fmt::Write>(&self, f: &mut fmt::Formatter<W>) -> fmt::Result {
-        f.write_str(self.name())
-    }
-}
-
-impl StdError for CompileError {}
 
 impl From<AllocError> for CompileError {
     ghost use Rattle.std.specs.Prelude.{◌≡◌};
