@@ -1,5 +1,5 @@
 -- How many calls a round makes.
-use Rattle.std.specs.Prelude.{◌≡◌, ℕ, ◌+◌, suc, min, List, [], ◌∷◌, length}
+use Rattle.std.specs.Prelude.{◌≡◌, ℕ, ◌+◌, zero, suc, min, List, [], ◌∷◌, length}
 use Rattle.up_host.specs.Calls.{most_count, with_fault}
 use Rattle.up_model.specs.declared.input.Input.{Input}
 use Rattle.up_model.specs.declared.input.Input.TheVariants as input
@@ -32,7 +32,7 @@ ends_in (input.Turn ∷ inputs) = ends_in inputs
 
 -- a count of faults after so many more
 abbrev pub faults_after : ℕ → ℕ → ℕ
-faults_after 0 faults = faults
+faults_after zero faults = faults
 faults_after (suc more) faults = with_fault (faults_after more faults)
 
 -- Each entry that was ever made is in the record now or was there as the round began: no call is made before the records are emptied.
