@@ -5,9 +5,8 @@ use Rattle.up_model.specs.Requests.{RequestValue}
 use Rattle.up_model.specs.declared.output.Output.{Output}
 use Rattle.up_model.specs.declared.request.Answer.{Answer}
 use Rattle.up_model.proofs.LeftLaws.{spawns-append}
-use Rattle.up_daemon.specs.Attending.{IsEntered, IsQueued}
 use Rattle.up_daemon.specs.Ending.{waiting_in}
-use Rattle.up_daemon.specs.Peers.{Peer, asked, answered}
+use Rattle.up_daemon.specs.Peers.{Peer, asked, answered, IsEntered, IsQueued}
 
 -- outputs are put before the orders that are left
 pub fed_fewer : (after before : ℕ) (outputs orders : List Output) → after + spawns outputs ≤ before → after + spawns (outputs ++ orders) ≤ before + spawns orders
@@ -19,7 +18,7 @@ waiting_append (peer ∷ peers) others = omega (arith, waiting_append peers othe
 
 -- a request that enters waits no longer
 pub entered_fewer : (id : ℕ) (request : RequestValue) (old new : List Peer) → IsEntered id request old new → waiting_in new < waiting_in old
-entered_fewer id request old new (before, after, peer, waiting, was, unanswered, next, is) =
+entered_fewer id request old new (before, after, peer, waiting, was, unanswered, next, is, rest) =
     let one : length peer.waiting ≡ suc (length waiting) = ap length next in
     omega (arith, ap waiting_in was, ap waiting_in is, waiting_append before (peer ∷ after), waiting_append before (asked id waiting peer ∷ after), one)
 

@@ -1,9 +1,14 @@
 pub mod Telling
-pub mod Dealings
 pub mod Stacks
-pub mod Attendings
+pub mod Connections
+pub mod Hosts
+pub mod Turns
+pub mod Doors
 pub mod Seats
-pub mod Desks
+pub mod Changes
+pub mod Servings
+pub mod Served
+pub mod Counted
 pub mod Numberings
 pub mod Wholes
 pub mod Endings

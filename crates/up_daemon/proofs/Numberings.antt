@@ -3,7 +3,10 @@ use Rattle.std.proofs.Common.{◌+◌, ◌++◌, ◌∷◌, [], ℕ, List, refl,
 use Rattle.up_model.specs.Requests.{RequestValue}
 use Rattle.up_model.specs.declared.input.Input.{Input}
 use Rattle.up_model.specs.declared.input.Input.TheVariants as input
-use Rattle.up_daemon.specs.Attending.{Part, Standing, Desk, Attends, IsOfHost, Opens, LetsIn, NobodyWaits, AcceptFails, IsFull, PassesOver, FindsNothing, FindsBytes, FindsFault, FindsEnd, ReadFails, Closes, ClosesUntold, HasRead, HasServed, Passes, Replies, HasTurned, NothingWaits, Writes, WriteFails, Enters, TakesTurn, Feeds}
+use Rattle.up_model.specs.Chronicle.{Chronicle}
+use Rattle.up_model.specs.Configuration.{Configuration}
+use Rattle.up_daemon.specs.Rounds.{Reaches, Opens, ReadsClock, ClockFails, FindsEnd, FindsNone, PollFails, LetsIn, NobodyWaits, AcceptFails, IsFull, PassesOver, FindsNothing, FindsBytes, FindsFault, FindsLast, ReadFails, Closes, ClosesUnrecorded, HasRead, Enters, HasServed, TakesTurn, HasTurned, NothingWaits, Writes, WriteFails, Starts, StartFails, Signals, SignalFails, PassesEvent, Replies}
+use Rattle.up_daemon.specs.RoundStates.{Part, ReadingClock, FindingEnds, LettingIn, ReadingFrom, TakingRequests, TakingTurns, WritingTo, ClosingOf, DaemonState, RoundState}
 use Rattle.up_daemon.specs.Numbering.{AreNumbered}
 
 -- one request more
@@ -30,40 +33,44 @@ other_more first next (input.Ended who process how ∷ inputs) given other are =
 other_more first next (input.Clock now ∷ inputs) given other are = other_more first next inputs given other are
 other_more first next (input.Turn ∷ inputs) given other are = other_more first next inputs given other are
 
-of_host : (next : ℕ) (given : Input) → IsOfHost given → AreNumbered next (given ∷ []) next
-of_host next (input.Spawned who process pid) host = refl
-of_host next (input.Refused who process) host = refl
-of_host next (input.Ended who process how) host = refl
-of_host next (input.Clock now) host = refl
-of_host next (input.Emit event) host = elim host [ ]
-of_host next (input.Request id request) host = elim host [ ]
-of_host next input.Turn host = elim host [ ]
-
 -- whatever a round did so far, its requests are numbered
-pub numbered : (start : Standing) (part : Part) (desk : Desk) → Attends start part desk → AreNumbered start.next desk.fed desk.next
-numbered start part desk Opens = refl
-numbered start part desk (LetsIn x0 x1 x2 attends) = numbered start _ _ attends
-numbered start part desk (NobodyWaits x0 x1 attends) = numbered start _ _ attends
-numbered start part desk (AcceptFails x0 x1 attends) = numbered start _ _ attends
-numbered start part desk (IsFull x0 x1 attends) = numbered start _ _ attends
-numbered start part desk (PassesOver x0 x1 x2 x3 attends) = numbered start _ _ attends
-numbered start part desk (FindsNothing x0 x1 x2 x3 attends) = numbered start _ _ attends
-numbered start part desk (FindsBytes x0 x1 x2 x3 x4 x5 x6 x7 x8 attends) = numbered start _ _ attends
-numbered start part desk (FindsFault x0 x1 x2 x3 x4 x5 x6 attends) = numbered start _ _ attends
-numbered start part desk (FindsEnd x0 x1 x2 x3 attends) = numbered start _ _ attends
-numbered start part desk (ReadFails x0 x1 x2 x3 attends) = numbered start _ _ attends
-numbered start part desk (Closes x0 x1 x2 attends) = numbered start _ _ attends
-numbered start part desk (ClosesUntold x0 x1 x2 attends) = numbered start _ _ attends
-numbered start part desk (HasRead x0 attends) = numbered start _ _ attends
-numbered start part desk (HasServed x0 x1 x2 attends) = numbered start _ _ attends
-numbered start part desk (Passes x0 x1 x2 x3 x4 x5 attends) = numbered start _ _ attends
-numbered start part desk (Replies x0 x1 x2 x3 x4 x5 x6 x7 attends) = numbered start _ _ attends
-numbered start part desk (HasTurned x0 x1 attends) = numbered start _ _ attends
-numbered start part desk (NothingWaits x0 x1 x2 x3 attends) = numbered start _ _ attends
-numbered start part desk (Writes x0 x1 x2 x3 x4 attends) = numbered start _ _ attends
-numbered start part desk (WriteFails x0 x1 x2 x3 attends) = numbered start _ _ attends
-numbered start part desk (Enters request clients outputs before none below entered attends) =
-    request_more start.next before.next before.fed request (numbered start _ _ attends)
-numbered start part desk (TakesTurn outputs before none attends) = other_more start.next before.next before.fed input.Turn refl (numbered start _ _ attends)
-numbered start part desk (Feeds among given outputs before host attends) =
-    other_more start.next before.next before.fed given (of_host before.next given host) (numbered start _ _ attends)
+pub numbered : (config : Configuration) (c : Chronicle) (start : DaemonState) (part : Part) (state : RoundState)
+    → Reaches config c start part state → AreNumbered start.next state.fed state.next
+numbered config c start part state Opens = refl
+numbered config c start part state (ReadsClock reading outputs was is reaches) =
+    other_more start.next was.next was.fed (input.Clock reading) refl (numbered config c start _ _ reaches)
+numbered config c start part state (ClockFails was reaches) = numbered config c start _ _ reaches
+numbered config c start part state (FindsEnd who its how outputs was none is reaches) =
+    other_more start.next was.next was.fed (input.Ended who its how) refl (numbered config c start _ _ reaches)
+numbered config c start part state (FindsNone was none reaches) = numbered config c start _ _ reaches
+numbered config c start part state (PollFails was none reaches) = numbered config c start _ _ reaches
+numbered config c start part state (LetsIn number was few nobody reaches) = numbered config c start _ _ reaches
+numbered config c start part state (NobodyWaits was few reaches) = numbered config c start _ _ reaches
+numbered config c start part state (AcceptFails was few reaches) = numbered config c start _ _ reaches
+numbered config c start part state (IsFull was many reaches) = numbered config c start _ _ reaches
+numbered config c start part state (PassesOver peer unread was many reaches) = numbered config c start _ _ reaches
+numbered config c start part state (FindsNothing peer unread was few reaches) = numbered config c start _ _ reaches
+numbered config c start part state (FindsBytes piece rest requests peer unread was few is frames reaches) = numbered config c start _ _ reaches
+numbered config c start part state (FindsFault piece peer unread was few is broken reaches) = numbered config c start _ _ reaches
+numbered config c start part state (FindsLast peer unread was few reaches) = numbered config c start _ _ reaches
+numbered config c start part state (ReadFails peer unread was few reaches) = numbered config c start _ _ reaches
+numbered config c start part state (Closes number among was reaches) = numbered config c start _ _ reaches
+numbered config c start part state (ClosesUnrecorded number among was reaches) = numbered config c start _ _ reaches
+numbered config c start part state (HasRead was reaches) = numbered config c start _ _ reaches
+numbered config c start part state (Enters request clients outputs was none below entered is reaches) =
+    request_more start.next was.next was.fed request (numbered config c start _ _ reaches)
+numbered config c start part state (HasServed was none rest reaches) = numbered config c start _ _ reaches
+numbered config c start part state (TakesTurn turns outputs was none few touches is reaches) =
+    other_more start.next was.next was.fed input.Turn refl (numbered config c start _ _ reaches)
+numbered config c start part state (HasTurned turns was none rest reaches) = numbered config c start _ _ reaches
+numbered config c start part state (NothingWaits peer unwritten was none reaches) = numbered config c start _ _ reaches
+numbered config c start part state (Writes count peer unwritten was some reaches) = numbered config c start _ _ reaches
+numbered config c start part state (WriteFails peer unwritten was some reaches) = numbered config c start _ _ reaches
+numbered config c start part state (Starts among here order pid outputs left was first is reaches) =
+    other_more start.next was.next was.fed (input.Spawned order.who order.process pid) refl (numbered config c start _ _ reaches)
+numbered config c start part state (StartFails among here order outputs left was first is reaches) =
+    other_more start.next was.next was.fed (input.Refused order.who order.process) refl (numbered config c start _ _ reaches)
+numbered config c start part state (Signals among here who pid signal left was first reaches) = numbered config c start _ _ reaches
+numbered config c start part state (SignalFails among here who pid signal left was first reaches) = numbered config c start _ _ reaches
+numbered config c start part state (PassesEvent among here event left was first reaches) = numbered config c start _ _ reaches
+numbered config c start part state (Replies among here id answer left clients was first is reaches) = numbered config c start _ _ reaches

@@ -1,14 +1,14 @@
 -- Clients at their places.
-use Rattle.std.proofs.Common.{◌≡◌, ◌<◌, ◌+◌, ◌∙◌, ◌++◌, ◌∷◌, [], ℕ, List, Some, true, length, take, drop, get_or, suc, refl, sym, ap, inl, slice_set}
+use Rattle.std.proofs.Common.{◌≡◌, ◌<◌, ◌+◌, ◌∙◌, ◌++◌, ◌∷◌, [], ℕ, Bool, List, Some, true, length, take, drop, get_or, suc, refl, sym, ap, inl, inr, slice_set, append_assoc}
 use Rattle.std.specs.List.{AllByRecursion}
 use Rattle.std.proofs.Math.Seq.{drop-cons}
 use Rattle.std.proofs.lemmas.List.{map-append, set-get_or, set_split, take-append-drop, take_more}
 use Rattle.up_model.specs.Requests.{RequestValue}
 use Rattle.up_model.specs.declared.request.Answer.{Answer}
 use Rattle.up_daemon.specs.declared.clients.client.Client.{Client}
-use Rattle.up_daemon.specs.Attending.{IsEntered, IsQueued}
+use Rattle.up_daemon.specs.Connected.{AreConnected}
 use Rattle.up_daemon.specs.Hearing.{Enters, IsAnswered}
-use Rattle.up_daemon.specs.Peers.{Peer, peer_of, peers_of, asked, answered}
+use Rattle.up_daemon.specs.Peers.{Peer, peer_of, peers_of, numbers_of, asked, answered, IsAtRest, IsEntered, IsQueued}
 
 all_append : (P : Peer → Type 0) (peers others : List Peer) → AllByRecursion P peers → AllByRecursion P others → AllByRecursion P (peers ++ others)
 all_append P [] others all more = more
@@ -37,8 +37,9 @@ entered_peer id request old new entered = rw (entered.0, entered.3, entered.4, e
 
 -- a request of the client at a place enters
 pub entered_at : (id : ℕ) (request : RequestValue) (clients : List Client) (place : ℕ) (d new : Client) → place < length clients
+    → AllByRecursion IsAtRest (peers_of (take place clients))
     → Enters id (Some request) (get_or clients place d) new → IsEntered id request (peers_of clients) (peers_of (slice_set clients place new))
-entered_at id request clients place d new within entered =
+entered_at id request clients place d new within rest entered =
     let old = get_or clients place d in (
       peers_of (take place clients),
       peers_of (drop (suc place) clients),
@@ -48,6 +49,7 @@ entered_at id request clients place d new within entered =
       entered.1,
       entered.2,
       rw (sym (entered_peer id request old new entered)) (split_set clients place new within),
+      rest,
     )
 
 answered_peer : (id : ℕ) (answer : Answer) (old new : Client) → IsAnswered id answer true old new → peer_of new ≡ answered answer (peer_of old)
@@ -71,3 +73,23 @@ answered_at id answer clients place d new within done =
 pub same_at : (clients : List Client) (place : ℕ) (client new : Client) → new ≡ client → get_or clients place client ≡ client
     → slice_set clients place new ≡ clients
 same_at clients place client new is value = ap (λ c. slice_set clients place c) (is ∙ sym value) ∙ set-get_or clients place client
+
+numbers_append : (peers others : List Peer) → numbers_of (peers ++ others) ≡ numbers_of peers ++ numbers_of others
+numbers_append peers others = map-append (λ (peer : Peer). peer.number) peers others
+
+-- a client who changes keeps its number
+pub entered_numbers : (id : ℕ) (request : RequestValue) (old new : List Peer) → IsEntered id request old new → numbers_of new ≡ numbers_of old
+entered_numbers id request old new (before, after, peer, waiting, was, unanswered, next, is, rest) =
+    rw (was, is, numbers_append before (peer ∷ after), numbers_append before (asked id waiting peer ∷ after)) refl
+
+pub queued_numbers : (id : ℕ) (answer : Answer) (old new : List Peer) → IsQueued id answer old new → numbers_of new ≡ numbers_of old
+queued_numbers id answer old new (inl (before, after, peer, was, unanswered, is)) =
+    rw (was, is, numbers_append before (peer ∷ after), numbers_append before (answered answer peer ∷ after)) refl
+queued_numbers id answer old new (inr same) = ap numbers_of same.0
+
+-- one client more is done with
+pub numbers_push : (connected : ℕ → Bool) (clients : List Client) (client : Client) (rest : List ℕ)
+    → AreConnected connected (numbers_of (peers_of clients) ++ client.number ∷ rest)
+    → AreConnected connected (numbers_of (peers_of (clients ++ client ∷ [])) ++ rest)
+numbers_push connected clients client rest are =
+    rw (map-append peer_of clients (client ∷ []), numbers_append (peers_of clients) (peer_of client ∷ []), append_assoc (numbers_of (peers_of clients)) (client.number ∷ []) rest) are

@@ -2,8 +2,11 @@
 use Rattle.std.proofs.Common.{◌++◌, ◌∷◌, [], ℕ, List, refl, inl, inr}
 use Rattle.up_model.specs.Requests.{RequestValue}
 use Rattle.up_model.specs.declared.request.Answer.{Answer}
-use Rattle.up_daemon.specs.Attending.{Part, LettingIn, ReadingFrom, TakingRequests, TakingTurns, WritingTo, ClosingOf, Standing, Desk, Attends, IsEntered, IsQueued, Opens, LetsIn, NobodyWaits, AcceptFails, IsFull, PassesOver, FindsNothing, FindsBytes, FindsFault, FindsEnd, ReadFails, Closes, ClosesUntold, HasRead, Enters, HasServed, TakesTurn, Feeds, Passes, Replies, HasTurned, NothingWaits, Writes, WriteFails}
-use Rattle.up_daemon.specs.Peers.{Peer}
+use Rattle.up_model.specs.Chronicle.{Chronicle}
+use Rattle.up_model.specs.Configuration.{Configuration}
+use Rattle.up_daemon.specs.Peers.{Peer, IsEntered, IsQueued}
+use Rattle.up_daemon.specs.Rounds.{Reaches, Opens, ReadsClock, ClockFails, FindsEnd, FindsNone, PollFails, LetsIn, NobodyWaits, AcceptFails, IsFull, PassesOver, FindsNothing, FindsBytes, FindsFault, FindsLast, ReadFails, Closes, ClosesUnrecorded, HasRead, Enters, HasServed, TakesTurn, HasTurned, NothingWaits, Writes, WriteFails, Starts, StartFails, Signals, SignalFails, PassesEvent, Replies}
+use Rattle.up_daemon.specs.RoundStates.{Part, ReadingClock, FindingEnds, LettingIn, ReadingFrom, TakingRequests, TakingTurns, WritingTo, ClosingOf, DaemonState, RoundState}
 use Rattle.up_daemon.specs.Wholeness.{IsWhole, AreWhole}
 
 push : (peers : List Peer) (peer : Peer) → AreWhole peers → IsWhole peer → AreWhole (peers ++ peer ∷ [])
@@ -16,7 +19,7 @@ change [] after old new keeps all = (keeps all.0, all.1)
 change (other ∷ before) after old new keeps all = (all.0, change before after old new keeps all.1)
 
 entered_whole : (id : ℕ) (request : RequestValue) (old new : List Peer) → IsEntered id request old new → AreWhole old → AreWhole new
-entered_whole id request old new (before, after, peer, waiting, was, none, first, is) whole =
+entered_whole id request old new (before, after, peer, waiting, was, none, first, is, rest) whole =
     rw is (change before after peer _ (λ one. one) (rw was at whole))
 
 queued_whole : (id : ℕ) (answer : Answer) (old new : List Peer) → IsQueued id answer old new → AreWhole old → AreWhole new
@@ -25,82 +28,93 @@ queued_whole id answer old new (inr (same, none)) whole = rw same whole
 
 -- those that are still to be read or written to
 abbrev pub todo : Part → List Peer
+todo ReadingClock = []
+todo FindingEnds = []
 todo LettingIn = []
 todo (ReadingFrom unread) = unread
 todo TakingRequests = []
-todo TakingTurns = []
+todo (TakingTurns turns) = []
 todo (WritingTo unwritten) = unwritten
 todo (ClosingOf number part) = todo part
 
--- at each part of a round its clients are whole
-pub whole : (start : Standing) (part : Part) (desk : Desk) → AreWhole start.clients → Attends start part desk → AreWhole desk.clients × AreWhole (todo part)
-whole start part desk all Opens = (all, tt)
-whole start part desk all (LetsIn number was few attends) =
-    let so_far = whole start _ _ all attends in
+-- in each part of a round its clients are whole
+pub whole : (config : Configuration) (c : Chronicle) (start : DaemonState) (part : Part) (state : RoundState) → AreWhole start.clients
+    → Reaches config c start part state → AreWhole state.clients × AreWhole (todo part)
+whole config c start part state all Opens = (all, tt)
+whole config c start part state all (ReadsClock reading outputs was is reaches) =
+    let so_far = whole config c start _ _ all reaches in
+    so_far
+whole config c start part state all (ClockFails was reaches) =
+    let so_far = whole config c start _ _ all reaches in
+    so_far
+whole config c start part state all (FindsEnd who its how outputs was none is reaches) = whole config c start _ _ all reaches
+whole config c start part state all (FindsNone was none reaches) =
+    let so_far = whole config c start _ _ all reaches in
+    so_far
+whole config c start part state all (PollFails was none reaches) =
+    let so_far = whole config c start _ _ all reaches in
+    so_far
+whole config c start part state all (LetsIn number was few nobody reaches) =
+    let so_far = whole config c start _ _ all reaches in
     (push was.clients _ so_far.0 refl, tt)
-whole start part desk all (NobodyWaits was few attends) =
-    let so_far = whole start _ _ all attends in
+whole config c start part state all (NobodyWaits was few reaches) =
+    let so_far = whole config c start _ _ all reaches in
     (tt, so_far.0)
-whole start part desk all (AcceptFails was few attends) =
-    let so_far = whole start _ _ all attends in
+whole config c start part state all (AcceptFails was few reaches) =
+    let so_far = whole config c start _ _ all reaches in
     (tt, so_far.0)
-whole start part desk all (IsFull was few attends) =
-    let so_far = whole start _ _ all attends in
+whole config c start part state all (IsFull was many reaches) =
+    let so_far = whole config c start _ _ all reaches in
     (tt, so_far.0)
-whole start part desk all (PassesOver peer unread was many attends) =
-    let so_far = whole start _ _ all attends in
+whole config c start part state all (PassesOver peer unread was many reaches) =
+    let so_far = whole config c start _ _ all reaches in
     (push was.clients peer so_far.0 so_far.1.0, so_far.1.1)
-whole start part desk all (FindsNothing peer unread was few attends) =
-    let so_far = whole start _ _ all attends in
+whole config c start part state all (FindsNothing peer unread was few reaches) =
+    let so_far = whole config c start _ _ all reaches in
     (push was.clients peer so_far.0 so_far.1.0, so_far.1.1)
-whole start part desk all (FindsBytes piece rest requests peer unread was few is frames attends) =
-    let so_far = whole start _ _ all attends in
+whole config c start part state all (FindsBytes piece rest requests peer unread was few is frames reaches) =
+    let so_far = whole config c start _ _ all reaches in
     (push was.clients _ so_far.0 refl, so_far.1.1)
-whole start part desk all (FindsFault piece peer unread was few is breaks attends) =
-    let so_far = whole start _ _ all attends in
+whole config c start part state all (FindsFault piece peer unread was few is broken reaches) =
+    let so_far = whole config c start _ _ all reaches in
     (so_far.0, so_far.1.1)
-whole start part desk all (FindsEnd peer unread was few attends) =
-    let so_far = whole start _ _ all attends in
+whole config c start part state all (FindsLast peer unread was few reaches) =
+    let so_far = whole config c start _ _ all reaches in
     (so_far.0, so_far.1.1)
-whole start part desk all (ReadFails peer unread was few attends) =
-    let so_far = whole start _ _ all attends in
+whole config c start part state all (ReadFails peer unread was few reaches) =
+    let so_far = whole config c start _ _ all reaches in
     (so_far.0, so_far.1.1)
-whole start part desk all (Closes number among was attends) =
-    let so_far = whole start _ _ all attends in
-    so_far
-whole start part desk all (ClosesUntold number among was attends) =
-    let so_far = whole start _ _ all attends in
-    so_far
-whole start part desk all (HasRead was attends) =
-    let so_far = whole start _ _ all attends in
+whole config c start part state all (Closes number among was reaches) = whole config c start _ _ all reaches
+whole config c start part state all (ClosesUnrecorded number among was reaches) = whole config c start _ _ all reaches
+whole config c start part state all (HasRead was reaches) =
+    let so_far = whole config c start _ _ all reaches in
     (so_far.0, tt)
-whole start part desk all (Enters request clients outputs was none below entered attends) =
-    let so_far = whole start _ _ all attends in
+whole config c start part state all (Enters request clients outputs was none below entered is reaches) =
+    let so_far = whole config c start _ _ all reaches in
     (entered_whole was.next request was.clients clients entered so_far.0, tt)
-whole start part desk all (HasServed was none rest attends) =
-    let so_far = whole start _ _ all attends in
+whole config c start part state all (HasServed was none rest reaches) =
+    let so_far = whole config c start _ _ all reaches in
     so_far
-whole start part desk all (TakesTurn outputs was none attends) =
-    let so_far = whole start _ _ all attends in
+whole config c start part state all (TakesTurn turns outputs was none few touches is reaches) =
+    let so_far = whole config c start _ _ all reaches in
     so_far
-whole start part desk all (Feeds among given outputs was host attends) =
-    let so_far = whole start _ _ all attends in
-    so_far
-whole start part desk all (Passes among order left was first no_reply attends) =
-    let so_far = whole start _ _ all attends in
-    so_far
-whole start part desk all (Replies among id answer left clients was first queued attends) =
-    let so_far = whole start _ _ all attends in
-    (queued_whole id answer was.clients clients queued so_far.0, so_far.1)
-whole start part desk all (HasTurned was none attends) =
-    let so_far = whole start _ _ all attends in
+whole config c start part state all (HasTurned turns was none rest reaches) =
+    let so_far = whole config c start _ _ all reaches in
     (tt, so_far.0)
-whole start part desk all (NothingWaits peer unwritten was none attends) =
-    let so_far = whole start _ _ all attends in
+whole config c start part state all (NothingWaits peer unwritten was none reaches) =
+    let so_far = whole config c start _ _ all reaches in
     (push was.clients peer so_far.0 so_far.1.0, so_far.1.1)
-whole start part desk all (Writes count peer unwritten was some attends) =
-    let so_far = whole start _ _ all attends in
+whole config c start part state all (Writes count peer unwritten was some reaches) =
+    let so_far = whole config c start _ _ all reaches in
     (push was.clients _ so_far.0 so_far.1.0, so_far.1.1)
-whole start part desk all (WriteFails peer unwritten was some attends) =
-    let so_far = whole start _ _ all attends in
+whole config c start part state all (WriteFails peer unwritten was some reaches) =
+    let so_far = whole config c start _ _ all reaches in
     (so_far.0, so_far.1.1)
+whole config c start part state all (Starts among here order pid outputs left was first is reaches) = whole config c start _ _ all reaches
+whole config c start part state all (StartFails among here order outputs left was first is reaches) = whole config c start _ _ all reaches
+whole config c start part state all (Signals among here who pid signal left was first reaches) = whole config c start _ _ all reaches
+whole config c start part state all (SignalFails among here who pid signal left was first reaches) = whole config c start _ _ all reaches
+whole config c start part state all (PassesEvent among here event left was first reaches) = whole config c start _ _ all reaches
+whole config c start part state all (Replies among here id answer left clients was first is reaches) =
+    let so_far = whole config c start _ _ all reaches in
+    (queued_whole id answer was.clients clients is so_far.0, so_far.1)

@@ -1,10 +1,9 @@
--- What a close tells.
-use Rattle.std.specs.Prelude.{◌≡◌, ℕ, List, [], ◌∷◌, ◌++◌, ◌⊎◌}
-use Rattle.up_host.specs.Telling.{with_fault}
+-- What a close reports.
+use Rattle.std.specs.Prelude.{◌≡◌, ℕ, ◌⊎◌}
+use Rattle.up_host.specs.Calls.{Calls, with_entry, with_failure}
 use Rattle.up_daemon.specs.declared.passed.Passed.{Passed}
 use Rattle.up_daemon.specs.declared.passed.Passed.TheVariants.{Closed}
 
 -- the record gains its entry, or, without room for it, the count of faults one
-abbrev pub TellsClose : ℕ → List Passed → ℕ → List Passed → ℕ → Type 0
-TellsClose client before faults after count = ((after ≡ before ++ Closed client ∷ []) × (count ≡ faults))
-    ⊎ ((after ≡ before) × (count ≡ with_fault faults))
+abbrev pub ReportsClose : ℕ → Calls Passed → Calls Passed → Type 0
+ReportsClose client before after = (after ≡ with_entry (Closed client) before) ⊎ (after ≡ with_failure before)

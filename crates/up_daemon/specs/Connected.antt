@@ -1,5 +1,5 @@
 -- Which clients are connected.
-use Rattle.std.specs.Prelude.{◌≡◌, ℕ, ◌==◌, Bool, true, false, if◌then◌else◌, Option, Some, None, Result, Ok, Err}
+use Rattle.std.specs.Prelude.{◌≡◌, ◌+◌, ℕ, ◌==◌, Bool, true, false, if◌then◌else◌, List, [], ◌∷◌, Option, Some, None, Result, Ok, Err}
 
 -- the same clients are connected
 abbrev pub SameClients : (ℕ → Bool) → (ℕ → Bool) → Type 0
@@ -20,3 +20,12 @@ abbrev pub ConnectsOnAccept : {E : Type 0} → (ℕ → Bool) → Result (Option
 ConnectsOnAccept before (Ok (Some client)) after = Connects client before after
 ConnectsOnAccept before (Ok None) after = SameClients before after
 ConnectsOnAccept before (Err _) after = SameClients before after
+
+-- how often a number is among these
+abbrev pub count_of : ℕ → List ℕ → ℕ
+count_of number [] = 0
+count_of number (other ∷ numbers) = (if number == other then 1 else 0) + count_of number numbers
+
+-- each number that is connected is among these once, and no other is
+abbrev pub AreConnected : (ℕ → Bool) → (numbers : List ℕ) → Type 0
+AreConnected connected numbers = (number : ℕ) → count_of number numbers ≡ (if connected number then 1 else 0)

@@ -2,7 +2,10 @@
 use Rattle.std.specs.Prelude.{ℕ, Bool, List}
 use Rattle.up_engine.specs.declared.engine.Engine.{Engine}
 use Rattle.up_daemon.specs.declared.daemon.Daemon.{Daemon}
-use Rattle.up_daemon.specs.Attending.{Standing}
+use Rattle.up_host.specs.Calls.{Calls}
+use Rattle.up_host.specs.declared.happened.Happened.{Happened}
+use Rattle.up_daemon.specs.RoundStates.{DaemonState}
+use Rattle.up_daemon.specs.declared.passed.Passed.{Passed}
 use Rattle.up_daemon.specs.Peers.{Peer, peers_of}
 
 -- its engine
@@ -17,9 +20,15 @@ clients_of daemon = peers_of daemon.work.clients.list.items
 abbrev pub next_of : Daemon → ℕ
 next_of daemon = daemon.work.next
 
--- its clients and the number of the next request, with a door's count of faults
-abbrev pub standing_of : Daemon → ℕ → Standing
-standing_of daemon faults = record { clients = clients_of daemon; next = next_of daemon; faults = faults }
+-- its clients and the number of the next request, with the calls of a host and a door, and which clients the door has
+abbrev pub daemon_state : Daemon → Calls Happened → Calls Passed → (ℕ → Bool) → DaemonState
+daemon_state daemon host door connected = record {
+  clients = clients_of daemon;
+  next = next_of daemon;
+  host = host;
+  door = door;
+  connected = connected;
+}
 
 -- whether a round of it was refused
 abbrev pub was_refused : Daemon → Bool

@@ -1,7 +1,6 @@
 -- What is said and answered at one client.
 use Rattle.std.specs.Prelude.{◌≡◌, ◌≢◌, ◌++◌, ◌∷◌, ◌⊎◌, ◌≤◌, ℕ, Bool, true, false, List, [], length, take, drop, Option, None, Some, IfSome, MatchOption, ⊤}
-use Rattle.up_daemon.specs.declared.clients.client.TheConstants.{MOST_WAITING, MOST_READ}
-use Rattle.up_host.specs.Telling.{with_fault}
+use Rattle.up_host.specs.Calls.{Calls, with_entry, with_failure}
 use Rattle.up_model.specs.Requests.{RequestValue}
 use Rattle.up_model.specs.declared.request.Answer.{Answer}
 use Rattle.up_wire.specs.Answers.{answer_frames}
@@ -38,11 +37,16 @@ Hears false piece old new = IsSame old new × IsBroken old.feed.fault (old.feed.
 
 -- a client with so many requests that haven't entered is not read
 abbrev pub most_waiting : ℕ
-most_waiting = MOST_WAITING
+most_waiting = 64
 
 -- the most bytes that one read takes
 abbrev pub most_read : ℕ
-most_read = MOST_READ
+most_read = 4096
+
+-- bytes that one read may find
+abbrev pub IsPiece : Bytes → Type 0
+IsPiece [] = ⊥
+IsPiece (byte ∷ piece) = length (byte ∷ piece) ≤ most_read
 
 -- the oldest request enters under a number if none is unanswered
 abbrev pub Enters : ℕ → Option RequestValue → Client → Client → Type 0
@@ -65,27 +69,21 @@ IsTaken stays None old new = (stays ≡ true) × (new ≡ old)
 IsTaken stays (Some []) old new = (stays ≡ false) × (new ≡ old)
 IsTaken stays (Some (byte ∷ piece)) old new = Hears stays (byte ∷ piece) old new
 
--- one read by the door: it failed and was counted, or its entry tells what was found
-abbrev pub IsReadOnce : Bool → Client → Client → (before after : List Passed) → (faults faults_after : ℕ)
-    → Type 0
-IsReadOnce stays old new before after faults faults_after =
-    ((after ≡ before) × (faults_after ≡ with_fault faults) × (stays ≡ false) × (new ≡ old))
+-- one read by the door: it failed and was counted, or its entry is what was found
+abbrev pub IsReadOnce : Bool → Client → Client → (before after : Calls Passed) → Type 0
+IsReadOnce stays old new before after =
+    ((after ≡ with_failure before) × (stays ≡ false) × (new ≡ old))
     ⊎ ((found : Option Bytes) × IfSome found (λ piece. length piece ≤ most_read)
-    × (after ≡ before ++ Read old.number found ∷ []) × (faults_after ≡ faults)
-    × IsTaken stays found old new)
+    × (after ≡ with_entry (Read old.number found) before) × IsTaken stays found old new)
 
 -- no call was made for the client, who stays
-abbrev pub IsPassedOver : Bool → Client → Client → (before after : List Passed) → (faults faults_after : ℕ)
-    → Type 0
-IsPassedOver stays old new before after faults faults_after = (after ≡ before) × (faults_after ≡ faults)
-    × (stays ≡ true) × (new ≡ old)
+abbrev pub IsPassedOver : Bool → Client → Client → (before after : Calls Passed) → Type 0
+IsPassedOver stays old new before after = (after ≡ before) × (stays ≡ true) × (new ≡ old)
 
 -- one write by the door of all the bytes that wait: it failed and was counted, or those that it took wait no longer
-abbrev pub IsWrittenOnce : Bool → Client → Client → (before after : List Passed) → (faults faults_after : ℕ)
-    → Type 0
-IsWrittenOnce stays old new before after faults faults_after =
-    ((after ≡ before) × (faults_after ≡ with_fault faults) × (stays ≡ false) × (new ≡ old))
-    ⊎ ((count : ℕ) × (after ≡ before ++ Wrote old.number (take count old.answers.items) ∷ [])
-    × (faults_after ≡ faults) × (stays ≡ true)
-    × (new.answers.items ≡ drop count old.answers.items) × (new.waiting ≡ old.waiting)
+abbrev pub IsWrittenOnce : Bool → Client → Client → (before after : Calls Passed) → Type 0
+IsWrittenOnce stays old new before after =
+    ((after ≡ with_failure before) × (stays ≡ false) × (new ≡ old))
+    ⊎ ((count : ℕ) × (after ≡ with_entry (Wrote old.number (take count old.answers.items)) before)
+    × (stays ≡ true) × (new.answers.items ≡ drop count old.answers.items) × (new.waiting ≡ old.waiting)
     × (new.unanswered ≡ old.unanswered) × (new.feed ≡ old.feed) × IsSame old new)

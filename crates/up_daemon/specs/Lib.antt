@@ -1,6 +1,6 @@
 -- Which clients are connected.
 pub mod Connected
--- What a close tells.
+-- What a close reports.
 pub mod Closing
 -- Which clients a slab holds.
 pub mod Clients
@@ -16,14 +16,14 @@ pub mod Peers
 pub mod Hearing
 -- Who is let in.
 pub mod Visits
--- What a round does with its door and its clients, call by call.
-pub mod Attending
+-- What a round is seen as while it goes on.
+pub mod RoundStates
+-- What a round does, call by call.
+pub mod Rounds
 -- How the parts of a round see what it did so far, from its door and its clients.
 pub mod Seating
 -- What a daemon's engine answered.
 pub mod Answering
--- What a round does with its host, call by call.
-pub mod Dealing
 -- What the work of a daemon is seen as.
 pub mod Working
 -- What a contract sees of a daemon.
@@ -34,3 +34,9 @@ pub mod Numbering
 pub mod Wholeness
 -- The numbers by which the loops of a round end.
 pub mod Ending
+-- What is asked and answered in a round.
+pub mod Exchanges
+-- How many calls a round makes.
+pub mod Counting
+-- The laws of a round.
+pub mod Laws

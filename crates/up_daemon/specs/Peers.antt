@@ -1,5 +1,6 @@
 -- What a round knows of a client.
-use Rattle.std.specs.Prelude.{◌++◌, ◌&&◌, ℕ, Bool, nat_lt, length, [], List, Option, None, Some, is_none, map}
+use Rattle.std.specs.Prelude.{◌≡◌, ◌≢◌, ◌⊎◌, ◌++◌, ◌∷◌, ◌&&◌, ℕ, Bool, false, nat_lt, length, [], List, Option, None, Some, is_none, map}
+use Rattle.std.specs.List.{AllByRecursion}
 use Rattle.up_model.specs.Requests.{RequestValue}
 use Rattle.up_model.specs.declared.request.Answer.{Answer}
 use Rattle.up_wire.specs.Answers.{answer_frames}
@@ -31,6 +32,10 @@ peer_of client =
 abbrev pub peers_of : List Client → List Peer
 peers_of clients = map peer_of clients
 
+-- their numbers
+abbrev pub numbers_of : List Peer → List ℕ
+numbers_of peers = map (λ (peer : Peer). peer.number) peers
+
 -- its next request may enter: it has one, and none before that is unanswered
 abbrev pub is_ready : Peer → Bool
 is_ready peer = is_none peer.unanswered && nat_lt 0 (length peer.waiting)
@@ -58,3 +63,31 @@ asked id waiting peer = record peer { waiting = waiting; unanswered = Some id }
 -- its request is answered, by frames after the bytes that wait
 abbrev pub answered : Answer → Peer → Peer
 answered answer peer = record peer { unanswered = None; answers = peer.answers ++ answer_frames answer }
+
+-- the number of 64 bits at which no request enters
+abbrev pub last_number : ℕ
+last_number = 18446744073709551615
+
+-- no request of a client may enter now
+abbrev pub IsAtRest : Peer → Type 0
+IsAtRest peer = is_ready peer ≡ false
+
+-- the oldest request of the first client that is ready enters under this number
+abbrev pub IsEntered : ℕ → RequestValue → (old new : List Peer) → Type 0
+IsEntered id request old new =
+    (before after : List Peer) × (peer : Peer) × (waiting : List RequestValue)
+    × (old ≡ before ++ peer ∷ after)
+    × (peer.unanswered ≡ None) × (peer.waiting ≡ request ∷ waiting)
+    × (new ≡ before ++ asked id waiting peer ∷ after)
+    × AllByRecursion IsAtRest before
+
+-- an answer waits to be written to the client whose request it answers, if that is still connected
+abbrev pub IsQueued : ℕ → Answer → (old new : List Peer) → Type 0
+IsQueued id answer old new =
+    ((before after : List Peer) × (peer : Peer) × (old ≡ before ++ peer ∷ after) × (peer.unanswered ≡ Some id)
+    × (new ≡ before ++ answered answer peer ∷ after))
+    ⊎ ((new ≡ old) × AllByRecursion (λ peer. peer.unanswered ≢ Some id) old)
+
+-- the number is that of no client
+abbrev pub IsNobody : ℕ → List Peer → Type 0
+IsNobody number peers = AllByRecursion (λ peer. number ≢ peer.number) peers

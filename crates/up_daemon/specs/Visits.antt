@@ -1,14 +1,13 @@
 -- Who is let in.
 use Rattle.std.specs.Prelude.{◌≡◌, ◌++◌, ◌∷◌, ◌⊎◌, ℕ, Bool, true, false, List, [], None, Some}
-use Rattle.up_daemon.specs.declared.clients.TheConstants.{MOST_CLIENTS}
-use Rattle.up_host.specs.Telling.{with_fault}
+use Rattle.up_host.specs.Calls.{Calls, with_entry, with_failure}
 use Rattle.up_daemon.specs.declared.clients.client.Client.{Client}
 use Rattle.up_daemon.specs.declared.passed.Passed.{Passed}
 use Rattle.up_daemon.specs.declared.passed.Passed.TheVariants.{Accepted}
 
 -- the most clients that are connected
 abbrev pub most_clients : ℕ
-most_clients = MOST_CLIENTS
+most_clients = 64
 
 -- a client who has just come: nothing was said and nothing waits
 pub record IsNew (number : ℕ) (client : Client) : Type 0 where
@@ -18,14 +17,11 @@ pub record IsNew (number : ℕ) (client : Client) : Type 0 where
   pub unanswered : client.unanswered ≡ None
   pub answers : client.answers.items ≡ []
 
--- One accept by the door: the client that waited is the last one now. Or nobody waited, or the accept failed and was counted, and the
+-- One accept by the door: the client that waited, and whose number is that of none that is connected, is the last one now. Or nobody waited, or the accept failed and was counted, and the
 -- clients are as before.
-abbrev pub LetsIn : Bool → (old new : List Client) → (before after : List Passed) → (faults faults_after : ℕ)
-    → Type 0
-LetsIn true old new before after faults faults_after =
-    (number : ℕ) × (client : Client) × (after ≡ before ++ Accepted (Some number) ∷ [])
-    × (faults_after ≡ faults)
+abbrev pub LetsIn : Bool → (ℕ → Bool) → (old new : List Client) → (before after : Calls Passed) → Type 0
+LetsIn true connected old new before after =
+    (number : ℕ) × (client : Client) × (connected number ≡ false) × (after ≡ with_entry (Accepted (Some number)) before)
     × (new ≡ old ++ client ∷ []) × IsNew number client
-LetsIn false old new before after faults faults_after =
-    (new ≡ old) × (((after ≡ before ++ Accepted None ∷ []) × (faults_after ≡ faults))
-    ⊎ ((after ≡ before) × (faults_after ≡ with_fault faults)))
+LetsIn false connected old new before after =
+    (new ≡ old) × ((after ≡ with_entry (Accepted None) before) ⊎ (after ≡ with_failure before))

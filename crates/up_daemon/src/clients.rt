@@ -1,10 +1,14 @@
 //! The clients of the daemon, in the order in which they came.
 ghost use Rattle.std.specs.List.{AllByRecursion};
-ghost use Rattle.std.specs.Prelude.{◌≡◌, ◌≤◌, ◌<◌, ◌+◌, ◌∷◌, List, [], true, false, IfOk, OnOk, IfSome, IfNone, vec_len};
-ghost use Rattle.up_daemon.specs.Attending.{Standing, Desk, Attends, LettingIn, ReadingFrom, WritingTo, IsEntered, IsAtRest, IsQueued};
-ghost use Rattle.up_daemon.specs.Peers.{Peer, peer_of, peers_of};
-ghost use Rattle.up_daemon.specs.Seating.{seen, at_door, with_stayer};
+ghost use Rattle.std.specs.Prelude.{◌≡◌, ◌≤◌, ◌<◌, ◌+◌, ◌++◌, ◌∷◌, ℕ, List, [], true, false, IfOk, OnOk, IfSome, IfNone, vec_len};
+ghost use Rattle.up_daemon.specs.Connected.{AreConnected};
+ghost use Rattle.up_daemon.specs.Peers.{Peer, peer_of, peers_of, numbers_of, IsEntered, IsAtRest, IsQueued};
+ghost use Rattle.up_daemon.specs.Rounds.{Reaches};
+ghost use Rattle.up_daemon.specs.RoundStates.{LettingIn, ReadingFrom, WritingTo, DaemonState, RoundState, HasItsClients};
+ghost use Rattle.up_daemon.specs.Seating.{seen, at_door, with_stayer, stayer};
 ghost use Rattle.up_daemon.specs.Visits.{most_clients, LetsIn};
+ghost use Rattle.up_model.specs.Chronicle.{Chronicle};
+ghost use Rattle.up_model.specs.Configuration.{Configuration};
 
 mod client;
 
@@ -26,11 +30,14 @@ pub(crate) struct Clients {
 
 // Reads the client once, if it may be read, and closes it if it can't be read on. False if it was closed.
 fn read_or_close<D: Door>(client: &mut Client, door: &mut D) -> Result<bool, AllocError>
-    ensures { IfOk result (λ stays. (start : Standing) (unread : List Peer) (desk : Desk)
-        → Attends start (ReadingFrom (peer_of client.old ∷ unread))
-        (at_door (D.entries door.old) (D.faults door.old) desk)
-        → Attends start (ReadingFrom unread) (at_door (D.entries door.new) (D.faults door.new)
-        (with_stayer stays client.new desk))) }
+    ensures reads { IfOk result (λ stays. (config : Configuration) (c : Chronicle) (start : DaemonState)
+        (unread : List Peer) (state : RoundState)
+        → Reaches config c start (ReadingFrom (peer_of client.old ∷ unread)) (at_door (D.calls door.old) state)
+        → Reaches config c start (ReadingFrom unread)
+        (at_door (D.calls door.new) (with_stayer stays client.new state))) }
+    ensures connected { IfOk result (λ stays. (before after : List ℕ)
+        → AreConnected (D.connected door.old) (before ++ client.old.number ∷ after)
+        → AreConnected (D.connected door.new) (before ++ stayer stays client.new.number after)) }
 {
     if client.read(door)? {
         return Ok(true);
@@ -41,11 +48,14 @@ fn read_or_close<D: Door>(client: &mut Client, door: &mut D) -> Result<bool, All
 
 // Writes once to the client, if bytes wait for it, and closes it if the write fails. False if it was closed.
 fn write_or_close<D: Door>(client: &mut Client, door: &mut D) -> Result<bool, AllocError>
-    ensures { IfOk result (λ stays. (start : Standing) (unwritten : List Peer) (desk : Desk)
-        → Attends start (WritingTo (peer_of client.old ∷ unwritten))
-        (at_door (D.entries door.old) (D.faults door.old) desk)
-        → Attends start (WritingTo unwritten)
-        (at_door (D.entries door.new) (D.faults door.new) (with_stayer stays client.new desk))) }
+    ensures writes { IfOk result (λ stays. (config : Configuration) (c : Chronicle) (start : DaemonState)
+        (unwritten : List Peer) (state : RoundState)
+        → Reaches config c start (WritingTo (peer_of client.old ∷ unwritten)) (at_door (D.calls door.old) state)
+        → Reaches config c start (WritingTo unwritten)
+        (at_door (D.calls door.new) (with_stayer stays client.new state))) }
+    ensures connected { IfOk result (λ stays. (before after : List ℕ)
+        → AreConnected (D.connected door.old) (before ++ client.old.number ∷ after)
+        → AreConnected (D.connected door.new) (before ++ stayer stays client.new.number after)) }
 {
     if client.write(door)? {
         return Ok(true);
@@ -68,14 +78,15 @@ impl Clients {
     // Lets one client in. False if nobody waits, the door failed, or as many are connected as may be.
     fn let_one_in<D: Door>(&mut self, door: &mut D) -> Result<bool, AllocError>
         ensures full { OnOk result (most_clients ≤ vec_len self.old.list
-            → (self.new.list.items ≡ self.old.list.items) × (D.entries door.new ≡ D.entries door.old)
-            × (D.faults door.new ≡ D.faults door.old)) }
+            → (self.new.list.items ≡ self.old.list.items) × (D.calls door.new ≡ D.calls door.old)) }
         ensures accepts { IfOk result (λ came. vec_len self.old.list < most_clients
-            → LetsIn came self.old.list.items self.new.list.items (D.entries door.old) (D.entries door.new)
-            (D.faults door.old) (D.faults door.new)) }
+            → LetsIn came (D.connected door.old) self.old.list.items self.new.list.items (D.calls door.old)
+            (D.calls door.new)) }
         ensures refuses { IfOk result (λ came. most_clients ≤ vec_len self.old.list → came ≡ false) }
         ensures grows { IfOk result (λ came. came ≡ true
             → vec_len self.new.list ≡ vec_len self.old.list + 1) }
+        ensures connected { OnOk result (AreConnected (D.connected door.old) (numbers_of (peers_of self.old.list.items))
+            → AreConnected (D.connected door.new) (numbers_of (peers_of self.new.list.items))) }
     {
         if self.list.len() >= MOST_CLIENTS {
             return Ok(false);
@@ -93,10 +104,15 @@ impl Clients {
 
     /// Lets in those who wait, while there is room for them.
     pub(crate) fn let_in<D: Door>(&mut self, door: &mut D) -> Result<(), AllocError>
-        ensures { OnOk result ((start : Standing) (desk : Desk)
-            → Attends start LettingIn (seen self.old.list.items (D.entries door.old) (D.faults door.old) desk)
-            → Attends start (ReadingFrom (peers_of self.new.list.items))
-            (seen [] (D.entries door.new) (D.faults door.new) desk)) }
+        ensures lets_in { OnOk result ((config : Configuration) (c : Chronicle) (start : DaemonState)
+            (state : RoundState)
+            → (HasItsClients start
+            → AreConnected (D.connected door.old) (numbers_of (peers_of self.old.list.items)))
+            → Reaches config c start LettingIn (seen self.old.list.items (D.calls door.old) state)
+            → Reaches config c start (ReadingFrom (peers_of self.new.list.items))
+            (seen [] (D.calls door.new) state)) }
+        ensures connected { OnOk result (AreConnected (D.connected door.old) (numbers_of (peers_of self.old.list.items))
+            → AreConnected (D.connected door.new) (numbers_of (peers_of self.new.list.items))) }
     {
         for turn in 0..MOST_CLIENTS {
             if !self.let_one_in(door)? {
@@ -108,11 +124,13 @@ impl Clients {
 
     /// Reads each client once that has few enough requests. One that can't be read on is closed.
     pub(crate) fn read<D: Door>(&mut self, door: &mut D) -> Result<(), AllocError>
-        ensures { OnOk result ((start : Standing) (desk : Desk)
-            → Attends start (ReadingFrom (peers_of self.old.list.items))
-            (seen [] (D.entries door.old) (D.faults door.old) desk)
-            → Attends start (ReadingFrom []) (seen self.new.list.items (D.entries door.new)
-            (D.faults door.new) desk)) }
+        ensures reads { OnOk result ((config : Configuration) (c : Chronicle) (start : DaemonState)
+            (state : RoundState)
+            → Reaches config c start (ReadingFrom (peers_of self.old.list.items))
+            (seen [] (D.calls door.old) state)
+            → Reaches config c start (ReadingFrom []) (seen self.new.list.items (D.calls door.new) state)) }
+        ensures connected { OnOk result (AreConnected (D.connected door.old) (numbers_of (peers_of self.old.list.items))
+            → AreConnected (D.connected door.new) (numbers_of (peers_of self.new.list.items))) }
     {
         let kept = Vec::with_capacity(self.alloc, self.list.len())?;
         let unread = mem::replace(&mut self.list, kept);
@@ -127,11 +145,13 @@ impl Clients {
 
     /// Writes once to each client for whom bytes wait. One that can't be written to is closed.
     pub(crate) fn write<D: Door>(&mut self, door: &mut D) -> Result<(), AllocError>
-        ensures { OnOk result ((start : Standing) (desk : Desk)
-            → Attends start (WritingTo (peers_of self.old.list.items))
-            (seen [] (D.entries door.old) (D.faults door.old) desk)
-            → Attends start (WritingTo []) (seen self.new.list.items (D.entries door.new)
-            (D.faults door.new) desk)) }
+        ensures writes { OnOk result ((config : Configuration) (c : Chronicle) (start : DaemonState)
+            (state : RoundState)
+            → Reaches config c start (WritingTo (peers_of self.old.list.items))
+            (seen [] (D.calls door.old) state)
+            → Reaches config c start (WritingTo []) (seen self.new.list.items (D.calls door.new) state)) }
+        ensures connected { OnOk result (AreConnected (D.connected door.old) (numbers_of (peers_of self.old.list.items))
+            → AreConnected (D.connected door.new) (numbers_of (peers_of self.new.list.items))) }
     {
         let kept = Vec::with_capacity(self.alloc, self.list.len())?;
         let unwritten = mem::replace(&mut self.list, kept);
@@ -150,6 +170,7 @@ impl Clients {
             (peers_of self.new.list.items)) }
         ensures rest { IfNone result ((self.new.list.items ≡ self.old.list.items)
             × AllByRecursion IsAtRest (peers_of self.old.list.items)) }
+        ensures numbers { numbers_of (peers_of self.new.list.items) ≡ numbers_of (peers_of self.old.list.items) }
     {
         for index in 0..self.list.len() {
             if let Some(request) = self.list[index].enter(id) {

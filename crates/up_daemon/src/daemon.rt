@@ -1,11 +1,11 @@
 //! The daemon: an engine between a host and a door.
 ghost use Rattle.std.specs.Prelude.{◌≡◌, ◌≢◌, ℕ, [], true, false, Ok, Err, IfOk, IfErr, OnErr, OnOk};
-ghost use Rattle.up_daemon.specs.Dealing.{DealsWhole};
-ghost use Rattle.up_daemon.specs.Attending.{Standing, Attends, AttendsWhole, WritingTo};
-ghost use Rattle.up_daemon.specs.Numbering.{AreNumbered};
-ghost use Rattle.up_daemon.specs.Wholeness.{AreWhole};
-ghost use Rattle.up_daemon.specs.Working.{KeepsAnswers, desk_of, desk_at};
+ghost use Rattle.up_daemon.specs.Connected.{AreConnected};
+ghost use Rattle.up_daemon.specs.Rounds.{IsRound};
+ghost use Rattle.up_daemon.specs.RoundStates.{WritingTo, DaemonState, HasItsClients, opened};
+ghost use Rattle.up_daemon.specs.Working.{IsAt, state_of, numbers_in};
 ghost use Rattle.up_engine.specs.Stands.{Stands, IsDown};
+ghost use Rattle.up_host.specs.Calls.{emptied};
 ghost use Rattle.up_model.specs.Chronicle.{Chronicle};
 ghost use Rattle.up_model.specs.Configuration.{Configuration};
 
@@ -16,7 +16,7 @@ use crate::log::{Log, Round};
 use crate::work::Work;
 use std::alloc::{AllocError, Global};
 use std::mem;
-use up_engine::{Engine, StepError};
+use up_engine::Engine;
 use up_host::Host;
 
 /// An engine between a host and a door, which works in rounds.
@@ -27,32 +27,15 @@ pub struct Daemon {
     refused: bool,
 }
 
-// Whether the engine is down. (A run of nothing asks for no memory.)
-#[tactic(auto, unfolding(up_model::specs::Answers::after_all))]
-fn is_down(alloc: Global, engine: &mut Engine) -> bool
-    ensures up { (config : Configuration) (c : Chronicle) → Stands engine.old config c
-        → (result ≡ false) × Stands engine.new config c }
-    ensures down { IsDown engine.old → result ≡ true }
-{
-    match engine.run(Vec::new(alloc)) {
-        Ok(run) => {
-            drop(run);
-            false
-        }
-        Err(StepError::Down) => true,
-        Err(StepError::Memory) | Err(StepError::NotExpected) => false,
-    }
-}
-
 // The parts of a round, in order.
 fn do_parts<H: Host, D: Door>(work: &mut Work, host: &mut H, door: &mut D) -> Result<(), AllocError>
-    ensures answers { OnOk result (KeepsAnswers work.old work.new) }
-    ensures deals { OnOk result ((work.old.log.fed.items ≡ []) → (work.old.log.gave.items ≡ [])
-        → DealsWhole (H.faults host.old) work.new.engine work.new.log.fed.items work.new.log.gave.items
-        (H.entries host.new) (H.faults host.new)) }
-    ensures attends { OnOk result ((begun : Standing)
-        → (desk_of work.old [] (D.faults door.old) [] ≡ desk_at begun)
-        → Attends begun (WritingTo []) (desk_of work.new (D.entries door.new) (D.faults door.new) [])) }
+    ensures round { OnOk result ((config : Configuration) (c : Chronicle) (start : DaemonState)
+        → Stands work.old.engine config c → (start.connected ≡ D.connected door.old)
+        → (state_of work.old (emptied (H.calls host.old)) (emptied (D.calls door.old)) [] ≡ opened start)
+        → IsAt config c start (WritingTo []) work.new.engine
+        (state_of work.new (H.calls host.new) (D.calls door.new) [])) }
+    ensures connected { OnOk result (AreConnected (D.connected door.old) (numbers_in work.old)
+        → AreConnected (D.connected door.new) (numbers_in work.new)) }
 {
     host.clear_record();
     door.clear_record();
@@ -66,7 +49,7 @@ fn do_parts<H: Host, D: Door>(work: &mut Work, host: &mut H, door: &mut D) -> Re
 }
 
 impl Daemon {
-    ghost use Rattle.up_daemon.specs.Daemons.{engine_of, clients_of, next_of, standing_of, was_refused};
+    ghost use Rattle.up_daemon.specs.Daemons.{engine_of, clients_of, next_of, daemon_state, was_refused};
     ghost use Rattle.up_daemon.specs.Answering.{Told};
 
     /// A daemon without clients, over this engine as it is.
@@ -99,21 +82,26 @@ impl Daemon {
         ensures answers { IfOk result (λ round. (config : Configuration) (c : Chronicle)
             → Stands (engine_of self.old) config c
             → Told (engine_of self.new) round.fed round.gave config c) }
-        ensures host { IfOk result (λ round. DealsWhole (H.faults host.old)
-            (engine_of self.new) round.fed round.gave (H.entries host.new) (H.faults host.new)) }
-        ensures door { IfOk result (λ round. AttendsWhole
-            (standing_of self.old (D.faults door.old)) round.fed round.gave (D.entries door.new)
-            (standing_of self.new (D.faults door.new))) }
-        ensures numbers { IfOk result (λ round. AreNumbered (next_of self.old) round.fed (next_of self.new)) }
-        ensures whole { OnOk result (AreWhole (clients_of self.old) → AreWhole (clients_of self.new)) }
+        ensures round { IfOk result (λ round. (config : Configuration) (c : Chronicle)
+            → Stands (engine_of self.old) config c
+            → IsRound config c
+            (daemon_state self.old (H.calls host.old) (D.calls door.old) (D.connected door.old))
+            round.fed round.gave
+            (daemon_state self.new (H.calls host.new) (D.calls door.new) (D.connected door.new))) }
+        ensures connected { OnOk result (
+            HasItsClients (daemon_state self.old (H.calls host.old) (D.calls door.old) (D.connected door.old))
+            → HasItsClients
+            (daemon_state self.new (H.calls host.new) (D.calls door.new) (D.connected door.new))) }
         ensures remembers { OnErr result (was_refused self.new ≡ true) }
         ensures goes_on { OnOk result ((was_refused self.old ≡ false) × (was_refused self.new ≡ false)) }
         ensures refused { was_refused self.old ≡ true → result ≡ Err DaemonError.Down }
         ensures down { IsDown (engine_of self.old) → result ≡ Err DaemonError.Down }
+        ensures untouched { result ≡ Err DaemonError.Down → (H.calls host.new ≡ H.calls host.old)
+            × (D.calls door.new ≡ D.calls door.old) }
         ensures up { was_refused self.old ≡ false → (config : Configuration) (c : Chronicle)
             → Stands (engine_of self.old) config c → result ≢ Err DaemonError.Down }
     {
-        if self.refused || is_down(self.work.alloc, &mut self.work.engine) {
+        if self.refused || self.work.engine.is_down() {
             self.refused = true;
             return Err(DaemonError::Down);
         }

@@ -1,9 +1,15 @@
 //! The parts of a round, in order.
-ghost use Rattle.std.specs.Prelude.{◌≡◌, ◌<◌, ℕ, [], IfOk, OnOk, true, false};
-ghost use Rattle.std.specs.Bool.{OnFalse};
-ghost use Rattle.up_daemon.specs.Attending.{Standing, Attends, LettingIn, TakingRequests, TakingTurns, WritingTo};
-ghost use Rattle.up_daemon.specs.Dealing.{Reading, Polling, Serving, Deals, DealsWhole};
-ghost use Rattle.up_daemon.specs.Working.{phase_after};
+ghost use Rattle.std.specs.Prelude.{◌≡◌, ◌<◌, [], IfOk, OnOk, true, false};
+ghost use Rattle.up_daemon.specs.Connected.{AreConnected};
+ghost use Rattle.up_daemon.specs.declared.passed.Passed.{Passed};
+ghost use Rattle.up_daemon.specs.Peers.{peers_of};
+ghost use Rattle.up_daemon.specs.Rounds.{Reaches};
+ghost use Rattle.up_daemon.specs.RoundStates.{ReadingClock, FindingEnds, LettingIn, TakingRequests, TakingTurns, WritingTo, DaemonState, HasItsClients, with_clients};
+ghost use Rattle.up_daemon.specs.Working.{part_after, IsAt};
+ghost use Rattle.up_host.specs.Calls.{Calls};
+ghost use Rattle.up_host.specs.declared.happened.Happened.{Happened};
+ghost use Rattle.up_model.specs.Chronicle.{Chronicle};
+ghost use Rattle.up_model.specs.Configuration.{Configuration};
 
 use crate::door::Door;
 use crate::work::Work;
@@ -16,15 +22,12 @@ const MOST_TURNS: u32 = 256;
 
 impl Work {
     ghost use Rattle.up_daemon.specs.Ending.{ends_left, waiting_of};
-    ghost use Rattle.up_daemon.specs.Working.{KeepsAnswers, IsUntouched, Leads, NoneEnters, desk_of, tape_of};
+    ghost use Rattle.up_daemon.specs.Working.{Goes, IsUntouched, NoneEnters, state_of, numbers_in};
 
     /// Reads the clock once. A reading that fails is left for the next round.
     pub(crate) fn read_clock<H: Host>(&mut self, host: &mut H) -> Result<(), AllocError>
-        ensures answers { OnOk result (KeepsAnswers self.old self.new) }
-        ensures deals { OnOk result ((begun : ℕ)
-            → Deals begun Reading (tape_of self.old (H.entries host.old) (H.faults host.old) [])
-            → Deals begun Polling (tape_of self.new (H.entries host.new) (H.faults host.new) [])) }
-        ensures attends { OnOk result (Leads LettingIn LettingIn self.old self.new) }
+        ensures goes { OnOk result (Goes ReadingClock self.old (H.calls host.old) FindingEnds self.new (H.calls host.new)) }
+        ensures numbers { OnOk result (numbers_in self.new ≡ numbers_in self.old) }
     {
         match host.now() {
             Ok(reading) => {
@@ -37,14 +40,11 @@ impl Work {
 
     // Looks for one end. False if none is found, or the look failed.
     fn find_end<H: Host>(&mut self, host: &mut H) -> Result<bool, AllocError>
-        ensures answers { OnOk result (KeepsAnswers self.old self.new) }
-        ensures deals { IfOk result (λ found. (begun : ℕ)
-            → Deals begun Polling (tape_of self.old (H.entries host.old) (H.faults host.old) [])
-            → Deals begun (phase_after found)
-            (tape_of self.new (H.entries host.new) (H.faults host.new) [])) }
-        ensures attends { OnOk result (Leads LettingIn LettingIn self.old self.new) }
+        ensures goes { IfOk result (λ found. Goes FindingEnds self.old (H.calls host.old) (part_after found)
+            self.new (H.calls host.new)) }
         ensures fewer { IfOk result (λ found. found ≡ true
             → ends_left (H.living host.new) self.new [] < ends_left (H.living host.old) self.old []) }
+        ensures numbers { OnOk result (numbers_in self.new ≡ numbers_in self.old) }
     {
         match host.poll() {
             Ok(Some(end)) => {
@@ -59,11 +59,8 @@ impl Work {
 
     /// Looks for ends until none is found.
     pub(crate) fn find_ends<H: Host>(&mut self, host: &mut H) -> Result<(), AllocError>
-        ensures answers { OnOk result (KeepsAnswers self.old self.new) }
-        ensures deals { OnOk result ((begun : ℕ)
-            → Deals begun Polling (tape_of self.old (H.entries host.old) (H.faults host.old) [])
-            → Deals begun Serving (tape_of self.new (H.entries host.new) (H.faults host.new) [])) }
-        ensures attends { OnOk result (Leads LettingIn LettingIn self.old self.new) }
+        ensures goes { OnOk result (Goes FindingEnds self.old (H.calls host.old) LettingIn self.new (H.calls host.new)) }
+        ensures numbers { OnOk result (numbers_in self.new ≡ numbers_in self.old) }
     {
         while self.find_end(host)? {}
         Ok(())
@@ -72,9 +69,13 @@ impl Work {
     /// Lets clients in, and reads each once.
     pub(crate) fn hear<D: Door>(&mut self, door: &mut D) -> Result<(), AllocError>
         ensures untouched { IsUntouched self.old self.new }
-        ensures attends { OnOk result ((begun : Standing)
-            → Attends begun LettingIn (desk_of self.old (D.entries door.old) (D.faults door.old) [])
-            → Attends begun TakingRequests (desk_of self.new (D.entries door.new) (D.faults door.new) [])) }
+        ensures hears { OnOk result ((config : Configuration) (c : Chronicle) (start : DaemonState)
+            (host : Calls Happened)
+            → (HasItsClients start → AreConnected (D.connected door.old) (numbers_in self.old))
+            → Reaches config c start LettingIn (state_of self.old host (D.calls door.old) [])
+            → Reaches config c start TakingRequests (state_of self.new host (D.calls door.new) [])) }
+        ensures connected { OnOk result (AreConnected (D.connected door.old) (numbers_in self.old)
+            → AreConnected (D.connected door.new) (numbers_in self.new)) }
     {
         self.clients.let_in(door)?;
         self.clients.read(door)?;
@@ -84,9 +85,13 @@ impl Work {
     /// Writes once to each client for whom bytes wait.
     pub(crate) fn write<D: Door>(&mut self, door: &mut D) -> Result<(), AllocError>
         ensures untouched { IsUntouched self.old self.new }
-        ensures attends { OnOk result ((begun : Standing)
-            → Attends begun TakingTurns (desk_of self.old (D.entries door.old) (D.faults door.old) [])
-            → Attends begun (WritingTo []) (desk_of self.new (D.entries door.new) (D.faults door.new) [])) }
+        ensures writes { OnOk result ((config : Configuration) (c : Chronicle) (start : DaemonState)
+            (host : Calls Happened)
+            → Reaches config c start (WritingTo (peers_of self.old.clients.list.items))
+            (with_clients [] (state_of self.old host (D.calls door.old) []))
+            → Reaches config c start (WritingTo []) (state_of self.new host (D.calls door.new) [])) }
+        ensures connected { OnOk result (AreConnected (D.connected door.old) (numbers_in self.old)
+            → AreConnected (D.connected door.new) (numbers_in self.new)) }
     {
         self.clients.write(door)?;
         Ok(())
@@ -94,13 +99,11 @@ impl Work {
 
     // Lets one request enter. False if none may.
     fn serve_one<H: Host>(&mut self, host: &mut H) -> Result<bool, AllocError>
-        ensures answers { OnOk result (KeepsAnswers self.old self.new) }
-        ensures deals { OnOk result ((begun : ℕ)
-            → Deals begun Serving (tape_of self.old (H.entries host.old) (H.faults host.old) [])
-            → Deals begun Serving (tape_of self.new (H.entries host.new) (H.faults host.new) [])) }
-        ensures attends { OnOk result (Leads TakingRequests TakingRequests self.old self.new) }
+        ensures goes { OnOk result (Goes TakingRequests self.old (H.calls host.old) TakingRequests
+            self.new (H.calls host.new)) }
         ensures rest { IfOk result (λ served. served ≡ false → NoneEnters self.new) }
         ensures fewer { IfOk result (λ served. served ≡ true → waiting_of self.new < waiting_of self.old) }
+        ensures numbers { OnOk result (numbers_in self.new ≡ numbers_in self.old) }
     {
         let id = self.next;
         let Some(following) = id.checked_add(1) else {
@@ -118,11 +121,9 @@ impl Work {
 
     /// Lets requests enter until none may.
     pub(crate) fn serve<H: Host>(&mut self, host: &mut H) -> Result<(), AllocError>
-        ensures answers { OnOk result (KeepsAnswers self.old self.new) }
-        ensures deals { OnOk result ((begun : ℕ)
-            → Deals begun Serving (tape_of self.old (H.entries host.old) (H.faults host.old) [])
-            → Deals begun Serving (tape_of self.new (H.entries host.new) (H.faults host.new) [])) }
-        ensures attends { OnOk result (Leads TakingRequests TakingTurns self.old self.new) }
+        ensures goes { OnOk result (Goes TakingRequests self.old (H.calls host.old) (TakingTurns 0)
+            self.new (H.calls host.new)) }
+        ensures numbers { OnOk result (numbers_in self.new ≡ numbers_in self.old) }
     {
         while self.serve_one(host)? {}
         Ok(())
@@ -130,12 +131,12 @@ impl Work {
 
     /// Turns the queue of events until a turn would touch none, at most 256 times.
     pub(crate) fn turn<H: Host>(&mut self, host: &mut H) -> Result<(), AllocError>
-        ensures answers { OnOk result (KeepsAnswers self.old self.new) }
-        ensures deals { OnOk result ((begun : ℕ)
-            → Deals begun Serving (tape_of self.old (H.entries host.old) (H.faults host.old) [])
-            → DealsWhole begun self.new.engine self.new.log.fed.items self.new.log.gave.items
-            (H.entries host.new) (H.faults host.new)) }
-        ensures attends { OnOk result (Leads TakingTurns TakingTurns self.old self.new) }
+        ensures turns { OnOk result ((config : Configuration) (c : Chronicle) (start : DaemonState)
+            (door : Calls Passed)
+            → IsAt config c start (TakingTurns 0) self.old.engine (state_of self.old (H.calls host.old) door [])
+            → IsAt config c start (WritingTo (peers_of self.new.clients.list.items)) self.new.engine
+            (with_clients [] (state_of self.new (H.calls host.new) door []))) }
+        ensures numbers { OnOk result (numbers_in self.new ≡ numbers_in self.old) }
     {
         for turn in 0..MOST_TURNS {
             if !self.engine.has_turn() {

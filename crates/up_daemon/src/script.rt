@@ -1,7 +1,7 @@
 //! The door that plays a script.
 ghost use Rattle.std.specs.Prelude.{◌≡◌, ◌≤◌, ℕ, [], false, length, take, drop, IfOk, IfSome, min};
-ghost use Rattle.up_host.specs.Journals.{entries_of, fault_count};
-ghost use Rattle.up_host.specs.Telling.{with_fault};
+ghost use Rattle.up_host.specs.Journals.{calls_of};
+ghost use Rattle.up_host.specs.Calls.{no_calls, with_failure};
 ghost use Rattle.up_daemon.specs.Clients.{has_client};
 ghost use Rattle.up_daemon.specs.Speaking.{IsWithin};
 
@@ -119,8 +119,7 @@ impl ScriptDoor {
     pub fn new(alloc: Global, visits: Vec<Option<Visitor>>, failures: Vec<Failure>) -> Self
         ensures visits { result.visits ≡ visits }
         ensures failures { result.failures.failures.items ≡ failures.items }
-        ensures entries { entries_of result.journal ≡ [] }
-        ensures faults { fault_count result.journal ≡ 0 }
+        ensures calls { calls_of result.journal ≡ no_calls }
         ensures connected { (client : ℕ) → has_client result.clients client ≡ false }
     {
         ScriptDoor {
@@ -135,8 +134,7 @@ impl ScriptDoor {
 
     // Counts a call that failed.
     fn refuse(&mut self) -> DoorFault
-        ensures entries { entries_of self.new.journal ≡ entries_of self.old.journal }
-        ensures faults { fault_count self.new.journal ≡ with_fault (fault_count self.old.journal) }
+        ensures calls { calls_of self.new.journal ≡ with_failure (calls_of self.old.journal) }
         ensures clients { self.new.clients ≡ self.old.clients }
     {
         self.journal.count_fault();
@@ -187,12 +185,10 @@ impl ScriptDoor {
 }
 
 impl Door for ScriptDoor {
-    ghost use Rattle.up_host.specs.Journals.{entries_of, fault_count};
+    ghost use Rattle.up_host.specs.Journals.{calls_of};
     ghost use Rattle.up_daemon.specs.Clients.{has_client};
 
-    ghost entries = { λ door. entries_of door.journal };
-
-    ghost faults = { λ door. fault_count door.journal };
+    ghost calls = { λ door. calls_of door.journal };
 
     ghost connected = { λ door. has_client door.clients };
 

@@ -1,7 +1,7 @@
 //! The door over a unix socket.
 ghost use Rattle.std.specs.Prelude.{◌≡◌, ◌≤◌, ℕ, [], false, length, None, IfOk, IfErr, IfSome, OnOk};
-ghost use Rattle.up_host.specs.Journals.{entries_of, fault_count};
-ghost use Rattle.up_host.specs.Telling.{with_fault};
+ghost use Rattle.up_host.specs.Journals.{calls_of};
+ghost use Rattle.up_host.specs.Calls.{no_calls, with_failure};
 ghost use Rattle.up_daemon.specs.Clients.{has_client};
 ghost use Rattle.up_daemon.specs.Sockets.{path_refusal, IsOfSystem, SaysWhy};
 
@@ -110,8 +110,7 @@ fn send(stream: &UnixStream, bytes: &[u8]) -> Result<usize, DoorFault>
 // A door at a path that a socket can have.
 fn open<R: Files + Net>(rt: &R, alloc: Global, path: &str) -> Result<UnixDoor, SocketFault>
     ensures refused { IfErr result (λ fault. IsOfSystem fault) }
-    ensures entries { IfOk result (λ door. entries_of door.journal ≡ []) }
-    ensures faults { IfOk result (λ door. fault_count door.journal ≡ 0) }
+    ensures calls { IfOk result (λ door. calls_of door.journal ≡ no_calls) }
     ensures connected { IfOk result (λ door. (client : ℕ) → has_client door.clients client ≡ false) }
 {
     let listener = listen(rt, alloc, path)?;
@@ -141,8 +140,7 @@ impl UnixDoor {
     pub fn bind<R: Files + Net>(rt: &R, alloc: Global, path: &str) -> Result<Self, SocketFault>
         ensures refused { IfErr result (λ fault. SaysWhy path.now fault) }
         ensures usable { OnOk result (path_refusal path.now ≡ None) }
-        ensures entries { IfOk result (λ door. entries_of door.journal ≡ []) }
-        ensures faults { IfOk result (λ door. fault_count door.journal ≡ 0) }
+        ensures calls { IfOk result (λ door. calls_of door.journal ≡ no_calls) }
         ensures connected { IfOk result (λ door. (client : ℕ) → has_client door.clients client ≡ false) }
     {
         match path_refusal(path) {
@@ -171,8 +169,7 @@ impl UnixDoor {
 
     // Counts a call that failed.
     fn refuse(&mut self) -> DoorFault
-        ensures entries { entries_of self.new.journal ≡ entries_of self.old.journal }
-        ensures faults { fault_count self.new.journal ≡ with_fault (fault_count self.old.journal) }
+        ensures calls { calls_of self.new.journal ≡ with_failure (calls_of self.old.journal) }
         ensures clients { self.new.clients ≡ self.old.clients }
     {
         self.journal.count_fault();
@@ -181,12 +178,10 @@ impl UnixDoor {
 }
 
 impl Door for UnixDoor {
-    ghost use Rattle.up_host.specs.Journals.{entries_of, fault_count};
+    ghost use Rattle.up_host.specs.Journals.{calls_of};
     ghost use Rattle.up_daemon.specs.Clients.{has_client};
 
-    ghost entries = { λ door. entries_of door.journal };
-
-    ghost faults = { λ door. fault_count door.journal };
+    ghost calls = { λ door. calls_of door.journal };
 
     ghost connected = { λ door. has_client door.clients };
 

@@ -1,12 +1,13 @@
 //! The work of a daemon: an input is fed to the engine, and its orders are carried out.
 ghost use Rattle.std.specs.Prelude.{◌≡◌, ◌≤◌, ◌<◌, ◌+◌, ◌∷◌, ℕ, [], List, true, None, reverse, IfOk, OnOk, MatchOption};
 ghost use Rattle.up_daemon.specs.Answering.{IsAnswered};
-ghost use Rattle.up_daemon.specs.Attending as attending;
-ghost use Rattle.up_daemon.specs.Attending.{Standing, Part, Attends};
 ghost use Rattle.up_daemon.specs.declared.passed.Passed.{Passed};
-ghost use Rattle.up_daemon.specs.Dealing.{Phase, Deals, with_input, ran, ran_not};
+ghost use Rattle.up_daemon.specs.Rounds.{ran, ran_not};
+ghost use Rattle.up_daemon.specs.RoundStates.{Part, DaemonState, HasOrders};
 ghost use Rattle.up_daemon.specs.Working.{IsStarted, IsSent};
-ghost use Rattle.up_engine.specs.Stands.{left_of};
+ghost use Rattle.up_engine.specs.Stands.{Stands, left_of};
+ghost use Rattle.up_host.specs.Calls.{Calls};
+ghost use Rattle.up_model.specs.Answers.{after_all};
 ghost use Rattle.up_model.specs.Chronicle.{Chronicle};
 ghost use Rattle.up_model.specs.Configuration.{Configuration};
 ghost use Rattle.up_model.specs.Left.{is_calm, spawns};
@@ -68,8 +69,7 @@ fn answer_of(order: Order, pid: Option<u32>) -> Input
 
 // The host starts the process once, and the input is its answer.
 fn start<H: Host>(host: &mut H, order: Order) -> Input
-    ensures started { IsStarted order result (H.entries host.old) (H.entries host.new) (H.faults host.old)
-        (H.faults host.new) }
+    ensures started { IsStarted order result (H.calls host.old) (H.calls host.new) }
     ensures calm { is_calm result ≡ true }
     ensures lives { H.living host.new ≤ H.living host.old + 1 }
 {
@@ -81,8 +81,7 @@ fn start<H: Host>(host: &mut H, order: Order) -> Input
 
 // The host sends the signal once.
 fn send<H: Host>(host: &mut H, who: &Who, pid: u32, signal: u8)
-    ensures sent { IsSent who.now pid signal (H.entries host.old) (H.entries host.new) (H.faults host.old)
-        (H.faults host.new) }
+    ensures sent { IsSent who.now pid signal (H.calls host.old) (H.calls host.new) }
     ensures lives { H.living host.new ≡ H.living host.old }
 {
     match host.signal(who, pid, signal) {
@@ -93,11 +92,10 @@ fn send<H: Host>(host: &mut H, who: &Who, pid: u32, signal: u8)
 
 impl Work {
     ghost use Rattle.up_daemon.specs.Ending.{starts_left, ends_left, waiting_of, with_start};
-    ghost use Rattle.up_daemon.specs.Working.{KeepsAnswers, IsFed, Attended, desk_of, tape_of};
+    ghost use Rattle.up_daemon.specs.Working.{IsFed, IsAt, Carries, Comes, state_of, numbers_in};
 
     // Feeds one input, and puts what it gives on the stack of orders.
     fn feed(&mut self, given: Input, stack: &mut Vec<Output>) -> Result<(), AllocError>
-        ensures answers { OnOk result (KeepsAnswers self.old self.new) }
         ensures fed { OnOk result (IsFed given self.old self.new stack.old.items stack.new.items) }
         ensures left { OnOk result (is_calm given ≡ true
             → starts_left self.new (reverse stack.new.items) ≤ starts_left self.old
@@ -117,19 +115,15 @@ impl Work {
         order: Order,
         stack: &mut Vec<Output>,
     ) -> Result<(), AllocError>
-        ensures answers { OnOk result (KeepsAnswers self.old self.new) }
-        ensures deals { OnOk result ((begun : ℕ) (phase : Phase)
-            → Deals begun phase (tape_of self.old (H.entries host.old) (H.faults host.old)
-            (Output.Spawn order ∷ reverse stack.old.items))
-            → Deals begun phase (tape_of self.new (H.entries host.new) (H.faults host.new)
-            (reverse stack.new.items))) }
-        ensures attends { OnOk result (Attended self.old self.new
-            (Output.Spawn order ∷ reverse stack.old.items) (reverse stack.new.items)) }
+        ensures carries { OnOk result (Carries self.old (H.calls host.old)
+            (Output.Spawn order ∷ reverse stack.old.items) self.new (H.calls host.new)
+            (reverse stack.new.items)) }
         ensures starts { OnOk result (starts_left self.new (reverse stack.new.items)
             < starts_left self.old (Output.Spawn order ∷ reverse stack.old.items)) }
         ensures ends { OnOk result (ends_left (H.living host.new) self.new (reverse stack.new.items)
             ≤ ends_left (H.living host.old) self.old (Output.Spawn order ∷ reverse stack.old.items)) }
         ensures waits { OnOk result (waiting_of self.new ≡ waiting_of self.old) }
+        ensures numbers { OnOk result (numbers_in self.new ≡ numbers_in self.old) }
     {
         let given = start(host, order);
         self.feed(given, stack)?;
@@ -142,17 +136,14 @@ impl Work {
         host: &mut H,
         order: Output,
     ) -> Result<Option<Order>, AllocError>
-        ensures answers { OnOk result (KeepsAnswers self.old self.new) }
-        ensures deals { IfOk result (λ start. (begun : ℕ) (phase : Phase) (orders : List Output)
-            → Deals begun phase (tape_of self.old (H.entries host.old) (H.faults host.old) (order ∷ orders))
-            → Deals begun phase (tape_of self.new (H.entries host.new) (H.faults host.new)
-            (with_start start orders))) }
-        ensures attends { IfOk result (λ start. (orders : List Output)
-            → Attended self.old self.new (order ∷ orders) (with_start start orders)) }
+        ensures carries { IfOk result (λ start. (orders : List Output)
+            → Carries self.old (H.calls host.old) (order ∷ orders) self.new (H.calls host.new)
+            (with_start start orders)) }
         ensures starts { IfOk result (λ start. (orders : List Output)
             → starts_left self.new (with_start start orders) ≡ starts_left self.old (order ∷ orders)) }
         ensures lives { OnOk result (H.living host.new ≡ H.living host.old) }
         ensures waits { OnOk result (waiting_of self.new ≡ waiting_of self.old) }
+        ensures numbers { OnOk result (numbers_in self.new ≡ numbers_in self.old) }
     {
         match order {
             Output::Spawn(order) => Ok(Some(order)),
@@ -177,19 +168,15 @@ impl Work {
         host: &mut H,
         stack: &mut Vec<Output>,
     ) -> Result<Option<Order>, AllocError>
-        ensures answers { OnOk result (KeepsAnswers self.old self.new) }
-        ensures deals { IfOk result (λ start. (begun : ℕ) (phase : Phase)
-            → Deals begun phase (tape_of self.old (H.entries host.old) (H.faults host.old)
-            (reverse stack.old.items))
-            → Deals begun phase (tape_of self.new (H.entries host.new) (H.faults host.new)
-            (with_start start (reverse stack.new.items)))) }
-        ensures attends { IfOk result (λ start. Attended self.old self.new (reverse stack.old.items)
+        ensures carries { IfOk result (λ start. Carries self.old (H.calls host.old)
+            (reverse stack.old.items) self.new (H.calls host.new)
             (with_start start (reverse stack.new.items))) }
         ensures starts { IfOk result (λ start. starts_left self.new
             (with_start start (reverse stack.new.items))
             ≡ starts_left self.old (reverse stack.old.items)) }
         ensures lives { OnOk result (H.living host.new ≡ H.living host.old) }
         ensures waits { OnOk result (waiting_of self.new ≡ waiting_of self.old) }
+        ensures numbers { OnOk result (numbers_in self.new ≡ numbers_in self.old) }
         ensures whole { IfOk result (λ start. start ≡ None → stack.new.items ≡ []) }
     {
         while let Some(order) = stack.pop() {
@@ -202,15 +189,12 @@ impl Work {
 
     // Carries orders out until none is left, the last first.
     fn carry<H: Host>(&mut self, host: &mut H, mut stack: Vec<Output>) -> Result<(), AllocError>
-        ensures answers { OnOk result (KeepsAnswers self.old self.new) }
-        ensures deals { OnOk result ((begun : ℕ) (phase : Phase)
-            → Deals begun phase (tape_of self.old (H.entries host.old) (H.faults host.old)
-            (reverse stack.items))
-            → Deals begun phase (tape_of self.new (H.entries host.new) (H.faults host.new) [])) }
-        ensures attends { OnOk result (Attended self.old self.new (reverse stack.items) []) }
+        ensures carries { OnOk result (Carries self.old (H.calls host.old) (reverse stack.items)
+            self.new (H.calls host.new) []) }
         ensures ends { OnOk result (ends_left (H.living host.new) self.new []
             ≤ ends_left (H.living host.old) self.old (reverse stack.items)) }
         ensures waits { OnOk result (waiting_of self.new ≡ waiting_of self.old) }
+        ensures numbers { OnOk result (numbers_in self.new ≡ numbers_in self.old) }
     {
         while let Some(order) = self.carry_to_start(host, &mut stack)? {
             self.carry_start(host, order, &mut stack)?;
@@ -220,18 +204,15 @@ impl Work {
 
     /// Feeds one input, and carries out what comes of it.
     pub(crate) fn take<H: Host>(&mut self, host: &mut H, given: Input) -> Result<(), AllocError>
-        ensures answers { OnOk result (KeepsAnswers self.old self.new) }
-        ensures deals { OnOk result ((begun : ℕ) (phase : Phase)
-            → ((outputs : List Output) → Deals begun phase
-            (with_input given outputs (tape_of self.old (H.entries host.old) (H.faults host.old) [])))
-            → Deals begun phase (tape_of self.new (H.entries host.new) (H.faults host.new) [])) }
-        ensures attends { OnOk result ((begun : Standing) (part : Part) (entries : List Passed) (faults : ℕ)
-            → ((outputs : List Output) → Attends begun part
-            (attending.with_input given outputs (desk_of self.old entries faults [])))
-            → Attends begun part (desk_of self.new entries faults [])) }
+        ensures takes { OnOk result ((config : Configuration) (c : Chronicle) (start : DaemonState) (part : Part)
+            → HasOrders part → (door : Calls Passed)
+            → Stands self.old.engine config (after_all config c self.old.log.fed.items)
+            → Comes config c start part given (state_of self.old (H.calls host.old) door [])
+            → IsAt config c start part self.new.engine (state_of self.new (H.calls host.new) door [])) }
         ensures ends { OnOk result (is_calm given ≡ true
             → ends_left (H.living host.new) self.new [] ≤ ends_left (H.living host.old) self.old []) }
         ensures waits { OnOk result (waiting_of self.new ≡ waiting_of self.old) }
+        ensures numbers { OnOk result (numbers_in self.new ≡ numbers_in self.old) }
     {
         let mut stack: Vec<Output> = Vec::new(self.alloc);
         self.feed(given, &mut stack)?;

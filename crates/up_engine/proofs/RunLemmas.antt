@@ -1,6 +1,6 @@
 -- A run, one input more.
-use Rattle.std.proofs.Common.{◌≡◌, ℕ, suc, ◌+◌, true, false, List, [], ◌∷◌, ◌++◌, length, take, Some, refl, sym, ◌∙◌, ap, arith, length-append}
-use Rattle.std.proofs.Math.Seq.{take-append_seam}
+use Rattle.std.proofs.Common.{◌≡◌, ℕ, suc, ◌+◌, true, false, List, [], ◌∷◌, ◌++◌, length, take, drop, Some, refl, sym, ◌∙◌, ap, arith, length-append}
+use Rattle.std.proofs.Math.Seq.{take-append_seam, drop-append_seam}
 use Rattle.up_model.specs.Configuration.{Configuration}
 use Rattle.up_model.specs.declared.input.Input.{Input}
 use Rattle.up_model.specs.declared.output.Output.{Output}
@@ -51,14 +51,14 @@ answered_more steps answered engine config c inputs given so_far means = (
   rw after_all_push means.1,
 )
 
--- the steps before an input that was ran out of memory
+-- the steps before an expected input that ran out of memory
 pub refused_run : (steps : List Step) (engine : Engine) (config : Configuration) (c : Chronicle) (inputs passed left : List Input) (given : Input)
-    → inputs ≡ passed ++ given ∷ left → steps ≡ answers config c passed → DownAt engine config (after_all config c passed) → StepsMean true steps engine config c inputs
-refused_run steps engine config c inputs passed left given whole so_far down =
+    → inputs ≡ passed ++ given ∷ left → steps ≡ answers config c passed → is_expected given (after_all config c passed) ≡ true
+    → DownAt engine config (after_all config c passed) → StepsMean true steps engine config c inputs
+refused_run steps engine config c inputs passed left given whole so_far expected down =
     let count : length steps ≡ length passed = ap length so_far ∙ length-answers config c passed in
     let front : take (length steps) inputs ≡ passed = rw (count, whole) (take-append_seam passed (given ∷ left)) in
-    let all : length inputs ≡ length passed + length (given ∷ left) = ap length whole ∙ length-append passed (given ∷ left) in
-    (omega arith, rw front so_far, rw front down)
+    (given, left, rw (count, whole) (drop-append_seam passed (given ∷ left)), rw front so_far, rw front expected, rw front down)
 
 -- a list of no length has nothing in it
 pub no_items : {X : Type 0} (xs : List X) → length xs ≡ 0 → xs ≡ []

@@ -1,5 +1,5 @@
 -- What an engine stands for: a chronicle of its jobs and its base environment. These are the only definitions that read its fields.
-use Rattle.std.specs.Prelude.{◌≡◌, ◌<◌, ◌≤◌, ◌+◌, ℕ, Bool, true, false, List, length, take, is_some, Option, None, Some, Result, Ok, Err}
+use Rattle.std.specs.Prelude.{◌≡◌, ◌≤◌, ◌+◌, ◌∷◌, ℕ, Bool, true, false, List, length, take, drop, is_some, Option, None, Some, Result, Ok, Err}
 use Rattle.up_engine.specs.declared.engine.Engine.{Engine}
 use Rattle.up_engine.specs.declared.fault.StepError.{StepError}
 use Rattle.up_engine.specs.declared.fault.StepError.TheVariants.{NotExpected, Down, Memory}
@@ -56,12 +56,14 @@ AnswerMeans (Some answered) engine config c given = (answered ≡ answer config 
 AnswerMeans None engine config c given = (is_expected given c ≡ true) × DownAt engine config c
 
 -- The steps of a run are the answers to its inputs, item by item. If the run is down they are the answers to the inputs before
--- the one that ran out of memory.
+-- the one that ran out of memory, which was expected.
 abbrev pub StepsMean : Bool → List Step → Engine → Configuration → Chronicle → List Input → Type 0
 StepsMean false steps engine config c inputs = (steps ≡ answers config c inputs)
     × Stands engine config (after_all config c inputs)
 StepsMean true steps engine config c inputs =
-    (length steps < length inputs) × (steps ≡ answers config c (take (length steps) inputs))
+    (given : Input) × (left : List Input) × (drop (length steps) inputs ≡ given ∷ left)
+    × (steps ≡ answers config c (take (length steps) inputs))
+    × (is_expected given (after_all config c (take (length steps) inputs)) ≡ true)
     × DownAt engine config (after_all config c (take (length steps) inputs))
 
 -- What a run means: its steps, or that memory ran out before the first of them, so that nothing has changed.

@@ -1,5 +1,5 @@
 //! The engine: one step for one input, and a run over a list of them.
-ghost use Rattle.std.specs.Prelude.{◌≡◌, List, ℕ, true, Ok, Err, [], length, is_some, IfOk, OnOk};
+ghost use Rattle.std.specs.Prelude.{◌≡◌, List, ℕ, true, false, Ok, Err, [], length, is_some, IfOk, OnOk};
 ghost use Rattle.up_engine.specs.Keys.{Resting};
 ghost use Rattle.up_engine.specs.Requests.{answer_of};
 ghost use Rattle.up_engine.specs.Stored.{IsSound};
@@ -90,6 +90,15 @@ impl Engine {
             live: 0,
             turns: false,
         })
+    }
+
+    /// Whether a step ran out of memory, after which each further one is refused. Takes no memory.
+    pub fn is_down(&self) -> bool
+        ensures up { (config : Configuration) (c : Chronicle) → Stands self.now config c → result ≡ false }
+        ensures down { IsDown self.now → result ≡ true }
+    {
+        let down = self.down;
+        down
     }
 
     /// How many events were queued and haven't finished. Takes no memory.

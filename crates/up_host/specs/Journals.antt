@@ -1,14 +1,15 @@
 -- What a contract sees of a journal.
-use Rattle.std.specs.Prelude.{ℕ, ◌-◌, ◌<◌, List, vec_len, vec_capacity}
+use Rattle.std.specs.Prelude.{ℕ, ◌-◌, ◌+◌, ◌<◌, length, vec_len, vec_capacity}
+use Rattle.up_host.specs.Calls.{Calls}
 use Rattle.up_host.specs.declared.journal.Journal.{Journal}
 
--- the record, oldest first
-abbrev pub entries_of : {T : Type 0} → Journal T → List T
-entries_of journal = journal.entries.items
-
--- how many calls failed
-abbrev pub fault_count : {T : Type 0} → Journal T → ℕ
-fault_count journal = journal.faults
+-- the calls that it tells of
+abbrev pub calls_of : {T : Type 0} → Journal T → Calls T
+calls_of journal = record {
+  entries = journal.entries.items;
+  made = journal.cleared + length journal.entries.items;
+  faults = journal.faults;
+}
 
 -- how many entries more have room
 abbrev pub room : {T : Type 0} → Journal T → ℕ

@@ -1,5 +1,5 @@
--- What a call tells.
-pub mod Telling
+-- What a host or a door keeps of its calls.
+pub mod Calls
 -- How many processes live.
 pub mod Living
 -- What a contract sees of a journal.

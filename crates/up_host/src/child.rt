@@ -1,7 +1,9 @@
 //! The children of a real host.
 ghost use Rattle.std.specs.Prelude.{◌≡◌, ◌<◌, length, IfSome};
+ghost use Rattle.std.specs.Bool.{OnTrue};
+ghost use Rattle.std.specs.List.{HoldsAt};
 ghost use Rattle.up_host.specs.Ends.{byte_of, end_of};
-ghost use Rattle.up_host.specs.Looking.{EndsWithin};
+ghost use Rattle.up_host.specs.Looking.{LooksOn};
 
 use std::os::unix::process::ExitStatusExt;
 use std::process::{Child, ExitStatus, OpenProcess};
@@ -18,6 +20,8 @@ const PARTS: usize = 6;
 pub(crate) struct Running<P: OpenProcess> {
     pub who: Who,
     pub process: Process,
+    // the number by which it is signalled
+    pub pid: u32,
     pub child: Child<P>,
 }
 
@@ -52,14 +56,16 @@ pub(crate) fn end_of(status: &ExitStatus) -> How
 }
 
 // The place before which a look ends that begins here: it is at a sixth of the children, but at 16 at least.
-fn look_end(count: usize, next: usize) -> usize {
+fn look_end(count: usize, next: usize) -> usize
+    ensures { next < 18446744073709551615 → next < result }
+{
     next.saturating_add(LEAST_LOOKS.max(count.div_ceil(PARTS)))
 }
 
 /// Looks at some of the children from `next` on, up to one that has ended; the next look goes on from there, and after the last child from
 /// the first. So one that ends is found by the sixth look at the latest, and a look takes little time even among many.
 pub(crate) fn find_end<P: OpenProcess>(children: &mut [Running<P>], next: &mut usize) -> Look
-    ensures { EndsWithin result next.new (length children.old) }
+    ensures { LooksOn result next.old next.new (length children.old) }
 {
     let end = look_end(children.len(), *next);
     while *next < end && *next < children.len() {
@@ -89,19 +95,25 @@ pub(crate) fn reap<P: OpenProcess + Drop>(helpers: &mut Vec<Child<P>>) {
     }
 }
 
+// Whether both are the same instance of a job.
+fn is_same(one: &Who, other: &Who) -> bool
+    ensures { OnTrue result (one.now ≡ other.now) }
+{
+    one.job.as_str() == other.job.as_str() && one.instance.is(other.instance.as_str())
+}
+
 /// The place of the child with this name and number.
 pub(crate) fn place_of<P: OpenProcess>(
     children: &[Running<P>],
     who: &Who,
     pid: u32,
 ) -> Option<usize>
-    ensures { IfSome result (λ place. place < length children.now) }
+    ensures within { IfSome result (λ place. place < length children.now) }
+    ensures child { IfSome result (λ place. HoldsAt (λ running. (running.who ≡ who.now)
+        × (running.pid ≡ pid)) children.now place) }
 {
     for (place, running) in children.iter().enumerate() {
-        if running.child.id() == pid
-            && running.who.job.as_str() == who.job.as_str()
-            && running.who.instance.is(who.instance.as_str())
-        {
+        if running.pid == pid && is_same(&running.who, who) {
             return Some(place);
         }
     }

@@ -1,8 +1,8 @@
 //! The record of calls and the count of faults that a host and a door keep.
-ghost use Rattle.std.specs.Prelude.{◌≡◌, ◌<◌, ◌≤◌, ◌++◌, [], ◌∷◌, true, false, vec_capacity, vec_len};
+ghost use Rattle.std.specs.Prelude.{◌≡◌, ◌<◌, ◌≤◌, true, false, vec_capacity, vec_len};
 ghost use Rattle.std.specs.Bool.{OnTrue, OnFalse};
-ghost use Rattle.up_host.specs.Telling.{with_fault};
-ghost use Rattle.up_host.specs.Journals.{entries_of, fault_count, room, HasRoom};
+ghost use Rattle.up_host.specs.Calls.{no_calls, with_entry, with_failure, emptied};
+ghost use Rattle.up_host.specs.Journals.{calls_of, room, HasRoom};
 
 use std::alloc::Global;
 
@@ -10,17 +10,19 @@ use std::alloc::Global;
 #[derive(Drop)]
 pub struct Journal<T> {
     entries: Vec<T>,
+    // how many entries the record had when it was emptied, all in all
+    cleared: u64,
     faults: u64,
 }
 
 impl<T> Journal<T> {
     /// An empty record, and no fault.
     pub fn new(alloc: Global) -> Self
-        ensures entries { entries_of result ≡ [] }
-        ensures faults { fault_count result ≡ 0 }
+        ensures calls { calls_of result ≡ no_calls }
     {
         Journal {
             entries: Vec::new(alloc),
+            cleared: 0,
             faults: 0,
         }
     }
@@ -29,8 +31,7 @@ impl<T> Journal<T> {
     pub fn make_room(&mut self) -> bool
         ensures room { OnTrue result (HasRoom self.new) }
         ensures full { OnFalse result (room self.old ≡ 0) }
-        ensures entries { entries_of self.new ≡ entries_of self.old }
-        ensures faults { fault_count self.new ≡ fault_count self.old }
+        ensures calls { calls_of self.new ≡ calls_of self.old }
     {
         match self.entries.reserve(1) {
             Ok(()) => true,
@@ -43,8 +44,7 @@ impl<T> Journal<T> {
     where
         T: Drop,
         requires { HasRoom self.old }
-        ensures entries { entries_of self.new ≡ entries_of self.old ++ entry ∷ [] }
-        ensures faults { fault_count self.new ≡ fault_count self.old }
+        ensures calls { calls_of self.new ≡ with_entry entry (calls_of self.old) }
     {
         match self.entries.push(entry) {
             Ok(()) => {}
@@ -54,22 +54,21 @@ impl<T> Journal<T> {
 
     /// Counts a call that failed.
     pub fn count_fault(&mut self)
-        ensures entries { entries_of self.new ≡ entries_of self.old }
-        ensures faults { fault_count self.new ≡ with_fault (fault_count self.old) }
+        ensures calls { calls_of self.new ≡ with_failure (calls_of self.old) }
     {
         self.faults = self.faults.saturating_add(1);
     }
 
     /// The record, oldest first.
     pub fn entries(&self) -> &[T]
-        ensures { result.now ≡ entries_of self.now }
+        ensures { result.now ≡ (calls_of self.now).entries }
     {
         self.entries.as_slice()
     }
 
     /// How many calls failed.
     pub fn faults(&self) -> u64
-        ensures { result ≡ fault_count self.now }
+        ensures { result ≡ (calls_of self.now).faults }
     {
         let faults = self.faults;
         faults
@@ -79,9 +78,9 @@ impl<T> Journal<T> {
     pub fn clear(&mut self)
     where
         T: Drop,
-        ensures entries { entries_of self.new ≡ [] }
-        ensures faults { fault_count self.new ≡ fault_count self.old }
+        ensures calls { calls_of self.new ≡ emptied (calls_of self.old) }
     {
+        self.cleared = self.cleared.saturating_add(self.entries.len() as u64);
         self.entries.clear();
     }
 }

@@ -1,8 +1,9 @@
 //! The host of real processes.
 ghost use Rattle.std.specs.Prelude.{◌≡◌, ◌+◌, ◌<◌, ◌++◌, ◌∷◌, ℕ, List, [], length, Some, None, IfSome, IfOk, if◌then◌else◌, is_some, option_map, vec_len, vec_capacity};
+ghost use Rattle.std.specs.Bool.{OnTrue};
 ghost use Rattle.std.specs.List.{HoldsAt};
-ghost use Rattle.up_host.specs.Telling.{with_fault};
-ghost use Rattle.up_host.specs.Journals.{entries_of, fault_count, HasRoom};
+ghost use Rattle.up_host.specs.Calls.{no_calls, with_failure};
+ghost use Rattle.up_host.specs.Journals.{calls_of, HasRoom};
 
 use crate::child::{Look, Running, find_end, place_of, reap};
 use crate::command::{command_of, kill_command};
@@ -77,8 +78,7 @@ impl<R: Processes> RealHost<R> {
     pub fn new(alloc: Global, system: R) -> io::Result<Self>
     where
         R: Clock + Drop,
-        ensures entries { IfOk result (λ host. entries_of host.journal ≡ []) }
-        ensures faults { IfOk result (λ host. fault_count host.journal ≡ 0) }
+        ensures calls { IfOk result (λ host. calls_of host.journal ≡ no_calls) }
         ensures living { IfOk result (λ host. host.children.items ≡ []) }
     {
         let start = Instant::now(&system)?;
@@ -112,6 +112,7 @@ impl<R: Processes> RealHost<R> {
         let running = Running {
             who,
             process: order.process,
+            pid,
             child,
         };
         match self.children.push(running) {
@@ -144,6 +145,8 @@ impl<R: Processes> RealHost<R> {
 
     // Sends a signal to the child with this name and number; whether that could be done.
     fn send(&mut self, who: &Who, pid: u32, signal: u8) -> bool
+        ensures sent { OnTrue result ((place : ℕ) × HoldsAt (λ running. (running.who ≡ who.now)
+            × (running.pid ≡ pid)) self.old.children.items place) }
         ensures children { length self.new.children.items ≡ length self.old.children.items }
         ensures journal { self.new.journal ≡ self.old.journal }
     {
@@ -175,8 +178,7 @@ impl<R: Processes> RealHost<R> {
 
     // Counts a call that failed.
     fn refuse(&mut self) -> HostFault
-        ensures entries { entries_of self.new.journal ≡ entries_of self.old.journal }
-        ensures faults { fault_count self.new.journal ≡ with_fault (fault_count self.old.journal) }
+        ensures calls { calls_of self.new.journal ≡ with_failure (calls_of self.old.journal) }
         ensures children { self.new.children ≡ self.old.children }
     {
         self.journal.count_fault();
@@ -189,11 +191,9 @@ type End = (Who, Process, How);
 
 impl<R: Processes + Clock> Host for RealHost<R> {
     ghost use Rattle.std.specs.Prelude.{length};
-    ghost use Rattle.up_host.specs.Journals.{entries_of, fault_count};
+    ghost use Rattle.up_host.specs.Journals.{calls_of};
 
-    ghost entries = { λ host. entries_of host.journal };
-
-    ghost faults = { λ host. fault_count host.journal };
+    ghost calls = { λ host. calls_of host.journal };
 
     ghost living = { λ host. length host.children.items };
 

@@ -1,7 +1,8 @@
 //! The host that plays a script.
-ghost use Rattle.std.specs.Prelude.{◌≡◌, ◌+◌, ◌<◌, ◌++◌, ◌∷◌, ℕ, List, [], length, Some, None, IfSome, IfNone, vec_len, slice_get, if◌then◌else◌, is_some};
-ghost use Rattle.up_host.specs.Telling.{with_fault};
-ghost use Rattle.up_host.specs.Journals.{entries_of, fault_count};
+ghost use Rattle.std.specs.Prelude.{◌≡◌, ◌+◌, ◌<◌, ◌++◌, ◌∷◌, ℕ, List, [], length, Some, None, IfSome, MatchOption, vec_len, slice_get, if◌then◌else◌, is_some};
+ghost use Rattle.up_host.specs.Calls.{no_calls, with_failure};
+ghost use Rattle.up_host.specs.Failing.{call_after};
+ghost use Rattle.up_host.specs.Journals.{calls_of};
 ghost use Rattle.up_host.specs.Scripts.{AreCopies, IsFound};
 
 use crate::failure::{Failure, Failures};
@@ -52,8 +53,7 @@ impl ScriptHost {
     pub fn new(alloc: Global, script: Script, failures: Vec<Failure>) -> Self
         ensures script { result.script ≡ script }
         ensures failures { result.failures.failures.items ≡ failures.items }
-        ensures entries { entries_of result.journal ≡ [] }
-        ensures faults { fault_count result.journal ≡ 0 }
+        ensures calls { calls_of result.journal ≡ no_calls }
         ensures living { result.living ≡ 0 }
     {
         ScriptHost {
@@ -71,8 +71,7 @@ impl ScriptHost {
 
     // Counts a call that failed.
     fn refuse(&mut self) -> HostFault
-        ensures entries { entries_of self.new.journal ≡ entries_of self.old.journal }
-        ensures faults { fault_count self.new.journal ≡ with_fault (fault_count self.old.journal) }
+        ensures calls { calls_of self.new.journal ≡ with_failure (calls_of self.old.journal) }
         ensures living { self.new.living ≡ self.old.living }
     {
         self.journal.count_fault();
@@ -84,6 +83,7 @@ impl ScriptHost {
         ensures pid { IfSome result (λ pid. slice_get self.old.script.pids.items self.old.next_pid
             ≡ Some pid) }
         ensures living { self.new.living ≡ self.old.living + (if is_some result then 1 else 0) }
+        ensures next { self.new.next_pid ≡ self.old.next_pid + (if is_some result then 1 else 0) }
         ensures journal { self.new.journal ≡ self.old.journal }
     {
         let pid = *self.script.pids.get(self.next_pid)?;
@@ -108,6 +108,8 @@ impl ScriptHost {
 
     // Passes over a poll that was to find nothing.
     fn pass_nothing(&mut self)
+        ensures next { slice_get self.old.script.ends.items self.old.next_end ≡ Some None
+            → self.new.next_end ≡ self.old.next_end + 1 }
         ensures journal { self.new.journal ≡ self.old.journal }
         ensures living { self.new.living ≡ self.old.living }
     {
@@ -119,6 +121,7 @@ impl ScriptHost {
     // Passes over an end, which is that of a process that lived.
     fn pass_end(&mut self)
         requires { 0 < self.old.living }
+        ensures next { self.new.next_end ≡ call_after self.old.next_end }
         ensures journal { self.new.journal ≡ self.old.journal }
         ensures living { self.new.living + 1 ≡ self.old.living }
     {
@@ -128,6 +131,10 @@ impl ScriptHost {
 
     // The next reading of the clock.
     fn read_clock(&mut self) -> u64
+        ensures reading { MatchOption (slice_get self.old.script.readings.items self.old.next_reading)
+            (result ≡ self.old.reading)
+            (λ reading. (result ≡ reading) × (self.new.next_reading ≡ self.old.next_reading + 1)) }
+        ensures stays { self.new.reading ≡ result }
         ensures journal { self.new.journal ≡ self.old.journal }
         ensures living { self.new.living ≡ self.old.living }
     {
@@ -161,11 +168,9 @@ fn copies_of(end: &End) -> Found
 }
 
 impl Host for ScriptHost {
-    ghost use Rattle.up_host.specs.Journals.{entries_of, fault_count};
+    ghost use Rattle.up_host.specs.Journals.{calls_of};
 
-    ghost entries = { λ host. entries_of host.journal };
-
-    ghost faults = { λ host. fault_count host.journal };
+    ghost calls = { λ host. calls_of host.journal };
 
     ghost living = { λ host. host.living };
 

@@ -1,5 +1,6 @@
 //! A client of the daemon: what it said that has not entered the engine, and what waits to be written to it.
-ghost use Rattle.std.specs.Prelude.{◌≡◌, ◌≤◌, ◌<◌, [], None, IfOk, IfSome, length, take, option_map};
+ghost use Rattle.std.specs.Prelude.{◌≡◌, ◌≤◌, ◌<◌, [], None, IfOk, OnOk, IfSome, length, take, option_map};
+ghost use Rattle.up_daemon.specs.Connected.{SameClients};
 ghost use Rattle.up_daemon.specs.Hearing.{Hears, Enters, IsAnswered, IsTaken, IsPassedOver, IsReadOnce, IsWrittenOnce, most_waiting};
 ghost use Rattle.up_daemon.specs.Peers.{peer_of, is_ready};
 
@@ -113,11 +114,11 @@ impl Client {
     /// Reads it once, if it may be read. False if it is to be closed: the read failed, it sends no more, or it broke a frame.
     pub(crate) fn read<D: Door>(&mut self, door: &mut D) -> Result<bool, AllocError>
         ensures limit { IfOk result (λ stays. most_waiting ≤ length self.old.waiting.items
-            → IsPassedOver stays self.old self.new (D.entries door.old) (D.entries door.new)
-            (D.faults door.old) (D.faults door.new)) }
+            → IsPassedOver stays self.old self.new (D.calls door.old) (D.calls door.new)) }
         ensures once { IfOk result (λ stays. length self.old.waiting.items < most_waiting
-            → IsReadOnce stays self.old self.new (D.entries door.old) (D.entries door.new) (D.faults door.old)
-            (D.faults door.new)) }
+            → IsReadOnce stays self.old self.new (D.calls door.old) (D.calls door.new)) }
+        ensures same { OnOk result (self.new.number ≡ self.old.number) }
+        ensures connects { OnOk result (SameClients (D.connected door.old) (D.connected door.new)) }
     {
         if self.waiting.len() >= MOST_WAITING {
             return Ok(true);
@@ -135,11 +136,11 @@ impl Client {
     /// Writes what waits, in one call, if anything does. False if the write failed.
     pub(crate) fn write<D: Door>(&mut self, door: &mut D) -> Result<bool, AllocError>
         ensures none { IfOk result (λ stays. length self.old.answers.items ≡ 0
-            → IsPassedOver stays self.old self.new (D.entries door.old) (D.entries door.new)
-            (D.faults door.old) (D.faults door.new)) }
+            → IsPassedOver stays self.old self.new (D.calls door.old) (D.calls door.new)) }
         ensures once { IfOk result (λ stays. 0 < length self.old.answers.items
-            → IsWrittenOnce stays self.old self.new (D.entries door.old) (D.entries door.new)
-            (D.faults door.old) (D.faults door.new)) }
+            → IsWrittenOnce stays self.old self.new (D.calls door.old) (D.calls door.new)) }
+        ensures same { OnOk result (self.new.number ≡ self.old.number) }
+        ensures connects { OnOk result (SameClients (D.connected door.old) (D.connected door.new)) }
     {
         if self.answers.len() == 0 {
             return Ok(true);

@@ -1,25 +1,43 @@
-use Rattle.std.proofs.Common.{[]}
-use Rattle.up_daemon.specs.Attending.{LettingIn, Attends, Opens}
-use Rattle.up_daemon.specs.Dealing.{Reading, Serving, Deals, Begins}
-use Rattle.up_daemon.specs.Working.{desk_of, tape_of}
+use Rattle.std.proofs.Common.{◌≡◌, ◌∙◌, [], List, ap}
+use Rattle.up_engine.specs.Stands.{Stands}
+use Rattle.up_model.specs.Answers.{after_all}
+use Rattle.up_model.specs.declared.input.Input.{Input}
+use Rattle.up_daemon.specs.Connected.{AreConnected}
+use Rattle.up_daemon.specs.Peers.{numbers_of}
+use Rattle.up_daemon.specs.Rounds.{Opens}
+use Rattle.up_daemon.specs.RoundStates.{ReadingClock, TakingRequests, RoundState, HasItsClients}
+use Rattle.up_daemon.specs.Working.{IsAt, state_of, numbers_in}
+use Rattle.up_daemon.proofs.Connections.{same_clients}
 use Rattle.up_daemon.proofs.daemon.do_parts.Goals as goal
 
-pub returns-clause-deals : goal.returns-clause-deals
-returns-clause-deals g c none_fed none_given =
-    let begun = g.H.Host.faults c.args.host.now in
-    let begins : Deals begun Reading (tape_of c.args.work.now (g.H.Host.entries c.clear_record.new.self) (g.H.Host.faults c.clear_record.new.self) []) = rw (none_fed, none_given, c.clear_record.ensures.empty, c.clear_record.ensures.faults) Begins in
-    let found = c.in_ok-find_ends.ensures.deals begun (c.in_ok-read_clock.ensures.deals begun begins) in
-    let heard : Deals begun Serving (tape_of c.hear.new.self (g.H.Host.entries c.find_ends.new.host) (g.H.Host.faults c.find_ends.new.host) []) = rw c.hear.ensures.untouched.log found in
-    rw (c.write.ensures.untouched.log, c.write.ensures.untouched.engine) (c.in_ok-turn.ensures.deals begun (c.in_ok-serve.ensures.deals begun heard))
+pub returns-clause-round : goal.returns-clause-round
+unfolding after_all
+returns-clause-round g c config chronicle start stands connected is =
+    let work = c.args.work.now in
+    let door = g.D.Door.calls c.clear_record-2.new.self in
+    let none_fed : work.log.fed.items ≡ [] = ap (λ (state : RoundState). state.fed) is in
+    let clients : numbers_in work ≡ numbers_of start.clients = ap (λ (state : RoundState). numbers_of state.clients) is in
+    let opens : IsAt config chronicle start ReadingClock work.engine (state_of work (g.H.Host.calls c.clear_record.new.self) door [])
+    = record { stands = rw none_fed stands; reaches = rw (c.clear_record.ensures.reports, c.clear_record-2.ensures.reports, is) Opens } in
+    let found = c.in_ok-find_ends.ensures.goes door config chronicle start (c.in_ok-read_clock.ensures.goes door config chronicle start opens) in
+    let known : HasItsClients start → AreConnected (g.D.Door.connected c.clear_record-2.new.self) (numbers_in c.find_ends.new.self)
+    = λ has. rw (c.in_ok-find_ends.ensures.numbers ∙ c.in_ok-read_clock.ensures.numbers ∙ clients)
+        (same_clients (g.D.Door.connected c.args.door.now) (g.D.Door.connected c.clear_record-2.new.self) (numbers_of start.clients) c.clear_record-2.ensures.connects (rw connected at has)) in
+    let host = g.H.Host.calls c.find_ends.new.host in
+    let heard : IsAt config chronicle start TakingRequests c.hear.new.self.engine (state_of c.hear.new.self host (g.D.Door.calls c.hear.new.door) [])
+    = record {
+      stands = rw (c.hear.ensures.untouched.engine, c.hear.ensures.untouched.log) found.stands;
+      reaches = c.in_ok-hear.ensures.hears config chronicle start host known found.reaches;
+    } in
+    let served = c.in_ok-serve.ensures.goes (g.D.Door.calls c.hear.new.door) config chronicle start heard in
+    let turned = c.in_ok-turn.ensures.turns config chronicle start (g.D.Door.calls c.hear.new.door) served in
+    record {
+      stands = rw (c.write.ensures.untouched.engine, c.write.ensures.untouched.log) turned.stands;
+      reaches = c.in_ok-write.ensures.writes config chronicle start (g.H.Host.calls c.turn.new.host) turned.reaches;
+    }
 
-pub returns-clause-attends : goal.returns-clause-attends
-returns-clause-attends g c begun is =
-    let entries = g.D.Door.entries c.clear_record-2.new.self in
-    let faults = g.D.Door.faults c.clear_record-2.new.self in
-    let cleared = c.clear_record-2.ensures in
-    let opens : Attends begun LettingIn (desk_of c.args.work.now entries faults []) = rw (cleared.empty, cleared.faults, is) Opens in
-    let found = c.in_ok-find_ends.ensures.attends begun entries faults (c.in_ok-read_clock.ensures.attends begun entries faults opens) in
-    let heard = c.in_ok-hear.ensures.attends begun found in
-    let served = c.in_ok-serve.ensures.attends begun (g.D.Door.entries c.hear.new.door) (g.D.Door.faults c.hear.new.door) heard in
-    let turned = c.in_ok-turn.ensures.attends begun (g.D.Door.entries c.hear.new.door) (g.D.Door.faults c.hear.new.door) served in
-    c.in_ok-write.ensures.attends begun turned
+pub returns-clause-connected : goal.returns-clause-connected
+returns-clause-connected g c are =
+    let cleared = same_clients (g.D.Door.connected c.args.door.now) (g.D.Door.connected c.clear_record-2.new.self) (numbers_in c.args.work.now) c.clear_record-2.ensures.connects are in
+    let heard = c.in_ok-hear.ensures.connected (rw (c.in_ok-find_ends.ensures.numbers ∙ c.in_ok-read_clock.ensures.numbers) cleared) in
+    c.in_ok-write.ensures.connected (rw (c.in_ok-turn.ensures.numbers ∙ c.in_ok-serve.ensures.numbers) heard)

@@ -1,5 +1,5 @@
 use Rattle.std.proofs.Common.{◌<◌, ◌≡◌, sym, length, get_or, arith}
-use Rattle.up_daemon.specs.Attending.{IsAtRest}
+use Rattle.up_daemon.specs.Peers.{peers_of, IsAtRest}
 use Rattle.up_daemon.proofs.Seats.{entered_at, same_at, all_more}
 use Rattle.up_daemon.proofs.clients.Clients.enter.Goals as goal
 
@@ -9,7 +9,7 @@ returns-in-Some-clause-entered c =
     let client = c.index_mut.result.now in
     let within : c.loop-index.index < length c.args.self.now.list.items = omega (arith, c.loop-index-test.true, c.len-index-end.ensures, c.args.self.now.list.ok.0) in
     let value : get_or c.args.self.now.list.items c.loop-index.index client ≡ client = sym (rw before at c.index_mut.ensures.value) in
-    rw before (entered_at c.args.id c.in-Some.request c.args.self.now.list.items c.loop-index.index client c.enter.new.self within (rw value c.in-Some.ensures))
+    rw before (entered_at c.args.id c.in-Some.request c.args.self.now.list.items c.loop-index.index client c.enter.new.self within c.loop-index.invariant.rest (rw value c.in-Some.ensures))
 
 pub loop-index-preserved : goal.loop-index-preserved
 loop-index-preserved c =

@@ -1,7 +1,6 @@
 use Rattle.std.proofs.Common.{◌≡◌, take}
 use Rattle.std.specs.List.{AllByRecursion}
-use Rattle.up_daemon.specs.Attending.{IsAtRest}
-use Rattle.up_daemon.specs.Peers.{peers_of}
+use Rattle.up_daemon.specs.Peers.{peers_of, IsAtRest}
 use Rattle.up_daemon.proofs.clients.Clients.enter.Given as goal
 
 abbrev pub invariant-loop-index : goal.invariant-loop-index

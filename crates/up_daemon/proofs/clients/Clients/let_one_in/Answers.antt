@@ -2,7 +2,8 @@ use Rattle.up_daemon.proofs.clients.Clients.let_one_in.Goals as goal
 
 pub returns-in_ok-push-in-Ok-Some-clause-accepts : goal.returns-in_ok-push-in-Ok-Some-clause-accepts
 returns-in_ok-push-in-Ok-Some-clause-accepts g c below =
-    let told = rw c.in-Ok-Some.field-0-is at c.in-Ok-Some.ensures.told in
+    let reports = rw c.in-Ok-Some.field-0-is at c.in-Ok-Some.ensures.reports in
+    let connects = rw c.in-Ok-Some.field-0-is at c.in-Ok-Some.ensures.connects in
     let last = rw c.in_ok-reserve.ensures.items at c.in_ok-push-in-Ok-Some.ensures.items in
     let client = c.new.ensures in
-    (c.in-Ok-Some.number, c.new.result, told.0, told.1, last, record { named = client.number; said = client.feed; waiting = client.waiting; unanswered = client.unanswered; answers = client.answers })
+    (c.in-Ok-Some.number, c.new.result, connects.0, reports, last, record { named = client.number; said = client.feed; waiting = client.waiting; unanswered = client.unanswered; answers = client.answers })

@@ -1,9 +1,10 @@
 use Rattle.std.proofs.Common.{[]}
-use Rattle.up_daemon.specs.Attending.{HasRead}
-use Rattle.up_daemon.specs.Working.{desk_of}
+use Rattle.up_daemon.specs.Rounds.{HasRead}
+use Rattle.up_daemon.specs.Working.{state_of}
 use Rattle.up_daemon.proofs.work.Work.hear.Goals as goal
 
-pub returns-clause-attends : goal.returns-clause-attends
-returns-clause-attends g c begun attends =
-    let desk = desk_of c.args.self.now (g.D.Door.entries c.args.door.now) (g.D.Door.faults c.args.door.now) [] in
-    HasRead (desk_of (record c.args.self.now { clients = c.read.new.self }) (g.D.Door.entries c.read.new.door) (g.D.Door.faults c.read.new.door) []) (c.in_ok-read.ensures begun desk (c.in_ok-let_in.ensures begun desk attends))
+pub returns-clause-hears : goal.returns-clause-hears
+returns-clause-hears g c config chronicle start host known reaches =
+    let state = state_of c.args.self.now host (g.D.Door.calls c.args.door.now) [] in
+    HasRead (state_of (record c.args.self.now { clients = c.read.new.self }) host (g.D.Door.calls c.read.new.door) [])
+    (c.in_ok-read.ensures.reads config chronicle start state (c.in_ok-let_in.ensures.lets_in config chronicle start state known reaches))

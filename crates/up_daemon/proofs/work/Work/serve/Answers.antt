@@ -1,9 +1,10 @@
 use Rattle.std.proofs.Common.{[], refl}
-use Rattle.up_daemon.specs.Attending.{HasServed}
-use Rattle.up_daemon.specs.Working.{desk_of}
+use Rattle.up_daemon.specs.Rounds.{HasServed}
+use Rattle.up_daemon.specs.Working.{state_of}
 use Rattle.up_daemon.proofs.work.Work.serve.Goals as goal
 
-pub returns-clause-attends : goal.returns-clause-attends
-returns-clause-attends g c start entries faults attends =
+pub returns-clause-goes : goal.returns-clause-goes
+returns-clause-goes g c door config chronicle start at =
     let served = c.in_ok-serve_one.ensures in
-    HasServed (desk_of c.serve_one.new.self entries faults []) refl (served.rest c.if-branch.false) (served.attends start entries faults (c.loop.invariant.attends start entries faults attends))
+    let before = served.goes door config chronicle start (c.loop.invariant.goes door config chronicle start at) in
+    record { stands = before.stands; reaches = HasServed (state_of c.serve_one.new.self (g.H.Host.calls c.serve_one.new.host) door []) refl (served.rest c.if-branch.false) before.reaches }

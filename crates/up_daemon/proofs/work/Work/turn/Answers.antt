@@ -1,21 +1,40 @@
-use Rattle.std.proofs.Common.{◌+◌, [], refl}
-use Rattle.up_daemon.specs.Attending.{TakingTurns, TakesTurn}
-use Rattle.up_daemon.specs.Dealing.{Turning, BeginsTurning, Turns}
-use Rattle.up_daemon.specs.Working.{desk_of, tape_of}
+use Rattle.std.proofs.Common.{◌≡◌, ◌≢◌, ◌<◌, ◌+◌, [], None, refl, inl, inr, arith}
+use Rattle.up_model.specs.Answers.{after_all}
+use Rattle.up_daemon.specs.Rounds.{TakesTurn, HasTurned, most_turns}
+use Rattle.up_daemon.specs.RoundStates.{TakingTurns}
+use Rattle.up_daemon.specs.Working.{state_of}
+use Rattle.up_daemon.proofs.Turns.{none_is, some_is}
 use Rattle.up_daemon.proofs.work.Work.turn.Goals as goal
-
-pub loop-turn-init : goal.loop-turn-init
-loop-turn-init g c = record {
-  answers = λ config chronicle told. told;
-  deals = λ begun deals. BeginsTurning (tape_of c.args.self.now (g.H.Host.entries c.args.host.now) (g.H.Host.faults c.args.host.now) []) refl deals;
-  attends = λ start entries faults attends. attends;
-}
 
 pub loop-turn-preserved : goal.loop-turn-preserved
 loop-turn-preserved g c =
     let before = c.loop-turn.invariant in
     record {
-      answers = λ config chronicle told. c.in_ok-take.ensures.answers config chronicle (before.answers config chronicle told);
-      deals = λ begun deals. c.in_ok-take.ensures.deals begun (Turning (c.loop-turn.turn + 1)) (λ outputs. Turns c.loop-turn.turn outputs (tape_of c.loop-turn.self (g.H.Host.entries c.loop-turn.host) (g.H.Host.faults c.loop-turn.host) []) refl (before.deals begun deals));
-      attends = λ start entries faults attends. c.in_ok-take.ensures.attends start TakingTurns entries faults (λ outputs. TakesTurn outputs (desk_of c.loop-turn.self entries faults []) refl (before.attends start entries faults attends));
+      goes = λ door config chronicle start at.
+          let so_far = before.goes door config chronicle start at in
+          let history = after_all config chronicle c.loop-turn.self.log.fed.items in
+          let few : c.loop-turn.turn < most_turns = c.loop-turn-test.true in
+          c.in_ok-take.ensures.takes config chronicle start (TakingTurns (c.loop-turn.turn + 1)) tt door so_far.stands
+          (λ outputs is. TakesTurn c.loop-turn.turn outputs (state_of c.loop-turn.self (g.H.Host.calls c.loop-turn.host) door []) refl few
+          (some_is config history c.has_turn.result (c.has_turn.ensures.up config history so_far.stands) c.if-not-branch.false) is so_far.reaches);
+      numbers = c.in_ok-take.ensures.numbers ∙ before.numbers;
+    }
+
+pub returns-then-not-branch-clause-turns : goal.returns-then-not-branch-clause-turns
+returns-then-not-branch-clause-turns g c config chronicle start door at =
+    let so_far = c.loop-turn.invariant.goes door config chronicle start at in
+    let history = after_all config chronicle c.loop-turn.self.log.fed.items in
+    record {
+      stands = so_far.stands;
+      reaches = HasTurned c.loop-turn.turn (state_of c.loop-turn.self (g.H.Host.calls c.loop-turn.host) door []) refl
+          (inr (none_is config history c.has_turn.result (c.has_turn.ensures.up config history so_far.stands) c.if-not-branch.true)) so_far.reaches;
+    }
+
+pub returns-clause-turns : goal.returns-clause-turns
+returns-clause-turns g c config chronicle start door at =
+    let so_far = c.loop-turn.invariant.goes door config chronicle start at in
+    record {
+      stands = so_far.stands;
+      reaches = HasTurned c.loop-turn.turn (state_of c.loop-turn.self (g.H.Host.calls c.loop-turn.host) door []) refl
+          (inl (omega (arith, c.loop-turn-test.false))) so_far.reaches;
     }

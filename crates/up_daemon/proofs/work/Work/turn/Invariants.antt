@@ -1,14 +1,10 @@
-use Rattle.std.proofs.Common.{ℕ, []}
-use Rattle.up_daemon.specs.Attending.{TakingTurns}
-use Rattle.up_daemon.specs.Dealing.{Serving, Turning, Deals}
-use Rattle.up_daemon.specs.Working.{KeepsAnswers, Leads, tape_of}
+use Rattle.std.proofs.Common.{◌≡◌}
+use Rattle.up_daemon.specs.RoundStates.{TakingTurns}
+use Rattle.up_daemon.specs.Working.{Goes, numbers_in}
 use Rattle.up_daemon.proofs.work.Work.turn.Given as goal
 
 abbrev pub invariant-loop-turn : goal.invariant-loop-turn
 invariant-loop-turn g l = record {
-  answers : KeepsAnswers l.fn.self l.self;
-  deals : (begun : ℕ)
-      → Deals begun Serving (tape_of l.fn.self (g.H.Host.entries l.fn.host) (g.H.Host.faults l.fn.host) [])
-      → Deals begun (Turning l.turn) (tape_of l.self (g.H.Host.entries l.host) (g.H.Host.faults l.host) []);
-  attends : Leads TakingTurns TakingTurns l.fn.self l.self;
+  goes : Goes (TakingTurns 0) l.fn.self (g.H.Host.calls l.fn.host) (TakingTurns l.turn) l.self (g.H.Host.calls l.host);
+  numbers : numbers_in l.self ≡ numbers_in l.fn.self;
 }

@@ -1,9 +1,7 @@
-use Rattle.std.proofs.Common.{[], refl}
-use Rattle.up_daemon.specs.Attending.{HasTurned}
-use Rattle.up_daemon.specs.Working.{desk_of}
+use Rattle.std.proofs.Common.{[]}
+use Rattle.up_daemon.specs.Working.{state_of}
 use Rattle.up_daemon.proofs.work.Work.write.Goals as goal
 
-pub returns-clause-attends : goal.returns-clause-attends
-returns-clause-attends g c begun attends =
-    let desk = desk_of c.args.self.now (g.D.Door.entries c.args.door.now) (g.D.Door.faults c.args.door.now) [] in
-    c.in_ok-write.ensures begun desk (HasTurned desk refl attends)
+pub returns-clause-writes : goal.returns-clause-writes
+returns-clause-writes g c config chronicle start host reaches =
+    c.in_ok-write.ensures.writes config chronicle start (state_of c.args.self.now host (g.D.Door.calls c.args.door.now) []) reaches

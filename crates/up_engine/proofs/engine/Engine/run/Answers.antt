@@ -36,9 +36,9 @@ returns-in-None-answer-clause-meaning c config chronicle stands =
     let taken = c.in-Some.ensures.steps in
     let before = c.loop-input.invariant in
     let so_far = before.meaning config chronicle stands in
-    let down = (c.in-None-answer.ensures config (after_all config chronicle c.loop-input.yielded) so_far.1).1 in
+    let refused = c.in-None-answer.ensures config (after_all config chronicle c.loop-input.yielded) so_far.1 in
     let whole = before.rest ∙ ap (λ left. c.loop-input.yielded ++ left) taken.0 in
-    rw c.new-steps.ensures (refused_run c.loop-input.steps.items c.answer.new.self config chronicle c.args.inputs.items c.loop-input.yielded (into_iter_items c.next.new.self) c.in-Some.input whole so_far.0 down)
+    rw c.new-steps.ensures (refused_run c.loop-input.steps.items c.answer.new.self config chronicle c.args.inputs.items c.loop-input.yielded (into_iter_items c.next.new.self) c.in-Some.input whole so_far.0 refused.0 refused.1)
 
 pub returns-clause-meaning : goal.returns-clause-meaning
 returns-clause-meaning c config chronicle stands =

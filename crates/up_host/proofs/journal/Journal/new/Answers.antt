@@ -2,5 +2,5 @@
 use Rattle.std.proofs.Common.{rules}
 use Rattle.up_host.proofs.journal.Journal.new.Goals as goal
 
-pub returns-clause-faults : goal.returns-clause-faults
-returns-clause-faults c = search rules
+pub returns : goal.returns
+returns c = search rules

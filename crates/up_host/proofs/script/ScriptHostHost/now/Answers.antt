@@ -2,5 +2,5 @@
 use Rattle.std.proofs.Common.{rules}
 use Rattle.up_host.proofs.script.ScriptHostHost.now.Goals as goal
 
-pub returns-clause-told : goal.returns-clause-told
-returns-clause-told c = search rules
+pub returns-clause-reports : goal.returns-clause-reports
+returns-clause-reports c = search rules

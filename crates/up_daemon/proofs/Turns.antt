@@ -1,0 +1,22 @@
+-- Whether a turn would touch an event.
+use Rattle.std.proofs.Common.{◌≡◌, ◌≢◌, ◌∙◌, sym, Bool, true, false, ℕ, Option, None, Some, is_some, refl}
+use Rattle.up_model.specs.Chronicle.{Chronicle}
+use Rattle.up_model.specs.Configuration.{Configuration}
+use Rattle.up_model.specs.Due.{turn_event}
+use Rattle.up_model.specs.Queue.{queue}
+
+not_some : (found : Option ℕ) → is_some found ≡ false → found ≡ None
+not_some None is = refl
+not_some (Some event) is = elim is [ ]
+
+not_none : (found : Option ℕ) → is_some found ≡ true → found ≢ None
+not_none None is none = elim is [ ]
+not_none (Some event) is none = elim none [ ]
+
+pub none_is : (config : Configuration) (c : Chronicle) (has : Bool) → has ≡ is_some (turn_event config (queue c) c) → has ≡ false
+    → turn_event config (queue c) c ≡ None
+none_is config c has is none = not_some (turn_event config (queue c) c) (sym is ∙ none)
+
+pub some_is : (config : Configuration) (c : Chronicle) (has : Bool) → has ≡ is_some (turn_event config (queue c) c) → has ≡ true
+    → turn_event config (queue c) c ≢ None
+some_is config c has is some = not_none (turn_event config (queue c) c) (sym is ∙ some)

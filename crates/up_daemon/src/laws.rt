@@ -1,0 +1,24 @@
+//! Laws of a round, of the relation that says what it does.
+ghost use Rattle.up_daemon.specs.Laws.{CountsCalls, LosesNothing, NumbersRequests, KeepsWhole};
+
+/// No request and no reply is lost: the bytes written to a client and those that still wait are the frames of the replies to its
+/// requests, after what waited before; its requests that entered and those that still wait are those of the bytes read from it.
+pub fn loses_nothing()
+    ensures { LosesNothing }
+{}
+
+/// The requests of a round are numbered one after another.
+pub fn numbers_requests()
+    ensures { NumbersRequests }
+{}
+
+/// A client that broke a frame doesn't stay.
+pub fn keeps_whole()
+    ensures { KeepsWhole }
+{}
+
+/// No call of the host or the door is made before the records are emptied, and the calls of the host are those of a round's parts and
+/// orders: each is an entry of the record or one fault.
+pub fn counts_calls()
+    ensures { CountsCalls }
+{}
