@@ -9,7 +9,7 @@ use thiserror::Error;
 pub struct DoorFault;
 
 impl DoorFault {
-    /// The number by which a report names this refusal.
+    /// The number of this refusal. Nothing prints it.
     pub fn number(self) -> u8
         ensures { result ≡ 62 }
     {

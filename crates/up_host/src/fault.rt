@@ -9,7 +9,7 @@ use thiserror::Error;
 pub struct HostFault;
 
 impl HostFault {
-    /// The number by which a report names this refusal.
+    /// The number of this refusal. Nothing prints it.
     pub fn number(self) -> u8
         ensures { result ≡ 60 }
     {

@@ -34,7 +34,7 @@ pub mod Status
 pub mod Replies
 -- How instances move from state to state (the Upstart Cookbook's table of states).
 pub mod Moves
--- What the end or the refusal of a process does to its instance (init(5), "normal exit"; which of them fail an instance is.
+-- What the end or the refusal of a process does to its instance (init(5), "normal exit").
 pub mod Judgement
 -- How the event of a turn is offered to the expressions, and what one does that fires (init(5), "start on" and "stop on").
 pub mod Offers
