@@ -1,6 +1,7 @@
 -- Which numbers are connected, as clients come and go.
 use Rattle.std.proofs.Common.{◌≡◌, ◌∙◌, sym, ◌+◌, ◌++◌, ◌∷◌, [], ℕ, ◌==◌, Bool, true, false, if◌then◌else◌, List, map, refl, ap, arith, eq-eqb, eqb-true}
 use Rattle.std.specs.Prelude.{◌≢◌}
+use Rattle.std.proofs.lemmas.Bool.{both_ways}
 use Rattle.std.specs.List.{AllByRecursion}
 use Rattle.up_daemon.specs.Connected.{SameClients, Connects, Disconnects, count_of, AreConnected}
 use Rattle.up_daemon.specs.Peers.{Peer, numbers_of, IsNobody}
@@ -20,10 +21,7 @@ none_has number (peer ∷ peers) none = by_test (number == peer.number) refl
         absurd (omega (arith, one, none))
     by_test false is =
         let rest : count_of number (numbers_of (peer ∷ peers)) ≡ 0 + count_of number (numbers_of peers) = rw is refl in
-        (λ same. absurd (no_both (sym is ∙ eq-eqb number peer.number same)), none_has number peers (omega (arith, rest, none)))
-
-    no_both : false ≡ true → ⊥
-    no_both both = elim both [ ]
+        (λ same. absurd (both_ways (number == peer.number) is (eq-eqb number peer.number same)), none_has number peers (omega (arith, rest, none)))
 
 pub nobody : (number : ℕ) (peers : List Peer) (connected : ℕ → Bool) → connected number ≡ false → AreConnected connected (numbers_of peers)
     → IsNobody number peers
@@ -31,10 +29,7 @@ nobody number peers connected is are = none_has number peers (are number ∙ rw 
 
 -- the same clients are connected
 pub same_clients : (connected after : ℕ → Bool) (numbers : List ℕ) → SameClients connected after → AreConnected connected numbers → AreConnected after numbers
-same_clients connected after numbers same are number = rw same number at (are number)
-
-bool_count : Bool → ℕ
-bool_count b = if b then 1 else 0
+same_clients connected after numbers same are number = rw (same number) (are number)
 
 -- one comes
 pub comes : (client : ℕ) (connected after : ℕ → Bool) (numbers : List ℕ) → Connects client connected after → AreConnected connected numbers
@@ -54,6 +49,11 @@ comes client connected after numbers connects are number = by_test (number == cl
         let was : count_of number numbers ≡ (if after number then 1 else 0) = rw new (are number) in
         omega (arith, count_append number numbers (client ∷ []), none, was)
 
+-- a number that stood there once stands there no longer
+at_most_one : (b : Bool) (all n : ℕ) → all ≡ 1 + n → all ≡ (if b then 1 else 0) → n ≡ 0
+at_most_one true all n one is = omega (arith, one, is)
+at_most_one false all n one is = absurd (omega (arith, one, is))
+
 -- one goes
 pub goes : (client : ℕ) (connected after : ℕ → Bool) (before rest : List ℕ) → Disconnects client connected after
     → AreConnected connected (before ++ client ∷ rest) → AreConnected after (before ++ rest)
@@ -63,13 +63,10 @@ goes client connected after before rest disconnects are number = by_test (number
     by_test true is =
         let new : after number ≡ false = disconnects number ∙ rw is refl in
         let one : count_of number (client ∷ rest) ≡ 1 + count_of number rest = rw is refl in
-        rw new (at_most_one (connected number) (count_of number (before ++ rest)) (omega (arith, count_append number before (client ∷ rest), count_append number before rest, one)) (are number))
+        rw new (at_most_one (connected number) (count_of number (before ++ client ∷ rest)) (count_of number (before ++ rest))
+            (omega (arith, count_append number before (client ∷ rest), count_append number before rest, one)) (are number))
     by_test false is =
         let new : after number ≡ connected number = disconnects number ∙ rw is refl in
         let none : count_of number (client ∷ rest) ≡ 0 + count_of number rest = rw is refl in
         let was : count_of number (before ++ client ∷ rest) ≡ (if after number then 1 else 0) = rw new (are number) in
         omega (arith, count_append number before (client ∷ rest), count_append number before rest, none, was)
-
-    at_most_one : (b : Bool) (n : ℕ) → count_of number (before ++ client ∷ rest) ≡ 1 + n → count_of number (before ++ client ∷ rest) ≡ (if b then 1 else 0) → n ≡ 0
-    at_most_one true n one is = omega (arith, one, is)
-    at_most_one false n one is = absurd (omega (arith, one, is))

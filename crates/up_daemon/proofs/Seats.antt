@@ -93,3 +93,10 @@ pub numbers_push : (connected : ℕ → Bool) (clients : List Client) (client : 
     → AreConnected connected (numbers_of (peers_of (clients ++ client ∷ [])) ++ rest)
 numbers_push connected clients client rest are =
     rw (map-append peer_of clients (client ∷ []), numbers_append (peers_of clients) (peer_of client ∷ []), append_assoc (numbers_of (peers_of clients)) (client.number ∷ []) rest) are
+
+-- one client more has come
+pub numbers_last : (connected : ℕ → Bool) (clients : List Client) (client : Client)
+    → AreConnected connected (numbers_of (peers_of clients) ++ client.number ∷ [])
+    → AreConnected connected (numbers_of (peers_of (clients ++ client ∷ [])))
+numbers_last connected clients client are =
+    rw (map-append peer_of clients (client ∷ []), numbers_append (peers_of clients) (peer_of client ∷ [])) are

@@ -7,11 +7,11 @@ use Rattle.up_model.specs.Queue.{queue}
 
 not_some : (found : Option ℕ) → is_some found ≡ false → found ≡ None
 not_some None is = refl
-not_some (Some event) is = elim is [ ]
+not_some (Some event) is = cc
 
 not_none : (found : Option ℕ) → is_some found ≡ true → found ≢ None
-not_none None is none = elim is [ ]
-not_none (Some event) is none = elim none [ ]
+not_none None is none = cc
+not_none (Some event) is none = cc
 
 pub none_is : (config : Configuration) (c : Chronicle) (has : Bool) → has ≡ is_some (turn_event config (queue c) c) → has ≡ false
     → turn_event config (queue c) c ≡ None

@@ -361,37 +361,46 @@ fn change<B: Book>(
             let target = target_of(alloc, setup, name.as_str(), &vars)?;
             let holders = holders_of(alloc, key, wait)?;
             start(alloc, book, holders, target)?;
+            Ok(())
         }
         Command::Stop => {
             let target = target_of(alloc, setup, name.as_str(), &vars)?;
             let holders = holders_of(alloc, key, wait)?;
             stop(alloc, book, holders, vars, target)?;
+            Ok(())
         }
         Command::Restart => {
             let target = target_of(alloc, setup, name.as_str(), &vars)?;
             let holders = holders_of(alloc, key, wait)?;
             restart(alloc, book, holders, target)?;
+            Ok(())
         }
         Command::Status => {
             let target = target_of(alloc, setup, name.as_str(), &vars)?;
             let answer = status(alloc, book, target)?;
             book.reply(answer)?;
+            Ok(())
         }
         Command::List => {
             let text = list(alloc, setup, book)?;
             tell(book, text)?;
+            Ok(())
         }
-        Command::Emit => emit(alloc, book, name.as_str(), vars)?,
+        Command::Emit => {
+            emit(alloc, book, name.as_str(), vars)?;
+            Ok(())
+        }
         Command::Version => {
             let text = version(alloc)?;
             tell(book, text)?;
+            Ok(())
         }
         Command::Reload | Command::ReloadConfiguration => {
             let text = not_supported(alloc, command)?;
             refuse(book, text)?;
+            Ok(())
         }
     }
-    Ok(())
 }
 
 /// Takes a request in, with what it does.

@@ -2,5 +2,5 @@
 use Rattle.std.proofs.Common.{rules}
 use Rattle.up_daemon.proofs.script.ScriptDoor.new.Goals as goal
 
-pub returns-clause-faults : goal.returns-clause-faults
-returns-clause-faults c = search rules
+pub returns-clause-calls : goal.returns-clause-calls
+returns-clause-calls c = search rules

@@ -2,5 +2,5 @@
 use Rattle.std.proofs.Common.{rules}
 use Rattle.up_daemon.proofs.script.ScriptDoorDoor.clear_record.Goals as goal
 
-pub returns-clause-faults : goal.returns-clause-faults
-returns-clause-faults c = search rules
+pub returns-clause-reports : goal.returns-clause-reports
+returns-clause-reports c = search rules

@@ -2,5 +2,5 @@
 use Rattle.std.proofs.Common.{rules}
 use Rattle.up_daemon.proofs.script.ScriptDoorDoor.read.Goals as goal
 
-pub returns-in-Nothing-clause-told : goal.returns-in-Nothing-clause-told
-returns-in-Nothing-clause-told c = search rules
+pub returns-in-Nothing-clause-reports : goal.returns-in-Nothing-clause-reports
+returns-in-Nothing-clause-reports c = search rules

@@ -2,5 +2,5 @@
 use Rattle.std.proofs.Common.{rules}
 use Rattle.up_daemon.proofs.unix.UnixDoorDoor.accept.Goals as goal
 
-pub returns-in-Client-clause-told : goal.returns-in-Client-clause-told
-returns-in-Client-clause-told c = search rules
+pub returns-in-Client-clause-reports : goal.returns-in-Client-clause-reports
+returns-in-Client-clause-reports c = search rules

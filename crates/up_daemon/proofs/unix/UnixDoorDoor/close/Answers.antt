@@ -2,5 +2,5 @@
 use Rattle.std.proofs.Common.{rules}
 use Rattle.up_daemon.proofs.unix.UnixDoorDoor.close.Goals as goal
 
-pub returns-then-make_room-clause-told : goal.returns-then-make_room-clause-told
-returns-then-make_room-clause-told c = search rules
+pub returns-then-make_room-clause-reports : goal.returns-then-make_room-clause-reports
+returns-then-make_room-clause-reports c = search rules

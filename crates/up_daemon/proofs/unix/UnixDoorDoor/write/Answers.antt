@@ -2,5 +2,5 @@
 use Rattle.std.proofs.Common.{rules}
 use Rattle.up_daemon.proofs.unix.UnixDoorDoor.write.Goals as goal
 
-pub returns-in-Ok-send-clause-told : goal.returns-in-Ok-send-clause-told
-returns-in-Ok-send-clause-told c = search rules
+pub returns-in-Ok-send-clause-reports : goal.returns-in-Ok-send-clause-reports
+returns-in-Ok-send-clause-reports c = search rules

@@ -1,4 +1,4 @@
-use Rattle.std.proofs.Common.{◌≡◌, ◌≢◌, ◌<◌, ◌+◌, [], None, refl, inl, inr, arith}
+use Rattle.std.proofs.Common.{◌<◌, ◌+◌, ◌∙◌, [], refl, inl, inr, arith}
 use Rattle.up_model.specs.Answers.{after_all}
 use Rattle.up_daemon.specs.Rounds.{TakesTurn, HasTurned, most_turns}
 use Rattle.up_daemon.specs.RoundStates.{TakingTurns}
@@ -16,18 +16,18 @@ loop-turn-preserved g c =
           let few : c.loop-turn.turn < most_turns = c.loop-turn-test.true in
           c.in_ok-take.ensures.takes config chronicle start (TakingTurns (c.loop-turn.turn + 1)) tt door so_far.stands
           (λ outputs is. TakesTurn c.loop-turn.turn outputs (state_of c.loop-turn.self (g.H.Host.calls c.loop-turn.host) door []) refl few
-          (some_is config history c.has_turn.result (c.has_turn.ensures.up config history so_far.stands) c.if-not-branch.false) is so_far.reaches);
+          (some_is config history c.has_turn.result (c.has_turn.ensures.up config history so_far.stands) c.if-not-has_turn.false) is so_far.reaches);
       numbers = c.in_ok-take.ensures.numbers ∙ before.numbers;
     }
 
-pub returns-then-not-branch-clause-turns : goal.returns-then-not-branch-clause-turns
-returns-then-not-branch-clause-turns g c config chronicle start door at =
+pub returns-then-not-has_turn-clause-turns : goal.returns-then-not-has_turn-clause-turns
+returns-then-not-has_turn-clause-turns g c config chronicle start door at =
     let so_far = c.loop-turn.invariant.goes door config chronicle start at in
     let history = after_all config chronicle c.loop-turn.self.log.fed.items in
     record {
       stands = so_far.stands;
       reaches = HasTurned c.loop-turn.turn (state_of c.loop-turn.self (g.H.Host.calls c.loop-turn.host) door []) refl
-          (inr (none_is config history c.has_turn.result (c.has_turn.ensures.up config history so_far.stands) c.if-not-branch.true)) so_far.reaches;
+          (inr (none_is config history c.has_turn.result (c.has_turn.ensures.up config history so_far.stands) c.if-not-has_turn.true)) so_far.reaches;
     }
 
 pub returns-clause-turns : goal.returns-clause-turns
