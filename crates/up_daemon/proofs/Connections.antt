@@ -13,15 +13,15 @@ count_append number (other ∷ before) after = let so_far = count_append number 
 -- a number that is not connected is that of nobody
 none_has : (number : ℕ) (peers : List Peer) → count_of number (numbers_of peers) ≡ 0 → IsNobody number peers
 none_has number [] none = tt
-none_has number (peer ∷ peers) none = by_test (number == peer.number) refl
+none_has number (peer ∷ peers) none = by_test (number == peer.number) refl (none_has number peers)
   where
-    by_test : (t : Bool) → (number == peer.number) ≡ t → IsNobody number (peer ∷ peers)
-    by_test true is =
+    by_test : (t : Bool) → (number == peer.number) ≡ t → (count_of number (numbers_of peers) ≡ 0 → IsNobody number peers) → IsNobody number (peer ∷ peers)
+    by_test true is others =
         let one : count_of number (numbers_of (peer ∷ peers)) ≡ 1 + count_of number (numbers_of peers) = rw is refl in
         absurd (omega (arith, one, none))
-    by_test false is =
+    by_test false is others =
         let rest : count_of number (numbers_of (peer ∷ peers)) ≡ 0 + count_of number (numbers_of peers) = rw is refl in
-        (λ same. absurd (both_ways (number == peer.number) is (eq-eqb number peer.number same)), none_has number peers (omega (arith, rest, none)))
+        (λ same. absurd (both_ways (number == peer.number) is (eq-eqb number peer.number same)), others (omega (arith, rest, none)))
 
 pub nobody : (number : ℕ) (peers : List Peer) (connected : ℕ → Bool) → connected number ≡ false → AreConnected connected (numbers_of peers)
     → IsNobody number peers

@@ -100,11 +100,14 @@ door_failed start due host door fed gave left so_far = record {
   calls = so_far.calls;
 }
 
+plus_none : (n : ℕ) → n ≡ n + 0
+plus_none n = omega arith
+
 -- an input is fed: an end was found by a call
-feeds : (start : DaemonState) (due ends : ℕ) (host : Calls Happened) (door : Calls Passed) (fed : List Input) (gave : List (List Output)) (left : List Output) (given : Input) (outputs : List Output)
-    → ends_in (given ∷ []) ≡ ends
-    → Counted start (due + ends) host door fed gave left → Counted start due host door (fed ++ given ∷ []) (gave ++ outputs ∷ []) (outputs ++ left)
-feeds start due ends host door fed gave left given outputs is so_far = record {
+feeds : (start : DaemonState) (due all : ℕ) (host : Calls Happened) (door : Calls Passed) (fed : List Input) (gave : List (List Output)) (left : List Output) (given : Input) (outputs : List Output)
+    → all ≡ due + ends_in (given ∷ [])
+    → Counted start all host door fed gave left → Counted start due host door (fed ++ given ∷ []) (gave ++ outputs ∷ []) (outputs ++ left)
+feeds start due all host door fed gave left given outputs is so_far = record {
   host_made = so_far.host_made;
   door_made = so_far.door_made;
   failed = so_far.failed;
@@ -141,13 +144,13 @@ pub counted : (config : Configuration) (c : Chronicle) (start : DaemonState) (pa
 counted config c start part state Opens = record { host_made = omega arith; door_made = omega arith; failed = 0; faults = refl; calls = omega arith }
 counted config c start part state (ReadsClock reading outputs was is reaches) =
     let so_far = counted config c start _ _ reaches in
-    feeds start 1 0 _ was.door was.fed was.gave was.left (input.Clock reading) outputs refl (did start 0 was.host was.door was.fed was.gave was.left (happened.Now reading) so_far)
+    feeds start 1 _ _ was.door was.fed was.gave was.left (input.Clock reading) outputs refl (did start 0 was.host was.door was.fed was.gave was.left (happened.Now reading) so_far)
 counted config c start part state (ClockFails was reaches) =
     let so_far = counted config c start _ _ reaches in
     failed start 0 was.host was.door was.fed was.gave was.left so_far
 counted config c start part state (FindsEnd who its how outputs was none is reaches) =
     let so_far = counted config c start _ _ reaches in
-    feeds start 1 1 _ was.door was.fed was.gave was.left (input.Ended who its how) outputs refl (did start 1 was.host was.door was.fed was.gave was.left (happened.Polled (Some (who, its, how))) so_far)
+    feeds start 1 _ _ was.door was.fed was.gave was.left (input.Ended who its how) outputs refl (did start 1 was.host was.door was.fed was.gave was.left (happened.Polled (Some (who, its, how))) so_far)
 counted config c start part state (FindsNone was none reaches) =
     let so_far = counted config c start _ _ reaches in
     did start 1 was.host was.door was.fed was.gave was.left (happened.Polled None) so_far
@@ -195,13 +198,13 @@ counted config c start part state (HasRead was reaches) =
     so_far
 counted config c start part state (Enters request clients outputs was none below entered is reaches) =
     let so_far = counted config c start _ _ reaches in
-    feeds start 2 0 was.host was.door was.fed was.gave was.left (input.Request was.next request) outputs refl so_far
+    feeds start 2 _ was.host was.door was.fed was.gave was.left (input.Request was.next request) outputs refl so_far
 counted config c start part state (HasServed was none rest reaches) =
     let so_far = counted config c start _ _ reaches in
     so_far
 counted config c start part state (TakesTurn turns outputs was none few touches is reaches) =
     let so_far = counted config c start _ _ reaches in
-    feeds start 2 0 was.host was.door was.fed was.gave was.left input.Turn outputs refl so_far
+    feeds start 2 _ was.host was.door was.fed was.gave was.left input.Turn outputs refl so_far
 counted config c start part state (HasTurned turns was none rest reaches) =
     let so_far = counted config c start _ _ reaches in
     so_far
@@ -216,11 +219,11 @@ counted config c start part state (WriteFails peer unwritten was some reaches) =
     door_failed start 2 was.host was.door was.fed was.gave was.left so_far
 counted config c start part state (Starts among here order pid outputs left was first is reaches) =
     let so_far = counted config c start _ _ reaches in
-    feeds start (made_by among) 0 _ was.door was.fed was.gave left (ran order pid) outputs refl
+    feeds start (made_by among) _ _ was.door was.fed was.gave left (ran order pid) outputs (plus_none (made_by among))
     (carried start (made_by among) _ was.door was.fed was.gave was.left left (ap orders_in first) (did start (made_by among) was.host was.door was.fed was.gave was.left (happened.Spawned order pid) so_far))
 counted config c start part state (StartFails among here order outputs left was first is reaches) =
     let so_far = counted config c start _ _ reaches in
-    feeds start (made_by among) 0 _ was.door was.fed was.gave left (ran_not order) outputs refl
+    feeds start (made_by among) _ _ was.door was.fed was.gave left (ran_not order) outputs (plus_none (made_by among))
     (carried start (made_by among) _ was.door was.fed was.gave was.left left (ap orders_in first) (failed start (made_by among) was.host was.door was.fed was.gave was.left so_far))
 counted config c start part state (Signals among here who pid signal left was first reaches) =
     let so_far = counted config c start _ _ reaches in

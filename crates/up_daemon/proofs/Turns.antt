@@ -5,11 +5,11 @@ use Rattle.up_model.specs.Configuration.{Configuration}
 use Rattle.up_model.specs.Due.{turn_event}
 use Rattle.up_model.specs.Queue.{queue}
 
-not_some : (found : Option ℕ) → is_some found ≡ false → found ≡ None
+not_some : {A : Type 0} (found : Option A) → is_some found ≡ false → found ≡ None
 not_some None is = refl
 not_some (Some event) is = cc
 
-not_none : (found : Option ℕ) → is_some found ≡ true → found ≢ None
+not_none : {A : Type 0} (found : Option A) → is_some found ≡ true → found ≢ None
 not_none None is none = cc
 not_none (Some event) is none = cc
 

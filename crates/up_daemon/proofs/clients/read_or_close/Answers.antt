@@ -19,4 +19,4 @@ pub returns-clause-connected : goal.returns-clause-connected
 returns-clause-connected g c before after are =
     let connected = g.D.Door.connected c.args.door.now in
     let kept = same_clients connected (g.D.Door.connected c.read.new.door) (before ++ c.read.new.self.number ∷ after) c.in_ok-read.ensures.connects (rw c.in_ok-read.ensures.same are) in
-    rw c.if-branch.false (goes c.read.new.self.number (g.D.Door.connected c.read.new.door) (g.D.Door.connected c.close.new.self) before after c.close.ensures.connects kept)
+    goes c.read.new.self.number (g.D.Door.connected c.read.new.door) (g.D.Door.connected c.close.new.self) before after c.close.ensures.connects kept
