@@ -64,7 +64,7 @@ goes client connected after before rest disconnects are number = by_test (number
         let new : after number ≡ false = disconnects number ∙ rw is refl in
         let one : count_of number (client ∷ rest) ≡ 1 + count_of number rest = rw is refl in
         rw new (at_most_one (connected number) (count_of number (before ++ client ∷ rest)) (count_of number (before ++ rest))
-            (omega (arith, count_append number before (client ∷ rest), count_append number before rest, one)) (are number))
+        (omega (arith, count_append number before (client ∷ rest), count_append number before rest, one)) (are number))
     by_test false is =
         let new : after number ≡ connected number = disconnects number ∙ rw is refl in
         let none : count_of number (client ∷ rest) ≡ 0 + count_of number rest = rw is refl in

@@ -22,7 +22,7 @@ returns-clause-round g c config chronicle start stands connected is =
     let found = c.in_ok-find_ends.ensures.goes door config chronicle start (c.in_ok-read_clock.ensures.goes door config chronicle start opens) in
     let known : HasItsClients start → AreConnected (g.D.Door.connected c.clear_record-2.new.self) (numbers_in c.find_ends.new.self)
     = λ has. rw (c.in_ok-find_ends.ensures.numbers ∙ c.in_ok-read_clock.ensures.numbers ∙ clients)
-        (same_clients (g.D.Door.connected c.args.door.now) (g.D.Door.connected c.clear_record-2.new.self) (numbers_of start.clients) c.clear_record-2.ensures.connects (rw connected at has)) in
+    (same_clients (g.D.Door.connected c.args.door.now) (g.D.Door.connected c.clear_record-2.new.self) (numbers_of start.clients) c.clear_record-2.ensures.connects (rw connected at has)) in
     let host = g.H.Host.calls c.find_ends.new.host in
     let heard : IsAt config chronicle start TakingRequests c.hear.new.self.engine (state_of c.hear.new.self host (g.D.Door.calls c.hear.new.door) [])
     = record {
