@@ -60,10 +60,10 @@ fn events_that_are_held_have_no_turn(rt: HostRuntime) -> Result<(), Fail> {
 fn one_in_the_middle_finishes_alone(rt: HostRuntime) -> Result<(), Fail> {
     let mut events = Events::new(rt.alloc());
     let a = events.push(event(rt.alloc(), "a")?, Some(1))?;
-    events.push(event(rt.alloc(), "b")?, Some(2))?;
-    let c = events.push(event(rt.alloc(), "c")?, Some(3))?;
     events.handled(a);
     events.hold(a);
+    events.push(event(rt.alloc(), "b")?, Some(2))?;
+    let c = events.push(event(rt.alloc(), "c")?, Some(3))?;
     let turns = (turn(&mut events), turn(&mut events));
     let next = events.next_turn();
     assert_eq!(rt;
