@@ -1,8 +1,9 @@
 //! The queue of live events.
 ghost use Rattle.std.specs.Prelude.{◌≡◌, ◌++◌, ◌∷◌, [], length, option_map, IfOk, IfSome, IsSomeAnd, OnErr, Some, None};
+ghost use Rattle.std.specs.Option.{option_copied};
 ghost use Rattle.up_event.specs.LiveEvents.{named, AreDistinct, new_live, with_change, without, as_handled, with_hold, without_hold, outcome_of, next_turn, IsLive, IsHeld, MayBeHeld, MayFinish};
 
-use crate::live::{self, Finished, TurnKind};
+use crate::live::{self, Finished, LiveEvent, TurnKind};
 use crate::nodes::{self, Node};
 use slab::Slab;
 use std::alloc::{AllocError, Global};
@@ -57,6 +58,16 @@ impl Events {
         ensures { IsSomeAnd (named id self.now) (λ live. live.event ≡ result.now) }
     {
         &self.nodes[id.key].live.event
+    }
+
+    /// The live event that an id names, if it lives.
+    pub fn find(&self, id: EventId) -> Option<&LiveEvent>
+        ensures { option_copied result ≡ named id self.now }
+    {
+        match self.nodes.get(id.key) {
+            Some(node) => Some(&node.live),
+            None => None,
+        }
     }
 
     /// Adds an event, which is the newest, with the client that waits for it. Its id may be that of an event that finished.

@@ -146,6 +146,19 @@ impl Trigger {
         }
     }
 
+    /// The events that its leaves keep, from left to right: one for each leaf that keeps one.
+    pub fn kept(&self, alloc: Global) -> Result<Items<EventId>, AllocError>
+        ensures { IfOk result (λ kept. kept ≡ kept_by self.now) }
+    {
+        match &self.marks {
+            Some(marks) => {
+                let kept = marks.kept(alloc)?;
+                Ok(kept)
+            }
+            None => Ok(Items::new(Vec::new(alloc))),
+        }
+    }
+
     /// Offers an event to the leaves at these places, which are those that name it. Where memory is refused
     /// nothing changes.
     pub fn offer(

@@ -1,0 +1,85 @@
+-- An entry that doesn't concern an instance leaves all that is known of it.
+use Rattle.std.proofs.Common.{◌≡◌, ℕ, ◌<◌, ◌==◌, Bool, true, false, not, ◌&&◌, List, [], ◌∷◌, length, map, Option, None, Some, refl, sym, ◌∙◌, ap, arith, ne_eqb}
+use Rattle.std.specs.List.{AllByRecursion}
+use Rattle.up_conf.specs.declared.job.JobDef.{JobDef}
+use Rattle.up_model.specs.declared.input.Input.TheVariants as input
+use Rattle.up_model.specs.declared.state.Goal.TheVariants.{Start, Stop}
+use Rattle.up_model.specs.declared.state.State.{State}
+use Rattle.up_model.specs.declared.state.State.TheVariants as state
+use Rattle.up_model.specs.Chronicle.{Chronicle, Entry, Given, Queued, Handled, Offered, Fired, Finished, Made, Aimed, Restarted, Released, Failed, Respawned, Entered, Ordered, Signalled, Replied, Outside, Entering, Spoilt}
+use Rattle.up_model.specs.Configuration.{Configuration}
+use Rattle.up_model.specs.Instances.{Instance}
+use Rattle.up_model.specs.Readings.{holders}
+use Rattle.up_model.proofs.Places.{older-other}
+use Rattle.up_book.specs.Keeps.{HoldsOlder}
+use Rattle.up_book.specs.Summaries.{Holding, holding_at, Summary, summary}
+
+-- what holds by an older place does so one entry later
+pub holding-later : (e : Entry) (c : Chronicle) (places : List ℕ) → AllByRecursion (λ place. place < length c) places
+    → map (holding_at (e ∷ c)) places ≡ map (holding_at c) places
+holding-later e c [] all = refl
+holding-later e c (place ∷ places) all = rw (older-other (length c) place all.0, holding-later e c places all.1) refl
+
+-- whether an entry may change what is known of an instance
+abbrev pub concerns : ℕ → Entry → Bool
+concerns i (Given (input.Emit event)) = false
+concerns i (Given (input.Request id request)) = false
+concerns i (Given (input.Clock reading)) = false
+concerns i (Given input.Turn) = false
+concerns i (Given (input.Spawned who its pid)) = true
+concerns i (Given (input.Refused who its)) = true
+concerns i (Given (input.Ended who its how)) = true
+concerns i (Queued (Outside given) event) = false
+concerns i (Queued (Spoilt spoilt) event) = false
+concerns i (Queued (Entering other entered) event) = other == i
+concerns i (Handled event) = false
+concerns i (Offered expression event) = false
+concerns i (Fired expression taken) = false
+concerns i (Finished event) = true
+concerns i (Made job name) = true
+concerns i (Aimed other goal env its) = other == i
+concerns i (Restarted other its) = other == i
+concerns i (Released other failed) = other == i
+concerns i (Failed other its) = other == i
+concerns i (Respawned other moment) = other == i
+concerns i (Entered other to) = other == i
+concerns i (Ordered other its) = other == i
+concerns i (Signalled other signal by_timer) = other == i
+concerns i (Replied request answer) = false
+
+-- but for what is held, which is named by places
+abbrev pub SameBut : Summary → Summary → Type 0
+SameBut s t = s ≡ record t { holders = s.holders }
+
+pub same-held : (s t : Summary) → SameBut s t → s.holders ≡ t.holders → s ≡ t
+same-held s t same held = same ∙ ap (λ (hs : List (Option Holding)). record t { holders = hs }) held
+
+pub spared : (config : Configuration) (job : JobDef) (e : Entry) (c : Chronicle) (x : Instance) → concerns x.place e ≡ false → HoldsOlder x.place c
+    → summary config job (e ∷ c) x ≡ summary config job c x
+spared config job (Given (input.Emit event)) c x apart older = rw (holding-later (Given (input.Emit event)) c (holders x.place c) older) refl
+spared config job (Given (input.Request id request)) c x apart older = rw (holding-later (Given (input.Request id request)) c (holders x.place c) older) refl
+spared config job (Given (input.Clock reading)) c x apart older = rw (holding-later (Given (input.Clock reading)) c (holders x.place c) older) refl
+spared config job (Given input.Turn) c x apart older = rw (holding-later (Given input.Turn) c (holders x.place c) older) refl
+spared config job (Given (input.Spawned who its pid)) c x apart older = absurd cc
+spared config job (Given (input.Refused who its)) c x apart older = absurd cc
+spared config job (Given (input.Ended who its how)) c x apart older = absurd cc
+spared config job (Queued (Outside given) event) c x apart older = rw (holding-later (Queued (Outside given) event) c (holders x.place c) older) refl
+spared config job (Queued (Spoilt spoilt) event) c x apart older = rw (holding-later (Queued (Spoilt spoilt) event) c (holders x.place c) older) refl
+spared config job (Queued (Entering other entered) event) c x apart older = rw (holding-later (Queued (Entering other entered) event) c (holders x.place c) older, apart) refl
+spared config job (Handled event) c x apart older = rw (holding-later (Handled event) c (holders x.place c) older) refl
+spared config job (Offered expression event) c x apart older = rw (holding-later (Offered expression event) c (holders x.place c) older) refl
+spared config job (Fired expression taken) c x apart older = rw (holding-later (Fired expression taken) c (holders x.place c) older) refl
+spared config job (Finished event) c x apart older = absurd cc
+spared config job (Made other name) c x apart older = absurd cc
+spared config job (Aimed other Start env its) c x apart older = rw (apart, holding-later (Aimed other Start env its) c (holders x.place c) older) refl
+spared config job (Aimed other Stop env its) c x apart older = rw (apart, holding-later (Aimed other Stop env its) c (holders x.place c) older) refl
+spared config job (Restarted other its) c x apart older = rw (apart, holding-later (Restarted other its) c (holders x.place c) older) refl
+spared config job (Released other failed) c x apart older = rw (apart, holding-later (Released other failed) c (holders x.place c) older) refl
+spared config job (Failed other its) c x apart older = rw (apart, holding-later (Failed other its) c (holders x.place c) older) refl
+spared config job (Respawned other moment) c x apart older = rw (apart, holding-later (Respawned other moment) c (holders x.place c) older) refl
+spared config job (Entered other state.Starting) c x apart older = rw (apart, holding-later (Entered other state.Starting) c (holders x.place c) older) refl
+spared config job (Entered other to) c x apart older = rw (apart, holding-later (Entered other to) c (holders x.place c) older) refl
+spared config job (Ordered other its) c x apart older = rw (apart, holding-later (Ordered other its) c (holders x.place c) older) refl
+spared config job (Signalled other signal true) c x apart older = rw (apart, holding-later (Signalled other signal true) c (holders x.place c) older) refl
+spared config job (Signalled other signal false) c x apart older = rw (apart, holding-later (Signalled other signal false) c (holders x.place c) older) refl
+spared config job (Replied request answer) c x apart older = rw (holding-later (Replied request answer) c (holders x.place c) older) refl

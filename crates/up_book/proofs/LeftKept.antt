@@ -1,0 +1,147 @@
+-- The processes that may still be ordered are counted by what is kept.
+use Rattle.std.proofs.Common.{◌≡◌, ℕ, zero, suc, ◌+◌, ◌<◌, ◌≤◌, ◌==◌, Bool, true, false, List, [], ◌∷◌, length, map, Option, None, Some, is_some, option_map, bytes_eq, if◌then◌else◌, refl, sym, ◌∙◌, ap, subst, arith, eqb-true, eq-eqb}
+use Rattle.std.specs.List.{AllByRecursion}
+use Rattle.up_conf.specs.declared.job.JobDef.{JobDef}
+use Rattle.up_model.specs.declared.event_id.EventId.{EventId}
+use Rattle.up_model.specs.declared.state.State.TheVariants as state
+use Rattle.up_model.specs.Chronicle.{Chronicle, Entry, Made, Entered}
+use Rattle.up_model.specs.Configuration.{Configuration, job_named}
+use Rattle.up_model.specs.Instances.{Instance, is_before, with_instance, without_instance, instances_of, all_instances}
+use Rattle.up_model.specs.Left.{left_in, left_at, left_among, left}
+use Rattle.up_model.specs.Readings.{goal, state_of, blocker}
+use Rattle.up_model.specs.Values.{Bytes}
+use Rattle.up_model.proofs.Places.{bytes_same, bytes_refl}
+use Rattle.up_book.specs.declared.kept.JobKept.{JobKept}
+use Rattle.up_book.specs.declared.kept.Kept.{Kept}
+use Rattle.up_book.specs.Keeps.{AreDistinct, KeepsJobs}
+use Rattle.up_book.specs.Summaries.{Summary, JobSummary, summary, job_summary}
+use Rattle.up_book.specs.Views.{Places, view, job_view}
+use Rattle.up_book.specs.Lefts.{left_of_kept, left_of_all, left_of_jobs}
+use Rattle.up_book.specs.Regular.{AreNamed}
+
+-- a sum over instances
+abbrev pub sum : (ℕ → ℕ) → List Instance → ℕ
+sum f [] = 0
+sum f (x ∷ xs) = f x.place + sum f xs
+
+abbrev pub but : ℕ → (ℕ → ℕ) → ℕ → ℕ
+but i f place = if place == i then 0 else f place
+
+sum-without : (f : ℕ → ℕ) (i : ℕ) (xs : List Instance) → sum f (without_instance i xs) ≡ sum (but i f) xs
+sum-without f i [] = refl
+sum-without f i (x ∷ xs) = by_case (x.place == i) (sum-without f i xs)
+  where
+    by_case : (b : Bool) → sum f (without_instance i xs) ≡ sum (but i f) xs
+        → sum f (if b then without_instance i xs else x ∷ without_instance i xs) ≡ (if b then 0 else f x.place) + sum (but i f) xs
+    by_case true ih = omega (arith, ih)
+    by_case false ih = omega (arith, ih)
+
+sum-with : (f : ℕ → ℕ) (x : Instance) (xs : List Instance) → sum f (with_instance x xs) ≡ f x.place + sum f xs
+sum-with f x [] = refl
+sum-with f x (y ∷ ys) = by_case (is_before y x) (sum-with f x ys)
+  where
+    by_case : (b : Bool) → sum f (with_instance x ys) ≡ f x.place + sum f ys
+        → sum f (if b then y ∷ with_instance x ys else x ∷ y ∷ ys) ≡ f x.place + (f y.place + sum f ys)
+    by_case true ih = omega (arith, ih)
+    by_case false ih = refl
+
+-- over the instances of jobs
+abbrev pub job_sums : (ℕ → ℕ) → List JobDef → Chronicle → ℕ
+job_sums f [] c = 0
+job_sums f (job ∷ jobs) c = sum f (instances_of job.name c) + job_sums f jobs c
+
+sums-none : (f : ℕ → ℕ) (jobs : List JobDef) → job_sums f jobs [] ≡ 0
+sums-none f [] = refl
+sums-none f (job ∷ jobs) = omega (arith, sums-none f jobs)
+
+sums-same : (f : ℕ → ℕ) (jobs : List JobDef) (c d : Chronicle) → ((name : Bytes) → instances_of name d ≡ instances_of name c) → job_sums f jobs d ≡ job_sums f jobs c
+sums-same f [] c d same = refl
+sums-same f (job ∷ jobs) c d same = rw (same job.name, sums-same f jobs c d same) refl
+
+sums-left : (f : ℕ → ℕ) (i : ℕ) (jobs : List JobDef) (c : Chronicle) → job_sums f jobs (Entered i state.Waiting ∷ c) ≡ job_sums (but i f) jobs c
+sums-left f i [] c = refl
+sums-left f i (job ∷ jobs) c = rw (sum-without f i (instances_of job.name c), sums-left f i jobs c) refl
+
+back : (x y : Bytes) → bytes_eq x y ≡ false → bytes_eq y x ≡ false
+back x y apart = by_case (bytes_eq y x) refl
+  where
+    by_case : (b : Bool) → bytes_eq y x ≡ b → b ≡ false
+    by_case true same =
+        let yes : bytes_eq x y ≡ true = ap (λ z. bytes_eq x z) (bytes_same y x same) ∙ bytes_refl x in
+        absurd cc
+    by_case false differs = refl
+
+sums-past : (f : ℕ → ℕ) (jobs : List JobDef) (made name : Bytes) (c : Chronicle) → AllByRecursion (λ other. bytes_eq other.name made ≡ false) jobs → job_sums f jobs (Made made name ∷ c) ≡ job_sums f jobs c
+sums-past f [] made name c apart = refl
+sums-past f (job ∷ jobs) made name c apart = rw (back job.name made apart.0, sums-past f jobs made name c apart.1) refl
+
+sums-made : (f : ℕ → ℕ) (jobs : List JobDef) (made name : Bytes) (c : Chronicle) → AreDistinct jobs → is_some (job_named made jobs) ≡ true
+    → job_sums f jobs (Made made name ∷ c) ≡ f (length c) + job_sums f jobs c
+sums-made f [] made name c distinct some = absurd cc
+sums-made f (job ∷ jobs) made name c distinct some = by_case (bytes_eq job.name made) refl some (sums-made f jobs made name c distinct.1)
+  where
+    new : Instance
+    new = record { place = length c; name = name }
+
+    by_case : (b : Bool) → bytes_eq job.name made ≡ b → is_some (if b then Some job else job_named made jobs) ≡ true
+        → (is_some (job_named made jobs) ≡ true → job_sums f jobs (Made made name ∷ c) ≡ f (length c) + job_sums f jobs c)
+        → job_sums f (job ∷ jobs) (Made made name ∷ c) ≡ f (length c) + job_sums f (job ∷ jobs) c
+    by_case true same some ih =
+        let names : job.name ≡ made = bytes_same job.name made same in
+        let here : bytes_eq made job.name ≡ true = ap (λ n. bytes_eq made n) names ∙ bytes_refl made in
+        let past = sums-past f jobs made name c (subst (λ n. AllByRecursion (λ (other : JobDef). bytes_eq other.name n ≡ false) jobs) names distinct.0) in
+        rw (here, past) (omega (arith, sum-with f new (instances_of job.name c)))
+    by_case false differs some ih =
+        let rest = ih some in
+        rw (back job.name made differs) (omega (arith, rest))
+
+-- a sum over all instances is one over the jobs
+pub sum-all : (f : ℕ → ℕ) (jobs : List JobDef) (c : Chronicle) → AreDistinct jobs → AreNamed jobs c → sum f (all_instances c) ≡ job_sums f jobs c
+sum-all f jobs [] distinct named = sym (sums-none f jobs)
+sum-all f jobs (Made made name ∷ c) distinct named =
+    omega (arith, sum-all f jobs c distinct named.1, sums-made f jobs made name c distinct named.0)
+sum-all f jobs (Entered i state.Waiting ∷ c) distinct named =
+    sum-without f i (all_instances c) ∙ sum-all (but i f) jobs c distinct named ∙ sym (sums-left f i jobs c)
+sum-all f jobs (entry ∷ c) distinct named = sum-all f jobs c distinct named ∙ sym (sums-same f jobs c (entry ∷ c) (λ name. refl))
+
+-- by summaries
+abbrev left_by : Summary → ℕ
+left_by s = left_in s.goal s.state (is_some s.blocker)
+
+abbrev left_by_all : List Summary → ℕ
+left_by_all [] = 0
+left_by_all (s ∷ its) = left_by s + left_by_all its
+
+abbrev left_by_jobs : List JobSummary → ℕ
+left_by_jobs [] = 0
+left_by_jobs (job ∷ jobs) = left_by_all job.instances + left_by_jobs jobs
+
+is_some-map : {X Y : Type 0} (f : X → Y) (its : Option X) → is_some (option_map f its) ≡ is_some its
+is_some-map f None = refl
+is_some-map f (Some x) = refl
+
+kept-by : (places : Places) (its : List Kept) → left_by_all (map (view places) its) ≡ left_of_all its
+kept-by places [] = refl
+kept-by places (kept ∷ its) = rw (is_some-map places kept.blocker, kept-by places its) refl
+
+jobs-by : (places : Places) (jobs : List JobKept) → left_by_jobs (map (job_view places) jobs) ≡ left_of_jobs jobs
+jobs-by places [] = refl
+jobs-by places (job ∷ jobs) = rw (kept-by places job.instances, jobs-by places jobs) refl
+
+seen-by : (config : Configuration) (job : JobDef) (c : Chronicle) (its : List Instance) → left_by_all (map (summary config job c) its) ≡ sum (λ p. left_at p c) its
+seen-by config job c [] = refl
+seen-by config job c (x ∷ its) = rw (is_some-map Some (blocker x.place c), seen-by config job c its) refl
+
+summed-by : (config : Configuration) (c : Chronicle) (jobs : List JobDef) → left_by_jobs (map (job_summary config c) jobs) ≡ job_sums (λ p. left_at p c) jobs c
+summed-by config c [] = refl
+summed-by config c (job ∷ jobs) = rw (seen-by config job c (instances_of job.name c), summed-by config c jobs) refl
+
+among : (xs : List Instance) (c : Chronicle) → left_among xs c ≡ sum (λ p. left_at p c) xs
+among [] c = refl
+among (x ∷ xs) c = rw (among xs c) refl
+
+-- what is kept counts what may still be ordered
+pub left-kept : (places : Places) (jobs : List JobKept) (config : Configuration) (c : Chronicle) → KeepsJobs places jobs config c → AreDistinct config.jobs → AreNamed config.jobs c → left_of_jobs jobs ≡ left c
+unfolding left
+left-kept places jobs config c keeps distinct named =
+    sym (jobs-by places jobs) ∙ ap left_by_jobs keeps ∙ summed-by config c config.jobs ∙ sym (sum-all (λ p. left_at p c) config.jobs c distinct named) ∙ sym (among (all_instances c) c)

@@ -1,0 +1,125 @@
+-- What is put out at an entry, by what is kept.
+use Rattle.std.proofs.Common.{◌≡◌, ℕ, zero, suc, ◌+◌, ◌<◌, ◌≤◌, ◌==◌, Bool, true, false, List, [], ◌∷◌, ◌++◌, length, map, Option, None, Some, option_map, bytes_eq, if◌then◌else◌, refl, sym, ◌∙◌, ap, subst, arith, eqb-true, eq-eqb, append-nil}
+use Rattle.std.specs.List.{AllByRecursion}
+use Rattle.up_conf.specs.declared.job.JobDef.{JobDef}
+use Rattle.up_stanza.specs.declared.process.Process.{Process}
+use Rattle.up_stanza.specs.declared.process.Process.TheVariants as process
+use Rattle.up_model.specs.declared.event.Event.{Event}
+use Rattle.up_model.specs.declared.input.Input.{Input}
+use Rattle.up_model.specs.declared.life.JobEvent.{JobEvent}
+use Rattle.up_model.specs.declared.output.Output.{Output}
+use Rattle.up_model.specs.declared.output.Output.TheVariants as output
+use Rattle.up_model.specs.declared.request.Answer.{Answer}
+use Rattle.up_model.specs.declared.state.State.{State}
+use Rattle.up_model.specs.declared.who.Who.{Who}
+use Rattle.up_model.specs.Chronicle.{Chronicle, Entry, Given, Queued, Handled, Offered, Fired, Finished, Made, Aimed, Restarted, Released, Failed, Respawned, Entered, Ordered, Signalled, Replied, Outside, Entering, Spoilt}
+use Rattle.up_model.specs.Configuration.{Configuration, job_named}
+use Rattle.up_model.specs.Instances.{Instance, instances_of}
+use Rattle.up_model.specs.Moves.{job_event, who_of}
+use Rattle.up_model.specs.Outputs.{outputs_of, order_of, order_by as order_by_job, signal_of, reply_of}
+use Rattle.up_model.specs.Readings.{made_at, id_at, process_env, pid_of}
+use Rattle.up_model.specs.Replies.{status_of, status_as, own_process, pid_if}
+use Rattle.up_model.specs.Values.{Bytes}
+use Rattle.up_model.proofs.Places.{bytes_same, bytes_refl}
+use Rattle.up_book.specs.declared.kept.Work.{Work}
+use Rattle.up_book.specs.Keeps.{AreDistinct}
+use Rattle.up_book.specs.Lists.{nth}
+use Rattle.up_book.specs.Summaries.{Summary, summary, works_at}
+use Rattle.up_book.proofs.Knowing.{work-known}
+use Rattle.up_book.proofs.One.{IsKnown, known-all, called, nth-all}
+use Rattle.up_book.specs.Sending.{who_by, env_by, order_by, signal_by, event_by, own_pid, status_by}
+
+-- the job of a place is found by its name
+back : (x y : Bytes) → bytes_eq x y ≡ false → bytes_eq y x ≡ false
+back x y apart = by_case (bytes_eq y x) refl
+  where
+    by_case : (b : Bool) → bytes_eq y x ≡ b → b ≡ false
+    by_case true same =
+        let yes : bytes_eq x y ≡ true = ap (λ z. bytes_eq x z) (bytes_same y x same) ∙ bytes_refl x in
+        absurd cc
+    by_case false differs = refl
+
+nth-apart : (n : ℕ) (jobs : List JobDef) (job first : JobDef) → nth n jobs ≡ Some job → AllByRecursion (λ other. bytes_eq other.name first.name ≡ false) jobs → bytes_eq job.name first.name ≡ false
+nth-apart n [] job first there all = absurd cc
+nth-apart zero (other ∷ jobs) job first there all =
+    let same : other ≡ job = cc in
+    ap (λ (j : JobDef). bytes_eq j.name first.name) (sym same) ∙ all.0
+nth-apart (suc n) (other ∷ jobs) job first there all = nth-apart n jobs job first there all.1
+
+pub named-there : (n : ℕ) (jobs : List JobDef) (job : JobDef) → nth n jobs ≡ Some job → AreDistinct jobs → job_named job.name jobs ≡ Some job
+named-there n [] job there distinct = absurd cc
+named-there zero (first ∷ jobs) job there distinct =
+    let same : first ≡ job = cc in
+    let here : bytes_eq first.name job.name ≡ true = ap (λ (j : JobDef). bytes_eq j.name job.name) same ∙ bytes_refl job.name in
+    rw here (ap (λ (j : JobDef). Some j) same)
+named-there (suc n) (first ∷ jobs) job there distinct =
+    rw (back job.name first.name (nth-apart n jobs job first there distinct.0)) (named-there n jobs job there distinct.1)
+
+pub made-there : (at : ℕ) (job : JobDef) (x : Instance) (c : Chronicle) → nth at (instances_of job.name c) ≡ Some x → made_at x.place c ≡ Some (called job.name x.name)
+made-there at job x c here =
+    let its = nth-all (IsKnown job.name c) at (instances_of job.name c) x here (known-all job.name c) in
+    its.1
+
+-- an order
+pub ordered-out : (config : Configuration) (c : Chronicle) (place at : ℕ) (job : JobDef) (x : Instance) (its : Process) → AreDistinct config.jobs → nth place config.jobs ≡ Some job
+    → nth at (instances_of job.name c) ≡ Some x → outputs_of config (Ordered x.place its ∷ c) ≡ outputs_of config c ++ order_by job (summary config job c x) its
+unfolding outputs_of
+ordered-out config c place at job x its distinct there here = rw (made-there at job x c here, named-there place config.jobs job there distinct) refl
+
+-- a signal
+pub signalled-out : (config : Configuration) (c : Chronicle) (at : ℕ) (job : JobDef) (x : Instance) (signal : ℕ) (by_timer : Bool)
+    → nth at (instances_of job.name c) ≡ Some x → outputs_of config (Signalled x.place signal by_timer ∷ c) ≡ outputs_of config c ++ signal_by job (summary config job c x) signal
+unfolding outputs_of
+signalled-out config c at job x signal by_timer here = rw (made-there at job x c here) refl
+
+-- an event of an instance's life, and which that is
+pub entering-out : (config : Configuration) (c : Chronicle) (i : ℕ) (entered : State) (event : Event) → outputs_of config (Queued (Entering i entered) event ∷ c) ≡ outputs_of config c ++ output.Emitted event ∷ []
+unfolding outputs_of
+entering-out config c i entered event = refl
+
+pub event-known : (config : Configuration) (c : Chronicle) (job : JobDef) (x : Instance) (kind : JobEvent) → job_event job (who_of job x) x.place kind c ≡ event_by job (summary config job c x) kind
+event-known config c job x kind = refl
+
+-- an event that tells of another
+pub spoilt-out : (config : Configuration) (c : Chronicle) (spoilt : ℕ) (event : Event) → outputs_of config (Queued (Spoilt spoilt) event ∷ c) ≡ outputs_of config c ++ output.Emitted event ∷ []
+unfolding outputs_of
+spoilt-out config c spoilt event = refl
+
+-- an answer to a request of this number
+pub replied-out : (config : Configuration) (c : Chronicle) (request id : ℕ) (answer : Answer) → id_at request c ≡ Some id → outputs_of config (Replied request answer ∷ c) ≡ outputs_of config c ++ output.Reply id answer ∷ []
+unfolding outputs_of
+replied-out config c request id answer there = rw there refl
+
+-- an input begins anew
+pub given-out : (config : Configuration) (c : Chronicle) (given : Input) → outputs_of config (Given given ∷ c) ≡ []
+unfolding outputs_of
+given-out config c given = refl
+
+-- and any other entry puts out nothing
+abbrev pub IsSilent : Entry → Type 0
+IsSilent (Given input) = ⊥
+IsSilent (Queued (Entering i entered) event) = ⊥
+IsSilent (Queued (Spoilt spoilt) event) = ⊥
+IsSilent (Ordered i its) = ⊥
+IsSilent (Signalled i signal by_timer) = ⊥
+IsSilent (Replied request answer) = ⊥
+IsSilent entry = Unit {0}
+
+pub silent-out : (config : Configuration) (c : Chronicle) (e : Entry) → IsSilent e → outputs_of config (e ∷ c) ≡ outputs_of config c
+unfolding outputs_of
+silent-out config c (Given input) is = absurd is
+silent-out config c (Queued (Entering i entered) event) is = absurd is
+silent-out config c (Queued (Spoilt spoilt) event) is = absurd is
+silent-out config c (Queued (Outside given) event) is = refl
+silent-out config c (Ordered i its) is = absurd is
+silent-out config c (Signalled i signal by_timer) is = absurd is
+silent-out config c (Replied request answer) is = absurd is
+silent-out config c e is = refl
+
+-- the status text
+pid-own : (o : Option Process) (i : ℕ) (c : Chronicle) → pid_if i o c ≡ own_pid o (works_at i c)
+pid-own None i c = refl
+pid-own (Some its) i c = sym (ap (λ (w : Work). w.pid) (work-known its i c))
+
+pub status-known : (config : Configuration) (c : Chronicle) (at : ℕ) (job : JobDef) (x : Instance) → nth at (instances_of job.name c) ≡ Some x → status_of x.place c ≡ status_by job (summary config job c x)
+status-known config c at job x here = rw (made-there at job x c here, pid-own (own_process (Rattle.up_model.specs.Readings.state_of x.place c)) x.place c) refl

@@ -1,0 +1,73 @@
+-- A chronicle stays one that a run brings about.
+use Rattle.std.proofs.Common.{◌≡◌, ℕ, ◌<◌, ◌≤◌, ◌==◌, ◌||◌, nat_lt, Bool, true, false, List, [], ◌∷◌, length, Option, None, Some, if◌then◌else◌, refl, sym, ◌∙◌, ap, subst, arith, ne_eqb}
+use Rattle.std.proofs.lemmas.Bool.{ltb-lt}
+use Rattle.std.specs.List.{AllByRecursion}
+use Rattle.up_model.specs.declared.input.Input.TheVariants as input
+use Rattle.up_model.specs.declared.state.State.{State}
+use Rattle.up_model.specs.declared.state.State.TheVariants as state
+use Rattle.up_model.specs.Chronicle.{Chronicle, Entry, Given, Queued, Handled, Offered, Fired, Finished, Made, Aimed, Restarted, Released, Failed, Respawned, Entered, Ordered, Signalled, Replied, Outside, Entering, Spoilt}
+use Rattle.up_model.specs.Clock.{now}
+use Rattle.up_model.specs.Configuration.{Configuration}
+use Rattle.up_model.specs.Held.{has, is_spoilt}
+use Rattle.up_model.specs.Readings.{holders}
+use Rattle.up_model.proofs.NameLaws.{Singles, entered-singles, made-singles}
+use Rattle.up_book.specs.Regular.{AreOlderOrigins, AreNamed, AreFalling, IsRegular, MayFollow}
+use Rattle.up_book.specs.Summaries.{moments}
+
+-- what falls from one moment falls from a later one
+falls-later : (last later : ℕ) (its : List ℕ) → last ≤ later → AreFalling last its → AreFalling later its
+falls-later last later [] before falling = tt
+falls-later last later (moment ∷ its) before falling = (omega (arith, before, falling.0), falling.1)
+
+clock-later : (n m : ℕ) → n ≤ (if nat_lt n m then m else n)
+clock-later n m = by_case (nat_lt n m) refl
+  where
+    by_case : (b : Bool) → nat_lt n m ≡ b → n ≤ (if b then m else n)
+    by_case true before = omega (arith, ltb-lt n m before)
+    by_case false before = omega arith
+
+now-later : (c : Chronicle) (e : Entry) → now c ≤ now (e ∷ c)
+now-later c (Given (input.Clock reading)) = clock-later (now c) reading
+now-later c e = omega arith
+
+-- what is older isn't what is to come
+none-older : (event n : ℕ) (places : List ℕ) → n ≤ event → AllByRecursion (λ place. place < n) places → has event places ≡ false
+none-older event n [] past all = refl
+none-older event n (place ∷ places) past all =
+    let apart : (place == event) ≡ false = ne_eqb place event (λ same. omega (arith, all.0, past)) in
+    rw (apart, none-older event n places past all.1) refl
+
+singles-next : (config : Configuration) (c : Chronicle) (e : Entry) → Singles c → MayFollow config c e → Singles (e ∷ c)
+singles-next config c (Made job name) single follow = made-singles job name c follow.0 single
+singles-next config c (Entered i to) single follow = entered-singles i to c single
+singles-next config c e single follow = single
+
+origins-next : (config : Configuration) (c : Chronicle) (e : Entry) → AreOlderOrigins c → MayFollow config c e → AreOlderOrigins (e ∷ c)
+origins-next config c (Queued (Outside given) event) origins follow = (follow, origins)
+origins-next config c e origins follow = origins
+
+named-next : (config : Configuration) (c : Chronicle) (e : Entry) → AreNamed config.jobs c → MayFollow config c e → AreNamed config.jobs (e ∷ c)
+named-next config c (Made job name) named follow = (follow.1, named)
+named-next config c e named follow = named
+
+unspoilt-next : (config : Configuration) (c : Chronicle) (e : Entry) → ((event : ℕ) → length c ≤ event → is_spoilt event c ≡ false) → MayFollow config c e → (event : ℕ) → length (e ∷ c) ≤ event → is_spoilt event (e ∷ c) ≡ false
+unspoilt-next config c (Released i true) unspoilt follow event past =
+    rw (none-older event (length c) (holders i c) (omega (arith, past)) follow) (unspoilt event (omega (arith, past)))
+unspoilt-next config c e unspoilt follow event past = unspoilt event (omega (arith, past))
+
+falling-next : (config : Configuration) (c : Chronicle) (e : Entry) → ((i : ℕ) → AreFalling (now c) (moments i c)) → MayFollow config c e → (i : ℕ) → AreFalling (now (e ∷ c)) (moments i (e ∷ c))
+falling-next config c (Respawned other moment) falling follow i = by_case (other == i)
+  where
+    by_case : (b : Bool) → AreFalling (now c) (if b then moment ∷ moments i c else moments i c)
+    by_case true = (omega (arith, follow), subst (λ m. AreFalling m (moments i c)) (sym follow) (falling i))
+    by_case false = falling i
+falling-next config c e falling follow i = falls-later (now c) (now (e ∷ c)) (moments i c) (now-later c e) (falling i)
+
+pub regular-next : (config : Configuration) (c : Chronicle) (e : Entry) → IsRegular config c → MayFollow config c e → IsRegular config (e ∷ c)
+regular-next config c e r follow = record {
+  origins = origins-next config c e r.origins follow;
+  unspoilt = unspoilt-next config c e r.unspoilt follow;
+  singles = singles-next config c e r.singles follow;
+  named = named-next config c e r.named follow;
+  falling = falling-next config c e r.falling follow;
+}

@@ -1,0 +1,14 @@
+use Rattle.std.proofs.Common.{◌≡◌, ◌∙◌, sym, ap, Some, is_some}
+use Rattle.std.specs.Option.{option_copied}
+use Rattle.up_book.specs.Changes.{work_of}
+use Rattle.up_book.specs.declared.kept.Work.{Work}
+use Rattle.up_book.proofs.Knowing.{knows, is_there, work-known, is_some-known}
+use Rattle.up_book.proofs.life.Lives.awaits.Goals as goal
+
+pub returns-in-Some : goal.returns-in-Some
+returns-in-Some c places config c' i keeps found =
+    let its = knows places c.args.self.now config c' c.args.key i c.in-Some.kept.now keeps found (sym c.kept.ensures ∙ ap option_copied c.in-Some.is) in
+    c.awaits.ensures ∙ ap (λ works. (work_of c.args.process works).awaited) its.works ∙ ap (λ (w : Work). w.awaited) (work-known c.args.process i c')
+
+pub returns-in-None : goal.returns-in-None
+returns-in-None c places config c' i keeps found = is_there places c.args.self.now config c' c.args.key i keeps found (sym c.kept.ensures ∙ ap option_copied c.in-None.is)

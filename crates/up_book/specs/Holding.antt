@@ -1,0 +1,36 @@
+-- Events that are held once more, or once less.
+use Rattle.std.specs.List.{AllByRecursion}
+use Rattle.std.specs.Prelude.{◌≡◌, ◌==◌, ◌||◌, Bool, true, is_some, List, [], ◌∷◌, map, Option, None, Some, if◌then◌else◌}
+use Rattle.up_event.specs.declared.live.LiveEvent.{LiveEvent}
+use Rattle.up_event.specs.LiveEvents.{named, with_change, with_hold, without_hold}
+use Rattle.up_model.specs.declared.event_id.EventId.{EventId}
+use Rattle.up_book.specs.declared.kept.Holder.{Holder}
+use Rattle.up_book.specs.declared.kept.Holder.TheVariants as holder
+use Rattle.up_book.specs.declared.kept.Kept.{Kept}
+use Rattle.up_book.specs.Counting.{event_of}
+
+-- one hold less, if there is one
+abbrev pub freed : (failed : Bool) → LiveEvent → LiveEvent
+freed failed live = if live.holds == 0 then live else without_hold failed live
+
+abbrev pub changed_by : (LiveEvent → LiveEvent) → Option EventId → List LiveEvent → List LiveEvent
+changed_by change None events = events
+changed_by change (Some id) events = with_change id change events
+
+-- the events of these holders are changed so, one after another
+abbrev pub all_changed : (LiveEvent → LiveEvent) → List Holder → List LiveEvent → List LiveEvent
+all_changed change [] events = events
+all_changed change (its ∷ holders) events = all_changed change holders (changed_by change (event_of its) events)
+
+abbrev pub held_by_kept : Option Kept → List Holder
+held_by_kept None = []
+held_by_kept (Some kept) = kept.holders
+
+-- the events of these holders live
+abbrev pub AllLive : List LiveEvent → List Holder → Type 0
+AllLive events its =
+    AllByRecursion (λ h. (id : EventId) → event_of h ≡ Some id → is_some (named id events) ≡ true) its
+
+-- these events, as holders
+abbrev pub as_holders : List EventId → List Holder
+as_holders ids = map holder.Event ids

@@ -1,0 +1,49 @@
+-- What holds of a chronicle that a run brings about.
+use Rattle.std.specs.Prelude.{◌≡◌, ◌<◌, ◌≤◌, ℕ, Bool, true, false, List, [], ◌∷◌, Option, None, is_some, length, ◌==◌, if◌then◌else◌}
+use Rattle.std.specs.List.{AllByRecursion}
+use Rattle.up_conf.specs.declared.job.JobDef.{JobDef}
+use Rattle.up_model.specs.declared.who.Who.{Who}
+use Rattle.up_model.specs.Chronicle.{Chronicle, Entry, Queued, Outside, Made, Released, Respawned}
+use Rattle.up_model.specs.Clock.{now}
+use Rattle.up_model.specs.Configuration.{Configuration, job_named}
+use Rattle.up_model.specs.Held.{is_spoilt}
+use Rattle.up_model.specs.Instances.{instance_named}
+use Rattle.up_model.specs.Readings.{holders}
+use Rattle.up_model.specs.Values.{Bytes}
+use Rattle.up_model.proofs.NameLaws.{Singles}
+use Rattle.up_book.specs.Summaries.{moments}
+
+-- events from outside come from what was given before them
+abbrev pub AreOlderOrigins : Chronicle → Type 0
+AreOlderOrigins [] = Unit {0}
+AreOlderOrigins (Queued (Outside given) event ∷ c) = (given < length c) × AreOlderOrigins c
+AreOlderOrigins (entry ∷ c) = AreOlderOrigins c
+
+-- each instance was made of one of these jobs
+abbrev pub AreNamed : List JobDef → Chronicle → Type 0
+AreNamed jobs [] = Unit {0}
+AreNamed jobs (Made job name ∷ c) = (is_some (job_named job jobs) ≡ true) × AreNamed jobs c
+AreNamed jobs (entry ∷ c) = AreNamed jobs c
+
+-- the newest first, and none after the last moment
+abbrev pub AreFalling : (last : ℕ) → List ℕ → Type 0
+AreFalling last [] = Unit {0}
+AreFalling last (moment ∷ moments) = (moment ≤ last) × AreFalling moment moments
+
+abbrev pub called : Bytes → Bytes → Who
+called job name = record { job = job; instance = name }
+
+pub record IsRegular (config : Configuration) (c : Chronicle) : Type 0 where
+  pub origins : AreOlderOrigins c
+  pub unspoilt : (event : ℕ) → length c ≤ event → is_spoilt event c ≡ false
+  pub singles : Singles c
+  pub named : AreNamed config.jobs c
+  pub falling : (instance : ℕ) → AreFalling (now c) (moments instance c)
+
+-- what may be the next entry of one
+abbrev pub MayFollow : Configuration → Chronicle → Entry → Type 0
+MayFollow config c (Queued (Outside given) event) = given < length c
+MayFollow config c (Made job name) = (instance_named (called job name) c ≡ None) × (is_some (job_named job config.jobs) ≡ true)
+MayFollow config c (Released instance true) = AllByRecursion (λ place. place < length c) (holders instance c)
+MayFollow config c (Respawned instance moment) = moment ≡ now c
+MayFollow config c entry = Unit {0}

@@ -1,0 +1,16 @@
+-- What clients are answered that held an instance.
+use Rattle.std.specs.Prelude.{Bool, List, [], ◌∷◌, ◌++◌}
+use Rattle.up_model.specs.declared.output.Output.{Output}
+use Rattle.up_model.specs.declared.output.Output.TheVariants as output
+use Rattle.up_model.specs.Replies.{answer_to}
+use Rattle.up_model.specs.Values.{Bytes}
+use Rattle.up_book.specs.declared.kept.Holder.{Holder}
+use Rattle.up_book.specs.declared.kept.Holder.TheVariants as holder
+
+abbrev pub reply_to : Holder → (failed : Bool) → Bytes → List Output
+reply_to (holder.Event id) failed told = []
+reply_to (holder.Client id command) failed told = output.Reply id (answer_to command failed told) ∷ []
+
+abbrev pub replies_to : List Holder → (failed : Bool) → Bytes → List Output
+replies_to [] failed told = []
+replies_to (its ∷ holders) failed told = reply_to its failed told ++ replies_to holders failed told

@@ -1,0 +1,62 @@
+-- What the request of a step acted on.
+use Rattle.std.specs.Prelude.{◌≡◌, ◌<◌, ◌==◌, if◌then◌else◌, ℕ, zero, suc, List, [], ◌∷◌, Option, None, Some, length}
+use Rattle.up_conf.specs.declared.job.JobDef.{JobDef}
+use Rattle.up_model.specs.Chronicle.{Chronicle}
+use Rattle.up_model.specs.Instances.{Instance, all_instances}
+use Rattle.up_model.specs.Replies.{status_of, request_instance}
+use Rattle.up_model.specs.Values.{Bytes}
+use Rattle.up_model.proofs.Places.{count}
+use Rattle.up_book.specs.declared.keys.InstanceKey.{InstanceKey}
+use Rattle.up_book.specs.declared.step.ActedOn.{ActedOn}
+use Rattle.up_book.specs.declared.step.ActedOn.TheVariants.{Exists, Gone}
+use Rattle.up_book.specs.declared.kept.JobKept.{JobKept}
+use Rattle.up_book.specs.declared.kept.Kept.{Kept}
+use Rattle.up_book.specs.Keeps.{place_at}
+use Rattle.up_book.specs.Lists.{nth}
+use Rattle.up_book.specs.Views.{Places, view, kept_at}
+use Rattle.up_book.specs.Sending.{status_by}
+
+abbrev pub IsGone : ℕ → Chronicle → Type 0
+IsGone i c = (i < length c) × (count i (all_instances c) ≡ 0)
+
+abbrev pub OnMeans : List JobKept → Chronicle → Option ActedOn → Type 0
+OnMeans jobs c None = request_instance c ≡ None
+OnMeans jobs c (Some (Exists key)) = (i : ℕ) × (request_instance c ≡ Some i) × (place_at jobs c key ≡ Some i)
+OnMeans jobs c (Some (Gone text)) = (i : ℕ) × (request_instance c ≡ Some i) × (status_of i c ≡ text) × IsGone i c
+
+abbrev pub status_kept : Places → Option JobDef → Option Kept → Bytes
+status_kept places None kept = []
+status_kept places (Some job) None = []
+status_kept places (Some job) (Some kept) = status_by job (view places kept)
+
+-- what the client is told
+abbrev pub told_of : Places → List JobDef → List JobKept → Option ActedOn → Bytes
+told_of places config_jobs jobs None = []
+told_of places config_jobs jobs (Some (Exists key)) = status_kept places (nth key.job config_jobs) (kept_at key jobs)
+told_of places config_jobs jobs (Some (Gone text)) = text
+
+-- where a key stands after one more came to a place of its job, and after the one at a place left
+abbrev pub after_insert : ℕ → ℕ → ℕ
+after_insert zero n = suc n
+after_insert (suc p) zero = zero
+after_insert (suc p) (suc n) = suc (after_insert p n)
+
+abbrev pub after_remove : ℕ → ℕ → ℕ
+after_remove zero zero = zero
+after_remove zero (suc n) = n
+after_remove (suc p) zero = zero
+after_remove (suc p) (suc n) = suc (after_remove p n)
+
+abbrev pub moved_on : (InstanceKey → InstanceKey) → Option ActedOn → Option ActedOn
+moved_on move None = None
+moved_on move (Some (Exists key)) = Some (Exists (move key))
+moved_on move (Some (Gone text)) = Some (Gone text)
+
+-- where a key stands after one more came to a place of a job, and after the one at a place left it
+abbrev pub after_made : (job position : ℕ) → InstanceKey → InstanceKey
+after_made job position key =
+    if key.job == job then record { job = key.job; at = after_insert position key.at } else key
+
+abbrev pub after_left : (job position : ℕ) → InstanceKey → InstanceKey
+after_left job position key =
+    if key.job == job then record { job = key.job; at = after_remove position key.at } else key

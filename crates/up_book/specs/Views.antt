@@ -1,0 +1,58 @@
+-- What is kept of instances, seen as summaries.
+use Rattle.std.specs.Prelude.{ℕ, Bool, List, [], Option, None, Some, map, option_map}
+use Rattle.up_model.specs.declared.event_id.EventId.{EventId}
+use Rattle.up_model.specs.Values.{Bindings}
+use Rattle.up_book.specs.declared.keys.InstanceKey.{InstanceKey}
+use Rattle.up_book.specs.declared.kept.Holder.{Holder}
+use Rattle.up_book.specs.declared.kept.Holder.TheVariants as holder
+use Rattle.up_book.specs.declared.kept.JobKept.{JobKept}
+use Rattle.up_book.specs.declared.kept.Kept.{Kept}
+use Rattle.up_book.specs.Lists.{nth}
+use Rattle.up_book.specs.Summaries.{Holding, ByEvent, ByClient, Summary, JobSummary}
+
+-- where the event of an id was queued
+abbrev pub Places : Type 0
+Places = EventId → Option ℕ
+
+abbrev pub holding_of : Places → Holder → Option Holding
+holding_of places (holder.Event id) = option_map ByEvent (places id)
+holding_of places (holder.Client id command) = Some (ByClient id command)
+
+abbrev pub bindings_of : Option Bindings → Bindings
+bindings_of None = []
+bindings_of (Some bindings) = bindings
+
+abbrev pub pending_of : Option Bindings → Option Bindings → Bindings
+pending_of None env = bindings_of env
+pending_of (Some pending) env = pending
+
+abbrev pub view : Places → Kept → Summary
+view places kept = record {
+  name = kept.name;
+  goal = kept.goal;
+  state = kept.state;
+  restarted = kept.restarted;
+  pending = pending_of kept.pending kept.env;
+  env = bindings_of kept.env;
+  stop_env = bindings_of kept.stop_env;
+  failure = kept.failure;
+  holders = map (holding_of places) kept.holders;
+  blocker = option_map places kept.blocker;
+  works = kept.works;
+  kill_moment = kept.kill_moment;
+  moments = kept.moments;
+}
+
+abbrev pub job_view : Places → JobKept → JobSummary
+job_view places job = record {
+  name = job.name;
+  instances = map (view places) job.instances;
+}
+
+abbrev pub kept_in : ℕ → Option JobKept → Option Kept
+kept_in at None = None
+kept_in at (Some job) = nth at job.instances
+
+-- what is kept of the instance of a key
+abbrev pub kept_at : InstanceKey → List JobKept → Option Kept
+kept_at key jobs = kept_in key.at (nth key.job jobs)

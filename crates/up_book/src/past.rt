@@ -1,0 +1,389 @@
+//! A book that forgets.
+ghost use Rattle.std.specs.Prelude.{◌≡◌, ℕ, List, ◌∷◌, [], map, Some, false, length, option_map, nat_lt, if◌then◌else◌, IfOk, IfNone, OnSome, OnOk};
+ghost use Rattle.up_model.specs.Due.{turn_event};
+ghost use Rattle.up_model.specs.Instances.{instance_named};
+ghost use Rattle.up_book.specs.Regular.{called};
+ghost use Rattle.up_book.specs.Turning.{turn_at};
+ghost use Rattle.up_model.specs.declared.event.Event.{Event as EventValue};
+ghost use Rattle.up_model.specs.declared.input.Input.{Input as InputValue};
+ghost use Rattle.up_model.specs.declared.input.Input.TheVariants as given_as;
+ghost use Rattle.up_model.specs.Chronicle.{Chronicle};
+ghost use Rattle.up_model.specs.Chronicle as entry;
+ghost use Rattle.up_model.specs.Clock as clock;
+ghost use Rattle.up_model.specs.Configuration.{Configuration};
+ghost use Rattle.up_model.specs.Queue.{queue};
+ghost use Rattle.up_model.specs.Readings as read;
+ghost use Rattle.up_event.specs.LiveEvents.{with_change, as_handled, named, without, AreDistinct};
+ghost use Rattle.up_event.specs.declared.live.LiveEvent.{LiveEvent as LiveEventValue};
+ghost use Rattle.up_model.specs.Held.{is_held};
+ghost use Rattle.up_book.specs.Eventing.{number_of};
+ghost use Rattle.up_book.specs.Keeps.{is_waiting, AreOlder};
+ghost use Rattle.up_book.specs.Lists.{nth};
+ghost use Rattle.up_conf.specs.declared.job.JobDef.{JobDef as JobValue};
+ghost use Rattle.up_book.specs.Holding.{AllLive};
+ghost use Rattle.up_book.specs.declared.keys.InstanceKey.{InstanceKey as InstanceKeyValue};
+ghost use Rattle.up_book.specs.Summaries.{holding_at};
+ghost use Rattle.up_book.specs.Views.{holding_of};
+ghost use Rattle.up_model.specs.declared.state.Goal.TheVariants as aim;
+ghost use Rattle.up_model.specs.declared.state.State.TheVariants as entered;
+ghost use Rattle.up_marks.specs.Triggers.{kept_by};
+ghost use Rattle.up_book.specs.Holding.{freed, all_changed, as_holders};
+ghost use Rattle.up_model.specs.Replies.{waiter_in};
+
+use crate::change::Change;
+use crate::holding::{free_all_of, free_held, hold_all};
+use crate::kept::{Holder, Kept, new_kept};
+use crate::keys::InstanceKey;
+use crate::life::Lives;
+use std::alloc::{AllocError, Global};
+use up_event::{Events, Finished, TurnKind};
+use up_expr::Condition;
+use up_marks::Trigger;
+use up_model::{Event, EventId, Failure, Process, State};
+use up_text::{Env, Items};
+
+/// What can still matter of the past.
+#[derive(Drop)]
+pub struct Past {
+    pub lives: Lives,
+    /// What the `start on` of each job remembers.
+    pub starts: Vec<Trigger>,
+    pub events: Events,
+    pub reading: u64,
+}
+
+// Notes that a turn took an event up, if it lives.
+#[tactic(auto, using(crate::proofs::Whole::absent_change, crate::proofs::Whole::is_live))]
+fn take_up(events: &mut Events, id: EventId)
+    ensures { events.new ≡ with_change id as_handled events.old }
+{
+    match events.find(id) {
+        Some(_) => events.handled(id),
+        None => {}
+    }
+}
+
+fn is_blocking(state: State) -> bool
+    ensures { result ≡ read.is_blocking state }
+{
+    match state {
+        State::Starting | State::Stopping => true,
+        State::Waiting
+        | State::PreStart
+        | State::Spawned
+        | State::PostStart
+        | State::Running
+        | State::PreStop
+        | State::Killed
+        | State::PostStop => false,
+    }
+}
+
+fn later_of(now: u64, reading: u64) -> u64
+    ensures { result ≡ (if nat_lt now reading then reading else now) }
+{
+    if now < reading { reading } else { now }
+}
+
+// Takes an event out, if it lives and isn't held.
+#[tactic(auto, using(crate::proofs::Closing::is_there, crate::proofs::Closing::handled_free, crate::proofs::Closing::without_handled))]
+fn take_out(events: &mut Events, id: EventId) -> Option<Finished>
+    ensures out { OnSome result (events.new ≡ without id events.old) }
+    ensures held { IfNone result ((live : LiveEventValue) → named id events.old ≡ Some live → live.holds ≡ 0 → ⊥) }
+    ensures distinct { AreDistinct events.old }
+{
+    let _ = events.len();
+    match events.find(id) {
+        Some(live) if live.holds == 0 => {
+            events.handled(id);
+            Some(events.finish(id))
+        }
+        _ => None,
+    }
+}
+
+impl Past {
+    ghost use Rattle.up_book.specs.Standing.{Forgets, event_place, instance_place};
+
+    /// What the clock reads.
+    pub fn now(&self) -> u64
+        ensures { (config : Configuration) (c : Chronicle) → Forgets self.now config c
+            → result ≡ clock.now c }
+    {
+        self.reading
+    }
+
+    /// How many events haven't finished.
+    pub fn live_events(&self) -> usize
+        ensures { (config : Configuration) (c : Chronicle) → Forgets self.now config c
+            → result ≡ length (queue c) }
+    {
+        self.events.len()
+    }
+
+    /// What a turn would do. Takes no memory.
+    pub fn turn(&self) -> Option<(EventId, TurnKind)>
+        ensures { (config : Configuration) (c : Chronicle) → Forgets self.now config c
+            → turn_at (event_place self.now c) result
+            ≡ option_map Some (turn_event config (queue c) c) }
+    {
+        self.events.next_turn()
+    }
+
+    /// A turn takes an event up. Takes no memory.
+    pub fn handle(&mut self, id: EventId)
+        ensures { (config : Configuration) (c : Chronicle) (e : ℕ) → Forgets self.old config c
+            → event_place self.old c id ≡ Some e → Forgets self.new config (entry.Handled e ∷ c) }
+    {
+        take_up(&mut self.events, id);
+    }
+
+    /// An event that nobody holds leaves the queue. Takes no memory.
+    pub fn finish(&mut self, id: EventId) -> Option<Finished>
+        ensures { (config : Configuration) (c : Chronicle) (e : ℕ) → Forgets self.old config c
+            → event_place self.old c id ≡ Some e → is_held config e c ≡ false
+            → Forgets self.new config (entry.Finished e ∷ c) }
+    {
+        let finished = take_out(&mut self.events, id)?;
+        self.lives.unblock(id);
+        Some(finished)
+    }
+
+    /// An event from outside goes to the end of the queue.
+    pub fn emit(&mut self, event: Event, waiter: Option<u64>) -> Result<(), AllocError>
+        ensures { OnOk result ((config : Configuration) (c : Chronicle) (input : InputValue)
+            → Forgets self.old config (entry.Given input ∷ c) →
+            number_of (waiter_in (Some (entry.Queued (entry.Outside (length c)) event))
+            (entry.Queued (entry.Outside (length c)) event ∷ entry.Given input ∷ c)) (entry.Queued (entry.Outside (length c)) event ∷ entry.Given input ∷ c) ≡ waiter
+            → Forgets self.new config (entry.Queued (entry.Outside (length c)) event ∷ entry.Given input ∷ c)) }
+    {
+        let _ = self.events.push(event, waiter)?;
+        Ok(())
+    }
+
+    /// A turn is given. Takes no memory.
+    pub fn give_turn(&mut self)
+        ensures { (config : Configuration) (c : Chronicle) → Forgets self.old config c
+            → Forgets self.new config (entry.Given given_as.Turn ∷ c) }
+    {}
+
+    /// A reading of the clock is given. Takes no memory.
+    pub fn give_reading(&mut self, reading: u64)
+        ensures { (config : Configuration) (c : Chronicle) → Forgets self.old config c
+            → Forgets self.new config (entry.Given (given_as.Clock reading) ∷ c) }
+    {
+        self.reading = later_of(self.reading, reading);
+    }
+
+    /// An instance enters a state other than waiting. Takes no memory.
+    pub fn enter(&mut self, key: InstanceKey, state: State)
+        ensures after { (config : Configuration) (c : Chronicle) (i : ℕ) → Forgets self.old config c
+            → instance_place self.old c key ≡ Some i → is_waiting state ≡ false
+            → Forgets self.new config (entry.Entered i state ∷ c) }
+        ensures instances { (c : Chronicle) (i : ℕ) (k : InstanceKeyValue) → is_waiting state ≡ false
+            → instance_place self.old c k ≡ Some i
+            → instance_place self.new (entry.Entered i state ∷ c) k ≡ Some i }
+    {
+        self.lives.change(key, Change::Enters(state));
+    }
+
+    /// The goal of an instance becomes start, with the environment and the holders that go with it.
+    pub fn start(
+        &mut self,
+        key: InstanceKey,
+        environment: Env,
+        holders: Items<Holder>,
+    ) -> Result<(), AllocError>
+        ensures { OnOk result ((config : Configuration) (c : Chronicle) (i : ℕ) (events : List ℕ)
+            → Forgets self.old config c → instance_place self.old c key ≡ Some i
+            → map (holding_of (event_place self.old c)) holders ≡ map (holding_at c) events
+            → AreOlder (length c) events → AllLive self.old.events holders
+            → Forgets self.new config (entry.Aimed i aim.Start environment events ∷ c)) }
+    {
+        hold_all(&mut self.events, holders.as_slice())?;
+        free_held(&mut self.events, self.lives.kept(key), false);
+        self.lives.change(
+            key,
+            Change::Starts {
+                environment,
+                holders,
+            },
+        );
+        Ok(())
+    }
+
+    /// The goal of an instance becomes stop, with what that adds to the environment and the holders that go with it.
+    pub fn stop(
+        &mut self,
+        key: InstanceKey,
+        environment: Env,
+        holders: Items<Holder>,
+    ) -> Result<(), AllocError>
+        ensures { OnOk result ((config : Configuration) (c : Chronicle) (i : ℕ) (events : List ℕ)
+            → Forgets self.old config c → instance_place self.old c key ≡ Some i
+            → map (holding_of (event_place self.old c)) holders ≡ map (holding_at c) events
+            → AreOlder (length c) events → AllLive self.old.events holders
+            → Forgets self.new config (entry.Aimed i aim.Stop environment events ∷ c)) }
+    {
+        hold_all(&mut self.events, holders.as_slice())?;
+        free_held(&mut self.events, self.lives.kept(key), false);
+        self.lives.change(
+            key,
+            Change::Stops {
+                environment: Some(environment),
+                holders,
+            },
+        );
+        Ok(())
+    }
+
+    /// An instance's goal becomes stop by itself; its holders stay. Takes no memory.
+    pub fn end_itself(&mut self, key: InstanceKey)
+        ensures { (config : Configuration) (c : Chronicle) (i : ℕ)
+            → Forgets self.old config c → instance_place self.old c key ≡ Some i
+            → Forgets self.new config (entry.Aimed i aim.Stop [] (read.holders i c) ∷ c) }
+    {
+        self.lives.change(key, Change::Ends);
+    }
+
+    /// A restart of an instance is taken, with these holders.
+    pub fn restart(&mut self, key: InstanceKey, holders: Items<Holder>) -> Result<(), AllocError>
+        ensures { OnOk result ((config : Configuration) (c : Chronicle) (i : ℕ) (events : List ℕ)
+            → Forgets self.old config c → instance_place self.old c key ≡ Some i
+            → map (holding_of (event_place self.old c)) holders ≡ map (holding_at c) events
+            → AreOlder (length c) events → AllLive self.old.events holders
+            → Forgets self.new config (entry.Restarted i events ∷ c)) }
+    {
+        hold_all(&mut self.events, holders.as_slice())?;
+        free_held(&mut self.events, self.lives.kept(key), false);
+        self.lives.change(key, Change::Restarts(holders));
+        Ok(())
+    }
+
+    /// An instance lets its holders go. Takes no memory.
+    pub fn let_go(&mut self, key: InstanceKey, none: Items<Holder>)
+        ensures { (config : Configuration) (c : Chronicle) (i : ℕ)
+            → Forgets self.old config c → instance_place self.old c key ≡ Some i → none ≡ []
+            → Forgets self.new config (entry.Released i false ∷ c) }
+    {
+        free_held(&mut self.events, self.lives.kept(key), false);
+        self.lives.change(key, Change::Releases(none));
+    }
+
+    /// An instance that failed lets its holders go, which spoils the events among them. Takes no memory.
+    pub fn let_go_failed(&mut self, key: InstanceKey, none: Items<Holder>)
+        ensures { (config : Configuration) (c : Chronicle) (i : ℕ)
+            → Forgets self.old config c → instance_place self.old c key ≡ Some i → none ≡ []
+            → Forgets self.new config (entry.Released i true ∷ c) }
+    {
+        let _ = self.events.len();
+        free_held(&mut self.events, self.lives.kept(key), true);
+        self.lives.change(key, Change::Releases(none));
+    }
+
+    /// An instance fails. Takes no memory.
+    pub fn fail(&mut self, key: InstanceKey, failure: Failure)
+        ensures after { (config : Configuration) (c : Chronicle) (i : ℕ)
+            → Forgets self.old config c → instance_place self.old c key ≡ Some i
+            → Forgets self.new config (entry.Failed i failure ∷ c) }
+        ensures instances { (c : Chronicle) (i : ℕ) (k : InstanceKeyValue) → instance_place self.old c k ≡ Some i
+            → instance_place self.new (entry.Failed i failure ∷ c) k ≡ Some i }
+    {
+        self.lives.change(key, Change::Fails(failure));
+    }
+
+    /// A process of an instance is ordered. Takes no memory.
+    pub fn order(&mut self, key: InstanceKey, process: Process)
+        ensures after { (config : Configuration) (c : Chronicle) (i : ℕ)
+            → Forgets self.old config c → instance_place self.old c key ≡ Some i
+            → Forgets self.new config (entry.Ordered i process ∷ c) }
+        ensures instances { (c : Chronicle) (i : ℕ) (k : InstanceKeyValue) → instance_place self.old c k ≡ Some i
+            → instance_place self.new (entry.Ordered i process ∷ c) k ≡ Some i }
+    {
+        self.lives.change(key, Change::Orders(process));
+    }
+
+    /// Main of an instance is sent a signal on entering killed. Takes no memory.
+    pub fn signal(&mut self, key: InstanceKey, signal: u8)
+        ensures after { (config : Configuration) (c : Chronicle) (i : ℕ)
+            → Forgets self.old config c → instance_place self.old c key ≡ Some i
+            → Forgets self.new config (entry.Signalled i signal false ∷ c) }
+        ensures instances { (c : Chronicle) (i : ℕ) (k : InstanceKeyValue) → instance_place self.old c k ≡ Some i
+            → instance_place self.new (entry.Signalled i signal false ∷ c) k ≡ Some i }
+    {
+        self.lives.change(key, Change::Signals(Some(self.reading)));
+    }
+
+    /// Main of an instance is killed by the timer. Takes no memory.
+    pub fn kill(&mut self, key: InstanceKey, signal: u8)
+        ensures after { (config : Configuration) (c : Chronicle) (i : ℕ)
+            → Forgets self.old config c → instance_place self.old c key ≡ Some i
+            → Forgets self.new config (entry.Signalled i signal true ∷ c) }
+        ensures instances { (c : Chronicle) (i : ℕ) (k : InstanceKeyValue) → instance_place self.old c k ≡ Some i
+            → instance_place self.new (entry.Signalled i signal true ∷ c) k ≡ Some i }
+    {
+        self.lives.change(key, Change::Signals(None));
+    }
+
+    /// An instance emits an event on entering a state, and waits for it if the state is one that does.
+    pub fn announce(&mut self, key: InstanceKey, state: State, event: Event) -> Result<(), AllocError>
+        ensures after { OnOk result ((config : Configuration) (c : Chronicle) (i : ℕ)
+            → Forgets self.old config c → instance_place self.old c key ≡ Some i
+            → Forgets self.new config (entry.Queued (entry.Entering i state) event ∷ c)) }
+        ensures instances { OnOk result ((c : Chronicle) (i : ℕ) (k : InstanceKeyValue)
+            → instance_place self.old c k ≡ Some i
+            → instance_place self.new (entry.Queued (entry.Entering i state) event ∷ c) k ≡ Some i) }
+    {
+        let id = self.events.push(event, None)?;
+        if is_blocking(state) {
+            self.lives.change(key, Change::Waits(Some(id)));
+        }
+        Ok(())
+    }
+
+    /// An instance enters waiting with its last event, and is gone.
+    pub fn leave(&mut self, alloc: Global, key: InstanceKey, event: Event) -> Result<(), AllocError>
+        ensures { OnOk result ((config : Configuration) (c : Chronicle) (i : ℕ)
+            → Forgets self.old config c → instance_place self.old c key ≡ Some i
+            → Forgets self.new config
+            (entry.Queued (entry.Entering i entered.Waiting) event ∷ entry.Entered i entered.Waiting ∷ c)) }
+    {
+        match self.lives.take(key) {
+            Some(gone) => self.bury(alloc, gone)?,
+            None => {}
+        }
+        let _ = self.events.push(event, None)?;
+        Ok(())
+    }
+
+    // What an instance held that is gone is held no more.
+    fn bury(&mut self, alloc: Global, gone: Kept) -> Result<(), AllocError>
+        ensures { OnOk result (self.new ≡ record self.old { events = all_changed (freed false) (as_holders (kept_by gone.stop_on))
+            (all_changed (freed false) gone.holders self.old.events) }) }
+    {
+        free_all_of(alloc, &mut self.events, &gone)?;
+        Ok(())
+    }
+
+    /// A job gets an instance.
+    pub fn make(
+        &mut self,
+        alloc: Global,
+        job: usize,
+        stop_on: &Option<Condition>,
+        name: &str,
+    ) -> Result<InstanceKey, AllocError>
+        ensures after { OnOk result ((config : Configuration) (c : Chronicle) (its : JobValue)
+            → Forgets self.old config c → nth job config.jobs ≡ Some its → stop_on.now ≡ its.stop_on
+            → instance_named (called its.name name.now) c ≡ None
+            → Forgets self.new config (entry.Made its.name name.now ∷ c)) }
+        ensures made { IfOk result (λ key. (config : Configuration) (c : Chronicle) (its : JobValue)
+            → Forgets self.old config c → nth job config.jobs ≡ Some its
+            → instance_place self.new (entry.Made its.name name.now ∷ c) key ≡ Some (length c)) }
+    {
+        let stop_on = Trigger::new(alloc, stop_on)?;
+        let kept = new_kept(alloc, name, stop_on)?;
+        let at = self.lives.insert(job, kept)?;
+        Ok(InstanceKey { job, at })
+    }
+}
