@@ -1,5 +1,7 @@
 -- An instance emits an event on entering a state.
 use Rattle.std.proofs.Common.{◌≡◌, ℕ, ◌+◌, ◌<◌, ◌≤◌, ◌==◌, ◌&&◌, Bool, true, false, List, [], ◌∷◌, ◌++◌, length, map, Option, None, Some, if◌then◌else◌, refl, sym, ◌∙◌, ap, arith}
+use Rattle.up_job.specs.Changes.{changed}
+use Rattle.up_job.specs.JobLists.{changed_at}
 use Rattle.up_conf.specs.declared.job.JobDef.{JobDef}
 use Rattle.up_event.specs.LiveEvents.{named, new_live}
 use Rattle.up_model.specs.declared.event.Event.{Event}
@@ -10,10 +12,9 @@ use Rattle.up_model.specs.Configuration.{Configuration}
 use Rattle.up_model.specs.Instances.{Instance}
 use Rattle.up_model.specs.Queue.{live_at, queue}
 use Rattle.up_model.specs.Readings.{holders, is_blocking}
-use Rattle.up_book.specs.declared.change.Change.TheVariants as change
-use Rattle.up_book.specs.declared.keys.InstanceKey.{InstanceKey}
+use Rattle.up_job.specs.declared.change.Change.TheVariants as change
+use Rattle.up_job.specs.declared.instance_key.InstanceKey.{InstanceKey}
 use Rattle.up_book.specs.declared.past.Past.{Past}
-use Rattle.up_book.specs.Changes.{changed, changed_at}
 use Rattle.up_book.specs.Counting.{uses, start_uses}
 use Rattle.up_book.specs.Eventing.{standing_of, standing_at, place_of}
 use Rattle.up_book.specs.Keeps.{HoldsOlder}
@@ -41,14 +42,14 @@ unblocking config c i to event free = record {
 }
 
 pub forgets-emitted : (book after : Past) (config : Configuration) (c : Chronicle) (i : ℕ) (to : State) (event : Event) (id : EventId) → Forgets book config c → is_blocking to ≡ false → named id book.events ≡ None
-    → after.events ≡ book.events ++ new_live id event None ∷ [] → after.lives ≡ book.lives → after.starts ≡ book.starts → after.reading ≡ book.reading → Forgets after config (Queued (Entering i to) event ∷ c)
+    → after.events ≡ book.events ++ new_live id event None ∷ [] → after.instances ≡ book.instances → after.starts ≡ book.starts → after.reading ≡ book.reading → Forgets after config (Queued (Entering i to) event ∷ c)
 forgets-emitted book after config c i to event id f free fresh does lives starts reading =
     forgets-queued book after config c id event (Entering i to) None f tt (unblocking config c i to event free) refl fresh does lives starts reading
 
 -- or that it waits for
 pub forgets-blocked : (book after : Past) (config : Configuration) (c : Chronicle) (key : InstanceKey) (i : ℕ) (to : State) (event : Event) (id : EventId) → Forgets book config c → instance_place book c key ≡ Some i
     → is_blocking to ≡ true → named id book.events ≡ None → after.events ≡ book.events ++ new_live id event None ∷ []
-    → after.lives.jobs.items ≡ changed_at key (changed (change.Waits (Some id))) book.lives.jobs.items → after.starts ≡ book.starts → after.reading ≡ book.reading → Forgets after config (Queued (Entering i to) event ∷ c)
+    → after.instances ≡ changed_at key (changed (change.Waits (Some id))) book.instances → after.starts ≡ book.starts → after.reading ≡ book.reading → Forgets after config (Queued (Entering i to) event ∷ c)
 forgets-blocked book after config c key i to event id f found blocking fresh events does starts reading =
     let count = map-length standing_of (standing_at c) book.events (queue c) f.standings in
     let e = Queued (Entering i to) event in
@@ -57,14 +58,14 @@ forgets-blocked book after config c key i to event id f found blocking fresh eve
     let old = place_of book.events (queue c) in
     let new = place_of (book.events ++ live ∷ []) (queue c ++ live_at (length c) false ∷ []) in
     let is = is-blocked new config c i to event id blocking (place-new book.events (queue c) live (length c) count fresh) f.lives.older in
-    let lives = keeps-queued book.lives book.events config c c live (length c) f.lives count (λ other used. omega (arith, f.counted other, used)) fresh in
-    let remembered = remembered-agrees old new book.lives.jobs.items book.starts.items config c (λ other used. used-queued book.events (queue c) live (length c) other count fresh (omega (arith, f.counted other, used))) f.remembered in
+    let lives = keeps-queued book.instances book.events config c c live (length c) f.lives count (λ other used. omega (arith, f.counted other, used)) fresh in
+    let remembered = remembered-agrees old new book.instances book.starts.items config c (λ other used. used-queued book.events (queue c) live (length c) other count fresh (omega (arith, f.counted other, used))) f.remembered in
     record {
-      lives = rw events (keeps-after new book.lives after.lives config c key i e its lives found is tt does);
-      remembered = rw (events, starts) (remembered-so new its key book.lives.jobs.items after.lives.jobs.items book.starts.items config c i e is does remembered);
+      lives = rw events (keeps-after new book.instances after.instances config c key i e its lives found is tt does);
+      remembered = rw (events, starts) (remembered-so new its key book.instances after.instances book.starts.items config c i e is does remembered);
       standings = rw events (standings-queued book.events c id event (Entering i to) None f.regular.origins f.standings (f.regular.unspoilt (length c) (omega arith)) refl);
       counted = λ other. rw (events, does, starts)
-          (holds-pushed id other event None book.events fresh ∙ f.counted other ∙ ap (λ n. n + start_uses other book.starts.items) (sym (uses-same other (changed its) (same-trigger its) (λ k. refl) key book.lives.jobs.items)));
+          (holds-pushed id other event None book.events fresh ∙ f.counted other ∙ ap (λ n. n + start_uses other book.starts.items) (sym (uses-same other (changed its) (same-trigger its) (λ k. refl) key book.instances)));
       regular = regular-next config c e f.regular tt;
       reading = reading ∙ f.reading;
     }

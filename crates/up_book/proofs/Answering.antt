@@ -1,5 +1,7 @@
 -- What is kept after the answer for a process, or its end.
 use Rattle.std.proofs.Common.{◌≡◌, ℕ, zero, suc, ◌+◌, ◌<◌, ◌≤◌, ◌==◌, ◌&&◌, Bool, true, false, List, [], ◌∷◌, length, map, Option, None, Some, option_map, bytes_eq, if◌then◌else◌, refl, sym, ◌∙◌, ap, subst, arith, eqb-true, eq-eqb, ne_eqb}
+use Rattle.up_job.specs.Changes.{changed}
+use Rattle.up_job.specs.JobLists.{changed_at}
 use Rattle.std.proofs.lemmas.Bool.{eqb-false}
 use Rattle.std.specs.List.{AllByRecursion}
 use Rattle.up_conf.specs.declared.job.JobDef.{JobDef}
@@ -17,12 +19,11 @@ use Rattle.up_model.specs.Readings.{entry_at, made_at, speaks_of, holders}
 use Rattle.up_model.specs.Values.{Bytes}
 use Rattle.up_model.proofs.NameLaws.{made-named, AreSingle, Singles}
 use Rattle.up_model.proofs.Places.{bytes_same, bytes_refl}
-use Rattle.up_book.specs.declared.change.Change.{Change}
-use Rattle.up_book.specs.declared.change.Change.TheVariants as change
-use Rattle.up_book.specs.declared.keys.InstanceKey.{InstanceKey}
-use Rattle.up_book.specs.declared.life.Lives.{Lives}
-use Rattle.up_book.specs.Changes.{changed, changed_at}
-use Rattle.up_book.specs.Keeps.{Keeps, HoldsOlder, instance_place}
+use Rattle.up_job.specs.declared.change.Change.{Change}
+use Rattle.up_job.specs.declared.change.Change.TheVariants as change
+use Rattle.up_job.specs.declared.instance_key.InstanceKey.{InstanceKey}
+use Rattle.up_job.specs.declared.instances.JobInstances.{JobInstances}
+use Rattle.up_book.specs.Keeps.{Keeps, HoldsOlder, place_at}
 use Rattle.up_book.specs.Stepping.{stepped}
 use Rattle.up_book.specs.Summaries.{Summary, JobSummary, summary, job_summary, blank}
 use Rattle.up_book.proofs.Lists.{cons_same}
@@ -149,8 +150,8 @@ none-there p (e ∷ c) past =
     rw apart (none-there p c (omega (arith, past)))
 
 -- the book keeps it
-pub keeps-given : (places : Places) (book after : Lives) (config : Configuration) (c : Chronicle) (key : InstanceKey) (i : ℕ) (given : Input) (who : Who) → Keeps places book config c → Singles c → instance_place book c key ≡ Some i
-    → Names given who → instance_named who c ≡ Some i → after.jobs.items ≡ changed_at key (changed (change_of given)) book.jobs.items → Keeps places after config (Given given ∷ c)
+pub keeps-given : (places : Places) (book after : List JobInstances) (config : Configuration) (c : Chronicle) (key : InstanceKey) (i : ℕ) (given : Input) (who : Who) → Keeps places book config c → Singles c → place_at book c key ≡ Some i
+    → Names given who → instance_named who c ≡ Some i → after ≡ changed_at key (changed (change_of given)) book → Keeps places after config (Given given ∷ c)
 keeps-given places book after config c key i given who keeps single found says named does =
     let made = made-named who i c named in
     let t : Touches config c (Given given ∷ c) key.job i (stepped places (change_of given)) = record {
@@ -159,7 +160,7 @@ keeps-given places book after config c key i given who keeps single found says n
       here = λ job x there at. given-here places config job given who c x says (ap (λ p. made_at p c) at ∙ made.1) (keeps.older x.place);
     } in
     record {
-      jobs = rw does (one places (changed (change_of given)) (stepped places (change_of given)) book.jobs.items config c (Given given ∷ c) key i (view-changed places (change_of given)) keeps.jobs keeps.distinct found t);
+      jobs = rw does (one places (changed (change_of given)) (stepped places (change_of given)) book config c (Given given ∷ c) key i (view-changed places (change_of given)) keeps.jobs keeps.distinct found t);
       older = older-after (Given given) c tt keeps.older;
       later = λ job x past. unspoken config job given who c x says (λ its p. rw (none-there x.place c (omega (arith, past))) refl) (keeps.older x.place) ∙ keeps.later job x (omega (arith, past));
       distinct = keeps.distinct;
@@ -191,7 +192,7 @@ unnamed-jobs config given who c (job ∷ jobs) says none older single =
     cons_same (ap (λ (its : List Summary). record { name = job.name; instances = its }) (unnamed-all config job given who c (instances_of job.name c) says none older (known-all job.name c) (single job.name)))
     (unnamed-jobs config given who c jobs says none older single)
 
-pub keeps-unnamed : (places : Places) (book : Lives) (config : Configuration) (c : Chronicle) (given : Input) (who : Who) → Keeps places book config c → Singles c → Names given who → instance_named who c ≡ None
+pub keeps-unnamed : (places : Places) (book : List JobInstances) (config : Configuration) (c : Chronicle) (given : Input) (who : Who) → Keeps places book config c → Singles c → Names given who → instance_named who c ≡ None
     → Keeps places book config (Given given ∷ c)
 keeps-unnamed places book config c given who keeps single says none = record {
   jobs = keeps.jobs ∙ sym (unnamed-jobs config given who c config.jobs says none keeps.older single);

@@ -1,5 +1,6 @@
 -- The relation holds of a new book, and of an instance that was just made.
 use Rattle.std.proofs.Common.{◌≡◌, ℕ, zero, suc, ◌+◌, ◌<◌, ◌≤◌, Bool, true, false, List, [], ◌∷◌, ◌++◌, length, map, take, Option, None, Some, option_map, refl, sym, ◌∙◌, ap, arith}
+use Rattle.up_job.specs.JobLists.{new_job}
 use Rattle.up_conf.specs.declared.job.JobDef.{JobDef}
 use Rattle.up_expr.specs.Trees.{Tree, One, Both, Either}
 use Rattle.up_expr.specs.Truth as truth
@@ -11,10 +12,13 @@ use Rattle.up_marks.proofs.Firsts.{kept_first}
 use Rattle.up_marks.proofs.Markings.{kept_in_tree}
 use Rattle.up_model.specs.declared.event_id.EventId.{EventId}
 use Rattle.up_model.specs.Configuration.{Configuration}
+use Rattle.up_model.specs.Queue.{queue}
 use Rattle.up_model.specs.Values.{Bytes}
+use Rattle.up_book.specs.Eventing.{place_of}
 use Rattle.up_book.specs.declared.past.Past.{Past}
-use Rattle.up_book.specs.declared.kept.JobKept.{JobKept}
-use Rattle.up_book.specs.Beginning.{new_job, new_kept}
+use Rattle.up_job.specs.declared.instances.JobInstances.{JobInstances}
+use Rattle.up_job.specs.InstanceLists.{new_instance}
+use Rattle.up_job.specs.Moments.{room}
 use Rattle.up_book.specs.Counting.{uses, start_uses}
 use Rattle.up_book.specs.Remembering.{StopsRemember, StartsRemember}
 use Rattle.up_book.specs.Keeps.{AreDistinct, KeepsJobs}
@@ -40,18 +44,18 @@ take-none zero = refl
 take-none (suc n) = refl
 
 -- a new book stands for the empty chronicle
-pub forgets-nothing : (book : Past) (config : Configuration) → AreDistinct config.jobs → book.lives.jobs.items ≡ map new_job config.jobs
+pub forgets-nothing : (book : Past) (config : Configuration) → AreDistinct config.jobs → book.instances ≡ map new_job config.jobs
     → ((places : Places) → StartsRemember places config [] book.starts.items config.jobs) → ((id : EventId) → start_uses id book.starts.items ≡ 0) → book.events ≡ [] → book.reading ≡ 0 → Forgets book config []
 forgets-nothing book config distinct jobs starts unused events reading = record {
   lives = rw events (record {
-    jobs = rw jobs (new-jobs _ config config.jobs);
+    jobs = rw jobs (new-jobs (place_of [] (queue [])) config config.jobs);
     older = λ i. tt;
-    later = λ job its past. rw (take-none job.limit.count) refl;
+    later = λ job its past. rw (take-none (room job.limit)) refl;
     distinct = distinct;
   });
   remembered = record {
-    stops = rw jobs (new-stops _ config config.jobs);
-    starts = starts _;
+    stops = rw jobs (new-stops (place_of book.events (queue [])) config config.jobs);
+    starts = starts (place_of book.events (queue []));
     unborn = λ i past. refl;
   };
   standings = rw events refl;
@@ -67,7 +71,7 @@ forgets-nothing book config distinct jobs starts unused events reading = record 
 }
 
 -- and what is kept of a new instance is blank
-pub new-blank : (places : Places) (job : JobDef) (name : Bytes) (trigger : Option (List Mark)) → view places (new_kept name trigger) ≡ blank job name
+pub new-blank : (places : Places) (job : JobDef) (name : Bytes) (trigger : Option (List Mark)) → view places (new_instance name job.limit trigger) ≡ blank job name
 new-blank places job name trigger = refl
 
 -- a trigger that agrees with nothing seen, whatever ids stand for, keeps nothing

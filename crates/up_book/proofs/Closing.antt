@@ -1,5 +1,6 @@
 -- The whole book after an event has finished.
 use Rattle.std.proofs.Common.{◌≡◌, ℕ, zero, suc, ◌+◌, ◌<◌, ◌≤◌, ◌==◌, Bool, true, false, not, List, [], ◌∷◌, length, map, Option, None, Some, is_some, if◌then◌else◌, refl, sym, ◌∙◌, ap, subst, arith, eqb-true, eq-eqb, ne_eqb}
+use Rattle.up_job.specs.Unblocking.{unblocked, unblocked_in}
 use Rattle.std.proofs.lemmas.Bool.{eqb-false}
 use Rattle.std.specs.List.{AllByRecursion}
 use Rattle.up_conf.specs.declared.job.JobDef.{JobDef}
@@ -16,16 +17,15 @@ use Rattle.up_model.specs.Queue.{Live, queue, without_event}
 use Rattle.up_model.specs.Readings.{entry_at, event_at}
 use Rattle.up_model.proofs.QueueLaws.{queue_by_age}
 use Rattle.up_book.specs.declared.past.Past.{Past}
-use Rattle.up_book.specs.declared.kept.JobKept.{JobKept}
-use Rattle.up_book.specs.declared.kept.Kept.{Kept}
-use Rattle.up_book.specs.declared.life.Lives.{Lives}
+use Rattle.up_job.specs.declared.instances.JobInstances.{JobInstances}
+use Rattle.up_job.specs.declared.instance.Instance.{Instance as Kept}
 use Rattle.up_book.specs.Counting.{kept_uses, uses, start_uses}
 use Rattle.up_book.proofs.Triggers.{remembered-agrees, remembered-later, remembered-unblocked}
 use Rattle.up_book.specs.Eventing.{Standing, standing_of, standing_at, place_of, holds_of, holds_in}
 use Rattle.up_book.specs.Keeps.{Keeps, HoldsOlder}
 use Rattle.up_book.specs.Standing.{Forgets, event_place}
 use Rattle.up_book.specs.Summaries.{summary, blank}
-use Rattle.up_book.specs.Unblocking.{unblocked, unblocked_in, unblocked_summary}
+use Rattle.up_book.specs.Unblocking.{unblocked_summary}
 use Rattle.up_book.proofs.Counting.{held}
 use Rattle.up_book.proofs.Regulars.{regular-next}
 use Rattle.up_book.proofs.Entering.{older-after}
@@ -84,7 +84,7 @@ kept-unblocked : (id other : EventId) (its : List Kept) → kept_uses other (map
 kept-unblocked id other [] = refl
 kept-unblocked id other (k ∷ its) = omega (arith, kept-unblocked id other its)
 
-uses-unblocked : (id other : EventId) (jobs : List JobKept) → uses other (map (unblocked_in id) jobs) ≡ uses other jobs
+uses-unblocked : (id other : EventId) (jobs : List JobInstances) → uses other (map (unblocked_in id) jobs) ≡ uses other jobs
 uses-unblocked id other [] = refl
 uses-unblocked id other (j ∷ jobs) = omega (arith, kept-unblocked id other j.instances, uses-unblocked id other jobs)
 
@@ -96,44 +96,44 @@ none-used (suc n) h =
     absurd cc
 
 pub forgets-finished : (book after : Past) (config : Configuration) (c : Chronicle) (id : EventId) (e : ℕ) (origin : Origin) (event : Event) → Forgets book config c → AreDistinct book.events → event_place book c id ≡ Some e
-    → entry_at e c ≡ Some (Queued origin event) → is_held config e c ≡ false → after.events ≡ without id book.events → after.lives.jobs.items ≡ map (unblocked_in id) book.lives.jobs.items → after.starts ≡ book.starts → after.reading ≡ book.reading
+    → entry_at e c ≡ Some (Queued origin event) → is_held config e c ≡ false → after.events ≡ without id book.events → after.instances ≡ map (unblocked_in id) book.instances → after.starts ≡ book.starts → after.reading ≡ book.reading
     → Forgets after config (Finished e ∷ c)
 forgets-finished book after config c id e origin event f distinct found queued free does jobs starts reading =
     let old = place_of book.events (queue c) in
     let new = place_of (without id book.events) (without_event e (queue c)) in
     let its = names book.events c id e found in
-    let all : uses id book.lives.jobs.items + start_uses id book.starts.items ≡ 0 =
-    none-used (uses id book.lives.jobs.items + start_uses id book.starts.items) (sym (held old book.lives.jobs.items book.starts.items config c id e origin event f.lives.jobs f.remembered its queued) ∙ free) in
-    let none : uses id book.lives.jobs.items ≡ 0 = omega (arith, all) in
+    let all : uses id book.instances + start_uses id book.starts.items ≡ 0 =
+    none-used (uses id book.instances + start_uses id book.starts.items) (sym (held old book.instances book.starts.items config c id e origin event f.lives.jobs f.remembered its queued) ∙ free) in
+    let none : uses id book.instances ≡ 0 = omega (arith, all) in
     let gone : finishing.Forgets old new id e = record { names = its; agree = λ other apart. place-finished book.events (queue c) (length c) id other e (queue_by_age c) found apart } in
     let later = standings-later (Finished e) c (queue c) f.regular.origins (age-all (queue c) (length c) (queue_by_age c)) (λ p. refl) in
-    let lives : Keeps new after.lives config (Finished e ∷ c) = record {
-      jobs = rw jobs (finishing.keeps-finished old new id e book.lives.jobs.items config c f.lives.jobs f.lives.older gone none);
+    let lives : Keeps new after.instances config (Finished e ∷ c) = record {
+      jobs = rw jobs (finishing.keeps-finished old new id e book.instances config c f.lives.jobs f.lives.older gone none);
       older = older-after (Finished e) c tt f.lives.older;
       later = λ job x past. finishing.summary-finished config job e c x (f.lives.older x.place) ∙ ap (unblocked_summary e) (f.lives.later job x (omega (arith, past)));
       distinct = f.lives.distinct;
     } in
     record {
       lives = rw does lives;
-      remembered = rw (does, jobs, starts) (remembered-unblocked new id book.lives.jobs.items book.starts.items config (Finished e ∷ c)
-          (remembered-agrees old new book.lives.jobs.items book.starts.items config (Finished e ∷ c)
-          (finishing.used-agree old new id e 0 (λ other. uses other book.lives.jobs.items + start_uses other book.starts.items) gone all)
-          (remembered-later old book.lives.jobs.items book.starts.items config c (Finished e) (record { instances = λ job. refl; seen = λ x. refl }) f.remembered)));
+      remembered = rw (does, jobs, starts) (remembered-unblocked new id book.instances book.starts.items config (Finished e ∷ c)
+          (remembered-agrees old new book.instances book.starts.items config (Finished e ∷ c)
+          (finishing.used-agree old new id e 0 (λ other. uses other book.instances + start_uses other book.starts.items) gone all)
+          (remembered-later old book.instances book.starts.items config c (Finished e) (record { instances = λ job. refl; seen = λ x. refl }) f.remembered)));
       standings = rw does (standings-finished book.events (queue c) (length c) e id c (Finished e ∷ c) (queue_by_age c) found f.standings later);
       counted = λ other. rw (does, jobs, starts) (counted all other);
       regular = regular-next config c (Finished e) f.regular tt;
       reading = reading ∙ f.reading;
     }
   where
-    counted : uses id book.lives.jobs.items + start_uses id book.starts.items ≡ 0 → (other : EventId)
-        → holds_of other (without id book.events) ≡ uses other (map (unblocked_in id) book.lives.jobs.items) + start_uses other book.starts.items
+    counted : uses id book.instances + start_uses id book.starts.items ≡ 0 → (other : EventId)
+        → holds_of other (without id book.events) ≡ uses other (map (unblocked_in id) book.instances) + start_uses other book.starts.items
     counted none other = by_case (id.key == other.key) refl (holds-without id other book.events distinct)
       where
-        by_case : (b : Bool) → (id.key == other.key) ≡ b → holds_of other (without id book.events) ≡ (if b then 0 else holds_of other book.events) → holds_of other (without id book.events) ≡ uses other (map (unblocked_in id) book.lives.jobs.items) + start_uses other book.starts.items
+        by_case : (b : Bool) → (id.key == other.key) ≡ b → holds_of other (without id book.events) ≡ (if b then 0 else holds_of other book.events) → holds_of other (without id book.events) ≡ uses other (map (unblocked_in id) book.instances) + start_uses other book.starts.items
         by_case true same is =
-            let with_key : ℕ → ℕ = λ key. uses (record { key = key }) book.lives.jobs.items + start_uses (record { key = key }) book.starts.items in
-            is ∙ sym none ∙ ap with_key (eqb-true id.key other.key same) ∙ ap (λ n. n + start_uses other book.starts.items) (sym (uses-unblocked id other book.lives.jobs.items))
-        by_case false differs is = is ∙ f.counted other ∙ ap (λ n. n + start_uses other book.starts.items) (sym (uses-unblocked id other book.lives.jobs.items))
+            let with_key : ℕ → ℕ = λ key. uses (record { key = key }) book.instances + start_uses (record { key = key }) book.starts.items in
+            is ∙ sym none ∙ ap with_key (eqb-true id.key other.key same) ∙ ap (λ n. n + start_uses other book.starts.items) (sym (uses-unblocked id other book.instances))
+        by_case false differs is = is ∙ f.counted other ∙ ap (λ n. n + start_uses other book.starts.items) (sym (uses-unblocked id other book.instances))
 
 -- an event that is taken up first finishes alike
 pub without_handled : (id : EventId) (events : List LiveEvent) → without id (with_change id as_handled events) ≡ without id events
@@ -185,13 +185,13 @@ pub may-leave : (book : Past) (config : Configuration) (c : Chronicle) (id : Eve
 may-leave book config c id e f found free never =
     let there = event-placed book.events (queue c) c id e f.standings found in
     let its = queued-there (entry_at e c) there.0 there.1 in
-    let none : uses id book.lives.jobs.items + start_uses id book.starts.items ≡ 0 = none-used (uses id book.lives.jobs.items + start_uses id book.starts.items)
-    (sym (held (place_of book.events (queue c)) book.lives.jobs.items book.starts.items config c id e its.0 there.0 f.lives.jobs f.remembered (names book.events c id e found) its.1) ∙ free) in
+    let none : uses id book.instances + start_uses id book.starts.items ≡ 0 = none-used (uses id book.instances + start_uses id book.starts.items)
+    (sym (held (place_of book.events (queue c)) book.instances book.starts.items config c id e its.0 there.0 f.lives.jobs f.remembered (names book.events c id e found) its.1) ∙ free) in
     let live = named-there book.events (queue c) id e found in
     never live.0 live.1 (sym (ap holds_in live.1) ∙ f.counted id ∙ none)
 
 pub finishes : (book after : Past) (config : Configuration) (c : Chronicle) (id : EventId) (e : ℕ) → Forgets book config c → AreDistinct book.events → event_place book c id ≡ Some e → is_held config e c ≡ false
-    → after.events ≡ without id book.events → after.lives.jobs.items ≡ map (unblocked_in id) book.lives.jobs.items → after.starts ≡ book.starts → after.reading ≡ book.reading → Forgets after config (Finished e ∷ c)
+    → after.events ≡ without id book.events → after.instances ≡ map (unblocked_in id) book.instances → after.starts ≡ book.starts → after.reading ≡ book.reading → Forgets after config (Finished e ∷ c)
 finishes book after config c id e f distinct found free does jobs starts reading =
     let there = event-placed book.events (queue c) c id e f.standings found in
     let its = queued-there (entry_at e c) there.0 there.1 in

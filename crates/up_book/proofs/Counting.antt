@@ -1,7 +1,9 @@
 -- How often an event is held is the same by what is kept and by the chronicle.
 use Rattle.std.proofs.Common.{◌≡◌, ℕ, zero, suc, ◌+◌, ◌<◌, ◌==◌, ◌||◌, Bool, true, false, not, List, [], ◌∷◌, ◌++◌, map, Option, None, Some, option_map, if◌then◌else◌, refl, sym, ◌∙◌, ap, arith, eqb-true, eq-eqb, ne_eqb}
+use Rattle.up_job.specs.Unblocking.{is_event}
 use Rattle.std.proofs.lemmas.Bool.{eqb-false}
 use Rattle.std.specs.Option.{option_to_list}
+use Rattle.up_job.specs.Lists.{nth, with_at}
 use Rattle.up_conf.specs.declared.job.JobDef.{JobDef}
 use Rattle.up_expr.specs.Trees.{Tree, One, Both, Either}
 use Rattle.up_expr.specs.Truth.{Sight, first}
@@ -15,11 +17,11 @@ use Rattle.up_model.specs.Held.{held_by, held_by_instances, held_by_job, held_by
 use Rattle.up_model.specs.Instances.{Instance, instances_of}
 use Rattle.up_model.specs.Readings.{entry_at, holders}
 use Rattle.up_model.specs.Seen.{seen, kept}
-use Rattle.up_book.specs.declared.kept.Holder.{Holder}
-use Rattle.up_book.specs.declared.kept.Holder.TheVariants as holder
-use Rattle.up_book.specs.declared.kept.JobKept.{JobKept}
-use Rattle.up_book.specs.declared.kept.Kept.{Kept}
-use Rattle.up_book.specs.Counting.{one_if, is_event, event_of, holder_uses, kept_uses, uses, start_uses, is_holding, holder_count, count_in}
+use Rattle.up_job.specs.declared.holder.Holder.{Holder}
+use Rattle.up_job.specs.declared.holder.Holder.TheVariants as holder
+use Rattle.up_job.specs.declared.instances.JobInstances.{JobInstances}
+use Rattle.up_job.specs.declared.instance.Instance.{Instance as Kept}
+use Rattle.up_book.specs.Counting.{one_if, event_of, holder_uses, kept_uses, uses, start_uses, is_holding, holder_count, count_in}
 use Rattle.up_book.specs.Remembering.{InstancesRemember, StopsRemember, StartsRemember, Remembered}
 use Rattle.up_marks.specs.declared.mark.Mark.{Mark}
 use Rattle.up_marks.specs.Agreeing.{Agrees}
@@ -68,7 +70,7 @@ same-id id other same =
     ap with_key same
 
 -- whether a place is this one
-is_place : ℕ → Option ℕ → Bool
+abbrev is_place : ℕ → Option ℕ → Bool
 is_place p None = false
 is_place p (Some q) = q == p
 
@@ -145,7 +147,7 @@ instances-used places config job c id p origin event (k ∷ its) (x ∷ xs) name
     holders-used places id k.holders p names, instances-used places config job c id p origin event its xs names queued rest remember.1)
 
 -- and what jobs hold
-jobs-used : (places : Places) (config : Configuration) (c : Chronicle) (id : EventId) (p : ℕ) (origin : Origin) (event : Event) (its : List JobKept) (triggers : List (Option (List Mark))) (jobs : List JobDef) → Names places id p
+jobs-used : (places : Places) (config : Configuration) (c : Chronicle) (id : EventId) (p : ℕ) (origin : Origin) (event : Event) (its : List JobInstances) (triggers : List (Option (List Mark))) (jobs : List JobDef) → Names places id p
     → entry_at p c ≡ Some (Queued origin event) → map (job_view places) its ≡ map (job_summary config c) jobs → StopsRemember places config c its jobs → StartsRemember places config c triggers jobs
     → count_in p (held_by_jobs config jobs c) ≡ uses id its + start_uses id triggers
 jobs-used places config c id p origin event [] [] [] names queued same stops starts = refl
@@ -177,14 +179,14 @@ has-count p (x ∷ xs) = by_case (x == p) (has-count p xs)
         rw same ih
 
 -- an event is held if what is kept uses it
-pub held : (places : Places) (jobs : List JobKept) (triggers : List (Option (List Mark))) (config : Configuration) (c : Chronicle) (id : EventId) (p : ℕ) (origin : Origin) (event : Event) → KeepsJobs places jobs config c
+pub held : (places : Places) (jobs : List JobInstances) (triggers : List (Option (List Mark))) (config : Configuration) (c : Chronicle) (id : EventId) (p : ℕ) (origin : Origin) (event : Event) → KeepsJobs places jobs config c
     → Remembered places jobs triggers config c → Names places id p → entry_at p c ≡ Some (Queued origin event) → is_held config p c ≡ not (uses id jobs + start_uses id triggers == 0)
 held places jobs triggers config c id p origin event keeps remembered names queued =
     has-count p (held_by_jobs config config.jobs c) ∙ ap (λ n. not (n == 0)) (jobs-used places config c id p origin event jobs triggers config.jobs names queued keeps remembered.stops remembered.starts)
 
 -- what one change makes of the uses
-pub uses-changed : (id : EventId) (f : Kept → Kept) (at : ℕ) (its : List Kept) (k : Kept) → Rattle.up_book.specs.Lists.nth at its ≡ Some k
-    → kept_uses id (Rattle.up_book.specs.Lists.with_at at f its) + (uses_by id k.stop_on + holder_uses id k.holders)
+pub uses-changed : (id : EventId) (f : Kept → Kept) (at : ℕ) (its : List Kept) (k : Kept) → nth at its ≡ Some k
+    → kept_uses id (with_at at f its) + (uses_by id k.stop_on + holder_uses id k.holders)
     ≡ kept_uses id its + (uses_by id (f k).stop_on + holder_uses id (f k).holders)
 uses-changed id f at [] k there = absurd cc
 uses-changed id f zero (x ∷ its) k there =

@@ -1,5 +1,7 @@
 -- What each entry changes of its instance.
 use Rattle.std.proofs.Common.{◌≡◌, ℕ, ◌<◌, ◌≤◌, ◌==◌, ◌&&◌, Bool, true, false, List, [], ◌∷◌, length, map, Option, None, Some, option_map, if◌then◌else◌, refl, sym, ◌∙◌, ap, arith, eqb-true, eq-eqb, ne_eqb}
+use Rattle.up_job.specs.Changes.{changed}
+use Rattle.up_job.specs.JobLists.{changed_at}
 use Rattle.std.proofs.lemmas.Bool.{eqb-false}
 use Rattle.std.specs.List.{AllByRecursion}
 use Rattle.up_conf.specs.declared.job.JobDef.{JobDef}
@@ -18,15 +20,13 @@ use Rattle.up_model.specs.Readings.{holders, is_blocking}
 use Rattle.up_model.specs.Seen.{seen}
 use Rattle.up_model.specs.Values.{Bytes, Bindings}
 use Rattle.up_model.proofs.Places.{older-other}
-use Rattle.up_book.specs.declared.change.Change.{Change}
-use Rattle.up_book.specs.declared.change.Change.TheVariants as change
-use Rattle.up_book.specs.declared.keys.InstanceKey.{InstanceKey}
-use Rattle.up_book.specs.declared.kept.Holder.{Holder}
-use Rattle.up_book.specs.declared.kept.JobKept.{JobKept}
-use Rattle.up_book.specs.declared.life.Lives.{Lives}
+use Rattle.up_job.specs.declared.change.Change.{Change}
+use Rattle.up_job.specs.declared.change.Change.TheVariants as change
+use Rattle.up_job.specs.declared.instance_key.InstanceKey.{InstanceKey}
+use Rattle.up_job.specs.declared.holder.Holder.{Holder}
+use Rattle.up_job.specs.declared.instances.JobInstances.{JobInstances}
 use Rattle.up_model.specs.declared.event_id.EventId.{EventId}
-use Rattle.up_book.specs.Changes.{changed, changed_at}
-use Rattle.up_book.specs.Keeps.{Keeps, AreOlder, HoldsOlder, instance_place, place_at, is_waiting}
+use Rattle.up_book.specs.Keeps.{Keeps, AreOlder, HoldsOlder, place_at, is_waiting}
 use Rattle.up_book.specs.Stepping.{stepped}
 use Rattle.up_book.specs.Summaries.{Summary, summary, holding_at, known, blank}
 use Rattle.up_book.specs.Views.{Places, holding_of, bindings_of}
@@ -75,31 +75,31 @@ touches-by places config c place i e its is older = record {
 }
 
 -- the instance of a key is older than the end
-pub place-older : (places : Places) (book : Lives) (config : Configuration) (c : Chronicle) (key : InstanceKey) (i : ℕ) → Keeps places book config c → instance_place book c key ≡ Some i → i < length c
+pub place-older : (places : Places) (book : List JobInstances) (config : Configuration) (c : Chronicle) (key : InstanceKey) (i : ℕ) → Keeps places book config c → place_at book c key ≡ Some i → i < length c
 place-older places book config c key i keeps found =
-    let t = there places book.jobs.items config c key i keeps.jobs found in
+    let t = there places book config c key i keeps.jobs found in
     let its = nth-all (IsKnown t.job.name c) key.at (instances_of t.job.name c) t.its t.in_instances (known-all t.job.name c) in
     omega (arith, t.place, its.0)
 
-pub later-after : (places : Places) (book : Lives) (config : Configuration) (c : Chronicle) (i : ℕ) (e : Entry) → Keeps places book config c → i < length c
+pub later-after : (places : Places) (book : List JobInstances) (config : Configuration) (c : Chronicle) (i : ℕ) (e : Entry) → Keeps places book config c → i < length c
     → ((job : JobDef) (x : Instance) → (x.place == i) ≡ false → summary config job (e ∷ c) x ≡ summary config job c x) → (job : JobDef) (its : Instance) → length (e ∷ c) ≤ its.place → summary config job (e ∷ c) its ≡ blank job its.name
 later-after places book config c i e keeps within same job its past =
     same job its (ne_eqb its.place i (λ p. omega (arith, past, within))) ∙ keeps.later job its (omega (arith, past))
 
 -- the book keeps one entry more
-pub keeps-after : (places : Places) (book after : Lives) (config : Configuration) (c : Chronicle) (key : InstanceKey) (i : ℕ) (e : Entry) (its : Change)
-    → Keeps places book config c → instance_place book c key ≡ Some i → Is places config c i e its → AreOlder (length c) (brought e)
-    → after.jobs.items ≡ changed_at key (changed its) book.jobs.items → Keeps places after config (e ∷ c)
+pub keeps-after : (places : Places) (book after : List JobInstances) (config : Configuration) (c : Chronicle) (key : InstanceKey) (i : ℕ) (e : Entry) (its : Change)
+    → Keeps places book config c → place_at book c key ≡ Some i → Is places config c i e its → AreOlder (length c) (brought e)
+    → after ≡ changed_at key (changed its) book → Keeps places after config (e ∷ c)
 keeps-after places book after config c key i e its keeps found is new does =
     let t = touches-by places config c key.job i e its is keeps.older in
     record {
-      jobs = rw does (one places (changed its) (stepped places its) book.jobs.items config c (e ∷ c) key i (view-changed places its) keeps.jobs keeps.distinct found t);
+      jobs = rw does (one places (changed its) (stepped places its) book config c (e ∷ c) key i (view-changed places its) keeps.jobs keeps.distinct found t);
       older = older-after e c new keeps.older;
       later = later-after places book config c i e keeps (place-older places book config c key i keeps found) (λ job x apart. spared config job e c x (is.apart x.place (flipped x.place i apart)) (keeps.older x.place));
       distinct = keeps.distinct;
     }
 
-pub stays : (old after : List JobKept) (c d : Chronicle) (key other : InstanceKey) (its : Change) (i : ℕ) → ((job : Bytes) → instances_of job d ≡ instances_of job c)
+pub stays : (old after : List JobInstances) (c d : Chronicle) (key other : InstanceKey) (its : Change) (i : ℕ) → ((job : Bytes) → instances_of job d ≡ instances_of job c)
     → after ≡ changed_at key (changed its) old → place_at old c other ≡ Some i → place_at after d other ≡ Some i
 stays old after c d key other its i same does found =
     ap (λ jobs. place_at jobs d other) does ∙ place_at-changed key other (changed its) old c d same ∙ found

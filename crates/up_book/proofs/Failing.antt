@@ -1,5 +1,6 @@
 -- An instance that fails spoils the events that it held.
 use Rattle.std.proofs.Common.{◌≡◌, ℕ, zero, suc, ◌+◌, ◌-◌, ◌<◌, ◌≤◌, ◌==◌, ◌||◌, Bool, true, false, not, List, [], ◌∷◌, length, map, Option, None, Some, option_map, if◌then◌else◌, refl, sym, ◌∙◌, ap, subst, arith, eqb-true, eq-eqb, ne_eqb}
+use Rattle.up_job.specs.Unblocking.{is_event}
 use Rattle.std.proofs.lemmas.Bool.{eqb-false}
 use Rattle.std.specs.List.{AllByRecursion}
 use Rattle.up_event.specs.declared.live.LiveEvent.{LiveEvent}
@@ -10,9 +11,9 @@ use Rattle.up_model.specs.Chronicle.{Chronicle, Origin, Queued, Released}
 use Rattle.up_model.specs.Held.{has, is_spoilt}
 use Rattle.up_model.specs.Queue.{Live, queue}
 use Rattle.up_model.specs.Readings.{entry_at, event_at, holders}
-use Rattle.up_book.specs.declared.kept.Holder.{Holder}
-use Rattle.up_book.specs.declared.kept.Holder.TheVariants as holder
-use Rattle.up_book.specs.Counting.{one_if, is_event, event_of, holder_uses, count_in}
+use Rattle.up_job.specs.declared.holder.Holder.{Holder}
+use Rattle.up_job.specs.declared.holder.Holder.TheVariants as holder
+use Rattle.up_book.specs.Counting.{one_if, event_of, holder_uses, count_in}
 use Rattle.up_book.specs.Eventing.{Standing, standing_of, standing_at, place_of, holds_of, holds_in}
 use Rattle.up_book.specs.Holding.{freed, all_changed}
 use Rattle.up_book.specs.Regular.{AreOlderOrigins}
@@ -26,7 +27,7 @@ use Rattle.up_book.proofs.Standing.{standing-but}
 use Rattle.up_book.proofs.Turning.{Match, queued-there}
 
 -- what is to be known of an event that these let go as failed
-marked : List Holder → LiveEvent → Standing
+abbrev pub marked : List Holder → LiveEvent → Standing
 marked its live = record { event = Some live.event; handled = live.handled; spoilt = live.spoilt || not (holder_uses live.id its == 0); waiter = live.waiter }
 
 or-true : (b : Bool) → (b || true) ≡ true
@@ -61,7 +62,7 @@ unmarked-all id its (e ∷ events) none = by_case (e.id.key == id.key) refl none
     by_case true same none ih = absurd cc
     by_case false differs none ih = cons_same (unmarked id its e (flip e.id.key id.key differs)) (ih none)
 
-with_key : ℕ → EventId
+abbrev with_key : ℕ → EventId
 with_key key = record { key = key }
 
 -- one that is
@@ -113,7 +114,11 @@ marked-all [] events distinct enough = none-marked events
     none-marked : (es : List LiveEvent) → map standing_of es ≡ map (marked []) es
     none-marked [] = refl
     none-marked (e ∷ es) = cons_same (rw (or-false e.spoilt) refl) (none-marked es)
-marked-all (holder.Client number command ∷ its) events distinct enough = marked-all its events distinct enough
+marked-all (holder.Client number command ∷ its) events distinct enough = marked-all its events distinct (λ id. omega (arith, enough id)) ∙ by-client events
+  where
+    by-client : (es : List LiveEvent) → map (marked its) es ≡ map (marked (holder.Client number command ∷ its)) es
+    by-client [] = refl
+    by-client (e ∷ es) = cons_same (sym (rw (none-more (holder_uses e.id its)) refl)) (by-client es)
 marked-all (holder.Event id ∷ its) events distinct enough =
     let mine : (id.key == id.key) ≡ true = eq-eqb id.key id.key refl in
     let some : 0 < holds_of id events = omega (arith, enough id, ap one_if mine) in

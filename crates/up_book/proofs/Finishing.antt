@@ -1,5 +1,6 @@
 -- What is kept of instances after an event has finished.
 use Rattle.std.proofs.Common.{◌≡◌, ℕ, ◌+◌, ◌<◌, ◌≤◌, ◌==◌, Bool, true, false, List, [], ◌∷◌, length, map, Option, None, Some, option_map, if◌then◌else◌, refl, sym, ◌∙◌, ap, arith, eqb-true, eq-eqb, ne_eqb}
+use Rattle.up_job.specs.Unblocking.{without_id, unblocked, unblocked_in}
 use Rattle.std.proofs.lemmas.Bool.{eqb-false}
 use Rattle.std.specs.List.{AllByRecursion}
 use Rattle.up_conf.specs.declared.job.JobDef.{JobDef}
@@ -8,12 +9,12 @@ use Rattle.up_model.specs.Chronicle.{Chronicle, Finished}
 use Rattle.up_model.specs.Configuration.{Configuration}
 use Rattle.up_model.specs.Instances.{Instance, instances_of}
 use Rattle.up_model.specs.Readings.{without, blocker, holders}
-use Rattle.up_book.specs.declared.kept.JobKept.{JobKept}
-use Rattle.up_book.specs.declared.kept.Kept.{Kept}
+use Rattle.up_job.specs.declared.instances.JobInstances.{JobInstances}
+use Rattle.up_job.specs.declared.instance.Instance.{Instance as Kept}
 use Rattle.up_book.specs.Counting.{holder_uses, kept_uses, uses}
 use Rattle.up_book.specs.Keeps.{KeepsJobs, HoldsOlder}
 use Rattle.up_book.specs.Summaries.{Summary, JobSummary, summary, job_summary, known}
-use Rattle.up_book.specs.Unblocking.{without_id, unblocked, unblocked_in, without_known, unblocked_summary, unblocked_job}
+use Rattle.up_book.specs.Unblocking.{without_known, unblocked_summary, unblocked_job}
 use Rattle.up_book.specs.Views.{Places, view, job_view}
 use Rattle.up_book.proofs.Counting.{Names}
 use Rattle.up_book.proofs.Frames.{holding-later}
@@ -93,14 +94,14 @@ views-finished : (old new : Places) (id : EventId) (p : ℕ) (its : List Kept) �
 views-finished old new id p [] f none = refl
 views-finished old new id p (k ∷ its) f none = cons_same (view-finished old new id p k f (omega (arith, none))) (views-finished old new id p its f (omega (arith, none)))
 
-all-finished : (old new : Places) (id : EventId) (p : ℕ) (jobs : List JobKept) → Forgets old new id p → uses id jobs ≡ 0 → map (job_view new) (map (unblocked_in id) jobs) ≡ map (unblocked_job p) (map (job_view old) jobs)
+all-finished : (old new : Places) (id : EventId) (p : ℕ) (jobs : List JobInstances) → Forgets old new id p → uses id jobs ≡ 0 → map (job_view new) (map (unblocked_in id) jobs) ≡ map (unblocked_job p) (map (job_view old) jobs)
 all-finished old new id p [] f none = refl
 all-finished old new id p (job ∷ jobs) f none =
     cons_same (ap (λ (its : List Summary). record { name = job.name; instances = its }) (views-finished old new id p job.instances f (omega (arith, none))))
     (all-finished old new id p jobs f (omega (arith, none)))
 
 -- the jobs after an event that nobody held has finished
-pub keeps-finished : (old new : Places) (id : EventId) (p : ℕ) (jobs : List JobKept) (config : Configuration) (c : Chronicle) → KeepsJobs old jobs config c → ((i : ℕ) → HoldsOlder i c)
+pub keeps-finished : (old new : Places) (id : EventId) (p : ℕ) (jobs : List JobInstances) (config : Configuration) (c : Chronicle) → KeepsJobs old jobs config c → ((i : ℕ) → HoldsOlder i c)
     → Forgets old new id p → uses id jobs ≡ 0 → KeepsJobs new (map (unblocked_in id) jobs) config (Finished p ∷ c)
 keeps-finished old new id p jobs config c keeps older f none =
     all-finished old new id p jobs f none ∙ ap (map (unblocked_job p)) keeps ∙ sym (jobs-finished config p c config.jobs older)

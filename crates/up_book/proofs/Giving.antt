@@ -1,5 +1,7 @@
 -- Inputs.
 use Rattle.std.proofs.Common.{◌≡◌, ℕ, ◌<◌, ◌≤◌, Bool, true, false, List, [], ◌∷◌, length, map, Option, None, Some, if◌then◌else◌, nat_lt, refl, sym, ◌∙◌, ap, arith}
+use Rattle.up_job.specs.Changes.{changed}
+use Rattle.up_job.specs.JobLists.{changed_at}
 use Rattle.up_model.specs.declared.input.Input.{Input}
 use Rattle.up_model.specs.declared.input.Input.TheVariants as input
 use Rattle.up_model.specs.declared.who.Who.{Who}
@@ -10,10 +12,9 @@ use Rattle.up_model.specs.Instances.{instance_named}
 use Rattle.up_model.specs.Queue.{queue}
 use Rattle.up_book.proofs.Regulars.{regular-next}
 use Rattle.up_book.specs.declared.past.Past.{Past}
-use Rattle.up_book.specs.declared.change.Change.TheVariants as change
-use Rattle.up_book.specs.declared.keys.InstanceKey.{InstanceKey}
-use Rattle.up_book.specs.declared.kept.Kept.{Kept}
-use Rattle.up_book.specs.Changes.{changed, changed_at}
+use Rattle.up_job.specs.declared.change.Change.TheVariants as change
+use Rattle.up_job.specs.declared.instance_key.InstanceKey.{InstanceKey}
+use Rattle.up_job.specs.declared.instance.Instance.{Instance as Kept}
 use Rattle.up_book.specs.Counting.{uses}
 use Rattle.up_book.specs.Eventing.{standing_of, standing_at, place_of}
 use Rattle.up_book.specs.Keeps.{Keeps}
@@ -28,13 +29,13 @@ use Rattle.up_model.proofs.QueueLaws.{queue_by_age}
 pub forgets-turn : (book : Past) (config : Configuration) (c : Chronicle) → Forgets book config c → Forgets book config (Given input.Turn ∷ c)
 forgets-turn book config c f = forgets-passing book config c (Given input.Turn) f (passing config c (Given input.Turn) (λ i. refl) (λ job. refl) (λ x. refl)) tt refl tt (λ p. refl) refl
 
-pub forgets-clock : (book after : Past) (config : Configuration) (c : Chronicle) (reading : ℕ) → Forgets book config c → after.lives ≡ book.lives → after.starts ≡ book.starts → after.events ≡ book.events
+pub forgets-clock : (book after : Past) (config : Configuration) (c : Chronicle) (reading : ℕ) → Forgets book config c → after.instances ≡ book.instances → after.starts ≡ book.starts → after.events ≡ book.events
     → after.reading ≡ (if nat_lt book.reading reading then reading else book.reading) → Forgets after config (Given (input.Clock reading) ∷ c)
 forgets-clock book after config c reading f lives starts events later =
     let passes : Passes config c (Given (input.Clock reading)) = passing config c (Given (input.Clock reading)) (λ i. refl) (λ job. refl) (λ x. refl) in
     let places = place_of book.events (queue c) in
-    let kept = keeps-past places book.lives config c (Given (input.Clock reading)) f.lives passes tt in
-    let remembered = remembered-later places book.lives.jobs.items book.starts.items config c (Given (input.Clock reading)) (unseen config c (Given (input.Clock reading)) passes) f.remembered in
+    let kept = keeps-past places book.instances config c (Given (input.Clock reading)) f.lives passes tt in
+    let remembered = remembered-later places book.instances book.starts.items config c (Given (input.Clock reading)) (unseen config c (Given (input.Clock reading)) passes) f.remembered in
     let same = standings-later (Given (input.Clock reading)) c (queue c) f.regular.origins (age-all (queue c) (length c) (queue_by_age c)) (λ p. refl) in
     record {
       lives = rw (events, lives) kept;
@@ -48,18 +49,18 @@ forgets-clock book after config c reading f lives starts events later =
 -- an answer for a process, or its end
 pub forgets-given : (book after : Past) (config : Configuration) (c : Chronicle) (key : InstanceKey) (i : ℕ) (given : Input) (who : Who) → Forgets book config c → instance_place book c key ≡ Some i
     → Names given who → instance_named who c ≡ Some i → clock.now (Given given ∷ c) ≡ clock.now c → ((k : Kept) → (changed (change_of given) k).holders ≡ k.holders)
-    → after.lives.jobs.items ≡ changed_at key (changed (change_of given)) book.lives.jobs.items → after.starts ≡ book.starts → after.events ≡ book.events → after.reading ≡ book.reading → Forgets after config (Given given ∷ c)
+    → after.instances ≡ changed_at key (changed (change_of given)) book.instances → after.starts ≡ book.starts → after.events ≡ book.events → after.reading ≡ book.reading → Forgets after config (Given given ∷ c)
 forgets-given book after config c key i given who f found says named clock_same holders does starts events reading =
     let places = place_of book.events (queue c) in
-    forgets-lives book after config c (Given given) f (keeps-given places book.lives after.lives config c key i given who f.lives f.regular.singles found says named does)
-    (rw does (remembered-changed places (changed (change_of given)) key book.lives.jobs.items book.starts.items config (Given given ∷ c) (same-trigger (change_of given))
-    (remembered-later places book.lives.jobs.items book.starts.items config c (Given given) (record { instances = λ job. refl; seen = λ x. refl }) f.remembered))) refl tt (λ p. refl) clock_same
-    (λ id. ap (uses id) does ∙ uses-same id (changed (change_of given)) (same-trigger (change_of given)) holders key book.lives.jobs.items) starts events reading
+    forgets-lives book after config c (Given given) f (keeps-given places book.instances after.instances config c key i given who f.lives f.regular.singles found says named does)
+    (rw does (remembered-changed places (changed (change_of given)) key book.instances book.starts.items config (Given given ∷ c) (same-trigger (change_of given))
+    (remembered-later places book.instances book.starts.items config c (Given given) (record { instances = λ job. refl; seen = λ x. refl }) f.remembered))) refl tt (λ p. refl) clock_same
+    (λ id. ap (uses id) does ∙ uses-same id (changed (change_of given)) (same-trigger (change_of given)) holders key book.instances) starts events reading
 
 -- an input that names no instance that exists
 pub forgets-unnamed : (book : Past) (config : Configuration) (c : Chronicle) (given : Input) (who : Who) → Forgets book config c → Names given who → instance_named who c ≡ None → clock.now (Given given ∷ c) ≡ clock.now c
     → Forgets book config (Given given ∷ c)
 forgets-unnamed book config c given who f says none clock_same =
     let places = place_of book.events (queue c) in
-    forgets-lives book book config c (Given given) f (keeps-unnamed places book.lives config c given who f.lives f.regular.singles says none)
-    (remembered-later places book.lives.jobs.items book.starts.items config c (Given given) (record { instances = λ job. refl; seen = λ x. refl }) f.remembered) refl tt (λ p. refl) clock_same (λ id. refl) refl refl refl
+    forgets-lives book book config c (Given given) f (keeps-unnamed places book.instances config c given who f.lives f.regular.singles says none)
+    (remembered-later places book.instances book.starts.items config c (Given given) (record { instances = λ job. refl; seen = λ x. refl }) f.remembered) refl tt (λ p. refl) clock_same (λ id. refl) refl refl refl

@@ -1,16 +1,16 @@
 -- What is known of the instance of a key.
-use Rattle.std.proofs.Common.{◌≡◌, ℕ, Option, None, Some, is_some, option_map, refl, sym, ◌∙◌, ap, subst}
+use Rattle.std.proofs.Common.{List, ◌≡◌, ℕ, Option, None, Some, is_some, option_map, refl, sym, ◌∙◌, ap, subst}
+use Rattle.up_job.specs.Changes.{child_of}
 use Rattle.up_stanza.specs.declared.process.Process.{Process}
 use Rattle.up_stanza.specs.declared.process.Process.TheVariants as process
 use Rattle.up_model.specs.declared.event_id.EventId.{EventId}
-use Rattle.up_book.specs.Changes.{work_of}
 use Rattle.up_model.specs.Chronicle.{Chronicle}
 use Rattle.up_model.specs.Configuration.{Configuration}
 use Rattle.up_model.specs.Instances.{Instance}
-use Rattle.up_book.specs.declared.keys.InstanceKey.{InstanceKey}
-use Rattle.up_book.specs.declared.kept.Kept.{Kept}
-use Rattle.up_book.specs.declared.life.Lives.{Lives}
-use Rattle.up_book.specs.Keeps.{Keeps, instance_place}
+use Rattle.up_job.specs.declared.instances.JobInstances.{JobInstances}
+use Rattle.up_job.specs.declared.instance_key.InstanceKey.{InstanceKey}
+use Rattle.up_job.specs.declared.instance.Instance.{Instance as Kept}
+use Rattle.up_book.specs.Keeps.{Keeps, place_at}
 use Rattle.up_book.specs.Knowing.{Knows}
 use Rattle.up_book.specs.Summaries.{Summary, summary, works_at, work_at, known}
 use Rattle.up_book.specs.Views.{Places, view, kept_at}
@@ -19,7 +19,7 @@ use Rattle.up_book.proofs.One.{There, there}
 some_same : {X : Type 0} {x y : X} → Some x ≡ Some y → x ≡ y
 some_same e = cc
 
-knows-so : (places : Places) (book : Lives) (config : Configuration) (c : Chronicle) (key : InstanceKey) (i : ℕ) (k : Kept) → There places book.jobs.items config c key i → kept_at key book.jobs.items ≡ Some k
+knows-so : (places : Places) (book : List JobInstances) (config : Configuration) (c : Chronicle) (key : InstanceKey) (i : ℕ) (k : Kept) → There places book config c key i → kept_at key book ≡ Some k
     → Knows places c i k
 knows-so places book config c key i k t found =
     let same : t.kept ≡ k = some_same (sym t.found ∙ found) in
@@ -34,22 +34,22 @@ knows-so places book config c key i k t found =
       failure = ap (λ (s : Summary). s.failure) its;
       holders = ap (λ (s : Summary). s.holders) its;
       blocker = ap (λ (s : Summary). s.blocker) its;
-      works = ap (λ (s : Summary). s.works) its;
+      children = ap (λ (s : Summary). s.children) its;
       kill_moment = ap (λ (s : Summary). s.kill_moment) its;
     })
 
-pub knows : (places : Places) (book : Lives) (config : Configuration) (c : Chronicle) (key : InstanceKey) (i : ℕ) (k : Kept) → Keeps places book config c → instance_place book c key ≡ Some i
-    → kept_at key book.jobs.items ≡ Some k → Knows places c i k
-knows places book config c key i k keeps place found = knows-so places book config c key i k (there places book.jobs.items config c key i keeps.jobs place) found
+pub knows : (places : Places) (book : List JobInstances) (config : Configuration) (c : Chronicle) (key : InstanceKey) (i : ℕ) (k : Kept) → Keeps places book config c → place_at book c key ≡ Some i
+    → kept_at key book ≡ Some k → Knows places c i k
+knows places book config c key i k keeps place found = knows-so places book config c key i k (there places book config c key i keeps.jobs place) found
 
-pub is_there : {X : Type 0} (places : Places) (book : Lives) (config : Configuration) (c : Chronicle) (key : InstanceKey) (i : ℕ) → Keeps places book config c → instance_place book c key ≡ Some i
-    → kept_at key book.jobs.items ≡ None → X
+pub is_there : {X : Type 0} (places : Places) (book : List JobInstances) (config : Configuration) (c : Chronicle) (key : InstanceKey) (i : ℕ) → Keeps places book config c → place_at book c key ≡ Some i
+    → kept_at key book ≡ None → X
 is_there places book config c key i keeps place none =
-    let t = there places book.jobs.items config c key i keeps.jobs place in
+    let t = there places book config c key i keeps.jobs place in
     let found = t.found in
     absurd cc
 
-pub work-known : (its : Process) (i : ℕ) (c : Chronicle) → work_of its (works_at i c) ≡ work_at i its c
+pub work-known : (its : Process) (i : ℕ) (c : Chronicle) → child_of its (works_at i c) ≡ work_at i its c
 work-known process.Main i c = refl
 work-known process.PreStart i c = refl
 work-known process.PostStart i c = refl

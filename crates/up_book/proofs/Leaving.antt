@@ -1,5 +1,7 @@
 -- An instance comes to rest and is gone.
 use Rattle.std.proofs.Common.{◌≡◌, ℕ, zero, suc, ◌+◌, ◌<◌, ◌≤◌, ◌==◌, Bool, true, false, List, [], ◌∷◌, ◌++◌, length, map, Option, None, Some, if◌then◌else◌, refl, sym, ◌∙◌, ap, subst, arith, ne_eqb, append_assoc}
+use Rattle.up_job.specs.JobLists.{removed_in}
+use Rattle.up_job.specs.Lists.{with_at, nth, without_at}
 use Rattle.std.proofs.lemmas.Bool.{eqb-false}
 use Rattle.std.specs.List.{AllByRecursion}
 use Rattle.up_conf.specs.declared.job.JobDef.{JobDef}
@@ -19,15 +21,14 @@ use Rattle.up_model.specs.Requests.{RequestValue}
 use Rattle.up_model.specs.Values.{Bytes}
 use Rattle.up_model.proofs.Places.{count, one_if as one_more, instances-exist}
 use Rattle.up_model.proofs.QueueLaws.{queue_by_age}
-use Rattle.up_book.specs.declared.keys.InstanceKey.{InstanceKey}
-use Rattle.up_book.specs.declared.kept.JobKept.{JobKept}
-use Rattle.up_book.specs.declared.kept.Kept.{Kept}
+use Rattle.up_job.specs.declared.instance_key.InstanceKey.{InstanceKey}
+use Rattle.up_job.specs.declared.instances.JobInstances.{JobInstances}
+use Rattle.up_job.specs.declared.instance.Instance.{Instance as Kept}
 use Rattle.up_book.specs.declared.past.Past.{Past}
 use Rattle.up_book.specs.Counting.{one_if, holder_uses, kept_uses, uses, start_uses}
 use Rattle.up_book.specs.Eventing.{standing_of, standing_at, place_of, holds_of}
 use Rattle.up_book.specs.Holding.{freed, all_changed, as_holders}
 use Rattle.up_book.specs.Keeps.{Keeps, KeepsJobs, HoldsOlder}
-use Rattle.up_book.specs.Lists.{with_at, nth, without_at}
 use Rattle.up_book.specs.Remembering.{Remembered}
 use Rattle.up_book.specs.Requesting.{IsGone}
 use Rattle.up_book.specs.Standing.{Forgets, instance_place}
@@ -36,7 +37,6 @@ use Rattle.up_book.specs.Views.{Places, kept_in, kept_at}
 use Rattle.up_book.proofs.Entering.{older-after, place-older}
 use Rattle.up_book.proofs.Frames.{spared}
 use Rattle.up_book.proofs.Holds.{frees-all, all-standings, all-places, mild-free}
-use Rattle.up_book.specs.Beginning.{without_kept}
 use Rattle.up_book.proofs.Lifecycle.{keeps-left, map-all, all-apart}
 use Rattle.up_book.proofs.Lists.{cons_same}
 use Rattle.up_book.proofs.MadeTriggers.{remembered-left}
@@ -66,18 +66,18 @@ kept-less id zero (x ∷ its) k there =
     rw same (omega arith)
 kept-less id (suc at) (x ∷ its) k there = omega (arith, kept-less id at its k there)
 
-uses-less : (id : EventId) (place at : ℕ) (jobs : List JobKept) (k : Kept) → kept_in at (nth place jobs) ≡ Some k
-    → uses id (with_at place (without_kept at) jobs) + (uses_by id k.stop_on + holder_uses id k.holders) ≡ uses id jobs
+uses-less : (id : EventId) (place at : ℕ) (jobs : List JobInstances) (k : Kept) → kept_in at (nth place jobs) ≡ Some k
+    → uses id (with_at place (removed_in at) jobs) + (uses_by id k.stop_on + holder_uses id k.holders) ≡ uses id jobs
 uses-less id place at [] k there = absurd cc
 uses-less id zero at (j ∷ jobs) k there = omega (arith, kept-less id at j.instances k there)
 uses-less id (suc place) at (j ∷ jobs) k there = omega (arith, uses-less id place at jobs k there)
 
 -- it enters waiting, and what it held is held no more
-pub forgets-left : (book after : Past) (config : Configuration) (c : Chronicle) (key : InstanceKey) (i : ℕ) (k : Kept) → Forgets book config c → instance_place book c key ≡ Some i → kept_at key book.lives.jobs.items ≡ Some k
-    → after.lives.jobs.items ≡ with_at key.job (without_kept key.at) book.lives.jobs.items → after.starts ≡ book.starts
+pub forgets-left : (book after : Past) (config : Configuration) (c : Chronicle) (key : InstanceKey) (i : ℕ) (k : Kept) → Forgets book config c → instance_place book c key ≡ Some i → kept_at key book.instances ≡ Some k
+    → after.instances ≡ with_at key.job (removed_in key.at) book.instances → after.starts ≡ book.starts
     → after.events ≡ all_changed (freed false) (as_holders (kept_by k.stop_on)) (all_changed (freed false) k.holders book.events) → after.reading ≡ book.reading → Forgets after config (Entered i state.Waiting ∷ c)
 forgets-left book after config c key i k f found kept does starts events reading =
-    let t = there (place_of book.events (queue c)) book.lives.jobs.items config c key i f.lives.jobs found in
+    let t = there (place_of book.events (queue c)) book.instances config c key i f.lives.jobs found in
     subst (λ p. Forgets after config (Entered p state.Waiting ∷ c)) t.place (at t)
   where
     places : Places
@@ -92,30 +92,30 @@ forgets-left book after config c key i k f found kept does starts events reading
     agree : (id : EventId) → moved id ≡ places id
     agree id = all-places (freed false) (as_holders (kept_by k.stop_on)) middle (queue c) id mild-free ∙ all-places (freed false) k.holders book.events (queue c) id mild-free
 
-    counted : (id : EventId) → holds_of id (all_changed (freed false) (as_holders (kept_by k.stop_on)) middle) ≡ uses id (with_at key.job (without_kept key.at) book.lives.jobs.items) + start_uses id book.starts.items
+    counted : (id : EventId) → holds_of id (all_changed (freed false) (as_holders (kept_by k.stop_on)) middle) ≡ uses id (with_at key.job (removed_in key.at) book.instances) + start_uses id book.starts.items
     counted id =
-        let first = frees-all false k.holders book.events id (λ one. omega (arith, f.counted one, uses-less one key.job key.at book.lives.jobs.items k kept)) in
-        let second = frees-all false (as_holders (kept_by k.stop_on)) middle id (λ one. omega (arith, trigger-listed one k.stop_on, f.counted one, uses-less one key.job key.at book.lives.jobs.items k kept,
-        frees-all false k.holders book.events one (λ two. omega (arith, f.counted two, uses-less two key.job key.at book.lives.jobs.items k kept)))) in
-        omega (arith, first, second, trigger-listed id k.stop_on, f.counted id, uses-less id key.job key.at book.lives.jobs.items k kept)
+        let first = frees-all false k.holders book.events id (λ one. omega (arith, f.counted one, uses-less one key.job key.at book.instances k kept)) in
+        let second = frees-all false (as_holders (kept_by k.stop_on)) middle id (λ one. omega (arith, trigger-listed one k.stop_on, f.counted one, uses-less one key.job key.at book.instances k kept,
+        frees-all false k.holders book.events one (λ two. omega (arith, f.counted two, uses-less two key.job key.at book.instances k kept)))) in
+        omega (arith, first, second, trigger-listed id k.stop_on, f.counted id, uses-less id key.job key.at book.instances k kept)
 
-    at : (t : There places book.lives.jobs.items config c key i) → Forgets after config (Entered t.its.place state.Waiting ∷ c)
+    at : (t : There places book.instances config c key i) → Forgets after config (Entered t.its.place state.Waiting ∷ c)
     at t =
         let e = Entered t.its.place state.Waiting in
         let d : Chronicle = e ∷ c in
         let older = age-all (queue c) (length c) (queue_by_age c) in
-        let within : t.its.place < length c = omega (arith, t.place, place-older places book.lives config c key i f.lives found) in
-        let lives : Keeps places after.lives config d = record {
-          jobs = rw does (keeps-left places book.lives.jobs.items config c key.job key.at t.job t.its f.lives.jobs f.lives.distinct t.in_jobs f.lives.older t.in_instances);
+        let within : t.its.place < length c = omega (arith, t.place, place-older places book.instances config c key i f.lives found) in
+        let lives : Keeps places after.instances config d = record {
+          jobs = rw does (keeps-left places book.instances config c key.job key.at t.job t.its f.lives.jobs f.lives.distinct t.in_jobs f.lives.older t.in_instances);
           older = older-after e c tt f.lives.older;
           later = λ job x past. spared config job e c x (ne_eqb t.its.place x.place (λ same. omega (arith, past, within))) (f.lives.older x.place) ∙ f.lives.later job x (omega (arith, past));
           distinct = f.lives.distinct;
         } in
-        let remembered : Remembered places after.lives.jobs.items book.starts.items config d =
-        rw does (remembered-left places book.lives.jobs.items book.starts.items config c key.job key.at t.job t.its f.lives.distinct t.in_jobs t.in_instances f.remembered) in
+        let remembered : Remembered places after.instances book.starts.items config d =
+        rw does (remembered-left places book.instances book.starts.items config c key.job key.at t.job t.its f.lives.distinct t.in_jobs t.in_instances f.remembered) in
         record {
-          lives = rw events (keeps-agree places moved after.lives config d lives agree);
-          remembered = rw (events, starts) (remembered-agrees places moved after.lives.jobs.items book.starts.items config d (λ id used. agree id) remembered);
+          lives = rw events (keeps-agree places moved after.instances config d lives agree);
+          remembered = rw (events, starts) (remembered-agrees places moved after.instances book.starts.items config d (λ id used. agree id) remembered);
           standings = rw events (all-standings (freed false) (as_holders (kept_by k.stop_on)) middle mild-free ∙ all-standings (freed false) k.holders book.events mild-free ∙ f.standings
               ∙ sym (standings-later e c (queue c) f.regular.origins older (λ p. refl)));
           counted = λ id. rw (events, does, starts) (counted id);
@@ -140,13 +140,13 @@ pub forgets-gone : (book : Past) (config : Configuration) (c : Chronicle) (i : �
 forgets-gone book config c i f gone =
     let places = place_of book.events (queue c) in
     let e = Released i false in
-    let lives : Keeps places book.lives config (e ∷ c) = record {
+    let lives : Keeps places book.instances config (e ∷ c) = record {
       jobs = f.lives.jobs ∙ sym (gone-jobs config i false c config.jobs f.lives.older gone.1);
       older = older-after e c tt f.lives.older;
       later = λ job x past. spared config job e c x (ne_eqb i x.place (λ same. omega (arith, past, gone.0))) (f.lives.older x.place) ∙ f.lives.later job x (omega (arith, past));
       distinct = f.lives.distinct;
     } in
-    forgets-lives book book config c e f lives (remembered-later places book.lives.jobs.items book.starts.items config c e (record { instances = λ job. refl; seen = λ x. refl }) f.remembered) refl tt (λ p. refl) refl
+    forgets-lives book book config c e f lives (remembered-later places book.instances book.starts.items config c e (record { instances = λ job. refl; seen = λ x. refl }) f.remembered) refl tt (λ p. refl) refl
     (λ id. refl) refl refl refl
 
 -- an answer changes nothing that is kept

@@ -11,8 +11,8 @@ use Rattle.up_model.specs.Left.{left_in, left_at, left_among, left}
 use Rattle.up_model.specs.Readings.{goal, state_of, blocker}
 use Rattle.up_model.specs.Values.{Bytes}
 use Rattle.up_model.proofs.Places.{bytes_same, bytes_refl}
-use Rattle.up_book.specs.declared.kept.JobKept.{JobKept}
-use Rattle.up_book.specs.declared.kept.Kept.{Kept}
+use Rattle.up_job.specs.declared.instances.JobInstances.{JobInstances}
+use Rattle.up_job.specs.declared.instance.Instance.{Instance as Kept}
 use Rattle.up_book.specs.Keeps.{AreDistinct, KeepsJobs}
 use Rattle.up_book.specs.Summaries.{Summary, JobSummary, summary, job_summary}
 use Rattle.up_book.specs.Views.{Places, view, job_view}
@@ -124,7 +124,7 @@ kept-by : (places : Places) (its : List Kept) → left_by_all (map (view places)
 kept-by places [] = refl
 kept-by places (kept ∷ its) = rw (is_some-map places kept.blocker, kept-by places its) refl
 
-jobs-by : (places : Places) (jobs : List JobKept) → left_by_jobs (map (job_view places) jobs) ≡ left_of_jobs jobs
+jobs-by : (places : Places) (jobs : List JobInstances) → left_by_jobs (map (job_view places) jobs) ≡ left_of_jobs jobs
 jobs-by places [] = refl
 jobs-by places (job ∷ jobs) = rw (kept-by places job.instances, jobs-by places jobs) refl
 
@@ -141,7 +141,7 @@ among [] c = refl
 among (x ∷ xs) c = rw (among xs c) refl
 
 -- what is kept counts what may still be ordered
-pub left-kept : (places : Places) (jobs : List JobKept) (config : Configuration) (c : Chronicle) → KeepsJobs places jobs config c → AreDistinct config.jobs → AreNamed config.jobs c → left_of_jobs jobs ≡ left c
+pub left-kept : (places : Places) (jobs : List JobInstances) (config : Configuration) (c : Chronicle) → KeepsJobs places jobs config c → AreDistinct config.jobs → AreNamed config.jobs c → left_of_jobs jobs ≡ left c
 unfolding left
 left-kept places jobs config c keeps distinct named =
     sym (jobs-by places jobs) ∙ ap left_by_jobs keeps ∙ summed-by config c config.jobs ∙ sym (sum-all (λ p. left_at p c) config.jobs c distinct named) ∙ sym (among (all_instances c) c)

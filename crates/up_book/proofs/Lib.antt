@@ -31,3 +31,5 @@ pub mod Shifting
 pub mod Requested
 pub mod Announcing
 pub mod Leaving
+pub mod StepFrames
+pub mod Sights

@@ -1,5 +1,8 @@
 -- Instances come and go.
 use Rattle.std.proofs.Common.{◌≡◌, ℕ, zero, suc, ◌+◌, ◌<◌, ◌≤◌, ◌==◌, Bool, true, false, List, [], ◌∷◌, length, map, Option, None, Some, option_map, bytes_eq, if◌then◌else◌, refl, sym, ◌∙◌, ap, subst, arith, eqb-true, eq-eqb, ne_eqb}
+use Rattle.up_job.specs.InstanceLists.{idle}
+use Rattle.up_job.specs.JobLists.{with_made, removed_in}
+use Rattle.up_job.specs.Lists.{with_at, nth, with_named, without_at}
 use Rattle.std.proofs.lemmas.Bool.{eqb-false}
 use Rattle.std.specs.List.{AllByRecursion}
 use Rattle.up_conf.specs.declared.job.JobDef.{JobDef}
@@ -12,13 +15,11 @@ use Rattle.up_model.specs.Readings.{holders}
 use Rattle.up_model.specs.Seen.{seen}
 use Rattle.up_model.specs.Values.{Bytes}
 use Rattle.up_model.proofs.Places.{bytes_same, bytes_refl, older-other, count, one_if, all_instances-once, instances-exist}
-use Rattle.up_book.specs.declared.keys.InstanceKey.{InstanceKey}
-use Rattle.up_book.specs.declared.kept.JobKept.{JobKept}
-use Rattle.up_book.specs.declared.kept.Kept.{Kept}
+use Rattle.up_job.specs.declared.instance_key.InstanceKey.{InstanceKey}
+use Rattle.up_job.specs.declared.instances.JobInstances.{JobInstances}
+use Rattle.up_job.specs.declared.instance.Instance.{Instance as Kept}
 use Rattle.up_book.specs.Keeps.{AreDistinct, KeepsJobs, HoldsOlder}
-use Rattle.up_book.specs.Beginning.{with_kept, without_kept}
-use Rattle.up_book.specs.Lists.{with_at, nth, with_named, without_at}
-use Rattle.up_book.specs.Summaries.{Summary, JobSummary, summary, job_summary, blank, idle}
+use Rattle.up_book.specs.Summaries.{Summary, JobSummary, summary, job_summary, blank}
 use Rattle.up_book.specs.Views.{Places, view, job_view}
 use Rattle.up_book.proofs.Frames.{concerns, spared, holding-later}
 use Rattle.up_book.proofs.Lists.{cons_same, with_at-map, Elsewhere, with_at-read}
@@ -26,8 +27,8 @@ use Rattle.up_book.proofs.Named.{with_named-map, without_at-map}
 use Rattle.up_book.proofs.One.{IsKnown, known-all, absent, called, jobs-elsewhere, none-of-others, nth-all}
 
 -- a job changes, and all others stay
-pub one-job : (places : Places) (f : JobKept → JobKept) (g : JobSummary → JobSummary) (jobs : List JobKept) (config : Configuration) (c d : Chronicle) (place : ℕ) (job : JobDef)
-    → ((j : JobKept) → job_view places (f j) ≡ g (job_view places j)) → KeepsJobs places jobs config c → AreDistinct config.jobs → nth place config.jobs ≡ Some job
+pub one-job : (places : Places) (f : JobInstances → JobInstances) (g : JobSummary → JobSummary) (jobs : List JobInstances) (config : Configuration) (c d : Chronicle) (place : ℕ) (job : JobDef)
+    → ((j : JobInstances) → job_view places (f j) ≡ g (job_view places j)) → KeepsJobs places jobs config c → AreDistinct config.jobs → nth place config.jobs ≡ Some job
     → job_summary config d job ≡ g (job_summary config c job) → ((other : JobDef) → bytes_eq other.name job.name ≡ false → job_summary config d other ≡ job_summary config c other)
     → KeepsJobs places (with_at place f jobs) config d
 one-job places f g jobs config c d place job same keeps distinct there here others =
@@ -55,7 +56,7 @@ spared-made-all config job other name c its older =
 pub made-blank : (config : Configuration) (job : JobDef) (other name : Bytes) (c : Chronicle) → ((i : ℕ) → HoldsOlder i c) → summary config job c (record { place = length c; name = name }) ≡ blank job name
     → summary config job (Made other name ∷ c) (record { place = length c; name = name }) ≡ blank job name
 made-blank config job other name c older none =
-    let fresh : record (summary config job c (record { place = length c; name = name })) { works = idle } ≡ blank job name = ap (λ (s : Summary). record s { works = idle }) none in
+    let fresh : record (summary config job c (record { place = length c; name = name })) { children = idle } ≡ blank job name = ap (λ (s : Summary). record s { children = idle }) none in
     rw (eq-eqb (length c) (length c) refl, holding-later (Made other name) c (holders (length c) c) (older (length c))) fresh
 
 abbrev pub with_summary : Summary → JobSummary → JobSummary
@@ -90,12 +91,12 @@ made-elsewhere config job name c other older apart =
     rw (back other.name job apart) (same-instances (job_summary config c other) _ _ (spared-made-all config other job name c other.name older))
 
 -- a job has one instance more
-pub keeps-made : (places : Places) (kept : Kept) (jobs : List JobKept) (config : Configuration) (c : Chronicle) (place : ℕ) (job : JobDef) (name : Bytes)
+pub keeps-made : (places : Places) (kept : Kept) (jobs : List JobInstances) (config : Configuration) (c : Chronicle) (place : ℕ) (job : JobDef) (name : Bytes)
     → KeepsJobs places jobs config c → AreDistinct config.jobs → nth place config.jobs ≡ Some job → ((i : ℕ) → HoldsOlder i c)
     → summary config job c (record { place = length c; name = name }) ≡ blank job name → view places kept ≡ blank job name
-    → KeepsJobs places (with_at place (with_kept kept) jobs) config (Made job.name name ∷ c)
+    → KeepsJobs places (with_at place (with_made kept) jobs) config (Made job.name name ∷ c)
 keeps-made places kept jobs config c place job name keeps distinct there older none new =
-    one-job places (with_kept kept) (with_summary (view places kept)) jobs config c (Made job.name name ∷ c) place job
+    one-job places (with_made kept) (with_summary (view places kept)) jobs config c (Made job.name name ∷ c) place job
     (λ j. ap (λ (xs : List Summary). record (job_view places j) { instances = xs }) (with_named-map (view places) (λ (k : Kept). k.name) (λ (s : Summary). s.name) (λ k. refl) kept j.instances))
     keeps distinct there
     (made-here config job name c older none ∙ ap (λ (s : Summary). with_summary s (job_summary config c job)) (sym new))
@@ -192,12 +193,12 @@ left-here config c at job x older there =
     (λ y apart. spared config job (Entered x.place state.Waiting) c y apart (older y.place)) (all-apart x.place (without_at at (instances_of job.name c)) (without-count at (instances_of job.name c) x there once)) in
     rw (without-nth at (instances_of job.name c) x there once) (same-instances (job_summary config c job) _ _ (rest ∙ without_at-map (summary config job c) at (instances_of job.name c)))
 
-pub keeps-left : (places : Places) (jobs : List JobKept) (config : Configuration) (c : Chronicle) (place at : ℕ) (job : JobDef) (x : Instance)
+pub keeps-left : (places : Places) (jobs : List JobInstances) (config : Configuration) (c : Chronicle) (place at : ℕ) (job : JobDef) (x : Instance)
     → KeepsJobs places jobs config c → AreDistinct config.jobs → nth place config.jobs ≡ Some job → ((i : ℕ) → HoldsOlder i c) → nth at (instances_of job.name c) ≡ Some x
-    → KeepsJobs places (with_at place (without_kept at) jobs) config (Entered x.place state.Waiting ∷ c)
+    → KeepsJobs places (with_at place (removed_in at) jobs) config (Entered x.place state.Waiting ∷ c)
 keeps-left places jobs config c place at job x keeps distinct there older its =
     let made = nth-all (IsKnown job.name c) at (instances_of job.name c) x its (known-all job.name c) in
-    one-job places (without_kept at) (without_summary at) jobs config c (Entered x.place state.Waiting ∷ c) place job
+    one-job places (removed_in at) (without_summary at) jobs config c (Entered x.place state.Waiting ∷ c) place job
     (λ j. ap (λ (xs : List Summary). record (job_view places j) { instances = xs }) (without_at-map (view places) at j.instances))
     keeps distinct there (left-here config c at job x older its)
     (λ other apart. left-elsewhere config c x.place other older (none-of-others other.name c x.place (called job.name x.name) (instances_of other.name c) (known-all other.name c) made.1 apart))

@@ -1,5 +1,7 @@
 -- What expressions remember as instances come and go.
 use Rattle.std.proofs.Common.{◌≡◌, ℕ, zero, suc, ◌+◌, ◌<◌, ◌≤◌, ◌==◌, Bool, true, false, List, [], ◌∷◌, length, map, Option, None, Some, bytes_eq, if◌then◌else◌, refl, sym, ◌∙◌, ap, subst, arith}
+use Rattle.up_job.specs.JobLists.{with_made, removed_in}
+use Rattle.up_job.specs.Lists.{with_at, nth, without_at, with_named}
 use Rattle.std.specs.List.{AllByRecursion}
 use Rattle.up_conf.specs.declared.job.JobDef.{JobDef}
 use Rattle.up_conf.specs.Order.{is_below}
@@ -12,11 +14,9 @@ use Rattle.up_model.specs.Instances.{Instance, with_instance, without_instance, 
 use Rattle.up_model.specs.Seen.{seen}
 use Rattle.up_model.specs.Values.{Bytes}
 use Rattle.up_model.proofs.Places.{bytes_refl, count, all_instances-once, instances-exist}
-use Rattle.up_book.specs.declared.kept.JobKept.{JobKept}
-use Rattle.up_book.specs.declared.kept.Kept.{Kept}
-use Rattle.up_book.specs.Beginning.{with_kept, without_kept}
+use Rattle.up_job.specs.declared.instances.JobInstances.{JobInstances}
+use Rattle.up_job.specs.declared.instance.Instance.{Instance as Kept}
 use Rattle.up_book.specs.Keeps.{AreDistinct, KeepsJobs}
-use Rattle.up_book.specs.Lists.{with_at, nth, without_at, with_named}
 use Rattle.up_book.specs.Remembering.{InstancesRemember, StopsRemember, Remembered}
 use Rattle.up_book.specs.Summaries.{Summary, JobSummary, summary, job_summary}
 use Rattle.up_book.specs.Views.{Places, view, job_view}
@@ -57,7 +57,7 @@ instances-more places config job c kept x (k ∷ its) (y ∷ xs) name names new 
     by_case false false same ih = (new, r)
 
 -- jobs that have another name
-others-made : (places : Places) (config : Configuration) (c : Chronicle) (job name : Bytes) (its : List JobKept) (jobs : List JobDef) → AllByRecursion (λ other. bytes_eq other.name job ≡ false) jobs
+others-made : (places : Places) (config : Configuration) (c : Chronicle) (job name : Bytes) (its : List JobInstances) (jobs : List JobDef) → AllByRecursion (λ other. bytes_eq other.name job ≡ false) jobs
     → StopsRemember places config c its jobs → StopsRemember places config (Made job name ∷ c) its jobs
 others-made places config c job name [] [] apart r = tt
 others-made places config c job name [] (d ∷ jobs) apart r = absurd r
@@ -67,9 +67,9 @@ others-made places config c job name (j ∷ its) (d ∷ jobs) apart r = (
   others-made places config c job name its jobs apart.1 r.1,
 )
 
-stops-made : (places : Places) (config : Configuration) (c : Chronicle) (kept : Kept) (name : Bytes) (place : ℕ) (job : JobDef) (its : List JobKept) (jobs : List JobDef) → map (job_view places) its ≡ map (job_summary config c) jobs
+stops-made : (places : Places) (config : Configuration) (c : Chronicle) (kept : Kept) (name : Bytes) (place : ℕ) (job : JobDef) (its : List JobInstances) (jobs : List JobDef) → map (job_view places) its ≡ map (job_summary config c) jobs
     → AreDistinct jobs → nth place jobs ≡ Some job → kept.name ≡ name → Remembers places kept.stop_on job.stop_on (seen config (StopOn (length c)) c) → StopsRemember places config c its jobs
-    → StopsRemember places config (Made job.name name ∷ c) (with_at place (with_kept kept) its) jobs
+    → StopsRemember places config (Made job.name name ∷ c) (with_at place (with_made kept) its) jobs
 stops-made places config c kept name place job [] [] same distinct there named new r = tt
 stops-made places config c kept name place job [] (d ∷ jobs) same distinct there named new r = absurd r
 stops-made places config c kept name place job (j ∷ its) [] same distinct there named new r = absurd r
@@ -90,9 +90,9 @@ stops-made places config c kept name (suc place) job (j ∷ its) (d ∷ jobs) sa
     (rw apart (instances-later places config d (Made job.name name) c j.instances (instances_of d.name c) (λ x. refl) r.0),
     stops-made places config c kept name place job its jobs rest distinct.1 there named new r.1)
 
-pub remembered-made : (places : Places) (kept : Kept) (jobs : List JobKept) (starts : List (Option (List Mark))) (config : Configuration) (c : Chronicle) (place : ℕ) (job : JobDef) (name : Bytes) → KeepsJobs places jobs config c
+pub remembered-made : (places : Places) (kept : Kept) (jobs : List JobInstances) (starts : List (Option (List Mark))) (config : Configuration) (c : Chronicle) (place : ℕ) (job : JobDef) (name : Bytes) → KeepsJobs places jobs config c
     → AreDistinct config.jobs → nth place config.jobs ≡ Some job → kept.name ≡ name → Remembers places kept.stop_on job.stop_on [] → Remembered places jobs starts config c
-    → Remembered places (with_at place (with_kept kept) jobs) starts config (Made job.name name ∷ c)
+    → Remembered places (with_at place (with_made kept) jobs) starts config (Made job.name name ∷ c)
 remembered-made places kept jobs starts config c place job name keeps distinct there named new r = record {
   stops = stops-made places config c kept name place job jobs config.jobs keeps distinct there named (subst (Remembers places kept.stop_on job.stop_on) (sym (r.unborn (length c) (omega arith))) new) r.stops;
   starts = starts-later places config (Made job.name name) c starts config.jobs (λ x. refl) r.starts;
@@ -108,12 +108,12 @@ instances-less places config job c at (k ∷ its) [] r = absurd r
 instances-less places config job c zero (k ∷ its) (y ∷ xs) r = r.1
 instances-less places config job c (suc at) (k ∷ its) (y ∷ xs) r = (r.0, instances-less places config job c at its xs r.1)
 
-stay-by : (places : Places) (config : Configuration) (d : JobDef) (c : Chronicle) (i : ℕ) (j : JobKept) → count i (instances_of d.name c) ≡ 0 → InstancesRemember places config d c j.instances (instances_of d.name c)
+stay-by : (places : Places) (config : Configuration) (d : JobDef) (c : Chronicle) (i : ℕ) (j : JobInstances) → count i (instances_of d.name c) ≡ 0 → InstancesRemember places config d c j.instances (instances_of d.name c)
     → InstancesRemember places config d (Entered i state.Waiting ∷ c) j.instances (instances_of d.name (Entered i state.Waiting ∷ c))
 stay-by places config d c i j none r =
     rw (without-absent i (instances_of d.name c) none) (instances-later places config d (Entered i state.Waiting) c j.instances (instances_of d.name c) (λ x. refl) r)
 
-others-left : (places : Places) (config : Configuration) (c : Chronicle) (job : JobDef) (x : Instance) (its : List JobKept) (jobs : List JobDef) → IsKnown job.name c x → AllByRecursion (λ other. bytes_eq other.name job.name ≡ false) jobs
+others-left : (places : Places) (config : Configuration) (c : Chronicle) (job : JobDef) (x : Instance) (its : List JobInstances) (jobs : List JobDef) → IsKnown job.name c x → AllByRecursion (λ other. bytes_eq other.name job.name ≡ false) jobs
     → StopsRemember places config c its jobs → StopsRemember places config (Entered x.place state.Waiting ∷ c) its jobs
 others-left places config c job x [] [] known apart r = tt
 others-left places config c job x [] (d ∷ jobs) known apart r = absurd r
@@ -123,8 +123,8 @@ others-left places config c job x (j ∷ its) (d ∷ jobs) known apart r = (
   others-left places config c job x its jobs known apart.1 r.1,
 )
 
-stops-left : (places : Places) (config : Configuration) (c : Chronicle) (place at : ℕ) (job : JobDef) (x : Instance) (its : List JobKept) (jobs : List JobDef) → AreDistinct jobs → nth place jobs ≡ Some job
-    → nth at (instances_of job.name c) ≡ Some x → StopsRemember places config c its jobs → StopsRemember places config (Entered x.place state.Waiting ∷ c) (with_at place (without_kept at) its) jobs
+stops-left : (places : Places) (config : Configuration) (c : Chronicle) (place at : ℕ) (job : JobDef) (x : Instance) (its : List JobInstances) (jobs : List JobDef) → AreDistinct jobs → nth place jobs ≡ Some job
+    → nth at (instances_of job.name c) ≡ Some x → StopsRemember places config c its jobs → StopsRemember places config (Entered x.place state.Waiting ∷ c) (with_at place (removed_in at) its) jobs
 stops-left places config c place at job x [] [] distinct there its_there r = tt
 stops-left places config c place at job x [] (d ∷ jobs) distinct there its_there r = absurd r
 stops-left places config c place at job x (j ∷ its) [] distinct there its_there r = absurd r
@@ -144,8 +144,8 @@ stops-left places config c (suc place) at job x (j ∷ its) (d ∷ jobs) distinc
     (stay-by places config d c x.place j (none-of-others d.name c x.place (called job.name x.name) (instances_of d.name c) (known-all d.name c) known.1 apart) r.0,
     stops-left places config c place at job x its jobs distinct.1 there its_there r.1)
 
-pub remembered-left : (places : Places) (jobs : List JobKept) (starts : List (Option (List Mark))) (config : Configuration) (c : Chronicle) (place at : ℕ) (job : JobDef) (x : Instance) → AreDistinct config.jobs → nth place config.jobs ≡ Some job
-    → nth at (instances_of job.name c) ≡ Some x → Remembered places jobs starts config c → Remembered places (with_at place (without_kept at) jobs) starts config (Entered x.place state.Waiting ∷ c)
+pub remembered-left : (places : Places) (jobs : List JobInstances) (starts : List (Option (List Mark))) (config : Configuration) (c : Chronicle) (place at : ℕ) (job : JobDef) (x : Instance) → AreDistinct config.jobs → nth place config.jobs ≡ Some job
+    → nth at (instances_of job.name c) ≡ Some x → Remembered places jobs starts config c → Remembered places (with_at place (removed_in at) jobs) starts config (Entered x.place state.Waiting ∷ c)
 remembered-left places jobs starts config c place at job x distinct there its_there r = record {
   stops = stops-left places config c place at job x jobs config.jobs distinct there its_there r.stops;
   starts = starts-later places config (Entered x.place state.Waiting) c starts config.jobs (λ y. refl) r.starts;

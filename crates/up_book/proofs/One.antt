@@ -1,5 +1,7 @@
 -- One instance changes, and all others stay.
 use Rattle.std.proofs.Common.{◌≡◌, ℕ, zero, suc, ◌+◌, ◌<◌, ◌≤◌, ◌==◌, Bool, true, false, List, [], ◌∷◌, length, map, Option, None, Some, option_map, bytes_eq, if◌then◌else◌, refl, sym, ◌∙◌, ap, subst, arith, eqb-true, eq-eqb, ne_eqb}
+use Rattle.up_job.specs.JobLists.{changed_in, changed_at}
+use Rattle.up_job.specs.Lists.{with_at, nth}
 use Rattle.std.proofs.lemmas.Bool.{eqb-false}
 use Rattle.std.specs.List.{AllByRecursion}
 use Rattle.up_conf.specs.declared.job.JobDef.{JobDef}
@@ -12,12 +14,10 @@ use Rattle.up_model.specs.Readings.{made_at}
 use Rattle.up_model.specs.Seen.{seen}
 use Rattle.up_model.specs.Values.{Bytes}
 use Rattle.up_model.proofs.Places.{bytes_same, bytes_refl, older-other, all-without, count, one_if, all_instances-once, instances-exist}
-use Rattle.up_book.specs.declared.keys.InstanceKey.{InstanceKey}
-use Rattle.up_book.specs.declared.kept.JobKept.{JobKept}
-use Rattle.up_book.specs.declared.kept.Kept.{Kept}
-use Rattle.up_book.specs.Changes.{changed_in, changed_at}
+use Rattle.up_job.specs.declared.instance_key.InstanceKey.{InstanceKey}
+use Rattle.up_job.specs.declared.instances.JobInstances.{JobInstances}
+use Rattle.up_job.specs.declared.instance.Instance.{Instance as Kept}
 use Rattle.up_book.specs.Keeps.{AreDistinct, KeepsJobs, instance_in, place_at}
-use Rattle.up_book.specs.Lists.{with_at, nth}
 use Rattle.up_book.specs.Summaries.{Summary, JobSummary, summary, job_summary}
 use Rattle.up_book.specs.Views.{Places, view, job_view, kept_in, kept_at}
 use Rattle.up_book.proofs.Lists.{with_at-map, Elsewhere, with_at-read, nth-map, map-nth}
@@ -190,7 +190,7 @@ touched config c d key i g job x jobs t in_config distinct in_jobs in_instances 
     (λ other apart. spared-job config c d key.job i g (called job.name x.name) other t made apart))
 
 -- an instance that a key stands for
-pub record There (places : Places) (jobs : List JobKept) (config : Configuration) (c : Chronicle) (key : InstanceKey) (i : ℕ) : Type 0 where
+pub record There (places : Places) (jobs : List JobInstances) (config : Configuration) (c : Chronicle) (key : InstanceKey) (i : ℕ) : Type 0 where
   pub job : JobDef
   pub its : Instance
   pub kept : Kept
@@ -200,7 +200,7 @@ pub record There (places : Places) (jobs : List JobKept) (config : Configuration
   pub found : kept_at key jobs ≡ Some kept
   pub same : view places kept ≡ summary config job c its
 
-there-in : (places : Places) (jobs : List JobKept) (config : Configuration) (c : Chronicle) (key : InstanceKey) (i : ℕ) (kept_job : JobKept) (job : JobDef) (its : Instance)
+there-in : (places : Places) (jobs : List JobInstances) (config : Configuration) (c : Chronicle) (key : InstanceKey) (i : ℕ) (kept_job : JobInstances) (job : JobDef) (its : Instance)
     → nth key.job jobs ≡ Some kept_job → nth key.job config.jobs ≡ Some job → job_summary config c job ≡ job_view places kept_job
     → nth key.at (instances_of kept_job.name c) ≡ Some its → its.place ≡ i → There places jobs config c key i
 there-in places jobs config c key i kept_job job its kept_there job_there same its_there place =
@@ -221,7 +221,7 @@ there-in places jobs config c key i kept_job job its kept_there job_there same i
       same = found.2;
     }
 
-there-by : (places : Places) (jobs : List JobKept) (config : Configuration) (c : Chronicle) (key : InstanceKey) (i : ℕ) (kept_job : Option JobKept)
+there-by : (places : Places) (jobs : List JobInstances) (config : Configuration) (c : Chronicle) (key : InstanceKey) (i : ℕ) (kept_job : Option JobInstances)
     → nth key.job jobs ≡ kept_job → KeepsJobs places jobs config c → option_map {T = Instance} (λ its. its.place) (instance_in key.at kept_job c) ≡ Some i → There places jobs config c key i
 there-by places jobs config c key i None there keeps found = absurd cc
 there-by places jobs config c key i (Some kept_job) there keeps found =
@@ -235,34 +235,34 @@ there-by places jobs config c key i (Some kept_job) there keeps found =
     by_case None is found job job_there same = absurd cc
     by_case (Some its) is found job job_there same = there-in places jobs config c key i kept_job job its there job_there same is cc
 
-pub there : (places : Places) (jobs : List JobKept) (config : Configuration) (c : Chronicle) (key : InstanceKey) (i : ℕ)
+pub there : (places : Places) (jobs : List JobInstances) (config : Configuration) (c : Chronicle) (key : InstanceKey) (i : ℕ)
     → KeepsJobs places jobs config c → place_at jobs c key ≡ Some i → There places jobs config c key i
 there places jobs config c key i keeps found = there-by places jobs config c key i (nth key.job jobs) refl keeps found
 
 -- one instance is kept as it changes
-pub one : (places : Places) (f : Kept → Kept) (g : Summary → Summary) (jobs : List JobKept) (config : Configuration) (c d : Chronicle) (key : InstanceKey) (i : ℕ)
+pub one : (places : Places) (f : Kept → Kept) (g : Summary → Summary) (jobs : List JobInstances) (config : Configuration) (c d : Chronicle) (key : InstanceKey) (i : ℕ)
     → ((k : Kept) → view places (f k) ≡ g (view places k)) → KeepsJobs places jobs config c → AreDistinct config.jobs → place_at jobs c key ≡ Some i → Touches config c d key.job i g
     → KeepsJobs places (changed_at key f jobs) config d
 one places f g jobs config c d key i same keeps distinct found t =
     let its = there places jobs config c key i keeps found in
-    let one_job : (j : JobKept) → job_view places (changed_in key.at f j) ≡ in_job key.at g (job_view places j) = λ j.
+    let one_job : (j : JobInstances) → job_view places (changed_in key.at f j) ≡ in_job key.at g (job_view places j) = λ j.
     ap (λ (xs : List Summary). record (job_view places j) { instances = xs }) (with_at-map (view places) f g same key.at j.instances) in
     with_at-map (job_view places) (changed_in key.at f) (in_job key.at g) one_job key.job jobs
     ∙ ap (with_at key.job (in_job key.at g)) keeps
     ∙ sym (touched config c d key i g its.job its.its config.jobs t its.in_jobs distinct its.in_jobs its.in_instances its.place)
 
 -- where keys stand stays
-pub place_at-changed : (key other : InstanceKey) (f : Kept → Kept) (jobs : List JobKept) (c d : Chronicle) → ((job : Bytes) → instances_of job d ≡ instances_of job c)
+pub place_at-changed : (key other : InstanceKey) (f : Kept → Kept) (jobs : List JobInstances) (c d : Chronicle) → ((job : Bytes) → instances_of job d ≡ instances_of job c)
     → place_at (changed_at key f jobs) d other ≡ place_at jobs c other
 place_at-changed key other f jobs c d same = by_name key.job other.job jobs
   where
-    by_name : (m n : ℕ) (its : List JobKept) → option_map {T = Instance} (λ x. x.place) (instance_in other.at (nth n (with_at m (changed_in key.at f) its)) d)
+    by_name : (m n : ℕ) (its : List JobInstances) → option_map {T = Instance} (λ x. x.place) (instance_in other.at (nth n (with_at m (changed_in key.at f) its)) d)
         ≡ option_map {T = Instance} (λ x. x.place) (instance_in other.at (nth n its) c)
     by_name m n [] = refl
     by_name zero zero (j ∷ js) = rw (same j.name) refl
     by_name zero (suc n) (j ∷ js) = rest n js
       where
-        rest : (n : ℕ) (its : List JobKept) → option_map {T = Instance} (λ x. x.place) (instance_in other.at (nth n its) d) ≡ option_map {T = Instance} (λ x. x.place) (instance_in other.at (nth n its) c)
+        rest : (n : ℕ) (its : List JobInstances) → option_map {T = Instance} (λ x. x.place) (instance_in other.at (nth n its) d) ≡ option_map {T = Instance} (λ x. x.place) (instance_in other.at (nth n its) c)
         rest n [] = refl
         rest zero (i ∷ is) = rw (same i.name) refl
         rest (suc n) (i ∷ is) = rest n is

@@ -1,5 +1,6 @@
 -- What is put out at an entry, by what is kept.
 use Rattle.std.proofs.Common.{◌≡◌, ℕ, zero, suc, ◌+◌, ◌<◌, ◌≤◌, ◌==◌, Bool, true, false, List, [], ◌∷◌, ◌++◌, length, map, Option, None, Some, option_map, bytes_eq, if◌then◌else◌, refl, sym, ◌∙◌, ap, subst, arith, eqb-true, eq-eqb, append-nil}
+use Rattle.up_job.specs.Lists.{nth}
 use Rattle.std.specs.List.{AllByRecursion}
 use Rattle.up_conf.specs.declared.job.JobDef.{JobDef}
 use Rattle.up_stanza.specs.declared.process.Process.{Process}
@@ -21,9 +22,8 @@ use Rattle.up_model.specs.Readings.{made_at, id_at, process_env, pid_of}
 use Rattle.up_model.specs.Replies.{status_of, status_as, own_process, pid_if}
 use Rattle.up_model.specs.Values.{Bytes}
 use Rattle.up_model.proofs.Places.{bytes_same, bytes_refl}
-use Rattle.up_book.specs.declared.kept.Work.{Work}
+use Rattle.up_job.specs.declared.child.Child.{Child}
 use Rattle.up_book.specs.Keeps.{AreDistinct}
-use Rattle.up_book.specs.Lists.{nth}
 use Rattle.up_book.specs.Summaries.{Summary, summary, works_at}
 use Rattle.up_book.proofs.Knowing.{work-known}
 use Rattle.up_book.proofs.One.{IsKnown, known-all, called, nth-all}
@@ -119,7 +119,7 @@ silent-out config c e is = refl
 -- the status text
 pid-own : (o : Option Process) (i : ℕ) (c : Chronicle) → pid_if i o c ≡ own_pid o (works_at i c)
 pid-own None i c = refl
-pid-own (Some its) i c = sym (ap (λ (w : Work). w.pid) (work-known its i c))
+pid-own (Some its) i c = sym (ap (λ (w : Child). w.pid) (work-known its i c))
 
 pub status-known : (config : Configuration) (c : Chronicle) (at : ℕ) (job : JobDef) (x : Instance) → nth at (instances_of job.name c) ≡ Some x → status_of x.place c ≡ status_by job (summary config job c x)
 status-known config c at job x here = rw (made-there at job x c here, pid-own (own_process (Rattle.up_model.specs.Readings.state_of x.place c)) x.place c) refl

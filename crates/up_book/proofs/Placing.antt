@@ -1,5 +1,6 @@
 -- Where keys stand as events come and go.
 use Rattle.std.proofs.Common.{◌≡◌, ℕ, zero, suc, ◌+◌, ◌<◌, ◌≤◌, ◌==◌, ◌||◌, Bool, true, false, not, List, [], ◌∷◌, ◌++◌, length, map, Option, None, Some, option_map, if◌then◌else◌, refl, sym, ◌∙◌, ap, subst, arith, eqb-true, eq-eqb, ne_eqb}
+use Rattle.up_job.specs.Unblocking.{is_event}
 use Rattle.std.proofs.lemmas.Bool.{eqb-false}
 use Rattle.std.specs.List.{AllByRecursion}
 use Rattle.up_conf.specs.declared.job.JobDef.{JobDef}
@@ -12,11 +13,11 @@ use Rattle.up_model.specs.Configuration.{Configuration}
 use Rattle.up_model.specs.Laws.{AreByAge}
 use Rattle.up_model.specs.Queue.{Live, live_at, queue, without_event, with_handled}
 use Rattle.up_model.proofs.QueueLaws.{queue_by_age}
-use Rattle.up_book.specs.declared.kept.Holder.{Holder}
-use Rattle.up_book.specs.declared.kept.Holder.TheVariants as holder
-use Rattle.up_book.specs.declared.kept.JobKept.{JobKept}
-use Rattle.up_book.specs.declared.kept.Kept.{Kept}
-use Rattle.up_book.specs.Counting.{one_if, is_event, event_of, holder_uses, kept_uses, uses}
+use Rattle.up_job.specs.declared.holder.Holder.{Holder}
+use Rattle.up_job.specs.declared.holder.Holder.TheVariants as holder
+use Rattle.up_job.specs.declared.instances.JobInstances.{JobInstances}
+use Rattle.up_job.specs.declared.instance.Instance.{Instance as Kept}
+use Rattle.up_book.specs.Counting.{one_if, event_of, holder_uses, kept_uses, uses}
 use Rattle.up_book.specs.Eventing.{Standing, standing_of, standing_at, place_of, holds_of, AreCounted}
 use Rattle.up_book.specs.Summaries.{Summary, JobSummary}
 use Rattle.up_book.specs.Views.{Places, view, job_view, holding_of}
@@ -52,11 +53,11 @@ views-agree old new [] used blocks = refl
 views-agree old new (k ∷ its) used blocks =
     cons_same (view-agrees old new k (λ id one. used id (omega (arith, one))) blocks.0) (views-agree old new its (λ id one. used id (omega (arith, one))) blocks.1)
 
-abbrev pub BlockersAgree : Places → Places → List JobKept → Type 0
+abbrev pub BlockersAgree : Places → Places → List JobInstances → Type 0
 BlockersAgree old new jobs = AllByRecursion (λ job. AllByRecursion (λ k. (id : EventId) → k.blocker ≡ Some id → Agree old new id) job.instances) jobs
 
 -- all that is kept
-pub jobs-agree : (old new : Places) (jobs : List JobKept) → ((id : EventId) → 0 < uses id jobs → Agree old new id) → BlockersAgree old new jobs → map (job_view new) jobs ≡ map (job_view old) jobs
+pub jobs-agree : (old new : Places) (jobs : List JobInstances) → ((id : EventId) → 0 < uses id jobs → Agree old new id) → BlockersAgree old new jobs → map (job_view new) jobs ≡ map (job_view old) jobs
 jobs-agree old new [] used blocks = refl
 jobs-agree old new (job ∷ jobs) used blocks =
     cons_same (ap (λ (its : List Summary). record { name = job.name; instances = its }) (views-agree old new job.instances (λ id one. used id (omega (arith, one))) blocks.0))

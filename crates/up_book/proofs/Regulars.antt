@@ -1,6 +1,6 @@
 -- A chronicle stays one that a run brings about.
 use Rattle.std.proofs.Common.{◌≡◌, ℕ, ◌<◌, ◌≤◌, ◌==◌, ◌||◌, nat_lt, Bool, true, false, List, [], ◌∷◌, length, Option, None, Some, if◌then◌else◌, refl, sym, ◌∙◌, ap, subst, arith, ne_eqb}
-use Rattle.std.proofs.lemmas.Bool.{ltb-lt}
+use Rattle.std.proofs.lemmas.Bool.{ltb-true}
 use Rattle.std.specs.List.{AllByRecursion}
 use Rattle.up_model.specs.declared.input.Input.TheVariants as input
 use Rattle.up_model.specs.declared.state.State.{State}
@@ -11,19 +11,15 @@ use Rattle.up_model.specs.Configuration.{Configuration}
 use Rattle.up_model.specs.Held.{has, is_spoilt}
 use Rattle.up_model.specs.Readings.{holders}
 use Rattle.up_model.proofs.NameLaws.{Singles, entered-singles, made-singles}
-use Rattle.up_book.specs.Regular.{AreOlderOrigins, AreNamed, AreFalling, IsRegular, MayFollow}
-use Rattle.up_book.specs.Summaries.{moments}
-
--- what falls from one moment falls from a later one
-falls-later : (last later : ℕ) (its : List ℕ) → last ≤ later → AreFalling last its → AreFalling later its
-falls-later last later [] before falling = tt
-falls-later last later (moment ∷ its) before falling = (omega (arith, before, falling.0), falling.1)
+use Rattle.up_book.specs.Regular.{AreOlderOrigins, AreNamed, IsRegular, MayFollow}
+use Rattle.up_job.specs.Moments.{moments_of, Falls}
+use Rattle.up_job.proofs.MomentLemmas.{falls-later}
 
 clock-later : (n m : ℕ) → n ≤ (if nat_lt n m then m else n)
 clock-later n m = by_case (nat_lt n m) refl
   where
     by_case : (b : Bool) → nat_lt n m ≡ b → n ≤ (if b then m else n)
-    by_case true before = omega (arith, ltb-lt n m before)
+    by_case true before = omega (arith, ltb-true n m before)
     by_case false before = omega arith
 
 now-later : (c : Chronicle) (e : Entry) → now c ≤ now (e ∷ c)
@@ -55,13 +51,13 @@ unspoilt-next config c (Released i true) unspoilt follow event past =
     rw (none-older event (length c) (holders i c) (omega (arith, past)) follow) (unspoilt event (omega (arith, past)))
 unspoilt-next config c e unspoilt follow event past = unspoilt event (omega (arith, past))
 
-falling-next : (config : Configuration) (c : Chronicle) (e : Entry) → ((i : ℕ) → AreFalling (now c) (moments i c)) → MayFollow config c e → (i : ℕ) → AreFalling (now (e ∷ c)) (moments i (e ∷ c))
+falling-next : (config : Configuration) (c : Chronicle) (e : Entry) → ((i : ℕ) → Falls (now c) (moments_of i c)) → MayFollow config c e → (i : ℕ) → Falls (now (e ∷ c)) (moments_of i (e ∷ c))
 falling-next config c (Respawned other moment) falling follow i = by_case (other == i)
   where
-    by_case : (b : Bool) → AreFalling (now c) (if b then moment ∷ moments i c else moments i c)
-    by_case true = (omega (arith, follow), subst (λ m. AreFalling m (moments i c)) (sym follow) (falling i))
+    by_case : (b : Bool) → Falls (now c) (if b then moment ∷ moments_of i c else moments_of i c)
+    by_case true = (omega (arith, follow), subst (λ m. Falls m (moments_of i c)) (sym follow) (falling i))
     by_case false = falling i
-falling-next config c e falling follow i = falls-later (now c) (now (e ∷ c)) (moments i c) (now-later c e) (falling i)
+falling-next config c e falling follow i = falls-later (now c) (now (e ∷ c)) (moments_of i c) (now-later c e) (falling i)
 
 pub regular-next : (config : Configuration) (c : Chronicle) (e : Entry) → IsRegular config c → MayFollow config c e → IsRegular config (e ∷ c)
 regular-next config c e r follow = record {

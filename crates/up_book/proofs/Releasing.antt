@@ -1,5 +1,6 @@
 -- What an instance that lets its holders go puts out, and that instances are of jobs.
 use Rattle.std.proofs.Common.{◌≡◌, ℕ, zero, suc, ◌+◌, ◌<◌, ◌≤◌, ◌==◌, Bool, true, false, List, [], ◌∷◌, ◌++◌, length, map, Option, None, Some, is_some, bytes_eq, if◌then◌else◌, refl, sym, ◌∙◌, ap, subst, arith, append_assoc}
+use Rattle.up_job.specs.Lists.{nth}
 use Rattle.up_conf.specs.declared.job.JobDef.{JobDef}
 use Rattle.up_model.specs.Chronicle.{Chronicle, Entry, Given, Queued, Made, Released}
 use Rattle.up_model.specs.Configuration.{Configuration, job_named}
@@ -8,9 +9,8 @@ use Rattle.up_model.specs.Readings.{holders}
 use Rattle.up_model.specs.Replies.{answering, releasing, status_of}
 use Rattle.up_model.specs.Values.{Bytes}
 use Rattle.up_model.proofs.Places.{older-other, bytes_refl}
-use Rattle.up_book.specs.declared.kept.Holder.{Holder}
+use Rattle.up_job.specs.declared.holder.Holder.{Holder}
 use Rattle.up_book.specs.Keeps.{HoldsOlder}
-use Rattle.up_book.specs.Lists.{nth}
 use Rattle.up_book.specs.Replying.{replies_to}
 use Rattle.up_book.specs.Summaries.{holding_at}
 use Rattle.up_book.specs.Views.{Places, holding_of}

@@ -12,8 +12,8 @@ use Rattle.up_model.specs.Replies.{answering, answering_one, answer_to, request_
 use Rattle.up_model.specs.Requests.{RequestValue}
 use Rattle.up_model.specs.Values.{Bytes}
 use Rattle.up_model.proofs.Places.{older-other}
-use Rattle.up_book.specs.declared.kept.Holder.{Holder}
-use Rattle.up_book.specs.declared.kept.Holder.TheVariants as holder
+use Rattle.up_job.specs.declared.holder.Holder.{Holder}
+use Rattle.up_job.specs.declared.holder.Holder.TheVariants as holder
 use Rattle.up_book.specs.Keeps.{AreOlder}
 use Rattle.up_book.specs.Replying.{reply_to, replies_to}
 use Rattle.up_book.specs.Summaries.{Holding, ByEvent, ByClient, holding_in, holding_at}

@@ -1,5 +1,6 @@
 -- The answer that ends a step tells of the instance that the request acted on, even if it has gone.
 use Rattle.std.proofs.Common.{◌≡◌, ℕ, zero, suc, ◌+◌, ◌<◌, ◌≤◌, ◌==◌, Bool, true, false, List, [], ◌∷◌, ◌++◌, length, map, Option, None, Some, option_map, bytes_eq, if◌then◌else◌, refl, sym, ◌∙◌, ap, subst, arith, eqb-true, eq-eqb, ne_eqb}
+use Rattle.up_job.specs.Lists.{nth, with_at, with_named, without_at, position_in}
 use Rattle.std.proofs.lemmas.Bool.{eqb-false}
 use Rattle.std.specs.List.{AllByRecursion}
 use Rattle.up_conf.specs.Order.{is_below}
@@ -21,11 +22,10 @@ use Rattle.up_model.specs.Replies.{own_process, pid_if, status_as, status_of, st
 use Rattle.up_model.specs.Status.{status_text}
 use Rattle.up_model.specs.Values.{Bytes, Bindings}
 use Rattle.up_model.proofs.Places.{older-other, count, one_if}
-use Rattle.up_book.specs.declared.keys.InstanceKey.{InstanceKey}
-use Rattle.up_book.specs.declared.kept.JobKept.{JobKept}
-use Rattle.up_book.specs.declared.kept.Kept.{Kept}
+use Rattle.up_job.specs.declared.instance_key.InstanceKey.{InstanceKey}
+use Rattle.up_job.specs.declared.instances.JobInstances.{JobInstances}
+use Rattle.up_job.specs.declared.instance.Instance.{Instance as Kept}
 use Rattle.up_book.specs.Keeps.{AreDistinct, KeepsJobs, instance_in, place_at}
-use Rattle.up_book.specs.Lists.{nth, with_at, with_named, without_at, position_in}
 use Rattle.up_book.specs.Summaries.{Summary, summary, works_at}
 use Rattle.up_book.specs.Views.{Places, view, kept_at}
 use Rattle.up_book.proofs.Lists.{nth-map, map-nth}
@@ -37,14 +37,14 @@ use Rattle.up_book.specs.Sending.{status_by}
 use Rattle.up_book.proofs.Outgoing.{status-known, made-there}
 
 -- what the request acted on, by what is kept
-told-there : (places : Places) (jobs : List JobKept) (config : Configuration) (c : Chronicle) (key : InstanceKey) (i : ℕ) → There places jobs config c key i
+told-there : (places : Places) (jobs : List JobInstances) (config : Configuration) (c : Chronicle) (key : InstanceKey) (i : ℕ) → There places jobs config c key i
     → status_of i c ≡ status_kept places (nth key.job config.jobs) (kept_at key jobs)
 told-there places jobs config c key i t =
     let text : status_of t.its.place c ≡ status_by t.job (summary config t.job c t.its) = status-known config c key.at t.job t.its t.in_instances in
     ap (λ p. status_of p c) (sym t.place) ∙ text ∙ ap (status_by t.job) (sym t.same)
     ∙ ap (λ (k : Option Kept). status_kept places (Some t.job) k) (sym t.found) ∙ ap (λ (j : Option JobDef). status_kept places j (kept_at key jobs)) (sym t.in_jobs)
 
-pub told-so : (places : Places) (jobs : List JobKept) (config : Configuration) (c : Chronicle) (on : Option ActedOn) → KeepsJobs places jobs config c → OnMeans jobs c on
+pub told-so : (places : Places) (jobs : List JobInstances) (config : Configuration) (c : Chronicle) (on : Option ActedOn) → KeepsJobs places jobs config c → OnMeans jobs c on
     → status_if (request_instance c) c ≡ told_of places config.jobs jobs on
 told-so places jobs config c None keeps means = rw means refl
 told-so places jobs config c (Some (Exists key)) keeps means =
@@ -52,7 +52,7 @@ told-so places jobs config c (Some (Exists key)) keeps means =
 told-so places jobs config c (Some (Gone text)) keeps means = ap (λ o. status_if o c) means.1 ∙ means.2
 
 -- the answer that ends a step
-pub last-out : (places : Places) (jobs : List JobKept) (config : Configuration) (c : Chronicle) (on : Option ActedOn) (request id : ℕ) → KeepsJobs places jobs config c → OnMeans jobs c on
+pub last-out : (places : Places) (jobs : List JobInstances) (config : Configuration) (c : Chronicle) (on : Option ActedOn) (request id : ℕ) → KeepsJobs places jobs config c → OnMeans jobs c on
     → unanswered c ≡ Some request → id_at request c ≡ Some id
     → outputs_of config (answering_last c ++ c) ≡ outputs_of config c ++ output.Reply id (record { ok = true; text = told_of places config.jobs jobs on }) ∷ []
 unfolding outputs_of
@@ -141,15 +141,15 @@ other-gone i j c gone exists = by_case (j == i) refl
 
 -- What the request acted on, as entries are added.
 -- an input: nothing yet
-pub on-given : (jobs : List JobKept) (c : Chronicle) (input : Rattle.up_model.specs.declared.input.Input.Input) → OnMeans jobs (Given input ∷ c) None
+pub on-given : (jobs : List JobInstances) (c : Chronicle) (input : Rattle.up_model.specs.declared.input.Input.Input) → OnMeans jobs (Given input ∷ c) None
 on-given jobs c input = refl
 
 -- a goal that changes, and a restart: the instance of this key
-pub on-aimed : (jobs : List JobKept) (c : Chronicle) (key : InstanceKey) (i : ℕ) (aim : Goal) (environment : Bindings) (its : List ℕ) → place_at jobs (Aimed i aim environment its ∷ c) key ≡ Some i
+pub on-aimed : (jobs : List JobInstances) (c : Chronicle) (key : InstanceKey) (i : ℕ) (aim : Goal) (environment : Bindings) (its : List ℕ) → place_at jobs (Aimed i aim environment its ∷ c) key ≡ Some i
     → OnMeans jobs (Aimed i aim environment its ∷ c) (Some (Exists key))
 on-aimed jobs c key i aim environment its there = (i, refl, there)
 
-pub on-restarted : (jobs : List JobKept) (c : Chronicle) (key : InstanceKey) (i : ℕ) (its : List ℕ) → place_at jobs (Restarted i its ∷ c) key ≡ Some i
+pub on-restarted : (jobs : List JobInstances) (c : Chronicle) (key : InstanceKey) (i : ℕ) (its : List ℕ) → place_at jobs (Restarted i its ∷ c) key ≡ Some i
     → OnMeans jobs (Restarted i its ∷ c) (Some (Exists key))
 on-restarted jobs c key i its there = (i, refl, there)
 
@@ -160,14 +160,14 @@ IsPlain (Aimed i aim environment its) = ⊥
 IsPlain (Restarted i its) = ⊥
 IsPlain entry = Unit {0}
 
-request-plain : (e : Entry) (c : Chronicle) → IsPlain e → request_instance (e ∷ c) ≡ request_instance c
+pub request-plain : (e : Entry) (c : Chronicle) → IsPlain e → request_instance (e ∷ c) ≡ request_instance c
 request-plain (Given input) c is = absurd is
 request-plain (Aimed i aim environment its) c is = absurd is
 request-plain (Restarted i its) c is = absurd is
 request-plain e c is = refl
 
 -- where the instance of each key stands afterwards is the only thing to be shown, and that one that is gone isn't entered upon
-pub on-later : (old new : List JobKept) (e : Entry) (c : Chronicle) (on : Option ActedOn) (move : InstanceKey → InstanceKey) → IsPlain e
+pub on-later : (old new : List JobInstances) (e : Entry) (c : Chronicle) (on : Option ActedOn) (move : InstanceKey → InstanceKey) → IsPlain e
     → ((key : InstanceKey) (i : ℕ) → on ≡ Some (Exists key) → place_at old c key ≡ Some i → place_at new (e ∷ c) (move key) ≡ Some i)
     → ((i : ℕ) → IsGone i c → Mentions i e ≡ false)
     → OnMeans old c on → OnMeans new (e ∷ c) (Rattle.up_book.specs.Requesting.moved_on move on)
@@ -179,7 +179,7 @@ on-later old new e c (Some (Gone text)) move is places apart means =
     (means.0, request-plain e c is ∙ means.1, status-apart means.0 e c (apart means.0 gone) gone.0 ∙ means.2, gone-later means.0 e c gone)
 
 -- the instance of the request leaves: its text is kept
-pub on-left : (jobs new : List JobKept) (config : Configuration) (c : Chronicle) (at : ℕ) (job : JobDef) (x : Instance) → nth at (instances_of job.name c) ≡ Some x → x.place < length c
+pub on-left : (jobs new : List JobInstances) (config : Configuration) (c : Chronicle) (at : ℕ) (job : JobDef) (x : Instance) → nth at (instances_of job.name c) ≡ Some x → x.place < length c
     → request_instance c ≡ Some x.place
     → OnMeans new (Entered x.place state.Waiting ∷ c) (Some (Gone (status_by job (record (summary config job c x) { state = state.Waiting }))))
 on-left jobs new config c at job x here older asked = (x.place, asked, status-left config c at job x here older, left-gone x.place c older)

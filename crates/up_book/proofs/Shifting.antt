@@ -1,5 +1,7 @@
 -- Where keys stand after an instance of a job came or went.
 use Rattle.std.proofs.Common.{◌≡◌, ℕ, zero, suc, ◌+◌, ◌<◌, ◌≤◌, ◌==◌, Bool, true, false, List, [], ◌∷◌, length, map, Option, None, Some, option_map, bytes_eq, if◌then◌else◌, refl, sym, ◌∙◌, ap, subst, arith, eqb-true, eq-eqb, ne_eqb}
+use Rattle.up_job.specs.JobLists.{with_made, removed_in}
+use Rattle.up_job.specs.Lists.{nth, with_at, with_named, without_at, position_in}
 use Rattle.std.proofs.lemmas.Bool.{eqb-false}
 use Rattle.std.specs.List.{AllByRecursion}
 use Rattle.up_conf.specs.declared.job.JobDef.{JobDef}
@@ -9,14 +11,12 @@ use Rattle.up_model.specs.Configuration.{Configuration}
 use Rattle.up_model.specs.Instances.{Instance, with_instance, without_instance, instances_of}
 use Rattle.up_model.specs.Values.{Bytes}
 use Rattle.up_model.proofs.Places.{bytes_same, bytes_refl, count, all_instances-once, instances-exist}
-use Rattle.up_book.specs.declared.keys.InstanceKey.{InstanceKey}
-use Rattle.up_book.specs.declared.kept.JobKept.{JobKept}
-use Rattle.up_book.specs.declared.kept.Kept.{Kept}
+use Rattle.up_job.specs.declared.instance_key.InstanceKey.{InstanceKey}
+use Rattle.up_job.specs.declared.instances.JobInstances.{JobInstances}
+use Rattle.up_job.specs.declared.instance.Instance.{Instance as Kept}
 use Rattle.up_book.specs.Keeps.{AreDistinct, KeepsJobs, instance_in, place_at}
-use Rattle.up_book.specs.Lists.{nth, with_at, with_named, without_at, position_in}
 use Rattle.up_book.specs.Summaries.{JobSummary, job_summary}
 use Rattle.up_book.specs.Views.{Places, job_view}
-use Rattle.up_book.specs.Beginning.{with_kept, without_kept}
 use Rattle.up_book.proofs.Lifecycle.{without-nth, without-absent}
 use Rattle.up_book.proofs.Lists.{nth-map, map-nth}
 use Rattle.up_book.proofs.One.{IsKnown, known-all, called, none-of-others, nth-all}
@@ -64,7 +64,7 @@ nth-other f (suc m) zero (x ∷ xs) apart = refl
 nth-other f (suc m) (suc n) (x ∷ xs) apart = nth-other f m n xs (λ same. apart (ap suc same))
 
 -- the job that is kept at a place is the table's
-kept-name : (places : Places) (jobs : List JobKept) (config : Configuration) (c : Chronicle) (n : ℕ) (kept : JobKept) → KeepsJobs places jobs config c → nth n jobs ≡ Some kept
+kept-name : (places : Places) (jobs : List JobInstances) (config : Configuration) (c : Chronicle) (n : ℕ) (kept : JobInstances) → KeepsJobs places jobs config c → nth n jobs ≡ Some kept
     → (job : JobDef) × (nth n config.jobs ≡ Some job) × (kept.name ≡ job.name)
 kept-name places jobs config c n kept keeps there =
     let viewed : nth n (map (job_summary config c) config.jobs) ≡ Some (job_view places kept) = ap (nth n) (sym keeps) ∙ map-nth (job_view places) n jobs kept there in
@@ -75,9 +75,9 @@ abbrev place_of_one : Option Instance → Option ℕ
 place_of_one o = option_map {T = Instance} (λ x. x.place) o
 
 -- an instance came
-pub key-made : (places : Places) (old : List JobKept) (config : Configuration) (c : Chronicle) (place : ℕ) (job : JobDef) (kept : Kept) (name : Bytes) (key : InstanceKey) (i : ℕ)
+pub key-made : (places : Places) (old : List JobInstances) (config : Configuration) (c : Chronicle) (place : ℕ) (job : JobDef) (kept : Kept) (name : Bytes) (key : InstanceKey) (i : ℕ)
     → KeepsJobs places old config c → AreDistinct config.jobs → nth place config.jobs ≡ Some job → place_at old c key ≡ Some i
-    → place_at (with_at place (with_kept kept) old) (Made job.name name ∷ c) (after_made place (position_in name (map (λ (x : Instance). x.name) (instances_of job.name c))) key) ≡ Some i
+    → place_at (with_at place (with_made kept) old) (Made job.name name ∷ c) (after_made place (position_in name (map (λ (x : Instance). x.name) (instances_of job.name c))) key) ≡ Some i
 key-made places old config c place job kept name key i keeps distinct there stands = by_job (nth key.job old) refl stands
   where
     d : Chronicle
@@ -89,10 +89,10 @@ key-made places old config c place job kept name key i keeps distinct there stan
     position : ℕ
     position = position_in name (map (λ (x : Instance). x.name) (instances_of job.name c))
 
-    new : List JobKept
-    new = with_at place (with_kept kept) old
+    new : List JobInstances
+    new = with_at place (with_made kept) old
 
-    by_job : (o : Option JobKept) → nth key.job old ≡ o → place_of_one (instance_in key.at o c) ≡ Some i → place_at new d (after_made place position key) ≡ Some i
+    by_job : (o : Option JobInstances) → nth key.job old ≡ o → place_of_one (instance_in key.at o c) ≡ Some i → place_at new d (after_made place position key) ≡ Some i
     by_job None is found = absurd cc
     by_job (Some its) is found = by_place (key.job == place) refl
       where
@@ -105,8 +105,8 @@ key-made places old config c place job kept name key i keeps distinct there stan
             let both : Some table.0 ≡ Some job = sym table.1 ∙ ap (λ n. nth n config.jobs) at_place ∙ there in
             let mine : table.0 ≡ job = cc in
             let name_so : its.name ≡ job.name = table.2 ∙ ap (λ (j : JobDef). j.name) mine in
-            let list : nth key.job new ≡ Some (with_kept kept its) = ap (λ n. nth n new) at_place ∙ nth-here (with_kept kept) place old ∙ ap (λ (o : Option JobKept). option_map (with_kept kept) o) (ap (λ n. nth n old) (sym at_place) ∙ is) in
-            ap (λ (o : Option JobKept). place_of_one (instance_in (after_insert position key.at) o d)) list
+            let list : nth key.job new ≡ Some (with_made kept its) = ap (λ n. nth n new) at_place ∙ nth-here (with_made kept) place old ∙ ap (λ (o : Option JobInstances). option_map (with_made kept) o) (ap (λ n. nth n old) (sym at_place) ∙ is) in
+            ap (λ (o : Option JobInstances). place_of_one (instance_in (after_insert position key.at) o d)) list
             ∙ ap (λ n. place_of_one (nth (after_insert position key.at) (instances_of n d))) name_so
             ∙ ap (λ b. place_of_one (nth (after_insert position key.at) (if b then with_instance made (instances_of job.name c) else instances_of job.name c))) (bytes_refl job.name)
             ∙ ap place_of_one (nth-inserted (λ (x : Instance). x.name) made (instances_of job.name c) key.at)
@@ -114,26 +114,26 @@ key-made places old config c place job kept name key i keeps distinct there stan
         by_place false differs =
             let elsewhere : key.job ≡ place → ⊥ = λ same. eqb-false key.job place differs same in
             let apart : bytes_eq job.name its.name ≡ false = ap (λ n. bytes_eq job.name n) table.2 ∙ distinct-at place key.job config.jobs job table.0 there table.1 (λ same. elsewhere (sym same)) distinct in
-            let list : nth key.job new ≡ Some its = nth-other (with_kept kept) key.job place old elsewhere ∙ is in
-            ap (λ (o : Option JobKept). place_of_one (instance_in key.at o d)) list
+            let list : nth key.job new ≡ Some its = nth-other (with_made kept) key.job place old elsewhere ∙ is in
+            ap (λ (o : Option JobInstances). place_of_one (instance_in key.at o d)) list
             ∙ ap (λ b. place_of_one (nth key.at (if b then with_instance made (instances_of its.name c) else instances_of its.name c))) apart ∙ found
 
 -- an instance went
-pub key-left : (places : Places) (old : List JobKept) (config : Configuration) (c : Chronicle) (place at : ℕ) (job : JobDef) (x : Instance) (key : InstanceKey) (i : ℕ)
+pub key-left : (places : Places) (old : List JobInstances) (config : Configuration) (c : Chronicle) (place at : ℕ) (job : JobDef) (x : Instance) (key : InstanceKey) (i : ℕ)
     → KeepsJobs places old config c → AreDistinct config.jobs → nth place config.jobs ≡ Some job → nth at (instances_of job.name c) ≡ Some x → (key.job ≡ place → key.at ≡ at → ⊥) → place_at old c key ≡ Some i
-    → place_at (with_at place (without_kept at) old) (Entered x.place state.Waiting ∷ c) (after_left place at key) ≡ Some i
+    → place_at (with_at place (removed_in at) old) (Entered x.place state.Waiting ∷ c) (after_left place at key) ≡ Some i
 key-left places old config c place at job x key i keeps distinct there here other stands = by_job (nth key.job old) refl stands
   where
     d : Chronicle
     d = Entered x.place state.Waiting ∷ c
 
-    new : List JobKept
-    new = with_at place (without_kept at) old
+    new : List JobInstances
+    new = with_at place (removed_in at) old
 
     once : count x.place (instances_of job.name c) ≤ 1
     once = omega (arith, instances-exist x.place job.name c, all_instances-once x.place c)
 
-    by_job : (o : Option JobKept) → nth key.job old ≡ o → place_of_one (instance_in key.at o c) ≡ Some i → place_at new d (after_left place at key) ≡ Some i
+    by_job : (o : Option JobInstances) → nth key.job old ≡ o → place_of_one (instance_in key.at o c) ≡ Some i → place_at new d (after_left place at key) ≡ Some i
     by_job None is found = absurd cc
     by_job (Some its) is found = by_place (key.job == place) refl
       where
@@ -146,10 +146,10 @@ key-left places old config c place at job x key i keeps distinct there here othe
             let both : Some table.0 ≡ Some job = sym table.1 ∙ ap (λ n. nth n config.jobs) at_place ∙ there in
             let mine : table.0 ≡ job = cc in
             let name_so : its.name ≡ job.name = table.2 ∙ ap (λ (j : JobDef). j.name) mine in
-            let list : nth key.job new ≡ Some (without_kept at its) = ap (λ n. nth n new) at_place ∙ nth-here (without_kept at) place old ∙ ap (λ (o : Option JobKept). option_map (without_kept at) o) (ap (λ n. nth n old) (sym at_place) ∙ is) in
+            let list : nth key.job new ≡ Some (removed_in at its) = ap (λ n. nth n new) at_place ∙ nth-here (removed_in at) place old ∙ ap (λ (o : Option JobInstances). option_map (removed_in at) o) (ap (λ n. nth n old) (sym at_place) ∙ is) in
             let old_one : place_of_one (nth key.at (instances_of job.name c)) ≡ Some i = ap (λ n. place_of_one (nth key.at (instances_of n c))) (sym name_so) ∙ found in
             let apart : key.at ≡ at → ⊥ = other at_place in
-            ap (λ (o : Option JobKept). place_of_one (instance_in (after_remove at key.at) o d)) list
+            ap (λ (o : Option JobInstances). place_of_one (instance_in (after_remove at key.at) o d)) list
             ∙ ap (λ n. place_of_one (nth (after_remove at key.at) (without_instance x.place (instances_of n c)))) name_so
             ∙ ap (λ xs. place_of_one (nth (after_remove at key.at) xs)) (without-nth at (instances_of job.name c) x here once)
             ∙ ap place_of_one (nth-removed at key.at (instances_of job.name c) apart) ∙ old_one
@@ -158,6 +158,6 @@ key-left places old config c place at job x key i keeps distinct there here othe
             let apart : bytes_eq its.name job.name ≡ false = ap (λ n. bytes_eq n job.name) table.2 ∙ distinct-at key.job place config.jobs table.0 job table.1 there elsewhere distinct in
             let known = nth-all (IsKnown job.name c) at (instances_of job.name c) x here (known-all job.name c) in
             let none = none-of-others its.name c x.place (called job.name x.name) (instances_of its.name c) (known-all its.name c) known.1 apart in
-            let list : nth key.job new ≡ Some its = nth-other (without_kept at) key.job place old elsewhere ∙ is in
-            ap (λ (o : Option JobKept). place_of_one (instance_in key.at o d)) list
+            let list : nth key.job new ≡ Some its = nth-other (removed_in at) key.job place old elsewhere ∙ is in
+            ap (λ (o : Option JobInstances). place_of_one (instance_in key.at o d)) list
             ∙ ap (λ xs. place_of_one (nth key.at xs)) (without-absent x.place (instances_of its.name c) none) ∙ found

@@ -1,11 +1,11 @@
 -- What is kept of an instance, seen as a summary, changes as the summary does.
 use Rattle.std.proofs.Common.{◌≡◌, ℕ, Bool, true, false, List, [], ◌∷◌, map, Option, None, Some, refl, sym, ◌∙◌, ap, if◌then◌else◌}
+use Rattle.up_job.specs.Changes.{changed, begun, env_after, is_starting}
 use Rattle.up_model.specs.declared.state.State.{State}
 use Rattle.up_model.specs.Values.{Bindings}
-use Rattle.up_book.specs.declared.change.Change.{Change}
-use Rattle.up_book.specs.declared.change.Change.TheVariants as change
-use Rattle.up_book.specs.declared.kept.Kept.{Kept}
-use Rattle.up_book.specs.Changes.{changed, begun, env_after, is_starting}
+use Rattle.up_job.specs.declared.change.Change.{Change}
+use Rattle.up_job.specs.declared.change.Change.TheVariants as change
+use Rattle.up_job.specs.declared.instance.Instance.{Instance as Kept}
 use Rattle.up_book.specs.Stepping.{stepped, starting_if}
 use Rattle.up_book.specs.Views.{Places, view, bindings_of, pending_of}
 
@@ -32,3 +32,4 @@ view-changed places (change.Answers its pid) k = refl
 view-changed places (change.Loses its) k = refl
 view-changed places (change.Signals moment) k = refl
 view-changed places (change.Waits event) k = refl
+view-changed places (change.Respawns moment) k = refl

@@ -1,5 +1,8 @@
 -- What each expression remembers, from one moment to the next.
 use Rattle.std.proofs.Common.{◌≡◌, ℕ, zero, suc, ◌+◌, ◌<◌, ◌≤◌, ◌==◌, Bool, true, false, List, [], ◌∷◌, ◌++◌, length, map, Option, None, Some, if◌then◌else◌, refl, sym, ◌∙◌, ap, subst, arith, ne_eqb}
+use Rattle.up_job.specs.JobLists.{changed_in, changed_at}
+use Rattle.up_job.specs.Lists.{with_at}
+use Rattle.up_job.specs.Unblocking.{unblocked, unblocked_in}
 use Rattle.up_conf.specs.declared.job.JobDef.{JobDef}
 use Rattle.up_conf.specs.Order.{is_below}
 use Rattle.up_expr.specs.Trees.{Tree}
@@ -13,14 +16,11 @@ use Rattle.up_model.specs.Configuration.{Configuration}
 use Rattle.up_model.specs.Instances.{Instance, instances_of}
 use Rattle.up_model.specs.Seen.{seen}
 use Rattle.up_model.specs.Values.{Bytes}
-use Rattle.up_book.specs.declared.keys.InstanceKey.{InstanceKey}
-use Rattle.up_book.specs.declared.kept.JobKept.{JobKept}
-use Rattle.up_book.specs.declared.kept.Kept.{Kept}
-use Rattle.up_book.specs.Changes.{changed_in, changed_at}
+use Rattle.up_job.specs.declared.instance_key.InstanceKey.{InstanceKey}
+use Rattle.up_job.specs.declared.instances.JobInstances.{JobInstances}
+use Rattle.up_job.specs.declared.instance.Instance.{Instance as Kept}
 use Rattle.up_book.specs.Counting.{kept_uses, uses, start_uses}
-use Rattle.up_book.specs.Lists.{with_at}
 use Rattle.up_book.specs.Remembering.{InstancesRemember, StopsRemember, StartsRemember, AreUnborn, Remembered}
-use Rattle.up_book.specs.Unblocking.{unblocked, unblocked_in}
 use Rattle.up_book.specs.Views.{Places}
 use Rattle.up_book.proofs.Placing.{Agree}
 
@@ -41,7 +41,7 @@ instances-agree old new config job c (k ∷ its) (x ∷ xs) same r = (
   instances-agree old new config job c its xs (λ id some. same id (omega (arith, some))) r.1,
 )
 
-stops-agree : (old new : Places) (config : Configuration) (c : Chronicle) (its : List JobKept) (jobs : List JobDef) → ((id : EventId) → 0 < uses id its → Agree old new id)
+stops-agree : (old new : Places) (config : Configuration) (c : Chronicle) (its : List JobInstances) (jobs : List JobDef) → ((id : EventId) → 0 < uses id its → Agree old new id)
     → StopsRemember old config c its jobs → StopsRemember new config c its jobs
 stops-agree old new config c [] [] same r = tt
 stops-agree old new config c [] (job ∷ jobs) same r = absurd r
@@ -61,7 +61,7 @@ starts-agree old new config c (t ∷ ts) (job ∷ jobs) same r = (
   starts-agree old new config c ts jobs (λ id some. same id (omega (arith, some))) r.1,
 )
 
-pub remembered-agrees : (old new : Places) (jobs : List JobKept) (ts : List (Option (List Mark))) (config : Configuration) (c : Chronicle) → ((id : EventId) → 0 < uses id jobs + start_uses id ts → Agree old new id)
+pub remembered-agrees : (old new : Places) (jobs : List JobInstances) (ts : List (Option (List Mark))) (config : Configuration) (c : Chronicle) → ((id : EventId) → 0 < uses id jobs + start_uses id ts → Agree old new id)
     → Remembered old jobs ts config c → Remembered new jobs ts config c
 remembered-agrees old new jobs ts config c same r = record {
   stops = stops-agree old new config c jobs config.jobs (λ id some. same id (omega (arith, some))) r.stops;
@@ -82,7 +82,7 @@ instances-later places config job e c (k ∷ its) [] same r = absurd r
 instances-later places config job e c (k ∷ its) (x ∷ xs) same r =
     (subst (Remembers places k.stop_on job.stop_on) (sym (same (StopOn x.place))) r.0, instances-later places config job e c its xs same r.1)
 
-stops-later : (places : Places) (config : Configuration) (e : Entry) (c : Chronicle) (its : List JobKept) (jobs : List JobDef) → Unseen config c e → StopsRemember places config c its jobs → StopsRemember places config (e ∷ c) its jobs
+stops-later : (places : Places) (config : Configuration) (e : Entry) (c : Chronicle) (its : List JobInstances) (jobs : List JobDef) → Unseen config c e → StopsRemember places config c its jobs → StopsRemember places config (e ∷ c) its jobs
 stops-later places config e c [] [] u r = tt
 stops-later places config e c [] (job ∷ jobs) u r = absurd r
 stops-later places config e c (j ∷ its) [] u r = absurd r
@@ -99,7 +99,7 @@ starts-later places config e c (t ∷ ts) [] same r = absurd r
 starts-later places config e c (t ∷ ts) (job ∷ jobs) same r =
     (subst (Remembers places t job.start_on) (sym (same (StartOn job.name))) r.0, starts-later places config e c ts jobs same r.1)
 
-pub remembered-later : (places : Places) (jobs : List JobKept) (ts : List (Option (List Mark))) (config : Configuration) (c : Chronicle) (e : Entry) → Unseen config c e → Remembered places jobs ts config c
+pub remembered-later : (places : Places) (jobs : List JobInstances) (ts : List (Option (List Mark))) (config : Configuration) (c : Chronicle) (e : Entry) → Unseen config c e → Remembered places jobs ts config c
     → Remembered places jobs ts config (e ∷ c)
 remembered-later places jobs ts config c e u r = record {
   stops = stops-later places config e c jobs config.jobs u r.stops;
@@ -117,7 +117,7 @@ instances-changed places config job c f zero (k ∷ its) (x ∷ xs) same r =
     (subst (λ t. Remembers places t job.stop_on (seen config (StopOn x.place) c)) (sym (same k)) r.0, r.1)
 instances-changed places config job c f (suc at) (k ∷ its) (x ∷ xs) same r = (r.0, instances-changed places config job c f at its xs same r.1)
 
-stops-changed : (places : Places) (config : Configuration) (c : Chronicle) (f : Kept → Kept) (place at : ℕ) (its : List JobKept) (jobs : List JobDef) → ((k : Kept) → (f k).stop_on ≡ k.stop_on)
+stops-changed : (places : Places) (config : Configuration) (c : Chronicle) (f : Kept → Kept) (place at : ℕ) (its : List JobInstances) (jobs : List JobDef) → ((k : Kept) → (f k).stop_on ≡ k.stop_on)
     → StopsRemember places config c its jobs → StopsRemember places config c (with_at place (changed_in at f) its) jobs
 stops-changed places config c f place at [] [] same r = tt
 stops-changed places config c f place at [] (job ∷ jobs) same r = absurd r
@@ -125,7 +125,7 @@ stops-changed places config c f place at (j ∷ its) [] same r = absurd r
 stops-changed places config c f zero at (j ∷ its) (job ∷ jobs) same r = (instances-changed places config job c f at j.instances (instances_of job.name c) same r.0, r.1)
 stops-changed places config c f (suc place) at (j ∷ its) (job ∷ jobs) same r = (r.0, stops-changed places config c f place at its jobs same r.1)
 
-pub remembered-changed : (places : Places) (f : Kept → Kept) (key : InstanceKey) (jobs : List JobKept) (ts : List (Option (List Mark))) (config : Configuration) (c : Chronicle) → ((k : Kept) → (f k).stop_on ≡ k.stop_on)
+pub remembered-changed : (places : Places) (f : Kept → Kept) (key : InstanceKey) (jobs : List JobInstances) (ts : List (Option (List Mark))) (config : Configuration) (c : Chronicle) → ((k : Kept) → (f k).stop_on ≡ k.stop_on)
     → Remembered places jobs ts config c → Remembered places (changed_at key f jobs) ts config c
 remembered-changed places f key jobs ts config c same r = record {
   stops = stops-changed places config c f key.job key.at jobs config.jobs same r.stops;
@@ -141,13 +141,13 @@ instances-unblocked places config job c id [] (x ∷ xs) r = absurd r
 instances-unblocked places config job c id (k ∷ its) [] r = absurd r
 instances-unblocked places config job c id (k ∷ its) (x ∷ xs) r = (r.0, instances-unblocked places config job c id its xs r.1)
 
-stops-unblocked : (places : Places) (config : Configuration) (c : Chronicle) (id : EventId) (its : List JobKept) (jobs : List JobDef) → StopsRemember places config c its jobs → StopsRemember places config c (map (unblocked_in id) its) jobs
+stops-unblocked : (places : Places) (config : Configuration) (c : Chronicle) (id : EventId) (its : List JobInstances) (jobs : List JobDef) → StopsRemember places config c its jobs → StopsRemember places config c (map (unblocked_in id) its) jobs
 stops-unblocked places config c id [] [] r = tt
 stops-unblocked places config c id [] (job ∷ jobs) r = absurd r
 stops-unblocked places config c id (j ∷ its) [] r = absurd r
 stops-unblocked places config c id (j ∷ its) (job ∷ jobs) r = (instances-unblocked places config job c id j.instances (instances_of job.name c) r.0, stops-unblocked places config c id its jobs r.1)
 
-pub remembered-unblocked : (places : Places) (id : EventId) (jobs : List JobKept) (ts : List (Option (List Mark))) (config : Configuration) (c : Chronicle)
+pub remembered-unblocked : (places : Places) (id : EventId) (jobs : List JobInstances) (ts : List (Option (List Mark))) (config : Configuration) (c : Chronicle)
     → Remembered places jobs ts config c → Remembered places (map (unblocked_in id) jobs) ts config c
 remembered-unblocked places id jobs ts config c r = record {
   stops = stops-unblocked places config c id jobs config.jobs r.stops;

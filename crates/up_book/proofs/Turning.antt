@@ -15,7 +15,7 @@ use Rattle.up_model.specs.Held.{is_held}
 use Rattle.up_model.specs.Queue.{Live, live_at, queue}
 use Rattle.up_model.specs.Readings.{entry_at, event_at, event_of}
 use Rattle.up_book.specs.declared.past.Past.{Past}
-use Rattle.up_book.specs.declared.kept.JobKept.{JobKept}
+use Rattle.up_job.specs.declared.instances.JobInstances.{JobInstances}
 use Rattle.up_book.specs.Counting.{uses, start_uses}
 use Rattle.up_book.specs.Remembering.{Remembered}
 use Rattle.up_marks.specs.declared.mark.Mark.{Mark}
@@ -134,7 +134,7 @@ matches (event ∷ events) (live ∷ lives) c distinct same =
     let mine : (event.id.key == event.id.key) ≡ true = eq-eqb event.id.key event.id.key refl in
     (record { place = rw mine refl; named = rw mine refl; standing = first }, more-match event live events lives c events lives distinct.0 (matches events lives c distinct.1 rest))
 
-pairs-of : (all : List LiveEvent) (jobs : List JobKept) (starts : List (Option (List Mark))) (config : Configuration) (c : Chronicle) (events : List LiveEvent) (lives : List Live) → KeepsJobs (place_of all (queue c)) jobs config c
+pairs-of : (all : List LiveEvent) (jobs : List JobInstances) (starts : List (Option (List Mark))) (config : Configuration) (c : Chronicle) (events : List LiveEvent) (lives : List Live) → KeepsJobs (place_of all (queue c)) jobs config c
     → Remembered (place_of all (queue c)) jobs starts config c → AreCounted all jobs starts
     → Match all (queue c) c events lives → Pairs (place_of all (queue c)) config c events lives
 pairs-of all jobs starts config c [] [] keeps remembered counted m = tt
@@ -156,4 +156,4 @@ pub turn-known : (book : Past) (config : Configuration) (c : Chronicle) → Forg
     → turn_at (place_of book.events (queue c)) (next_turn book.events) ≡ option_map Some (turn_event config (queue c) c)
 turn-known book config c f distinct =
     turn-same (place_of book.events (queue c)) config c book.events (queue c)
-    (pairs-of book.events book.lives.jobs.items book.starts.items config c book.events (queue c) f.lives.jobs f.remembered f.counted (matches book.events (queue c) c distinct f.standings))
+    (pairs-of book.events book.instances book.starts.items config c book.events (queue c) f.lives.jobs f.remembered f.counted (matches book.events (queue c) c distinct f.standings))

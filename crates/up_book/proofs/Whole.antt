@@ -1,5 +1,8 @@
 -- The whole book, one entry later.
 use Rattle.std.proofs.Common.{◌≡◌, ℕ, zero, suc, ◌+◌, ◌<◌, ◌≤◌, ◌==◌, ◌||◌, Bool, true, false, List, [], ◌∷◌, ◌++◌, length, map, Option, None, Some, is_some, option_map, if◌then◌else◌, refl, sym, ◌∙◌, ap, subst, arith, eqb-true, eq-eqb, ne_eqb}
+use Rattle.up_job.specs.Changes.{changed, begun, is_starting}
+use Rattle.up_job.specs.JobLists.{changed_in, changed_at}
+use Rattle.up_job.specs.Lists.{with_at}
 use Rattle.std.specs.List.{AllByRecursion}
 use Rattle.up_conf.specs.declared.job.JobDef.{JobDef}
 use Rattle.up_event.specs.declared.live.LiveEvent.{LiveEvent}
@@ -18,16 +21,13 @@ use Rattle.up_model.specs.Seen.{seen}
 use Rattle.up_model.specs.Values.{Bytes}
 use Rattle.up_model.proofs.QueueLaws.{queue_by_age}
 use Rattle.up_book.specs.declared.past.Past.{Past}
-use Rattle.up_book.specs.declared.kept.JobKept.{JobKept}
-use Rattle.up_book.specs.declared.kept.Kept.{Kept}
-use Rattle.up_book.specs.declared.life.Lives.{Lives}
+use Rattle.up_job.specs.declared.instances.JobInstances.{JobInstances}
+use Rattle.up_job.specs.declared.instance.Instance.{Instance as Kept}
 use Rattle.up_model.specs.Chronicle.{Outside}
 use Rattle.up_model.specs.Readings.{blocker}
 use Rattle.up_model.specs.Replies.{waiter_in}
-use Rattle.up_book.specs.declared.change.Change.TheVariants as change
-use Rattle.up_book.specs.declared.keys.InstanceKey.{InstanceKey}
-use Rattle.up_book.specs.Changes.{changed, changed_in, changed_at, begun, is_starting}
-use Rattle.up_book.specs.Lists.{with_at}
+use Rattle.up_job.specs.declared.change.Change.TheVariants as change
+use Rattle.up_job.specs.declared.instance_key.InstanceKey.{InstanceKey}
 use Rattle.up_book.specs.Counting.{kept_uses, uses, start_uses}
 use Rattle.up_book.specs.Remembering.{Remembered}
 use Rattle.up_book.proofs.Triggers.{Unseen, remembered-agrees, remembered-later, remembered-changed}
@@ -71,7 +71,7 @@ jobs-past config e c (job ∷ jobs) passes older =
     cons_same (rw (passes.instances job.name) (ap (λ (xs : List Summary). record (job_summary config c job) { instances = xs }) (summaries-past config job e c (instances_of job.name c) (passes.spares job) older)))
     (jobs-past config e c jobs passes older)
 
-pub keeps-past : (places : Places) (book : Lives) (config : Configuration) (c : Chronicle) (e : Entry) → Keeps places book config c → Passes config c e → AreOlder (length c) (brought e) → Keeps places book config (e ∷ c)
+pub keeps-past : (places : Places) (book : List JobInstances) (config : Configuration) (c : Chronicle) (e : Entry) → Keeps places book config c → Passes config c e → AreOlder (length c) (brought e) → Keeps places book config (e ∷ c)
 keeps-past places book config c e keeps passes new = record {
   jobs = keeps.jobs ∙ sym (jobs-past config e c config.jobs passes keeps.older);
   older = older-after e c new keeps.older;
@@ -80,7 +80,7 @@ keeps-past places book config c e keeps passes new = record {
 }
 
 -- other places that agree
-blockers-agree : (old new : Places) (jobs : List JobKept) → ((id : EventId) → Agree old new id) → BlockersAgree old new jobs
+blockers-agree : (old new : Places) (jobs : List JobInstances) → ((id : EventId) → Agree old new id) → BlockersAgree old new jobs
 blockers-agree old new [] agree = tt
 blockers-agree old new (job ∷ jobs) agree = (each job.instances, blockers-agree old new jobs agree)
   where
@@ -91,9 +91,9 @@ blockers-agree old new (job ∷ jobs) agree = (each job.instances, blockers-agre
 pub unseen : (config : Configuration) (c : Chronicle) (e : Entry) → Passes config c e → Unseen config c e
 unseen config c e passes = record { instances = passes.instances; seen = passes.seen }
 
-pub keeps-agree : (old new : Places) (book : Lives) (config : Configuration) (c : Chronicle) → Keeps old book config c → ((id : EventId) → Agree old new id) → Keeps new book config c
+pub keeps-agree : (old new : Places) (book : List JobInstances) (config : Configuration) (c : Chronicle) → Keeps old book config c → ((id : EventId) → Agree old new id) → Keeps new book config c
 keeps-agree old new book config c keeps agree = record {
-  jobs = jobs-agree old new book.jobs.items (λ id used. agree id) (blockers-agree old new book.jobs.items agree) ∙ keeps.jobs;
+  jobs = jobs-agree old new book (λ id used. agree id) (blockers-agree old new book agree) ∙ keeps.jobs;
   older = keeps.older;
   later = keeps.later;
   distinct = keeps.distinct;
@@ -131,7 +131,7 @@ is_live id live events found = rw found refl
 
 -- a turn takes an event up
 pub forgets-handled : (book after : Past) (config : Configuration) (c : Chronicle) (id : EventId) (e : ℕ) → Forgets book config c → event_place book c id ≡ Some e
-    → after.events ≡ with_change id as_handled book.events → after.lives ≡ book.lives → after.starts ≡ book.starts → after.reading ≡ book.reading → Forgets after config (Handled e ∷ c)
+    → after.events ≡ with_change id as_handled book.events → after.instances ≡ book.instances → after.starts ≡ book.starts → after.reading ≡ book.reading → Forgets after config (Handled e ∷ c)
 forgets-handled book after config c id e f found does lives starts reading =
     let older = age-all (queue c) (length c) (queue_by_age c) in
     let later = standings-later (Handled e) c (queue c) f.regular.origins older (λ p. refl) in
@@ -139,9 +139,9 @@ forgets-handled book after config c id e f found does lives starts reading =
     let old = place_of book.events (queue c) in
     let new = place_of (with_change id as_handled book.events) (with_handled e (queue c)) in
     rw (does, lives, starts, reading) (record {
-      lives = keeps-agree old new book.lives config (Handled e ∷ c) (keeps-past old book.lives config c (Handled e) f.lives passes tt) (λ other. place-handled book.events (queue c) e id other);
-      remembered = remembered-agrees old new book.lives.jobs.items book.starts.items config (Handled e ∷ c) (λ other used. place-handled book.events (queue c) e id other)
-          (remembered-later old book.lives.jobs.items book.starts.items config c (Handled e) (unseen config c (Handled e) passes) f.remembered);
+      lives = keeps-agree old new book.instances config (Handled e ∷ c) (keeps-past old book.instances config c (Handled e) f.lives passes tt) (λ other. place-handled book.events (queue c) e id other);
+      remembered = remembered-agrees old new book.instances book.starts.items config (Handled e ∷ c) (λ other used. place-handled book.events (queue c) e id other)
+          (remembered-later old book.instances book.starts.items config c (Handled e) (unseen config c (Handled e) passes) f.remembered);
       standings = standings-handled book.events (queue c) (length c) e id c (Handled e ∷ c) (queue_by_age c) found f.standings later;
       counted = λ other. holds-changed id other book.events ∙ f.counted other;
       regular = regular-next config c (Handled e) f.regular tt;
@@ -149,8 +149,8 @@ forgets-handled book after config c id e f found does lives starts reading =
     })
 
 -- an entry that changes nothing of the queue, and of lives what these then keep
-pub forgets-lives : (book after : Past) (config : Configuration) (c : Chronicle) (e : Entry) → Forgets book config c → Keeps (place_of book.events (queue c)) after.lives config (e ∷ c)
-    → Remembered (place_of book.events (queue c)) after.lives.jobs.items book.starts.items config (e ∷ c) → queue (e ∷ c) ≡ queue c → MayFollow config c e → ((p : ℕ) → is_spoilt p (e ∷ c) ≡ is_spoilt p c) → clock.now (e ∷ c) ≡ clock.now c → ((id : EventId) → uses id after.lives.jobs.items ≡ uses id book.lives.jobs.items)
+pub forgets-lives : (book after : Past) (config : Configuration) (c : Chronicle) (e : Entry) → Forgets book config c → Keeps (place_of book.events (queue c)) after.instances config (e ∷ c)
+    → Remembered (place_of book.events (queue c)) after.instances book.starts.items config (e ∷ c) → queue (e ∷ c) ≡ queue c → MayFollow config c e → ((p : ℕ) → is_spoilt p (e ∷ c) ≡ is_spoilt p c) → clock.now (e ∷ c) ≡ clock.now c → ((id : EventId) → uses id after.instances ≡ uses id book.instances)
     → after.starts ≡ book.starts → after.events ≡ book.events → after.reading ≡ book.reading → Forgets after config (e ∷ c)
 forgets-lives book after config c e f lives remembered same follow spoilt clock_same used starts events reading =
     let older = age-all (queue c) (length c) (queue_by_age c) in
@@ -169,10 +169,10 @@ kept-same id f stops holders at [] = refl
 kept-same id f stops holders zero (k ∷ its) = rw (stops k, holders k) refl
 kept-same id f stops holders (suc at) (k ∷ its) = omega (arith, kept-same id f stops holders at its)
 
-pub uses-same : (id : EventId) (f : Kept → Kept) → ((k : Kept) → (f k).stop_on ≡ k.stop_on) → ((k : Kept) → (f k).holders ≡ k.holders) → (key : InstanceKey) (jobs : List JobKept) → uses id (changed_at key f jobs) ≡ uses id jobs
+pub uses-same : (id : EventId) (f : Kept → Kept) → ((k : Kept) → (f k).stop_on ≡ k.stop_on) → ((k : Kept) → (f k).holders ≡ k.holders) → (key : InstanceKey) (jobs : List JobInstances) → uses id (changed_at key f jobs) ≡ uses id jobs
 uses-same id f stops holders key jobs = by_place key.job jobs
   where
-    by_place : (place : ℕ) (its : List JobKept) → uses id (with_at place (changed_in key.at f) its) ≡ uses id its
+    by_place : (place : ℕ) (its : List JobInstances) → uses id (with_at place (changed_in key.at f) its) ≡ uses id its
     by_place place [] = refl
     by_place zero (j ∷ its) = omega (arith, kept-same id f stops holders key.at j.instances)
     by_place (suc place) (j ∷ its) = omega (arith, by_place place its)
@@ -190,7 +190,7 @@ known-place places (Some other) (Some p) id same is = (p, cc)
 abbrev pub AreLiveIn : Places → List Kept → Type 0
 AreLiveIn places its = AllByRecursion (λ k. (id : EventId) → k.blocker ≡ Some id → (p : ℕ) × (places id ≡ Some p)) its
 
-abbrev pub AreLive : Places → List JobKept → Type 0
+abbrev pub AreLive : Places → List JobInstances → Type 0
 AreLive places jobs = AllByRecursion (λ j. AreLiveIn places j.instances) jobs
 
 live-in : (places : Places) (config : Configuration) (job : JobDef) (c : Chronicle) (its : List Kept) (xs : List Instance) → map (view places) its ≡ map (summary config job c) xs → AreLiveIn places its
@@ -201,7 +201,7 @@ live-in places config job c (k ∷ its) (x ∷ xs) same =
     let rest : map (view places) its ≡ map (summary config job c) xs = cc in
     ((λ id is. known-place places k.blocker (blocker x.place c) id (ap (λ (s : Summary). s.blocker) first) is), live-in places config job c its xs rest)
 
-live-jobs : (places : Places) (config : Configuration) (c : Chronicle) (jobs : List JobKept) (defs : List JobDef) → map (job_view places) jobs ≡ map (job_summary config c) defs → AreLive places jobs
+live-jobs : (places : Places) (config : Configuration) (c : Chronicle) (jobs : List JobInstances) (defs : List JobDef) → map (job_view places) jobs ≡ map (job_summary config c) defs → AreLive places jobs
 live-jobs places config c [] defs same = tt
 live-jobs places config c (j ∷ jobs) [] same = absurd cc
 live-jobs places config c (j ∷ jobs) (d ∷ defs) same =
@@ -218,7 +218,7 @@ named-placed (e ∷ events) (l ∷ lives) id p found none = by_case (e.id.key ==
     by_case true found none ih = absurd cc
     by_case false found none ih = ih found none
 
-blocked-agree : (events : List LiveEvent) (lives : List Live) (live : LiveEvent) (place : ℕ) (jobs : List JobKept) → length events ≡ length lives → named live.id events ≡ None → AreLive (place_of events lives) jobs
+blocked-agree : (events : List LiveEvent) (lives : List Live) (live : LiveEvent) (place : ℕ) (jobs : List JobInstances) → length events ≡ length lives → named live.id events ≡ None → AreLive (place_of events lives) jobs
     → BlockersAgree (place_of events lives) (place_of (events ++ live ∷ []) (lives ++ live_at place false ∷ [])) jobs
 blocked-agree events lives live place [] same fresh all = tt
 blocked-agree events lives live place (j ∷ jobs) same fresh all = (each j.instances all.0, blocked-agree events lives live place jobs same fresh all.1)
@@ -237,12 +237,12 @@ blocked-agree events lives live place (j ∷ jobs) same fresh all = (each j.inst
     each (k ∷ its) known = ((λ id is. let at = known.0 id is in place-queued events lives live place id same (apart id at.0 at.1 (live.id.key == id.key) refl)), each its known.1)
 
 -- lives stay what they are as an event goes to the end of the queue
-pub keeps-queued : (book : Lives) (events : List LiveEvent) (config : Configuration) (c d : Chronicle) (live : LiveEvent) (place : ℕ) → Keeps (place_of events (queue c)) book config d → length events ≡ length (queue c)
-    → ((id : EventId) → 0 < uses id book.jobs.items → 0 < holds_of id events) → named live.id events ≡ None → Keeps (place_of (events ++ live ∷ []) (queue c ++ live_at place false ∷ [])) book config d
+pub keeps-queued : (book : List JobInstances) (events : List LiveEvent) (config : Configuration) (c d : Chronicle) (live : LiveEvent) (place : ℕ) → Keeps (place_of events (queue c)) book config d → length events ≡ length (queue c)
+    → ((id : EventId) → 0 < uses id book → 0 < holds_of id events) → named live.id events ≡ None → Keeps (place_of (events ++ live ∷ []) (queue c ++ live_at place false ∷ [])) book config d
 keeps-queued book events config c d live place keeps same counted fresh = record {
-  jobs = jobs-agree (place_of events (queue c)) (place_of (events ++ live ∷ []) (queue c ++ live_at place false ∷ [])) book.jobs.items
+  jobs = jobs-agree (place_of events (queue c)) (place_of (events ++ live ∷ []) (queue c ++ live_at place false ∷ [])) book
       (λ id used. used-queued events (queue c) live place id same fresh (counted id used))
-      (blocked-agree events (queue c) live place book.jobs.items same fresh (live-jobs (place_of events (queue c)) config d book.jobs.items config.jobs keeps.jobs)) ∙ keeps.jobs;
+      (blocked-agree events (queue c) live place book same fresh (live-jobs (place_of events (queue c)) config d book config.jobs keeps.jobs)) ∙ keeps.jobs;
   older = keeps.older;
   later = keeps.later;
   distinct = keeps.distinct;
@@ -273,24 +273,24 @@ pub forgets-passing : (book : Past) (config : Configuration) (c : Chronicle) (e 
     → ((p : ℕ) → is_spoilt p (e ∷ c) ≡ is_spoilt p c) → clock.now (e ∷ c) ≡ clock.now c → Forgets book config (e ∷ c)
 forgets-passing book config c e f passes new same follow spoilt clock_same =
     let places = place_of book.events (queue c) in
-    forgets-lives book book config c e f (keeps-past places book.lives config c e f.lives passes new)
-    (remembered-later places book.lives.jobs.items book.starts.items config c e (unseen config c e passes) f.remembered) same follow spoilt clock_same (λ id. refl) refl refl refl
+    forgets-lives book book config c e f (keeps-past places book.instances config c e f.lives passes new)
+    (remembered-later places book.instances book.starts.items config c e (unseen config c e passes) f.remembered) same follow spoilt clock_same (λ id. refl) refl refl refl
 
 -- an event that no instance waits for goes to the end of the queue
 pub forgets-queued : (book after : Past) (config : Configuration) (c : Chronicle) (id : EventId) (event : Event) (origin : Origin) (waits : Option ℕ) → Forgets book config c → MayFollow config c (Queued origin event)
     → Passes config c (Queued origin event) → number_of (waiter_in (Some (Queued origin event)) (Queued origin event ∷ c)) (Queued origin event ∷ c) ≡ waits → named id book.events ≡ None
-    → after.events ≡ book.events ++ new_live id event waits ∷ [] → after.lives ≡ book.lives → after.starts ≡ book.starts → after.reading ≡ book.reading → Forgets after config (Queued origin event ∷ c)
+    → after.events ≡ book.events ++ new_live id event waits ∷ [] → after.instances ≡ book.instances → after.starts ≡ book.starts → after.reading ≡ book.reading → Forgets after config (Queued origin event ∷ c)
 forgets-queued book after config c id event origin waits f follow passes who fresh does lives starts reading =
     let count = map-length standing_of (standing_at c) book.events (queue c) f.standings in
     let old = place_of book.events (queue c) in
     let d : Chronicle = Queued origin event ∷ c in
     let live = new_live id event waits in
     rw (does, lives, starts, reading) (record {
-      lives = keeps-queued book.lives book.events config c d live (length c)
-          (keeps-past old book.lives config c (Queued origin event) f.lives passes tt) count (λ other used. omega (arith, f.counted other, used)) fresh;
-      remembered = remembered-agrees old (place_of (book.events ++ live ∷ []) (queue d)) book.lives.jobs.items book.starts.items config d
+      lives = keeps-queued book.instances book.events config c d live (length c)
+          (keeps-past old book.instances config c (Queued origin event) f.lives passes tt) count (λ other used. omega (arith, f.counted other, used)) fresh;
+      remembered = remembered-agrees old (place_of (book.events ++ live ∷ []) (queue d)) book.instances book.starts.items config d
           (λ other used. used-queued book.events (queue c) live (length c) other count fresh (omega (arith, f.counted other, used)))
-          (remembered-later old book.lives.jobs.items book.starts.items config c (Queued origin event) (unseen config c (Queued origin event) passes) f.remembered);
+          (remembered-later old book.instances book.starts.items config c (Queued origin event) (unseen config c (Queued origin event) passes) f.remembered);
       standings = standings-queued book.events c id event origin waits f.regular.origins f.standings (f.regular.unspoilt (length c) (omega arith)) who;
       counted = λ other. holds-pushed id other event waits book.events fresh ∙ f.counted other;
       regular = regular-next config c (Queued origin event) f.regular follow;

@@ -1,23 +1,20 @@
 -- How often an event is held: by what is kept, and by what the chronicle says.
 use Rattle.std.specs.Prelude.{ℕ, ◌+◌, ◌==◌, Bool, true, false, List, [], ◌∷◌, Option, None, Some, if◌then◌else◌}
+use Rattle.up_job.specs.Unblocking.{is_event}
 use Rattle.up_marks.specs.declared.mark.Mark.{Mark}
 use Rattle.up_marks.specs.Triggers.{uses_by}
 use Rattle.up_model.specs.declared.event_id.EventId.{EventId}
-use Rattle.up_book.specs.declared.kept.Holder.{Holder}
-use Rattle.up_book.specs.declared.kept.Holder.TheVariants as holder
-use Rattle.up_book.specs.declared.kept.JobKept.{JobKept}
-use Rattle.up_book.specs.declared.kept.Kept.{Kept}
-use Rattle.up_book.specs.Summaries.{Holding, ByEvent, ByClient, Summary, JobSummary}
+use Rattle.up_job.specs.declared.holder.Holder.{Holder}
+use Rattle.up_job.specs.declared.holder.Holder.TheVariants as holder
+use Rattle.up_job.specs.declared.instances.JobInstances.{JobInstances}
+use Rattle.up_job.specs.declared.instance.Instance.{Instance as Kept}
+use Rattle.up_book.specs.Summaries.{Holding, ByEvent, ByClient}
 
 abbrev pub one_if : Bool → ℕ
 one_if true = 1
 one_if false = 0
 
 -- by ids, in what is kept
-abbrev pub is_event : EventId → Option EventId → Bool
-is_event id None = false
-is_event id (Some other) = other.key == id.key
-
 abbrev pub event_of : Holder → Option EventId
 event_of (holder.Event id) = Some id
 event_of (holder.Client id command) = None
@@ -30,7 +27,7 @@ abbrev pub kept_uses : EventId → List Kept → ℕ
 kept_uses id [] = 0
 kept_uses id (kept ∷ its) = uses_by id kept.stop_on + holder_uses id kept.holders + kept_uses id its
 
-abbrev pub uses : EventId → List JobKept → ℕ
+abbrev pub uses : EventId → List JobInstances → ℕ
 uses id [] = 0
 uses id (job ∷ jobs) = kept_uses id job.instances + uses id jobs
 
@@ -48,14 +45,6 @@ is_holding place (Some (ByClient id command)) = false
 abbrev pub holder_count : ℕ → List (Option Holding) → ℕ
 holder_count place [] = 0
 holder_count place (its ∷ holders) = one_if (is_holding place its) + holder_count place holders
-
-abbrev pub summary_count : ℕ → List Summary → ℕ
-summary_count place [] = 0
-summary_count place (s ∷ its) = holder_count place s.holders + summary_count place its
-
-abbrev pub job_count : ℕ → List JobSummary → ℕ
-job_count place [] = 0
-job_count place (job ∷ jobs) = summary_count place job.instances + job_count place jobs
 
 -- in a list of places
 abbrev pub count_in : ℕ → List ℕ → ℕ

@@ -9,7 +9,7 @@ use Rattle.up_model.specs.Held.{is_spoilt}
 use Rattle.up_model.specs.Queue.{Live, queue}
 use Rattle.up_model.specs.Readings.{event_at, id_at}
 use Rattle.up_model.specs.Replies.{waiter}
-use Rattle.up_book.specs.declared.kept.JobKept.{JobKept}
+use Rattle.up_job.specs.declared.instances.JobInstances.{JobInstances}
 use Rattle.up_book.specs.Counting.{uses, start_uses}
 use Rattle.up_marks.specs.declared.mark.Mark.{Mark}
 
@@ -52,5 +52,5 @@ abbrev pub holds_of : EventId → List LiveEvent → ℕ
 holds_of id events = holds_in (named id events)
 
 -- each is held as often as it is used, and what doesn't live isn't
-abbrev pub AreCounted : List LiveEvent → List JobKept → List (Option (List Mark)) → Type 0
+abbrev pub AreCounted : List LiveEvent → List JobInstances → List (Option (List Mark)) → Type 0
 AreCounted events jobs starts = (id : EventId) → holds_of id events ≡ uses id jobs + start_uses id starts

@@ -1,5 +1,6 @@
 -- What the book stands for.
 use Rattle.std.specs.Prelude.{◌≡◌, ◌<◌, ◌≤◌, ℕ, Bool, true, false, List, [], ◌∷◌, Option, None, Some, map, option_map, length}
+use Rattle.up_job.specs.Lists.{nth}
 use Rattle.std.specs.Str.{bytes_eq}
 use Rattle.std.specs.List.{AllByRecursion}
 use Rattle.up_model.specs.declared.state.State.{State}
@@ -9,10 +10,8 @@ use Rattle.up_model.specs.Configuration.{Configuration, job_named}
 use Rattle.up_model.specs.Instances.{Instance, instances_of}
 use Rattle.up_model.specs.Readings.{holders}
 use Rattle.up_conf.specs.declared.job.JobDef.{JobDef}
-use Rattle.up_book.specs.declared.keys.InstanceKey.{InstanceKey}
-use Rattle.up_book.specs.declared.kept.JobKept.{JobKept}
-use Rattle.up_book.specs.declared.life.Lives.{Lives}
-use Rattle.up_book.specs.Lists.{nth}
+use Rattle.up_job.specs.declared.instance_key.InstanceKey.{InstanceKey}
+use Rattle.up_job.specs.declared.instances.JobInstances.{JobInstances}
 use Rattle.up_book.specs.Summaries.{summary, job_summary, blank}
 use Rattle.up_book.specs.Views.{Places, job_view}
 
@@ -33,23 +32,20 @@ AreDistinct [] = Unit {0}
 AreDistinct (job ∷ jobs) = AllByRecursion (λ other. bytes_eq other.name job.name ≡ false) jobs × AreDistinct jobs
 
 -- by where events were queued
-abbrev pub KeepsJobs : Places → List JobKept → Configuration → Chronicle → Type 0
+abbrev pub KeepsJobs : Places → List JobInstances → Configuration → Chronicle → Type 0
 KeepsJobs places jobs config c = map (job_view places) jobs ≡ map (job_summary config c) config.jobs
 
-pub record Keeps (places : Places) (book : Lives) (config : Configuration) (c : Chronicle) : Type 0 where
-  pub jobs : KeepsJobs places book.jobs.items config c
+pub record Keeps (places : Places) (book : List JobInstances) (config : Configuration) (c : Chronicle) : Type 0 where
+  pub jobs : KeepsJobs places book config c
   pub older : (i : ℕ) → HoldsOlder i c
   -- nothing is known of what is to come
   pub later : (job : JobDef) (its : Instance) → length c ≤ its.place → summary config job c its ≡ blank job its.name
   pub distinct : AreDistinct config.jobs
 
-abbrev pub instance_in : ℕ → Option JobKept → Chronicle → Option Instance
+abbrev pub instance_in : ℕ → Option JobInstances → Chronicle → Option Instance
 instance_in at None c = None
 instance_in at (Some job) c = nth at (instances_of job.name c)
 
 -- where the instance of a key was made
-abbrev pub place_at : List JobKept → Chronicle → InstanceKey → Option ℕ
+abbrev pub place_at : List JobInstances → Chronicle → InstanceKey → Option ℕ
 place_at jobs c key = option_map {T = Instance} (λ its. its.place) (instance_in key.at (nth key.job jobs) c)
-
-abbrev pub instance_place : Lives → Chronicle → InstanceKey → Option ℕ
-instance_place book c key = place_at book.jobs.items c key

@@ -3,7 +3,7 @@ use Rattle.std.specs.Prelude.{◌≡◌, ℕ, List, Option, map, option_map, tak
 use Rattle.up_model.specs.Chronicle.{Chronicle}
 use Rattle.up_model.specs.Clock.{kill_moment}
 use Rattle.up_model.specs.Readings.{goal, state_of, was_restarted, pending_env, env, stop_env, failure, holders, blocker}
-use Rattle.up_book.specs.declared.kept.Kept.{Kept}
+use Rattle.up_job.specs.declared.instance.Instance.{Instance as Kept}
 use Rattle.up_book.specs.Summaries.{known, holding_at, works_at}
 use Rattle.up_book.specs.Views.{Places, bindings_of, pending_of, holding_of}
 
@@ -17,5 +17,5 @@ pub record Knows (places : Places) (c : Chronicle) (i : ℕ) (kept : Kept) : Typ
   pub failure : kept.failure ≡ failure i c
   pub holders : map (holding_of places) kept.holders ≡ map (holding_at c) (holders i c)
   pub blocker : option_map places kept.blocker ≡ known (blocker i c)
-  pub works : kept.works ≡ works_at i c
+  pub children : kept.children ≡ works_at i c
   pub kill_moment : kept.kill_moment ≡ kill_moment i c

@@ -1,9 +1,5 @@
--- Lists changed at one place.
-pub mod Lists
 -- What the chronicle says of an instance.
 pub mod Summaries
--- What becomes of an instance, one change at a time.
-pub mod Changes
 -- What is kept of instances, seen as summaries.
 pub mod Views
 -- What a change makes of a summary.
@@ -22,8 +18,6 @@ pub mod Regular
 pub mod Remembering
 -- What the book stands for.
 pub mod Keeps
--- What is kept before anything has happened.
-pub mod Beginning
 -- What clients are answered that held an instance.
 pub mod Replying
 -- The event of a turn.

@@ -11,7 +11,7 @@ use Rattle.up_model.specs.Instances.{instance_named}
 use Rattle.up_model.specs.Readings.{holders}
 use Rattle.up_model.specs.Values.{Bytes}
 use Rattle.up_model.proofs.NameLaws.{Singles}
-use Rattle.up_book.specs.Summaries.{moments}
+use Rattle.up_job.specs.Moments.{moments_of, Falls}
 
 -- events from outside come from what was given before them
 abbrev pub AreOlderOrigins : Chronicle → Type 0
@@ -25,11 +25,6 @@ AreNamed jobs [] = Unit {0}
 AreNamed jobs (Made job name ∷ c) = (is_some (job_named job jobs) ≡ true) × AreNamed jobs c
 AreNamed jobs (entry ∷ c) = AreNamed jobs c
 
--- the newest first, and none after the last moment
-abbrev pub AreFalling : (last : ℕ) → List ℕ → Type 0
-AreFalling last [] = Unit {0}
-AreFalling last (moment ∷ moments) = (moment ≤ last) × AreFalling moment moments
-
 abbrev pub called : Bytes → Bytes → Who
 called job name = record { job = job; instance = name }
 
@@ -38,7 +33,7 @@ pub record IsRegular (config : Configuration) (c : Chronicle) : Type 0 where
   pub unspoilt : (event : ℕ) → length c ≤ event → is_spoilt event c ≡ false
   pub singles : Singles c
   pub named : AreNamed config.jobs c
-  pub falling : (instance : ℕ) → AreFalling (now c) (moments instance c)
+  pub falling : (instance : ℕ) → Falls (now c) (moments_of instance c)
 
 -- what may be the next entry of one
 abbrev pub MayFollow : Configuration → Chronicle → Entry → Type 0

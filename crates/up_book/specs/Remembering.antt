@@ -7,8 +7,8 @@ use Rattle.up_model.specs.Chronicle.{Chronicle, StartOn, StopOn}
 use Rattle.up_model.specs.Configuration.{Configuration}
 use Rattle.up_model.specs.Instances.{Instance, instances_of}
 use Rattle.up_model.specs.Seen.{seen}
-use Rattle.up_book.specs.declared.kept.JobKept.{JobKept}
-use Rattle.up_book.specs.declared.kept.Kept.{Kept}
+use Rattle.up_job.specs.declared.instances.JobInstances.{JobInstances}
+use Rattle.up_job.specs.declared.instance.Instance.{Instance as Kept}
 use Rattle.up_book.specs.Views.{Places}
 
 -- each of these instances of a job, of its `stop on`
@@ -20,7 +20,7 @@ InstancesRemember places config job c [] (x ∷ xs) = ⊥
 InstancesRemember places config job c (kept ∷ its) [] = ⊥
 
 -- those of all jobs
-abbrev pub StopsRemember : Places → Configuration → Chronicle → List JobKept → List JobDef → Type 0
+abbrev pub StopsRemember : Places → Configuration → Chronicle → List JobInstances → List JobDef → Type 0
 StopsRemember places config c [] [] = Unit {0}
 StopsRemember places config c (kept ∷ its) (job ∷ jobs) =
     InstancesRemember places config job c kept.instances (instances_of job.name c) × StopsRemember places config c its jobs
@@ -39,7 +39,7 @@ StartsRemember places config c (trigger ∷ triggers) [] = ⊥
 abbrev pub AreUnborn : Configuration → Chronicle → Type 0
 AreUnborn config c = (instance : ℕ) → length c ≤ instance → seen config (StopOn instance) c ≡ []
 
-pub record Remembered (places : Places) (stops : List JobKept) (starts : List (Option (List Mark))) (config : Configuration) (c : Chronicle) : Type 0 where
-  pub stops : StopsRemember places config c stops config.jobs
-  pub starts : StartsRemember places config c starts config.jobs
+pub record Remembered (places : Places) (its : List JobInstances) (triggers : List (Option (List Mark))) (config : Configuration) (c : Chronicle) : Type 0 where
+  pub stops : StopsRemember places config c its config.jobs
+  pub starts : StartsRemember places config c triggers config.jobs
   pub unborn : AreUnborn config c

@@ -4,8 +4,8 @@ use Rattle.up_model.specs.declared.output.Output.{Output}
 use Rattle.up_model.specs.declared.output.Output.TheVariants as output
 use Rattle.up_model.specs.Replies.{answer_to}
 use Rattle.up_model.specs.Values.{Bytes}
-use Rattle.up_book.specs.declared.kept.Holder.{Holder}
-use Rattle.up_book.specs.declared.kept.Holder.TheVariants as holder
+use Rattle.up_job.specs.declared.holder.Holder.{Holder}
+use Rattle.up_job.specs.declared.holder.Holder.TheVariants as holder
 
 abbrev pub reply_to : Holder → (failed : Bool) → Bytes → List Output
 reply_to (holder.Event id) failed told = []

@@ -1,25 +1,25 @@
 -- What the request of a step acted on.
 use Rattle.std.specs.Prelude.{◌≡◌, ◌<◌, ◌==◌, if◌then◌else◌, ℕ, zero, suc, List, [], ◌∷◌, Option, None, Some, length}
+use Rattle.up_job.specs.Lists.{nth}
 use Rattle.up_conf.specs.declared.job.JobDef.{JobDef}
 use Rattle.up_model.specs.Chronicle.{Chronicle}
 use Rattle.up_model.specs.Instances.{Instance, all_instances}
 use Rattle.up_model.specs.Replies.{status_of, request_instance}
 use Rattle.up_model.specs.Values.{Bytes}
 use Rattle.up_model.proofs.Places.{count}
-use Rattle.up_book.specs.declared.keys.InstanceKey.{InstanceKey}
+use Rattle.up_job.specs.declared.instance_key.InstanceKey.{InstanceKey}
 use Rattle.up_book.specs.declared.step.ActedOn.{ActedOn}
 use Rattle.up_book.specs.declared.step.ActedOn.TheVariants.{Exists, Gone}
-use Rattle.up_book.specs.declared.kept.JobKept.{JobKept}
-use Rattle.up_book.specs.declared.kept.Kept.{Kept}
+use Rattle.up_job.specs.declared.instances.JobInstances.{JobInstances}
+use Rattle.up_job.specs.declared.instance.Instance.{Instance as Kept}
 use Rattle.up_book.specs.Keeps.{place_at}
-use Rattle.up_book.specs.Lists.{nth}
 use Rattle.up_book.specs.Views.{Places, view, kept_at}
 use Rattle.up_book.specs.Sending.{status_by}
 
 abbrev pub IsGone : ℕ → Chronicle → Type 0
 IsGone i c = (i < length c) × (count i (all_instances c) ≡ 0)
 
-abbrev pub OnMeans : List JobKept → Chronicle → Option ActedOn → Type 0
+abbrev pub OnMeans : List JobInstances → Chronicle → Option ActedOn → Type 0
 OnMeans jobs c None = request_instance c ≡ None
 OnMeans jobs c (Some (Exists key)) = (i : ℕ) × (request_instance c ≡ Some i) × (place_at jobs c key ≡ Some i)
 OnMeans jobs c (Some (Gone text)) = (i : ℕ) × (request_instance c ≡ Some i) × (status_of i c ≡ text) × IsGone i c
@@ -30,7 +30,7 @@ status_kept places (Some job) None = []
 status_kept places (Some job) (Some kept) = status_by job (view places kept)
 
 -- what the client is told
-abbrev pub told_of : Places → List JobDef → List JobKept → Option ActedOn → Bytes
+abbrev pub told_of : Places → List JobDef → List JobInstances → Option ActedOn → Bytes
 told_of places config_jobs jobs None = []
 told_of places config_jobs jobs (Some (Exists key)) = status_kept places (nth key.job config_jobs) (kept_at key jobs)
 told_of places config_jobs jobs (Some (Gone text)) = text

@@ -1,5 +1,6 @@
 -- What a step asks for, by the summary of an instance.
 use Rattle.std.specs.Prelude.{ℕ, Bool, List, [], ◌∷◌, Option, None, Some, if◌then◌else◌}
+use Rattle.up_job.specs.Changes.{child_of}
 use Rattle.up_conf.specs.declared.job.JobDef.{JobDef}
 use Rattle.up_stanza.specs.declared.process.Process.{Process}
 use Rattle.up_text.specs.Bindings.{set_all}
@@ -15,8 +16,7 @@ use Rattle.up_model.specs.Readings.{has_stop_env}
 use Rattle.up_model.specs.Replies.{own_process}
 use Rattle.up_model.specs.Status.{status_text}
 use Rattle.up_model.specs.Values.{Bytes, Bindings}
-use Rattle.up_book.specs.declared.kept.Works.{Works}
-use Rattle.up_book.specs.Changes.{work_of}
+use Rattle.up_job.specs.declared.child.Children.{Children}
 use Rattle.up_book.specs.Summaries.{Summary}
 
 abbrev pub who_by : JobDef → Summary → Who
@@ -29,14 +29,14 @@ abbrev pub order_by : JobDef → Summary → Process → List Output
 order_by job s its = order_for job (who_by job s) its (action_of job its) (env_by s its)
 
 abbrev pub signal_by : JobDef → Summary → (signal : ℕ) → List Output
-signal_by job s signal = signal_of (Some (who_by job s)) signal s.works.main.pid
+signal_by job s signal = signal_of (Some (who_by job s)) signal s.children.main.pid
 
 abbrev pub event_by : JobDef → Summary → JobEvent → Event
 event_by job s kind = exporting s.env job.export (life_event kind (who_by job s) s.failure)
 
-abbrev pub own_pid : Option Process → Works → Option ℕ
+abbrev pub own_pid : Option Process → Children → Option ℕ
 own_pid None works = None
-own_pid (Some its) works = (work_of its works).pid
+own_pid (Some its) children = (child_of its children).pid
 
 abbrev pub status_by : JobDef → Summary → Bytes
-status_by job s = status_text (who_by job s) s.goal s.state s.works.main.pid (own_pid (own_process s.state) s.works)
+status_by job s = status_text (who_by job s) s.goal s.state s.children.main.pid (own_pid (own_process s.state) s.children)

@@ -6,7 +6,7 @@ use Rattle.up_model.specs.Clock as clock
 use Rattle.up_model.specs.Configuration.{Configuration}
 use Rattle.up_model.specs.Queue.{queue}
 use Rattle.up_book.specs.declared.past.Past.{Past}
-use Rattle.up_book.specs.declared.keys.InstanceKey.{InstanceKey}
+use Rattle.up_job.specs.declared.instance_key.InstanceKey.{InstanceKey}
 use Rattle.up_book.specs.Eventing.{standing_of, standing_at, place_of, AreCounted}
 use Rattle.up_book.specs.Keeps.{Keeps, place_at}
 use Rattle.up_book.specs.Regular.{IsRegular}
@@ -17,12 +17,12 @@ abbrev pub event_place : Past → Chronicle → EventId → Option ℕ
 event_place book c id = place_of book.events (queue c) id
 
 abbrev pub instance_place : Past → Chronicle → InstanceKey → Option ℕ
-instance_place book c key = place_at book.lives.jobs.items c key
+instance_place book c key = place_at book.instances c key
 
 pub record Forgets (book : Past) (config : Configuration) (c : Chronicle) : Type 0 where
-  pub lives : Keeps (place_of book.events (queue c)) book.lives config c
-  pub remembered : Remembered (place_of book.events (queue c)) book.lives.jobs.items book.starts.items config c
+  pub lives : Keeps (place_of book.events (queue c)) book.instances config c
+  pub remembered : Remembered (place_of book.events (queue c)) book.instances book.starts.items config c
   pub standings : map standing_of book.events ≡ map (standing_at c) (queue c)
-  pub counted : AreCounted book.events book.lives.jobs.items book.starts.items
+  pub counted : AreCounted book.events book.instances book.starts.items
   pub regular : IsRegular config c
   pub reading : book.reading ≡ clock.now c

@@ -1,10 +1,11 @@
 -- What a change makes of a summary.
 use Rattle.std.specs.Prelude.{ℕ, Bool, true, false, List, [], Option, None, Some, map, option_map, if◌then◌else◌}
+use Rattle.up_job.specs.Moments.{noted}
+use Rattle.up_job.specs.Changes.{is_starting, ordered, answered, lost}
 use Rattle.up_model.specs.declared.state.Goal.TheVariants.{Start, Stop}
 use Rattle.up_model.specs.declared.state.State.{State}
-use Rattle.up_book.specs.declared.change.Change.{Change}
-use Rattle.up_book.specs.declared.change.Change.TheVariants as change
-use Rattle.up_book.specs.Changes.{is_starting, ordered, answered, lost}
+use Rattle.up_job.specs.declared.change.Change.{Change}
+use Rattle.up_job.specs.declared.change.Change.TheVariants as change
 use Rattle.up_book.specs.Summaries.{Summary}
 use Rattle.up_book.specs.Views.{Places, bindings_of, holding_of}
 
@@ -20,8 +21,9 @@ stepped places (change.Restarts holders) s = record s { restarted = true; holder
 stepped places (change.Releases none) s = record s { holders = map (holding_of places) none }
 stepped places (change.Fails failure) s = record s { failure = Some failure }
 stepped places (change.Enters state) s = record (starting_if (is_starting state) s) { state = state; restarted = false; kill_moment = None }
-stepped places (change.Orders its) s = record s { works = ordered its s.works }
-stepped places (change.Answers its pid) s = record s { works = answered its pid s.works }
-stepped places (change.Loses its) s = record s { works = lost its s.works }
+stepped places (change.Orders its) s = record s { children = ordered its s.children }
+stepped places (change.Answers its pid) s = record s { children = answered its pid s.children }
+stepped places (change.Loses its) s = record s { children = lost its s.children }
 stepped places (change.Signals moment) s = record s { kill_moment = moment }
 stepped places (change.Waits event) s = record s { blocker = option_map places event }
+stepped places (change.Respawns moment) s = record s { moments = noted moment s.moments }

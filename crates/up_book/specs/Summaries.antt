@@ -1,8 +1,6 @@
 -- What the chronicle says of an instance, in one record, and of a job.
-use Rattle.std.specs.Prelude.{ℕ, Bool, false, List, [], ◌∷◌, ◌++◌, Option, None, Some, map, option_map, take, if◌then◌else◌, ◌==◌}
+use Rattle.std.specs.Prelude.{ℕ, Bool, false, List, [], Option, None, Some, map, option_map, take}
 use Rattle.up_conf.specs.declared.job.JobDef.{JobDef}
-use Rattle.up_expr.specs.Trees.{Tree, One, Both, Either}
-use Rattle.up_expr.specs.Truth.{Sight, first}
 use Rattle.up_stanza.specs.declared.process.Process.{Process}
 use Rattle.up_stanza.specs.declared.process.Process.TheVariants as process
 use Rattle.up_model.specs.declared.failure.Failure.{Failure}
@@ -12,15 +10,17 @@ use Rattle.up_model.specs.declared.state.Goal.{Goal}
 use Rattle.up_model.specs.declared.state.Goal.TheVariants.{Stop}
 use Rattle.up_model.specs.declared.state.State.{State}
 use Rattle.up_model.specs.declared.state.State.TheVariants as state
-use Rattle.up_model.specs.Chronicle.{Chronicle, Entry, Given, Queued, Respawned, StartOn, StopOn}
+use Rattle.up_model.specs.Chronicle.{Chronicle, Entry, Given, Queued}
 use Rattle.up_model.specs.Clock.{kill_moment}
 use Rattle.up_model.specs.Configuration.{Configuration}
 use Rattle.up_model.specs.Instances.{Instance, instances_of}
 use Rattle.up_model.specs.Readings.{entry_at, goal, state_of, was_restarted, pending_env, env, stop_env, failure, holders, blocker, is_awaited, pid_of}
-use Rattle.up_model.specs.Seen.{seen}
 use Rattle.up_model.specs.Values.{Bytes, Bindings}
-use Rattle.up_book.specs.declared.kept.Work.{Work}
-use Rattle.up_book.specs.declared.kept.Works.{Works}
+use Rattle.circular_buffer.specs.Buffer.{Buffer, buffer}
+use Rattle.up_job.specs.InstanceLists.{idle}
+use Rattle.up_job.specs.Moments.{moments_of, room}
+use Rattle.up_job.specs.declared.child.Child.{Child}
+use Rattle.up_job.specs.declared.child.Children.{Children}
 
 -- what holds an instance: the event that was queued at a place, or a client by the number of its request and what it asked
 pub data Holding : Type 0 where
@@ -37,10 +37,10 @@ abbrev pub holding_at : Chronicle → ℕ → Option Holding
 holding_at c place = holding_in place (entry_at place c)
 
 -- what is known of a process of an instance
-abbrev pub work_at : ℕ → Process → Chronicle → Work
+abbrev pub work_at : ℕ → Process → Chronicle → Child
 work_at instance its c = record { awaited = is_awaited instance its c; pid = pid_of instance its c }
 
-abbrev pub works_at : ℕ → Chronicle → Works
+abbrev pub works_at : ℕ → Chronicle → Children
 works_at instance c = record {
   main = work_at instance process.Main c;
   pre_start = work_at instance process.PreStart c;
@@ -48,13 +48,6 @@ works_at instance c = record {
   pre_stop = work_at instance process.PreStop c;
   post_stop = work_at instance process.PostStop c;
 }
-
--- the moments of an instance's respawns, newest first
-abbrev pub moments : ℕ → Chronicle → List ℕ
-moments instance [] = []
-moments instance (Respawned other moment ∷ c) = if other == instance then moment ∷ moments instance c
-    else moments instance c
-moments instance (entry ∷ c) = moments instance c
 
 -- All that is to be known of an instance. A place is `Some` of itself, since a key may stand for none.
 pub record Summary : Type 0 where
@@ -68,9 +61,9 @@ pub record Summary : Type 0 where
   pub failure : Option Failure
   pub holders : List (Option Holding)
   pub blocker : Option (Option ℕ)
-  pub works : Works
+  pub children : Children
   pub kill_moment : Option ℕ
-  pub moments : List ℕ
+  pub moments : Buffer ℕ
 
 abbrev pub known : Option ℕ → Option (Option ℕ)
 known place = option_map Some place
@@ -87,9 +80,9 @@ summary config job c its = record {
   failure = failure its.place c;
   holders = map (holding_at c) (holders its.place c);
   blocker = known (blocker its.place c);
-  works = works_at its.place c;
+  children = works_at its.place c;
   kill_moment = kill_moment its.place c;
-  moments = take job.limit.count (moments its.place c);
+  moments = buffer (take (room job.limit) (moments_of its.place c)) (room job.limit);
 }
 
 -- and of a job
@@ -101,15 +94,6 @@ abbrev pub job_summary : Configuration → Chronicle → JobDef → JobSummary
 job_summary config c job = record {
   name = job.name;
   instances = map (summary config job c) (instances_of job.name c);
-}
-
-abbrev pub idle : Works
-idle = record {
-  main = record { awaited = false; pid = None };
-  pre_start = record { awaited = false; pid = None };
-  post_start = record { awaited = false; pid = None };
-  pre_stop = record { awaited = false; pid = None };
-  post_stop = record { awaited = false; pid = None };
 }
 
 -- an instance of which nothing is known
@@ -125,7 +109,7 @@ blank job name = record {
   failure = None;
   holders = [];
   blocker = None;
-  works = idle;
+  children = idle;
   kill_moment = None;
-  moments = [];
+  moments = buffer [] (room job.limit);
 }

@@ -1,13 +1,14 @@
 -- What is kept of instances, seen as summaries.
 use Rattle.std.specs.Prelude.{ℕ, Bool, List, [], Option, None, Some, map, option_map}
+use Rattle.up_job.specs.JobLists.{list_of}
+use Rattle.up_job.specs.Lists.{nth}
 use Rattle.up_model.specs.declared.event_id.EventId.{EventId}
 use Rattle.up_model.specs.Values.{Bindings}
-use Rattle.up_book.specs.declared.keys.InstanceKey.{InstanceKey}
-use Rattle.up_book.specs.declared.kept.Holder.{Holder}
-use Rattle.up_book.specs.declared.kept.Holder.TheVariants as holder
-use Rattle.up_book.specs.declared.kept.JobKept.{JobKept}
-use Rattle.up_book.specs.declared.kept.Kept.{Kept}
-use Rattle.up_book.specs.Lists.{nth}
+use Rattle.up_job.specs.declared.instance_key.InstanceKey.{InstanceKey}
+use Rattle.up_job.specs.declared.holder.Holder.{Holder}
+use Rattle.up_job.specs.declared.holder.Holder.TheVariants as holder
+use Rattle.up_job.specs.declared.instances.JobInstances.{JobInstances}
+use Rattle.up_job.specs.declared.instance.Instance.{Instance as Kept}
 use Rattle.up_book.specs.Summaries.{Holding, ByEvent, ByClient, Summary, JobSummary}
 
 -- where the event of an id was queued
@@ -38,21 +39,20 @@ view places kept = record {
   failure = kept.failure;
   holders = map (holding_of places) kept.holders;
   blocker = option_map places kept.blocker;
-  works = kept.works;
+  children = kept.children;
   kill_moment = kept.kill_moment;
   moments = kept.moments;
 }
 
-abbrev pub job_view : Places → JobKept → JobSummary
+abbrev pub job_view : Places → JobInstances → JobSummary
 job_view places job = record {
   name = job.name;
   instances = map (view places) job.instances;
 }
 
-abbrev pub kept_in : ℕ → Option JobKept → Option Kept
-kept_in at None = None
-kept_in at (Some job) = nth at job.instances
+abbrev pub kept_in : ℕ → Option JobInstances → Option Kept
+kept_in at job = nth at (list_of job)
 
 -- what is kept of the instance of a key
-abbrev pub kept_at : InstanceKey → List JobKept → Option Kept
+abbrev pub kept_at : InstanceKey → List JobInstances → Option Kept
 kept_at key jobs = kept_in key.at (nth key.job jobs)

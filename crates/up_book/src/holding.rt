@@ -8,9 +8,9 @@ ghost use Rattle.up_book.specs.Holding.{freed, changed_by, all_changed, held_by_
 ghost use Rattle.up_marks.specs.Triggers.{kept_by};
 ghost use Rattle.std.specs.Prelude.{false};
 
-use crate::kept::{Holder, Kept};
 use std::alloc::{AllocError, Global};
 use up_event::Events;
+use up_job::{Holder, Instance};
 use up_model::EventId;
 
 fn event_of(holder: Holder) -> Option<EventId>
@@ -100,7 +100,7 @@ pub fn free_all(events: &mut Events, holders: &[Holder], failed: bool)
 }
 
 /// What an instance holds is held once less. Takes no memory.
-pub fn free_held(events: &mut Events, kept: Option<&Kept>, failed: bool)
+pub fn free_held(events: &mut Events, kept: Option<&Instance>, failed: bool)
     ensures { events.new ≡ all_changed (freed failed) (held_by_kept (option_copied kept.entry)) events.old }
 {
     match kept {
@@ -119,7 +119,7 @@ fn free_ids(events: &mut Events, ids: &[EventId])
 }
 
 /// What an instance held is held once less, for each leaf of its `stop on` too.
-pub fn free_all_of(alloc: Global, events: &mut Events, gone: &Kept) -> Result<(), AllocError>
+pub fn free_all_of(alloc: Global, events: &mut Events, gone: &Instance) -> Result<(), AllocError>
     ensures { OnOk result (events.new ≡ all_changed (freed false) (as_holders (kept_by gone.now.stop_on))
         (all_changed (freed false) gone.now.holders events.old)) }
 {

@@ -1,5 +1,6 @@
 //! A book that forgets.
-ghost use Rattle.std.specs.Prelude.{◌≡◌, ℕ, List, ◌∷◌, [], map, Some, false, length, option_map, nat_lt, if◌then◌else◌, IfOk, IfNone, OnSome, OnOk};
+ghost use Rattle.std.specs.Prelude.{◌≡◌, ℕ, List, ◌∷◌, [], map, Some, false, true, length, option_map, nat_lt, if◌then◌else◌, IfOk, IfNone, OnSome, OnOk};
+ghost use Rattle.up_job.specs.Lists.{nth};
 ghost use Rattle.up_model.specs.Due.{turn_event};
 ghost use Rattle.up_model.specs.Instances.{instance_named};
 ghost use Rattle.up_book.specs.Regular.{called};
@@ -18,34 +19,34 @@ ghost use Rattle.up_event.specs.declared.live.LiveEvent.{LiveEvent as LiveEventV
 ghost use Rattle.up_model.specs.Held.{is_held};
 ghost use Rattle.up_book.specs.Eventing.{number_of};
 ghost use Rattle.up_book.specs.Keeps.{is_waiting, AreOlder};
-ghost use Rattle.up_book.specs.Lists.{nth};
-ghost use Rattle.up_conf.specs.declared.job.JobDef.{JobDef as JobValue};
+ghost use Rattle.up_job.specs.InstanceLists.{new_instance};
+ghost use Rattle.up_job.specs.JobLists.{with_made, removed_at, position_at};
+ghost use Rattle.up_job.specs.declared.instance.Instance.{Instance as InstanceValue};
+ghost use Rattle.up_job.specs.Lists.{with_at};
 ghost use Rattle.up_book.specs.Holding.{AllLive};
-ghost use Rattle.up_book.specs.declared.keys.InstanceKey.{InstanceKey as InstanceKeyValue};
+ghost use Rattle.up_job.specs.declared.instance_key.InstanceKey.{InstanceKey as InstanceKeyValue};
 ghost use Rattle.up_book.specs.Summaries.{holding_at};
-ghost use Rattle.up_book.specs.Views.{holding_of};
+ghost use Rattle.up_book.specs.Views.{holding_of, kept_at};
 ghost use Rattle.up_model.specs.declared.state.Goal.TheVariants as aim;
 ghost use Rattle.up_model.specs.declared.state.State.TheVariants as entered;
 ghost use Rattle.up_marks.specs.Triggers.{kept_by};
 ghost use Rattle.up_book.specs.Holding.{freed, all_changed, as_holders};
 ghost use Rattle.up_model.specs.Replies.{waiter_in};
 
-use crate::change::Change;
 use crate::holding::{free_all_of, free_held, hold_all};
-use crate::kept::{Holder, Kept, new_kept};
-use crate::keys::InstanceKey;
-use crate::life::Lives;
 use std::alloc::{AllocError, Global};
 use up_event::{Events, Finished, TurnKind};
-use up_expr::Condition;
+use up_conf::JobDef;
+use up_job::{Change, Holder, Instance, InstanceKey, Instances};
 use up_marks::Trigger;
 use up_model::{Event, EventId, Failure, Process, State};
+use up_conf::Limit;
 use up_text::{Env, Items};
 
 /// What can still matter of the past.
 #[derive(Drop)]
 pub struct Past {
-    pub lives: Lives,
+    pub instances: Instances,
     /// What the `start on` of each job remembers.
     pub starts: Vec<Trigger>,
     pub events: Events,
@@ -145,7 +146,7 @@ impl Past {
             → Forgets self.new config (entry.Finished e ∷ c) }
     {
         let finished = take_out(&mut self.events, id)?;
-        self.lives.unblock(id);
+        self.instances.unblock(id);
         Some(finished)
     }
 
@@ -184,7 +185,7 @@ impl Past {
             → instance_place self.old c k ≡ Some i
             → instance_place self.new (entry.Entered i state ∷ c) k ≡ Some i }
     {
-        self.lives.change(key, Change::Enters(state));
+        self.instances.change_at(key, Change::Enters(state));
     }
 
     /// The goal of an instance becomes start, with the environment and the holders that go with it.
@@ -201,8 +202,8 @@ impl Past {
             → Forgets self.new config (entry.Aimed i aim.Start environment events ∷ c)) }
     {
         hold_all(&mut self.events, holders.as_slice())?;
-        free_held(&mut self.events, self.lives.kept(key), false);
-        self.lives.change(
+        free_held(&mut self.events, self.instances.at(key), false);
+        self.instances.change_at(
             key,
             Change::Starts {
                 environment,
@@ -226,8 +227,8 @@ impl Past {
             → Forgets self.new config (entry.Aimed i aim.Stop environment events ∷ c)) }
     {
         hold_all(&mut self.events, holders.as_slice())?;
-        free_held(&mut self.events, self.lives.kept(key), false);
-        self.lives.change(
+        free_held(&mut self.events, self.instances.at(key), false);
+        self.instances.change_at(
             key,
             Change::Stops {
                 environment: Some(environment),
@@ -243,7 +244,7 @@ impl Past {
             → Forgets self.old config c → instance_place self.old c key ≡ Some i
             → Forgets self.new config (entry.Aimed i aim.Stop [] (read.holders i c) ∷ c) }
     {
-        self.lives.change(key, Change::Ends);
+        self.instances.change_at(key, Change::Ends);
     }
 
     /// A restart of an instance is taken, with these holders.
@@ -255,8 +256,8 @@ impl Past {
             → Forgets self.new config (entry.Restarted i events ∷ c)) }
     {
         hold_all(&mut self.events, holders.as_slice())?;
-        free_held(&mut self.events, self.lives.kept(key), false);
-        self.lives.change(key, Change::Restarts(holders));
+        free_held(&mut self.events, self.instances.at(key), false);
+        self.instances.change_at(key, Change::Restarts(holders));
         Ok(())
     }
 
@@ -266,8 +267,8 @@ impl Past {
             → Forgets self.old config c → instance_place self.old c key ≡ Some i → none ≡ []
             → Forgets self.new config (entry.Released i false ∷ c) }
     {
-        free_held(&mut self.events, self.lives.kept(key), false);
-        self.lives.change(key, Change::Releases(none));
+        free_held(&mut self.events, self.instances.at(key), false);
+        self.instances.change_at(key, Change::Releases(none));
     }
 
     /// An instance that failed lets its holders go, which spoils the events among them. Takes no memory.
@@ -277,8 +278,8 @@ impl Past {
             → Forgets self.new config (entry.Released i true ∷ c) }
     {
         let _ = self.events.len();
-        free_held(&mut self.events, self.lives.kept(key), true);
-        self.lives.change(key, Change::Releases(none));
+        free_held(&mut self.events, self.instances.at(key), true);
+        self.instances.change_at(key, Change::Releases(none));
     }
 
     /// An instance fails. Takes no memory.
@@ -289,7 +290,7 @@ impl Past {
         ensures instances { (c : Chronicle) (i : ℕ) (k : InstanceKeyValue) → instance_place self.old c k ≡ Some i
             → instance_place self.new (entry.Failed i failure ∷ c) k ≡ Some i }
     {
-        self.lives.change(key, Change::Fails(failure));
+        self.instances.change_at(key, Change::Fails(failure));
     }
 
     /// A process of an instance is ordered. Takes no memory.
@@ -300,7 +301,7 @@ impl Past {
         ensures instances { (c : Chronicle) (i : ℕ) (k : InstanceKeyValue) → instance_place self.old c k ≡ Some i
             → instance_place self.new (entry.Ordered i process ∷ c) k ≡ Some i }
     {
-        self.lives.change(key, Change::Orders(process));
+        self.instances.change_at(key, Change::Orders(process));
     }
 
     /// Main of an instance is sent a signal on entering killed. Takes no memory.
@@ -311,7 +312,7 @@ impl Past {
         ensures instances { (c : Chronicle) (i : ℕ) (k : InstanceKeyValue) → instance_place self.old c k ≡ Some i
             → instance_place self.new (entry.Signalled i signal false ∷ c) k ≡ Some i }
     {
-        self.lives.change(key, Change::Signals(Some(self.reading)));
+        self.instances.change_at(key, Change::Signals(Some(self.reading)));
     }
 
     /// Main of an instance is killed by the timer. Takes no memory.
@@ -322,7 +323,7 @@ impl Past {
         ensures instances { (c : Chronicle) (i : ℕ) (k : InstanceKeyValue) → instance_place self.old c k ≡ Some i
             → instance_place self.new (entry.Signalled i signal true ∷ c) k ≡ Some i }
     {
-        self.lives.change(key, Change::Signals(None));
+        self.instances.change_at(key, Change::Signals(None));
     }
 
     /// An instance emits an event on entering a state, and waits for it if the state is one that does.
@@ -336,7 +337,7 @@ impl Past {
     {
         let id = self.events.push(event, None)?;
         if is_blocking(state) {
-            self.lives.change(key, Change::Waits(Some(id)));
+            self.instances.change_at(key, Change::Waits(Some(id)));
         }
         Ok(())
     }
@@ -348,42 +349,67 @@ impl Past {
             → Forgets self.new config
             (entry.Queued (entry.Entering i entered.Waiting) event ∷ entry.Entered i entered.Waiting ∷ c)) }
     {
-        match self.lives.take(key) {
-            Some(gone) => self.bury(alloc, gone)?,
-            None => {}
-        }
+        self.bury(alloc, key)?;
         let _ = self.events.push(event, None)?;
         Ok(())
     }
 
-    // What an instance held that is gone is held no more.
-    fn bury(&mut self, alloc: Global, gone: Kept) -> Result<(), AllocError>
-        ensures { OnOk result (self.new ≡ record self.old { events = all_changed (freed false) (as_holders (kept_by gone.stop_on))
-            (all_changed (freed false) gone.holders self.old.events) }) }
+    // Takes an instance out. What it held is held no more.
+    fn bury(&mut self, alloc: Global, key: InstanceKey) -> Result<(), AllocError>
+        ensures { OnOk result ((gone : InstanceValue) → kept_at key self.old.instances ≡ Some gone
+            → self.new ≡ record self.old {
+                instances = removed_at key self.old.instances;
+                events = all_changed (freed false) (as_holders (kept_by gone.stop_on))
+                    (all_changed (freed false) gone.holders self.old.events);
+            }) }
     {
-        free_all_of(alloc, &mut self.events, &gone)?;
-        Ok(())
+        match self.instances.remove_at(key) {
+            Some(gone) => {
+                free_all_of(alloc, &mut self.events, &gone)?;
+                Ok(())
+            }
+            None => Ok(()),
+        }
     }
 
-    /// A job gets an instance.
+    /// A job, which stands at this place of the table, gets an instance.
     pub fn make(
         &mut self,
         alloc: Global,
-        job: usize,
-        stop_on: &Option<Condition>,
+        place: usize,
+        job: &JobDef,
         name: &str,
     ) -> Result<InstanceKey, AllocError>
-        ensures after { OnOk result ((config : Configuration) (c : Chronicle) (its : JobValue)
-            → Forgets self.old config c → nth job config.jobs ≡ Some its → stop_on.now ≡ its.stop_on
-            → instance_named (called its.name name.now) c ≡ None
-            → Forgets self.new config (entry.Made its.name name.now ∷ c)) }
-        ensures made { IfOk result (λ key. (config : Configuration) (c : Chronicle) (its : JobValue)
-            → Forgets self.old config c → nth job config.jobs ≡ Some its
-            → instance_place self.new (entry.Made its.name name.now ∷ c) key ≡ Some (length c)) }
+        ensures after { OnOk result ((config : Configuration) (c : Chronicle)
+            → Forgets self.old config c → nth place config.jobs ≡ Some job.now
+            → instance_named (called job.now.name name.now) c ≡ None
+            → Forgets self.new config (entry.Made job.now.name name.now ∷ c)) }
+        ensures made { IfOk result (λ key. (config : Configuration) (c : Chronicle)
+            → Forgets self.old config c → nth place config.jobs ≡ Some job.now
+            → instance_place self.new (entry.Made job.now.name name.now ∷ c) key ≡ Some (length c)) }
     {
-        let stop_on = Trigger::new(alloc, stop_on)?;
-        let kept = new_kept(alloc, name, stop_on)?;
-        let at = self.lives.insert(job, kept)?;
-        Ok(InstanceKey { job, at })
+        let stop_on = Trigger::new(alloc, &job.stop_on)?;
+        let at = self.add(place, name, job.limit, stop_on)?;
+        Ok(InstanceKey { job: place, at })
+    }
+
+    fn add(
+        &mut self,
+        job: usize,
+        name: &str,
+        limit: Limit,
+        stop_on: Trigger,
+    ) -> Result<usize, AllocError>
+        ensures added { OnOk result (self.new ≡ record self.old { instances
+            = with_at job (with_made (new_instance name.now limit stop_on)) self.old.instances }) }
+        ensures position { IfOk result (λ at. at ≡ position_at name.now job self.old.instances) }
+    {
+        if self.instances.position(job, name).is_some() {
+            return Err(AllocError);
+        }
+        match self.instances.add_at(job, name, limit, stop_on) {
+            Ok(at) => Ok(at),
+            Err(_) => Err(AllocError),
+        }
     }
 }

@@ -1,9 +1,10 @@
 //! What is kept of a step until it ends.
-ghost use Rattle.std.specs.Prelude.{◌≡◌, ℕ, ◌∷◌, [], ◌++◌, Some, None, OnOk, OnErr};
-ghost use Rattle.up_book.specs.Asking.{answered_as, asked_in};
+ghost use Rattle.std.specs.Prelude.{◌≡◌, Some};
+ghost use Rattle.std.specs.Prelude.{false};
+ghost use Rattle.up_book.specs.Asking.{asked_in};
 
-use crate::keys::InstanceKey;
 use std::alloc::{AllocError, Global};
+use up_job::InstanceKey;
 use up_model::{Command, Input, Output};
 use up_text::Text;
 
@@ -18,14 +19,14 @@ pub struct Asked {
 }
 
 /// The instance that a request acted on: one that exists, or the status text of one that went in this step.
-#[derive(Debug, Drop)]
+#[derive(Drop)]
 pub enum ActedOn {
     Exists(InstanceKey),
     Gone(Text),
 }
 
 /// The request of a step, the instance that it acted on, and what the step asks for, in order.
-#[derive(Debug, Drop)]
+#[derive(Drop)]
 pub struct Step {
     pub asked: Option<Asked>,
     pub on: Option<ActedOn>,

@@ -4,7 +4,7 @@ use Rattle.up_model.specs.Chronicle.{Aimed, Restarted, Released, Failed, Ordered
 use Rattle.up_model.specs.declared.state.Goal.TheVariants.{Start, Stop}
 use Rattle.up_model.specs.Queue.{queue}
 use Rattle.up_model.specs.Readings.{holders}
-use Rattle.up_book.specs.declared.change.Change.TheVariants as change
+use Rattle.up_job.specs.declared.change.Change.TheVariants as change
 use Rattle.up_book.specs.Eventing.{place_of}
 use Rattle.up_book.specs.Holding.{freed, all_changed, held_by_kept}
 use Rattle.up_book.proofs.Entering as entry
@@ -16,4 +16,4 @@ pub returns : goal.returns
 returns c config c' i f found =
     let book = c.args.self.now in
     forgets-change book _ config c' (Aimed i Stop [] (holders i c')) c.args.key i change.Ends f found (entry.is-ended (place_of book.events (queue c')) config c' i f.lives.older) (f.lives.older i) (λ k. refl) refl tt (λ p. refl) refl
-    c.change.ensures refl refl refl
+    c.change_at.ensures refl refl refl

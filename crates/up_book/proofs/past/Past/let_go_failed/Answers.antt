@@ -4,7 +4,7 @@ use Rattle.up_model.specs.Chronicle.{Aimed, Restarted, Released, Failed, Ordered
 use Rattle.up_model.specs.declared.state.Goal.TheVariants.{Start, Stop}
 use Rattle.up_model.specs.Queue.{queue}
 use Rattle.up_model.specs.Readings.{holders}
-use Rattle.up_book.specs.declared.change.Change.TheVariants as change
+use Rattle.up_job.specs.declared.change.Change.TheVariants as change
 use Rattle.up_book.specs.Eventing.{place_of}
 use Rattle.up_book.specs.Holding.{freed, all_changed, held_by_kept}
 use Rattle.up_book.proofs.Entering as entry
@@ -16,6 +16,6 @@ pub returns : goal.returns
 returns c config c' i f found none =
     let book = c.args.self.now in
     let places = place_of book.events (queue c') in
-    let t = there places book.lives.jobs.items config c' c.args.key i f.lives.jobs found in
-    let freed_by = c.free_held.ensures ∙ ap (λ k. all_changed (freed true) (held_by_kept k) book.events) (c.kept.ensures ∙ t.found) in
-    forgets-failed book _ config c' c.args.key i c.args.none t f c.len.ensures.distinct found none c.change.ensures refl freed_by refl
+    let t = there places book.instances config c' c.args.key i f.lives.jobs found in
+    let freed_by = c.free_held.ensures ∙ ap (λ k. all_changed (freed true) (held_by_kept k) book.events) (c.at.ensures ∙ t.found) in
+    forgets-failed book _ config c' c.args.key i c.args.none t f c.len.ensures.distinct found none c.change_at.ensures refl freed_by refl

@@ -4,7 +4,7 @@ use Rattle.up_model.specs.Chronicle.{Aimed, Restarted, Released, Failed, Ordered
 use Rattle.up_model.specs.declared.state.Goal.TheVariants.{Start, Stop}
 use Rattle.up_model.specs.Queue.{queue}
 use Rattle.up_model.specs.Readings.{holders}
-use Rattle.up_book.specs.declared.change.Change.TheVariants as change
+use Rattle.up_job.specs.declared.change.Change.TheVariants as change
 use Rattle.up_book.specs.Eventing.{place_of}
 use Rattle.up_book.specs.Holding.{freed, all_changed, held_by_kept}
 use Rattle.up_book.proofs.Entering as entry
@@ -16,8 +16,8 @@ pub returns-clause-after : goal.returns-clause-after
 returns-clause-after c config c' i f found =
     let book = c.args.self.now in
     let places = place_of book.events (queue c') in
-    forgets-change book _ config c' (Signalled i c.args.signal false) c.args.key i (change.Signals (Some book.reading)) f found (entry.is-signalled-at places config c' i c.args.signal book.reading f.reading f.lives.older) tt (λ k. refl) refl tt (λ p. refl) refl c.change.ensures refl refl refl
+    forgets-change book _ config c' (Signalled i c.args.signal false) c.args.key i (change.Signals (Some book.reading)) f found (entry.is-signalled-at places config c' i c.args.signal book.reading f.reading f.lives.older) tt (λ k. refl) refl tt (λ p. refl) refl c.change_at.ensures refl refl refl
 
 pub returns-clause-instances : goal.returns-clause-instances
 returns-clause-instances c c' i k found =
-    entry.stays c.args.self.now.lives.jobs.items _ c' (Signalled i c.args.signal false ∷ c') c.args.key k (change.Signals (Some c.args.self.now.reading)) i (λ job. refl) c.change.ensures found
+    entry.stays c.args.self.now.instances _ c' (Signalled i c.args.signal false ∷ c') c.args.key k (change.Signals (Some c.args.self.now.reading)) i (λ job. refl) c.change_at.ensures found

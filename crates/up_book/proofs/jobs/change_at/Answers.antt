@@ -1,9 +1,0 @@
-use Rattle.std.proofs.Common.{◌≡◌, arith, length, ◌<◌}
-use Rattle.up_book.specs.Changes.{changed, changed_in}
-use Rattle.up_book.proofs.Lists.{set_with_at}
-use Rattle.up_book.proofs.jobs.change_at.Goals as goal
-
-pub returns-then-key-len : goal.returns-then-key-len
-returns-then-key-len c =
-    let within : c.args.key.job < length c.args.jobs.now.items = omega (arith, c.args.jobs.now.ok.0, c.if-key-len.true, c.len.ensures) in
-    rw c.change_in.ensures (set_with_at (changed_in c.args.key.at (changed c.args.its)) c.args.key.job c.args.jobs.now.items _ within c.index_mut.ensures.value)

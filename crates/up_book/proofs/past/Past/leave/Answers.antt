@@ -1,0 +1,20 @@
+use Rattle.std.proofs.Common.{◌≡◌, ◌∷◌, Some, ap, refl}
+use Rattle.up_model.specs.declared.state.State.TheVariants.{Waiting}
+use Rattle.up_model.specs.Chronicle.{Entered}
+use Rattle.up_model.specs.Queue.{queue}
+use Rattle.up_book.specs.declared.past.Past.{Past}
+use Rattle.up_book.specs.Eventing.{place_of}
+use Rattle.up_book.specs.Standing.{Forgets}
+use Rattle.up_book.proofs.Announcing.{forgets-emitted}
+use Rattle.up_book.proofs.Leaving.{forgets-left}
+use Rattle.up_book.proofs.One.{there}
+use Rattle.up_book.proofs.past.Past.leave.Goals as goal
+
+pub returns : goal.returns
+returns c config c' i f found =
+    let book = c.args.self.now in
+    let t = there (place_of book.events (queue c')) book.instances config c' c.args.key i f.lives.jobs found in
+    let buried = c.in_ok-bury.ensures t.kept t.found in
+    let left : Forgets c.bury.new.self config (Entered i Waiting ∷ c') =
+    forgets-left book c.bury.new.self config c' c.args.key i t.kept f found t.found (ap (λ (p : Past). p.instances) buried) (ap (λ (p : Past). p.starts) buried) (ap (λ (p : Past). p.events) buried) (ap (λ (p : Past). p.reading) buried) in
+    forgets-emitted c.bury.new.self _ config (Entered i Waiting ∷ c') i Waiting c.args.event _ left refl c.in_ok-push.ensures.fresh c.in_ok-push.ensures.pushed refl refl refl
