@@ -36,3 +36,5 @@ pub mod Requesting
 pub mod Asking
 -- What a step that isn't over has asked for, and what its request acted on.
 pub mod Steps
+-- What an offer and a firing make of a trigger.
+pub mod Hearing
