@@ -33,3 +33,4 @@ pub mod Announcing
 pub mod Leaving
 pub mod StepFrames
 pub mod Sights
+pub mod Respawning

@@ -4,6 +4,7 @@ use Rattle.up_expr.specs.Trees.{Tree}
 use Rattle.up_expr.specs.Truth.{Sight}
 use Rattle.up_image.specs.Index.{named}
 use Rattle.up_image.specs.declared.index.Place.{Place}
+use Rattle.up_job.specs.Lists.{nth}
 use Rattle.up_job.specs.declared.instance.Instance.{Instance}
 use Rattle.up_job.specs.declared.instance_key.InstanceKey.{InstanceKey}
 use Rattle.up_job.specs.declared.instances.JobInstances.{JobInstances}
@@ -31,6 +32,14 @@ trigger_of (Some kept) = kept.stop_on
 -- what the `stop on` of the instance of a key remembers
 abbrev pub trigger_at : InstanceKey → List JobInstances → Option (List Mark)
 trigger_at key jobs = trigger_of (kept_at key jobs)
+
+abbrev pub trigger_if : Option (Option (List Mark)) → Option (List Mark)
+trigger_if None = None
+trigger_if (Some trigger) = trigger
+
+-- what the `start on` of the job at a place remembers
+abbrev pub trigger_in : ℕ → List (Option (List Mark)) → Option (List Mark)
+trigger_in job triggers = trigger_if (nth job triggers)
 
 -- an event was offered to the leaves at these places
 pub record Hears (old new : Option (List Mark)) (condition : Option Tree) (nodes : List ℕ) (id : EventId) (event : Event) (env : Bindings) (offer : Offer) : Type 0 where

@@ -3,6 +3,7 @@
 
 mod holding;
 mod past;
+mod readings;
 mod step;
 
 pub use past::Past;

@@ -326,6 +326,16 @@ impl Past {
         self.instances.change_at(key, Change::Signals(None));
     }
 
+    /// Main of an instance is respawned. Takes no memory.
+    pub fn respawn(&mut self, key: InstanceKey)
+        ensures { (config : Configuration) (c : Chronicle) (i : ℕ)
+            → Forgets self.old config c → instance_place self.old c key ≡ Some i
+            → Forgets self.new config (entry.Respawned i (clock.now c) ∷ c) }
+    {
+        self.instances
+            .change_at(key, Change::Respawns(self.reading));
+    }
+
     /// An instance emits an event on entering a state, and waits for it if the state is one that does.
     pub fn announce(&mut self, key: InstanceKey, state: State, event: Event) -> Result<(), AllocError>
         ensures after { OnOk result ((config : Configuration) (c : Chronicle) (i : ℕ)

@@ -1,0 +1,15 @@
+use Rattle.std.proofs.Common.{◌≡◌, ◌∙◌, sym, ap, Some, is_some}
+use Rattle.std.specs.Option.{option_copied}
+use Rattle.up_model.specs.Queue.{queue}
+use Rattle.up_book.specs.Eventing.{place_of}
+use Rattle.up_book.proofs.Respawning.{moments-known}
+use Rattle.up_book.proofs.Knowing.{is_there}
+use Rattle.up_book.proofs.past.Past.may_respawn.Goals as goal
+
+pub returns-in-Some : goal.returns-in-Some
+returns-in-Some c config c' i job f found there same =
+    let its = moments-known c.args.self.now config c' c.args.key i c.in-Some.kept.now job c.args.limit f found there same (sym c.at.ensures ∙ ap option_copied c.in-Some.is) in
+    c.may_respawn.ensures.model i c' f.reading its.0 its.1
+
+pub returns-in-None : goal.returns-in-None
+returns-in-None c config c' i job f found there same = is_there (place_of c.args.self.now.events (queue c')) c.args.self.now.instances config c' c.args.key i f.lives found (sym c.at.ensures ∙ ap option_copied c.in-None.is)

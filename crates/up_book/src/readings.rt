@@ -1,0 +1,157 @@
+//! What is known of an instance by what is kept of it. None of these calls takes memory.
+ghost use Rattle.std.specs.Prelude.{◌≡◌, ℕ, [], Some, is_some};
+ghost use Rattle.std.specs.Option.{option_map_or};
+ghost use Rattle.up_book.specs.Views.{bindings_of};
+ghost use Rattle.up_conf.specs.declared.job.JobDef.{JobDef as JobValue};
+ghost use Rattle.up_job.specs.Changes as spec;
+ghost use Rattle.up_job.specs.Lists.{nth};
+ghost use Rattle.up_model.specs.Chronicle.{Chronicle};
+ghost use Rattle.up_model.specs.Clock as clock;
+ghost use Rattle.up_model.specs.Configuration.{Configuration};
+ghost use Rattle.up_model.specs.Readings as read;
+
+use crate::past::Past;
+use up_conf::{Limit, Process};
+use up_job::{Instance, InstanceKey, child_of};
+use up_model::{Failure, Goal, State};
+use up_text::Env;
+
+fn env_of(kept: &Instance) -> Option<&Env>
+    ensures { option_map_or (λ env. env.now) result [] ≡ bindings_of kept.now.env }
+{
+    kept.env.as_ref()
+}
+
+fn is_blocked(kept: &Instance) -> bool
+    ensures { result ≡ is_some kept.now.blocker }
+{
+    kept.blocker.is_some()
+}
+
+fn awaits(kept: &Instance, process: Process) -> bool
+    ensures { result ≡ (spec.child_of process kept.now.children).awaited }
+{
+    child_of(&kept.children, process).awaited
+}
+
+fn is_alive(kept: &Instance, process: Process) -> bool
+    ensures { result ≡ is_some (spec.child_of process kept.now.children).pid }
+{
+    child_of(&kept.children, process).pid.is_some()
+}
+
+impl Past {
+    ghost use Rattle.up_book.specs.Standing.{Forgets, instance_place};
+
+    /// Where an instance is heading.
+    pub fn goal(&self, key: InstanceKey) -> Goal
+        ensures { (config : Configuration) (c : Chronicle) (i : ℕ) → Forgets self.now config c
+            → instance_place self.now c key ≡ Some i → result ≡ read.goal i c }
+    {
+        match self.instances.at(key) {
+            Some(kept) => kept.goal,
+            None => Goal::Stop,
+        }
+    }
+
+    /// The state of an instance.
+    pub fn state_of(&self, key: InstanceKey) -> State
+        ensures { (config : Configuration) (c : Chronicle) (i : ℕ) → Forgets self.now config c
+            → instance_place self.now c key ≡ Some i → result ≡ read.state_of i c }
+    {
+        match self.instances.at(key) {
+            Some(kept) => kept.state,
+            None => State::Waiting,
+        }
+    }
+
+    /// Whether a restart of an instance was taken since it entered its state.
+    pub fn was_restarted(&self, key: InstanceKey) -> bool
+        ensures { (config : Configuration) (c : Chronicle) (i : ℕ) → Forgets self.now config c
+            → instance_place self.now c key ≡ Some i → result ≡ read.was_restarted i c }
+    {
+        match self.instances.at(key) {
+            Some(kept) => kept.restarted,
+            None => false,
+        }
+    }
+
+    /// What the clock read when main was sent its signal, in milliseconds, until the timer has sent KILL.
+    pub fn kill_moment(&self, key: InstanceKey) -> Option<u64>
+        ensures { (config : Configuration) (c : Chronicle) (i : ℕ) → Forgets self.now config c
+            → instance_place self.now c key ≡ Some i → result ≡ clock.kill_moment i c }
+    {
+        match self.instances.at(key) {
+            Some(kept) => kept.kill_moment,
+            None => None,
+        }
+    }
+
+    /// Why an instance failed since it entered starting last.
+    pub fn failure(&self, key: InstanceKey) -> Option<Failure>
+        ensures { (config : Configuration) (c : Chronicle) (i : ℕ) → Forgets self.now config c
+            → instance_place self.now c key ≡ Some i → result ≡ read.failure i c }
+    {
+        match self.instances.at(key) {
+            Some(kept) => kept.failure,
+            None => None,
+        }
+    }
+
+    /// The environment in force, if the instance has one.
+    pub fn env(&self, key: InstanceKey) -> Option<&Env>
+        ensures { (config : Configuration) (c : Chronicle) (i : ℕ) → Forgets self.now config c
+            → instance_place self.now c key ≡ Some i
+            → option_map_or (λ env. env.now) result [] ≡ read.env i c }
+    {
+        match self.instances.at(key) {
+            Some(kept) => env_of(kept),
+            None => None,
+        }
+    }
+
+    /// Whether an instance waits for its own event.
+    pub fn is_blocked(&self, key: InstanceKey) -> bool
+        ensures { (config : Configuration) (c : Chronicle) (i : ℕ) → Forgets self.now config c
+            → instance_place self.now c key ≡ Some i → result ≡ is_some (read.blocker i c) }
+    {
+        match self.instances.at(key) {
+            Some(kept) => is_blocked(kept),
+            None => false,
+        }
+    }
+
+    /// Whether a process was ordered and not answered since.
+    pub fn awaits(&self, key: InstanceKey, process: Process) -> bool
+        ensures { (config : Configuration) (c : Chronicle) (i : ℕ) → Forgets self.now config c
+            → instance_place self.now c key ≡ Some i → result ≡ read.is_awaited i process c }
+    {
+        match self.instances.at(key) {
+            Some(kept) => awaits(kept, process),
+            None => false,
+        }
+    }
+
+    /// Whether a process lives.
+    pub fn lives(&self, key: InstanceKey, process: Process) -> bool
+        ensures { (config : Configuration) (c : Chronicle) (i : ℕ) → Forgets self.now config c
+            → instance_place self.now c key ≡ Some i → result ≡ read.lives i process c }
+    {
+        match self.instances.at(key) {
+            Some(kept) => is_alive(kept, process),
+            None => false,
+        }
+    }
+
+    /// Whether the limit of its job allows one respawn more of an instance (init(5), `respawn limit`).
+    pub fn may_respawn(&self, key: InstanceKey, limit: Limit) -> bool
+        ensures { (config : Configuration) (c : Chronicle) (i : ℕ) (job : JobValue) → Forgets self.now config c
+            → instance_place self.now c key ≡ Some i → nth key.job config.jobs ≡ Some job → job.limit ≡ limit
+            → result ≡ clock.may_respawn limit i c }
+    {
+        match self.instances.at(key) {
+            Some(kept) => kept.moments.may_respawn(limit, self.reading),
+            None => false,
+        }
+    }
+}
