@@ -34,3 +34,4 @@ pub mod Leaving
 pub mod StepFrames
 pub mod Sights
 pub mod Respawning
+pub mod Finding

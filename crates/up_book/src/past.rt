@@ -8,6 +8,8 @@ ghost use Rattle.up_book.specs.Turning.{turn_at};
 ghost use Rattle.up_model.specs.declared.event.Event.{Event as EventValue};
 ghost use Rattle.up_model.specs.declared.input.Input.{Input as InputValue};
 ghost use Rattle.up_model.specs.declared.input.Input.TheVariants as given_as;
+ghost use Rattle.up_model.specs.declared.process.How.{How as HowValue};
+ghost use Rattle.up_model.specs.declared.who.Who.{Who as WhoValue};
 ghost use Rattle.up_model.specs.Chronicle.{Chronicle};
 ghost use Rattle.up_model.specs.Chronicle as entry;
 ghost use Rattle.up_model.specs.Clock as clock;
@@ -174,6 +176,35 @@ impl Past {
             → Forgets self.new config (entry.Given (given_as.Clock reading) ∷ c) }
     {
         self.reading = later_of(self.reading, reading);
+    }
+
+    /// A process of an instance was spawned. Takes no memory.
+    pub fn spawned(&mut self, key: InstanceKey, process: Process, pid: u32)
+        ensures { (config : Configuration) (c : Chronicle) (i : ℕ) (who : WhoValue) → Forgets self.old config c
+            → instance_place self.old c key ≡ Some i → instance_named who c ≡ Some i
+            → Forgets self.new config (entry.Given (given_as.Spawned who process pid) ∷ c) }
+    {
+        self.instances
+            .change_at(key, Change::Answers(process, Some(pid)));
+    }
+
+    /// The start of a process of an instance was refused. Takes no memory.
+    pub fn refused(&mut self, key: InstanceKey, process: Process)
+        ensures { (config : Configuration) (c : Chronicle) (i : ℕ) (who : WhoValue) → Forgets self.old config c
+            → instance_place self.old c key ≡ Some i → instance_named who c ≡ Some i
+            → Forgets self.new config (entry.Given (given_as.Refused who process) ∷ c) }
+    {
+        self.instances
+            .change_at(key, Change::Answers(process, None));
+    }
+
+    /// A process of an instance has ended. Takes no memory.
+    pub fn ended(&mut self, key: InstanceKey, process: Process)
+        ensures { (config : Configuration) (c : Chronicle) (i : ℕ) (who : WhoValue) (how : HowValue)
+            → Forgets self.old config c → instance_place self.old c key ≡ Some i → instance_named who c ≡ Some i
+            → Forgets self.new config (entry.Given (given_as.Ended who process how) ∷ c) }
+    {
+        self.instances.change_at(key, Change::Loses(process));
     }
 
     /// An instance enters a state other than waiting. Takes no memory.

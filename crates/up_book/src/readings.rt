@@ -1,6 +1,9 @@
 //! What is known of an instance by what is kept of it. None of these calls takes memory.
-ghost use Rattle.std.specs.Prelude.{◌≡◌, ℕ, [], Some, is_some};
-ghost use Rattle.std.specs.Option.{option_map_or};
+ghost use Rattle.std.specs.Prelude.{◌≡◌, ℕ, [], Some, is_some, length, option_map};
+ghost use Rattle.std.specs.Option.{option_copied, option_map_or};
+ghost use Rattle.up_book.specs.Regular.{called};
+ghost use Rattle.up_model.specs.Held as held;
+ghost use Rattle.up_model.specs.Instances.{instances_of, instance_named};
 ghost use Rattle.up_book.specs.Views.{bindings_of};
 ghost use Rattle.up_conf.specs.declared.job.JobDef.{JobDef as JobValue};
 ghost use Rattle.up_job.specs.Changes as spec;
@@ -13,7 +16,7 @@ ghost use Rattle.up_model.specs.Readings as read;
 use crate::past::Past;
 use up_conf::{Limit, Process};
 use up_job::{Instance, InstanceKey, child_of};
-use up_model::{Failure, Goal, State};
+use up_model::{Event, EventId, Failure, Goal, State};
 use up_text::Env;
 
 fn env_of(kept: &Instance) -> Option<&Env>
@@ -41,7 +44,7 @@ fn is_alive(kept: &Instance, process: Process) -> bool
 }
 
 impl Past {
-    ghost use Rattle.up_book.specs.Standing.{Forgets, instance_place};
+    ghost use Rattle.up_book.specs.Standing.{Forgets, event_place, instance_place};
 
     /// Where an instance is heading.
     pub fn goal(&self, key: InstanceKey) -> Goal
@@ -151,6 +154,45 @@ impl Past {
     {
         match self.instances.at(key) {
             Some(kept) => kept.moments.may_respawn(limit, self.reading),
+            None => false,
+        }
+    }
+
+    /// How many instances the job at a place of the table has.
+    pub fn count(&self, job: usize) -> usize
+        ensures { (config : Configuration) (c : Chronicle) (its : JobValue) → Forgets self.now config c
+            → nth job config.jobs ≡ Some its → result ≡ length (instances_of its.name c) }
+    {
+        self.instances.count(job)
+    }
+
+    /// The key of an instance of the job at a place of the table, by its name.
+    pub fn find(&self, job: usize, name: &str) -> Option<InstanceKey>
+        ensures { (config : Configuration) (c : Chronicle) (its : JobValue) → Forgets self.now config c
+            → nth job config.jobs ≡ Some its
+            → option_map (instance_place self.now c) result ≡ option_map Some (instance_named (called its.name name.now) c) }
+    {
+        self.instances.position(job, name)
+    }
+
+    /// The event that an id names, if it lives.
+    pub fn event_at(&self, id: EventId) -> Option<&Event>
+        ensures { (config : Configuration) (c : Chronicle) (e : ℕ) → Forgets self.now config c
+            → event_place self.now c id ≡ Some e → option_copied result ≡ read.event_at e c }
+    {
+        match self.events.find(id) {
+            Some(live) => Some(&live.event),
+            None => None,
+        }
+    }
+
+    /// Whether an instance that held an event let it go as failed.
+    pub fn is_spoilt(&self, id: EventId) -> bool
+        ensures { (config : Configuration) (c : Chronicle) (e : ℕ) → Forgets self.now config c
+            → event_place self.now c id ≡ Some e → result ≡ held.is_spoilt e c }
+    {
+        match self.events.find(id) {
+            Some(live) => live.spoilt,
             None => false,
         }
     }
