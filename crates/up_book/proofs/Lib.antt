@@ -35,3 +35,4 @@ pub mod StepFrames
 pub mod Sights
 pub mod Respawning
 pub mod Finding
+pub mod Hearings

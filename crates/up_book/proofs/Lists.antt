@@ -59,3 +59,16 @@ pub nth-past : {X : Type 0} (place : ℕ) (xs : List X) → length xs ≤ place 
 nth-past place [] past = refl
 nth-past zero (y ∷ ys) past = absurd (omega arith)
 nth-past (suc place) (y ∷ ys) past = nth-past place ys (omega arith)
+
+-- what stands at a place after a change there
+pub nth-with : {X : Type 0} (f : X → X) (place : ℕ) (xs : List X) (x : X) → nth place xs ≡ Some x → nth place (with_at place f xs) ≡ Some (f x)
+nth-with f place [] x there = absurd cc
+nth-with f zero (y ∷ ys) x there =
+    let same : y ≡ x = cc in
+    ap (λ z. Some (f z)) same
+nth-with f (suc place) (y ∷ ys) x there = nth-with f place ys x there
+
+pub nth-set : {X : Type 0} (place : ℕ) (xs : List X) (x : X) → place < length xs → nth place (set xs place x) ≡ Some x
+nth-set place [] x within = absurd (omega arith)
+nth-set zero (y ∷ ys) x within = refl
+nth-set (suc place) (y ∷ ys) x within = nth-set place ys x (omega arith)

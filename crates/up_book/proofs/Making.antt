@@ -34,7 +34,7 @@ use Rattle.up_book.specs.Views.{Places, view, job_view}
 use Rattle.up_book.proofs.Beginning.{new-blank}
 use Rattle.up_book.proofs.Entering.{older-after}
 use Rattle.up_book.proofs.Lifecycle.{keeps-made, spared-made}
-use Rattle.up_book.proofs.Lists.{map-nth, nth-map}
+use Rattle.up_book.proofs.Lists.{map-nth, nth-map, nth-with}
 use Rattle.up_book.proofs.Named.{nth-with_named}
 use Rattle.up_book.proofs.Whole.{forgets-lives}
 
@@ -70,13 +70,6 @@ forgets-made book after config c place job name trigger f there none blank unuse
     rw does (remembered-made places kept book.instances book.starts.items config c place job name f.lives.jobs f.lives.distinct there refl (blank places) f.remembered) in
     forgets-lives book after config c (Made job.name name) f lives remembered refl follow (λ p. refl) refl
     (λ id. ap (uses id) does ∙ uses-more id kept place book.instances (omega (arith, unused id))) starts events reading
-
-nth-with : (f : JobInstances → JobInstances) (place : ℕ) (jobs : List JobInstances) (j : JobInstances) → nth place jobs ≡ Some j → nth place (with_at place f jobs) ≡ Some (f j)
-nth-with f place [] j there = absurd cc
-nth-with f zero (x ∷ jobs) j there =
-    let same : x ≡ j = cc in
-    ap (λ y. Some (f y)) same
-nth-with f (suc place) (x ∷ jobs) j there = nth-with f place jobs j there
 
 -- the key of the new one
 pub made-key : (book : Past) (after : List JobInstances) (config : Configuration) (c : Chronicle) (place position : ℕ) (job : JobDef) (kept : Kept) (name : Bytes) → Forgets book config c → nth place config.jobs ≡ Some job

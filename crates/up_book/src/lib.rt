@@ -1,6 +1,7 @@
 //! A book that forgets: of the past it keeps what can still matter.
 #![tactic(auto)]
 
+mod hearing;
 mod holding;
 mod past;
 mod readings;
