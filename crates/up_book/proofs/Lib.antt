@@ -36,3 +36,4 @@ pub mod Sights
 pub mod Respawning
 pub mod Finding
 pub mod Hearings
+pub mod Offers

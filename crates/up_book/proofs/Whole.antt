@@ -52,6 +52,11 @@ pub record Passes (config : Configuration) (c : Chronicle) (e : Entry) : Type 0 
   pub instances : (job : Bytes) → instances_of job (e ∷ c) ≡ instances_of job c
   pub seen : (x : Expression) → seen config x (e ∷ c) ≡ seen config x c
 
+-- an entry that leaves all that is known of instances, whatever expressions see by it
+pub record Spares (config : Configuration) (c : Chronicle) (e : Entry) : Type 0 where
+  pub spares : (job : JobDef) (x : Instance) → HoldsOlder x.place c → summary config job (e ∷ c) x ≡ summary config job c x
+  pub instances : (job : Bytes) → instances_of job (e ∷ c) ≡ instances_of job c
+
 -- since it concerns none
 pub passing : (config : Configuration) (c : Chronicle) (e : Entry) → ((i : ℕ) → concerns i e ≡ false) → ((job : Bytes) → instances_of job (e ∷ c) ≡ instances_of job c) → ((x : Expression) → seen config x (e ∷ c) ≡ seen config x c) → Passes config c e
 passing config c e nobody instances same = record {
@@ -65,19 +70,22 @@ summaries-past : (config : Configuration) (job : JobDef) (e : Entry) (c : Chroni
 summaries-past config job e c [] spares older = refl
 summaries-past config job e c (x ∷ xs) spares older = cons_same (spares x (older x.place)) (summaries-past config job e c xs spares older)
 
-jobs-past : (config : Configuration) (e : Entry) (c : Chronicle) (jobs : List JobDef) → Passes config c e → ((i : ℕ) → HoldsOlder i c) → map (job_summary config (e ∷ c)) jobs ≡ map (job_summary config c) jobs
+jobs-past : (config : Configuration) (e : Entry) (c : Chronicle) (jobs : List JobDef) → Spares config c e → ((i : ℕ) → HoldsOlder i c) → map (job_summary config (e ∷ c)) jobs ≡ map (job_summary config c) jobs
 jobs-past config e c [] passes older = refl
 jobs-past config e c (job ∷ jobs) passes older =
     cons_same (rw (passes.instances job.name) (ap (λ (xs : List Summary). record (job_summary config c job) { instances = xs }) (summaries-past config job e c (instances_of job.name c) (passes.spares job) older)))
     (jobs-past config e c jobs passes older)
 
-pub keeps-past : (places : Places) (book : List JobInstances) (config : Configuration) (c : Chronicle) (e : Entry) → Keeps places book config c → Passes config c e → AreOlder (length c) (brought e) → Keeps places book config (e ∷ c)
-keeps-past places book config c e keeps passes new = record {
-  jobs = keeps.jobs ∙ sym (jobs-past config e c config.jobs passes keeps.older);
+pub keeps-spared : (places : Places) (book : List JobInstances) (config : Configuration) (c : Chronicle) (e : Entry) → Keeps places book config c → Spares config c e → AreOlder (length c) (brought e) → Keeps places book config (e ∷ c)
+keeps-spared places book config c e keeps spares new = record {
+  jobs = keeps.jobs ∙ sym (jobs-past config e c config.jobs spares keeps.older);
   older = older-after e c new keeps.older;
-  later = λ job x past. passes.spares job x (keeps.older x.place) ∙ keeps.later job x (omega (arith, past));
+  later = λ job x past. spares.spares job x (keeps.older x.place) ∙ keeps.later job x (omega (arith, past));
   distinct = keeps.distinct;
 }
+
+pub keeps-past : (places : Places) (book : List JobInstances) (config : Configuration) (c : Chronicle) (e : Entry) → Keeps places book config c → Passes config c e → AreOlder (length c) (brought e) → Keeps places book config (e ∷ c)
+keeps-past places book config c e keeps passes new = keeps-spared places book config c e keeps (record { spares = passes.spares; instances = passes.instances }) new
 
 -- other places that agree
 blockers-agree : (old new : Places) (jobs : List JobInstances) → ((id : EventId) → Agree old new id) → BlockersAgree old new jobs
