@@ -1,5 +1,5 @@
 -- What holds change.
-use Rattle.std.proofs.Common.{◌≡◌, ℕ, zero, suc, ◌+◌, ◌-◌, ◌<◌, ◌≤◌, ◌==◌, ◌||◌, Bool, true, false, not, IsSomeAnd, List, [], ◌∷◌, ◌++◌, length, map, drop, get_or, Option, None, Some, is_some, option_map, if◌then◌else◌, refl, sym, ◌∙◌, ap, subst, arith, add-one, drop-cons, eqb-true, eq-eqb, ne_eqb}
+use Rattle.std.proofs.Common.{◌≡◌, ℕ, zero, suc, ◌+◌, ◌-◌, ◌<◌, ◌≤◌, ◌==◌, ◌||◌, Bool, true, false, not, IsSomeAnd, List, [], ◌∷◌, ◌++◌, length, map, drop, get_or, Option, None, Some, is_some, option_map, if◌then◌else◌, refl, sym, ◌∙◌, ap, subst, arith, add-one, drop-cons, eqb-true, eq-eqb, ne_eqb, replicate}
 use Rattle.up_job.specs.Unblocking.{is_event}
 use Rattle.std.proofs.lemmas.Bool.{eqb-false}
 use Rattle.std.specs.List.{AllByRecursion}
@@ -251,3 +251,10 @@ pub ids_left : (change : LiveEvent → LiveEvent) (ids : List EventId) (i : ℕ)
 ids_left change ids i d events within =
     let one : drop i ids ≡ get_or ids i d ∷ drop (i + 1) ids = rw add-one (drop-cons ids i d within) in
     ap (λ its. all_changed change (as_holders its) events) one
+
+-- the times from one on
+pub times_left : (times i : ℕ) (id : EventId) (events : List LiveEvent) → i < times
+    → all_changed with_hold (as_holders (replicate (times - i) id)) events ≡ all_changed with_hold (as_holders (replicate (times - (i + 1)) id)) (with_change id with_hold events)
+times_left times i id events within =
+    let one : times - i ≡ suc (times - (i + 1)) = omega (arith, within) in
+    ap (λ n. all_changed with_hold (as_holders (replicate n id)) events) one

@@ -36,4 +36,4 @@ pub mod Sights
 pub mod Respawning
 pub mod Finding
 pub mod Hearings
-pub mod Offers
+pub mod Seeing

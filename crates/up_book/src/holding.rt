@@ -6,7 +6,7 @@ ghost use Rattle.up_event.specs.LiveEvents.{with_change, with_hold, MayBeHeld, I
 ghost use Rattle.up_book.specs.Counting.{event_of};
 ghost use Rattle.up_book.specs.Holding.{freed, changed_by, all_changed, held_by_kept, as_holders};
 ghost use Rattle.up_marks.specs.Triggers.{kept_by};
-ghost use Rattle.std.specs.Prelude.{false};
+ghost use Rattle.std.specs.Prelude.{false, replicate};
 
 use std::alloc::{AllocError, Global};
 use up_event::Events;
@@ -109,8 +109,9 @@ pub fn free_held(events: &mut Events, kept: Option<&Instance>, failed: bool)
     }
 }
 
+/// These events are held once less each. Takes no memory.
 #[tactic(auto, using(crate::proofs::Holds::ids_left))]
-fn free_ids(events: &mut Events, ids: &[EventId])
+pub(crate) fn free_ids(events: &mut Events, ids: &[EventId])
     ensures { events.new ≡ all_changed (freed false) (as_holders ids.now) events.old }
 {
     for id in ids {
@@ -126,5 +127,16 @@ pub fn free_all_of(alloc: Global, events: &mut Events, gone: &Instance) -> Resul
     let ids = gone.stop_on.kept(alloc)?;
     free_all(events, gone.holders.as_slice(), false);
     free_ids(events, ids.as_slice());
+    Ok(())
+}
+
+/// An event is held so many times more.
+#[tactic(auto, using(crate::proofs::Holds::times_left))]
+pub(crate) fn hold_times(events: &mut Events, id: EventId, times: usize) -> Result<(), AllocError>
+    ensures { OnOk result (events.new ≡ all_changed with_hold (as_holders (replicate times id)) events.old) }
+{
+    for held in 0..times {
+        hold_event(events, id)?;
+    }
     Ok(())
 }

@@ -3,6 +3,7 @@
 
 mod hearing;
 mod holding;
+mod offers;
 mod past;
 mod readings;
 mod step;

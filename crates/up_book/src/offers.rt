@@ -1,0 +1,117 @@
+//! Offers of events to expressions, and what becomes of those that fire.
+ghost use Rattle.std.specs.Prelude.{◌≡◌, ◌++◌, ◌∷◌, ℕ, List, [], false, true, map, replicate, Some, IfOk, OnOk};
+ghost use Rattle.up_book.specs.Hearing.{Fires, HasLeaves, Hears, trigger_at, trigger_in};
+ghost use Rattle.up_book.specs.Holding.{freed, all_changed, as_holders};
+ghost use Rattle.up_conf.specs.declared.job.JobDef.{JobDef as JobValue};
+ghost use Rattle.up_event.specs.LiveEvents.{named as named_event, with_hold};
+ghost use Rattle.up_event.specs.declared.live.LiveEvent.{LiveEvent as LiveEventValue};
+ghost use Rattle.up_image.specs.Index.{named};
+ghost use Rattle.up_job.specs.JobLists.{changed_at};
+ghost use Rattle.up_job.specs.Lending.{with_stop_on};
+ghost use Rattle.up_job.specs.Lists.{nth, with_at};
+ghost use Rattle.up_marks.specs.Naming.{of_expression};
+ghost use Rattle.up_model.specs.Chronicle.{Chronicle};
+ghost use Rattle.up_model.specs.Chronicle as entry;
+ghost use Rattle.up_model.specs.Configuration.{Configuration};
+ghost use Rattle.up_model.specs.Environments.{env_of_job};
+ghost use Rattle.up_model.specs.Readings as read;
+ghost use Rattle.up_model.specs.Seen as seen;
+
+use crate::hearing::{fire_start, fire_stop, offer_to_start, offer_to_stop};
+use crate::holding::{free_ids, hold_times};
+use crate::past::Past;
+use std::alloc::{AllocError, Global};
+use up_conf::JobDef;
+use up_job::InstanceKey;
+use up_marks::{Firing, Index, Offer};
+use up_model::EventId;
+use up_text::{Env, Items};
+
+// The number of a job in an index, which has room for as many as a table may have.
+fn number_of(job: usize) -> Result<u16, AllocError>
+    ensures { IfOk result (λ number. number ≡ job) }
+{
+    match u16::try_from(job) {
+        Ok(number) => Ok(number),
+        Err(_) => Err(AllocError),
+    }
+}
+
+impl Past {
+    ghost use Rattle.up_book.specs.Standing.{Forgets, event_place, instance_place};
+
+    fn env_copy(&self, alloc: Global, key: InstanceKey) -> Result<Env, AllocError>
+        ensures { IfOk result (λ env. (config : Configuration) (c : Chronicle) (i : ℕ) → Forgets self.now config c
+            → instance_place self.now c key ≡ Some i → env ≡ read.env i c) }
+    {
+        match self.env(key) {
+            Some(env) => {
+                let env = env.copy()?;
+                Ok(env)
+            }
+            None => Ok(Env::new(alloc)),
+        }
+    }
+
+    fn offer_to_stop(
+        &mut self,
+        alloc: Global,
+        index: &Index,
+        key: InstanceKey,
+        job: &JobDef,
+        id: EventId,
+        env: &Env,
+    ) -> Result<Offer, AllocError>
+        ensures only { OnOk result (self.new ≡ record self.old {
+            instances = changed_at key (with_stop_on (trigger_at key self.new.instances)) self.old.instances }) }
+        ensures hears { IfOk result (λ offer. (live : LiveEventValue) → named_event id self.old.events ≡ Some live
+            → Hears (trigger_at key self.old.instances) (trigger_at key self.new.instances) job.now.stop_on
+            (map (λ place. place.node) (of_expression key.job false (named live.event.name index.now)))
+            id live.event env.now offer) }
+    {
+        let number = number_of(key.job)?;
+        match self.events.find(id) {
+            Some(live) => {
+                let leaves = index.leaves(&live.event.name, number, false);
+                let offer = offer_to_stop(
+                    &mut self.instances,
+                    key,
+                    alloc,
+                    &job.stop_on,
+                    leaves,
+                    id,
+                    &live.event,
+                    env,
+                )?;
+                Ok(offer)
+            }
+            None => Err(AllocError),
+        }
+    }
+
+    /// An event is offered to the `stop on` of an instance; returns whether that is true then.
+    pub fn offer_stop(
+        &mut self,
+        alloc: Global,
+        index: &Index,
+        key: InstanceKey,
+        job: &JobDef,
+        id: EventId,
+    ) -> Result<bool, AllocError>
+        ensures after { OnOk result ((config : Configuration) (c : Chronicle) (i e : ℕ) → Forgets self.old config c
+            → instance_place self.old c key ≡ Some i → nth key.job config.jobs ≡ Some job.now
+            → HasLeaves index.now key.job false job.now.stop_on → event_place self.old c id ≡ Some e
+            → Forgets self.new config (entry.Offered (entry.StopOn i) e ∷ c)) }
+        ensures holds { IfOk result (λ holds. (config : Configuration) (c : Chronicle) (i e : ℕ)
+            → Forgets self.old config c
+            → instance_place self.old c key ≡ Some i → nth key.job config.jobs ≡ Some job.now
+            → HasLeaves index.now key.job false job.now.stop_on → event_place self.old c id ≡ Some e
+            → holds ≡ seen.holds job.now.stop_on
+            (seen.seen config (entry.StopOn i) (entry.Offered (entry.StopOn i) e ∷ c))) }
+    {
+        let env = self.env_copy(alloc, key)?;
+        let offer = self.offer_to_stop(alloc, index, key, job, id, &env)?;
+        hold_times(&mut self.events, id, offer.kept)?;
+        Ok(offer.holds)
+    }
+}
