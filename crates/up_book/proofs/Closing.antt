@@ -170,7 +170,7 @@ event-placed (e ∷ events) (l ∷ lives) c id p same found = by_case (e.id.key 
         (e.event, ap (λ q. event_at q c) (sym here) ∙ sym (ap (λ (s : Standing). s.event) (head-same same)))
     by_case false found ih = ih found
 
-named-there : (events : List LiveEvent) (lives : List Live) (id : EventId) (p : ℕ) → place_of events lives id ≡ Some p → (live : LiveEvent) × (named id events ≡ Some live)
+pub named-there : (events : List LiveEvent) (lives : List Live) (id : EventId) (p : ℕ) → place_of events lives id ≡ Some p → (live : LiveEvent) × (named id events ≡ Some live)
 named-there [] lives id p found = absurd cc
 named-there (e ∷ events) [] id p found = absurd cc
 named-there (e ∷ events) (l ∷ lives) id p found = by_case (e.id.key == id.key) found (named-there events lives id p)

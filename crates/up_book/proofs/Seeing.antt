@@ -30,7 +30,7 @@ use Rattle.up_model.proofs.QueueLaws.{queue_by_age}
 use Rattle.up_book.specs.declared.past.Past.{Past}
 use Rattle.up_book.specs.Counting.{one_if, holder_uses, uses, start_uses}
 use Rattle.up_book.specs.Eventing.{Standing, standing_of, standing_at, place_of, holds_of}
-use Rattle.up_book.specs.Hearing.{Hears, Fires, trigger_in}
+use Rattle.up_book.specs.Hearing.{Hears, Fires, trigger_in, trigger_at, trigger_of}
 use Rattle.up_book.specs.Holding.{freed, all_changed, as_holders, AllLive}
 use Rattle.up_book.specs.Keeps.{Keeps, KeepsJobs, AreOlder}
 use Rattle.up_book.specs.Regular.{MayFollow}
@@ -50,12 +50,13 @@ use Rattle.up_book.proofs.Triggers.{remembered-agrees}
 use Rattle.up_book.proofs.Whole.{Spares, keeps-spared, keeps-agree}
 use Rattle.up_book.proofs.Frames.{spared}
 use Rattle.up_book.proofs.Beginning.{blank-unused}
+use Rattle.up_book.proofs.Closing.{named-there}
 use Rattle.up_book.proofs.Finding.{standing-known}
 use Rattle.up_marks.proofs.SkipLemmas.{seen_own}
 use Rattle.up_marks.specs.Naming.{naming_in}
 use Rattle.up_marks.specs.declared.marks.Offer.{Offer}
 use Rattle.up_marks.specs.declared.trigger.Firing.{Firing}
-use Rattle.up_model.specs.Values.{Bindings}
+use Rattle.up_model.specs.Values.{Bytes, Bindings}
 use Rattle.up_expr.specs.Truth.{Sight}
 use Rattle.up_job.specs.JobLists.{list_of}
 
@@ -348,3 +349,46 @@ forgets-fired-start book after config c place job trigger firing ts f in_jobs fi
         (ap (map standing_of) events ∙ all-standings (freed false) (as_holders firing.kept) book.events mild-free)
         (λ one. ap (λ es. place_of es (queue c) one) events ∙ all-places (freed false) (as_holders firing.kept) book.events (queue c) one mild-free)
         (λ other. rw (events, does, starts) (counted other)) reading
+
+-- the same by keys
+some_same : {X : Type 0} {a b : X} → Some a ≡ Some b → a ≡ b
+some_same same = cc
+
+-- what an offer to the `stop on` of the instance of a key says
+pub record StopOffer (book : Past) (key : InstanceKey) (job : JobDef) (id : EventId) (environment : Bindings) (trigger : Option (List Mark)) (nodes : Bytes → List ℕ) (offer : Offer) : Type 0 where
+  pub hears : (live : LiveEvent) → named id book.events ≡ Some live → Hears (trigger_at key book.instances) trigger job.stop_on (nodes live.event.name) id live.event environment offer
+  pub leaves : (name : Bytes) → nodes name ≡ naming_in job.stop_on name
+
+pub stop-offered : (book after : Past) (config : Configuration) (c : Chronicle) (key : InstanceKey) (i e : ℕ) (job : JobDef) (id : EventId) (environment : Bindings) (trigger : Option (List Mark)) (nodes : Bytes → List ℕ) (offer : Offer)
+    → Forgets book config c → instance_place book c key ≡ Some i → nth key.job config.jobs ≡ Some job → event_place book c id ≡ Some e → environment ≡ env i c → StopOffer book key job id environment trigger nodes offer
+    → after.instances ≡ changed_at key (with_stop_on trigger) book.instances → after.starts ≡ book.starts → after.events ≡ all_changed with_hold (as_holders (replicate offer.kept id)) book.events → after.reading ≡ book.reading
+    → Forgets after config (Offered (StopOn i) e ∷ c)
+stop-offered book after config c key i e job id environment trigger nodes offer f found in_jobs placed in_force o does starts events reading =
+    let t = there (place_of book.events (queue c)) book.instances config c key i f.lives.jobs found in
+    let live = named-there book.events (queue c) id e placed in
+    let own : t.job ≡ job = some_same (sym t.in_jobs ∙ in_jobs) in
+    let old : trigger_at key book.instances ≡ t.kept.stop_on = ap trigger_of t.found in
+    let hears : Hears t.kept.stop_on trigger t.job.stop_on (nodes live.0.event.name) id live.0.event environment offer =
+    subst (λ (j : JobDef). Hears t.kept.stop_on trigger j.stop_on (nodes live.0.event.name) id live.0.event environment offer) (sym own)
+    (subst (λ x. Hears x trigger job.stop_on (nodes live.0.event.name) id live.0.event environment offer) old (o.hears live.0 live.1)) in
+    forgets-offered-stop book after config c key i e id live.0 t trigger (nodes live.0.event.name) environment offer f placed live.1 hears in_force (o.leaves live.0.event.name ∙ ap (λ (j : JobDef). naming_in j.stop_on live.0.event.name) (sym own)) does starts events reading
+
+-- whether it is true then
+pub stop-true : (book : Past) (config : Configuration) (c : Chronicle) (key : InstanceKey) (i e : ℕ) (job : JobDef) (id : EventId) (environment : Bindings) (trigger : Option (List Mark)) (nodes : Bytes → List ℕ) (offer : Offer)
+    → Forgets book config c → instance_place book c key ≡ Some i → nth key.job config.jobs ≡ Some job → event_place book c id ≡ Some e → environment ≡ env i c → StopOffer book key job id environment trigger nodes offer
+    → offer.holds ≡ seen.holds job.stop_on (seen.seen config (StopOn i) (Offered (StopOn i) e ∷ c))
+stop-true book config c key i e job id environment trigger nodes offer f found in_jobs placed in_force o =
+    let t = there (place_of book.events (queue c)) book.instances config c key i f.lives.jobs found in
+    let live = named-there book.events (queue c) id e placed in
+    let own : t.job ≡ job = some_same (sym t.in_jobs ∙ in_jobs) in
+    let old : trigger_at key book.instances ≡ t.kept.stop_on = ap trigger_of t.found in
+    let known = standing-known book config c id e live.0 f placed live.1 in
+    let queued : event_at e c ≡ Some live.0.event = ap (λ p. event_at p c) (sym known.1) ∙ sym (ap (λ (s : Standing). s.event) known.2) in
+    let before : Remembers (place_of book.events (queue c)) (trigger_at key book.instances) job.stop_on (seen.seen config (StopOn i) c) =
+    subst (λ x. Remembers (place_of book.events (queue c)) x job.stop_on (seen.seen config (StopOn i) c)) (sym old)
+    (subst (λ (j : JobDef). Remembers (place_of book.events (queue c)) t.kept.stop_on j.stop_on (seen.seen config (StopOn i) c)) own
+    (subst (λ p. Remembers (place_of book.events (queue c)) t.kept.stop_on t.job.stop_on (seen.seen config (StopOn p) c)) t.place (stop-known book config c key i t f))) in
+    let saw : seen.seen config (StopOn i) (Offered (StopOn i) e ∷ c) ≡ seen.seen config (StopOn i) c ++ sight_of e live.0.event.name live.0.event.vars environment ∷ [] =
+    seen_own config (StopOn i) (StopOn i) e c (eq-eqb i i refl) ∙ ap (λ x. seen.seen config (StopOn i) c ++ seen.sight_of e x (env i c)) queued
+    ∙ ap (λ en. seen.seen config (StopOn i) c ++ sight_of e live.0.event.name live.0.event.vars en ∷ []) (sym in_force) in
+    (o.hears live.0 live.1).holds (place_of book.events (queue c)) (seen.seen config (StopOn i) c) e before placed (o.leaves live.0.event.name) ∙ ap (seen.holds job.stop_on) (sym saw)
