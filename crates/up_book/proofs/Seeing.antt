@@ -392,3 +392,68 @@ stop-true book config c key i e job id environment trigger nodes offer f found i
     seen_own config (StopOn i) (StopOn i) e c (eq-eqb i i refl) ∙ ap (λ x. seen.seen config (StopOn i) c ++ seen.sight_of e x (env i c)) queued
     ∙ ap (λ en. seen.seen config (StopOn i) c ++ sight_of e live.0.event.name live.0.event.vars en ∷ []) (sym in_force) in
     (o.hears live.0 live.1).holds (place_of book.events (queue c)) (seen.seen config (StopOn i) c) e before placed (o.leaves live.0.event.name) ∙ ap (seen.holds job.stop_on) (sym saw)
+
+-- what an offer to the `start on` of a job says
+pub record StartOffer (book : Past) (place : ℕ) (job : JobDef) (id : EventId) (environment : Bindings) (trigger : Option (List Mark)) (nodes : Bytes → List ℕ) (offer : Offer) : Type 0 where
+  pub hears : (live : LiveEvent) → named id book.events ≡ Some live → Hears (trigger_in place book.starts.items) trigger job.start_on (nodes live.event.name) id live.event environment offer
+  pub leaves : (name : Bytes) → nodes name ≡ naming_in job.start_on name
+
+pub start-offered : (book after : Past) (config : Configuration) (c : Chronicle) (place e : ℕ) (job : JobDef) (id : EventId) (environment : Bindings) (trigger : Option (List Mark)) (nodes : Bytes → List ℕ) (offer : Offer)
+    → Forgets book config c → nth place config.jobs ≡ Some job → event_place book c id ≡ Some e → environment ≡ env_of_job config job.name → StartOffer book place job id environment trigger nodes offer
+    → after.instances ≡ book.instances → after.starts.items ≡ with_at place (λ t. trigger) book.starts.items → after.events ≡ all_changed with_hold (as_holders (replicate offer.kept id)) book.events → after.reading ≡ book.reading
+    → Forgets after config (Offered (StartOn job.name) e ∷ c)
+start-offered book after config c place e job id environment trigger nodes offer f in_jobs placed in_force o does starts events reading =
+    let live = named-there book.events (queue c) id e placed in
+    forgets-offered-start book after config c place e job id live.0 trigger (nodes live.0.event.name) environment offer f in_jobs placed live.1 (o.hears live.0 live.1) in_force (o.leaves live.0.event.name) does starts events reading
+
+pub start-true : (book : Past) (config : Configuration) (c : Chronicle) (place e : ℕ) (job : JobDef) (id : EventId) (environment : Bindings) (trigger : Option (List Mark)) (nodes : Bytes → List ℕ) (offer : Offer)
+    → Forgets book config c → nth place config.jobs ≡ Some job → event_place book c id ≡ Some e → environment ≡ env_of_job config job.name → StartOffer book place job id environment trigger nodes offer
+    → offer.holds ≡ seen.holds job.start_on (seen.seen config (StartOn job.name) (Offered (StartOn job.name) e ∷ c))
+start-true book config c place e job id environment trigger nodes offer f in_jobs placed in_force o =
+    let live = named-there book.events (queue c) id e placed in
+    let known = standing-known book config c id e live.0 f placed live.1 in
+    let queued : event_at e c ≡ Some live.0.event = ap (λ p. event_at p c) (sym known.1) ∙ sym (ap (λ (s : Standing). s.event) known.2) in
+    let before = (start-of (place_of book.events (queue c)) config c place book.starts.items config.jobs job in_jobs f.remembered.starts).0 in
+    let saw : seen.seen config (StartOn job.name) (Offered (StartOn job.name) e ∷ c) ≡ seen.seen config (StartOn job.name) c ++ sight_of e live.0.event.name live.0.event.vars environment ∷ [] =
+    seen_own config (StartOn job.name) (StartOn job.name) e c (bytes_refl job.name) ∙ ap (λ x. seen.seen config (StartOn job.name) c ++ seen.sight_of e x (env_of_job config job.name)) queued
+    ∙ ap (λ en. seen.seen config (StartOn job.name) c ++ sight_of e live.0.event.name live.0.event.vars en ∷ []) (sym in_force) in
+    (o.hears live.0 live.1).holds (place_of book.events (queue c)) (seen.seen config (StartOn job.name) c) e before placed (o.leaves live.0.event.name) ∙ ap (seen.holds job.start_on) (sym saw)
+
+-- a firing, by keys
+pub stop-fired : (book after : Past) (config : Configuration) (c : Chronicle) (key : InstanceKey) (i : ℕ) (job : JobDef) (trigger : Option (List Mark)) (firing : Firing) (ts : List ℕ) → Forgets book config c → instance_place book c key ≡ Some i
+    → nth key.job config.jobs ≡ Some job → Fires (trigger_at key book.instances) trigger job.stop_on firing → after.instances ≡ changed_at key (with_stop_on trigger) book.instances → after.starts ≡ book.starts
+    → after.events ≡ all_changed (freed false) (as_holders firing.kept) book.events → after.reading ≡ book.reading → Forgets after config (Fired (StopOn i) ts ∷ c)
+stop-fired book after config c key i job trigger firing ts f found in_jobs fires does starts events reading =
+    let t = there (place_of book.events (queue c)) book.instances config c key i f.lives.jobs found in
+    let own : t.job ≡ job = some_same (sym t.in_jobs ∙ in_jobs) in
+    let its : Fires t.kept.stop_on trigger t.job.stop_on firing =
+    subst (λ (j : JobDef). Fires t.kept.stop_on trigger j.stop_on firing) (sym own) (subst (λ x. Fires x trigger job.stop_on firing) (ap trigger_of t.found) fires) in
+    forgets-fired-stop book after config c key i t trigger firing ts f its does starts events reading
+
+-- and what it takes
+map-same : (f g : Places) (ids : List EventId) → ((id : EventId) → f id ≡ g id) → map f ids ≡ map g ids
+map-same f g [] same = refl
+map-same f g (id ∷ ids) same = cons_same (same id) (map-same f g ids same)
+
+pub stop-taken : (book : Past) (after : List LiveEvent) (config : Configuration) (c : Chronicle) (key : InstanceKey) (i : ℕ) (job : JobDef) (trigger : Option (List Mark)) (firing : Firing) (ts : List ℕ) → Forgets book config c → instance_place book c key ≡ Some i
+    → nth key.job config.jobs ≡ Some job → Fires (trigger_at key book.instances) trigger job.stop_on firing → after ≡ all_changed (freed false) (as_holders firing.kept) book.events
+    → map (place_of after (queue c)) firing.taken ≡ map Some (seen.taken job.stop_on (seen.seen config (StopOn i) c))
+stop-taken book after config c key i job trigger firing ts f found in_jobs fires events =
+    let places = place_of book.events (queue c) in
+    let t = there places book.instances config c key i f.lives.jobs found in
+    let own : t.job ≡ job = some_same (sym t.in_jobs ∙ in_jobs) in
+    let before : Remembers places (trigger_at key book.instances) job.stop_on (seen.seen config (StopOn i) c) =
+    subst (λ x. Remembers places x job.stop_on (seen.seen config (StopOn i) c)) (sym (ap trigger_of t.found))
+    (subst (λ (j : JobDef). Remembers places t.kept.stop_on j.stop_on (seen.seen config (StopOn i) c)) own
+    (subst (λ p. Remembers places t.kept.stop_on t.job.stop_on (seen.seen config (StopOn p) c)) t.place (stop-known book config c key i t f))) in
+    map-same (place_of after (queue c)) places firing.taken (λ id. ap (λ es. place_of es (queue c) id) events ∙ all-places (freed false) (as_holders firing.kept) book.events (queue c) id mild-free)
+    ∙ fires.taken places (seen.seen config (StopOn i) c) before
+
+pub start-taken : (book : Past) (after : List LiveEvent) (config : Configuration) (c : Chronicle) (place : ℕ) (job : JobDef) (trigger : Option (List Mark)) (firing : Firing) (ts : List ℕ) → Forgets book config c → nth place config.jobs ≡ Some job
+    → Fires (trigger_in place book.starts.items) trigger job.start_on firing → after ≡ all_changed (freed false) (as_holders firing.kept) book.events
+    → map (place_of after (queue c)) firing.taken ≡ map Some (seen.taken job.start_on (seen.seen config (StartOn job.name) c))
+start-taken book after config c place job trigger firing ts f in_jobs fires events =
+    let places = place_of book.events (queue c) in
+    let before = (start-of places config c place book.starts.items config.jobs job in_jobs f.remembered.starts).0 in
+    map-same (place_of after (queue c)) places firing.taken (λ id. ap (λ es. place_of es (queue c) id) events ∙ all-places (freed false) (as_holders firing.kept) book.events (queue c) id mild-free)
+    ∙ fires.taken places (seen.seen config (StartOn job.name) c) before

@@ -114,4 +114,145 @@ impl Past {
         hold_times(&mut self.events, id, offer.kept)?;
         Ok(offer.holds)
     }
+
+    fn offer_to_start(
+        &mut self,
+        alloc: Global,
+        index: &Index,
+        place: usize,
+        job: &JobDef,
+        id: EventId,
+        env: &Env,
+    ) -> Result<Offer, AllocError>
+        ensures instances { OnOk result (self.new.instances ≡ self.old.instances) }
+        ensures starts { OnOk result (self.new.starts.items
+            ≡ with_at place (λ old. trigger_in place self.new.starts.items) self.old.starts.items) }
+        ensures events { OnOk result (self.new.events ≡ self.old.events) }
+        ensures reading { OnOk result (self.new.reading ≡ self.old.reading) }
+        ensures hears { IfOk result (λ offer. (live : LiveEventValue) → named_event id self.old.events ≡ Some live
+            → Hears (trigger_in place self.old.starts.items) (trigger_in place self.new.starts.items) job.now.start_on
+            (map (λ place. place.node) (of_expression place true (named live.event.name index.now)))
+            id live.event env.now offer) }
+    {
+        let number = number_of(place)?;
+        match self.events.find(id) {
+            Some(live) => {
+                let leaves = index.leaves(&live.event.name, number, true);
+                let offer = offer_to_start(
+                    &mut self.starts,
+                    place,
+                    alloc,
+                    &job.start_on,
+                    leaves,
+                    id,
+                    &live.event,
+                    env,
+                )?;
+                Ok(offer)
+            }
+            None => Err(AllocError),
+        }
+    }
+
+    /// An event is offered to the `start on` of the job at a place of the table, whose environment this is; returns whether that is
+    /// true then.
+    pub fn offer_start(
+        &mut self,
+        alloc: Global,
+        index: &Index,
+        place: usize,
+        job: &JobDef,
+        env: &Env,
+        id: EventId,
+    ) -> Result<bool, AllocError>
+        ensures after { OnOk result ((config : Configuration) (c : Chronicle) (e : ℕ) → Forgets self.old config c
+            → nth place config.jobs ≡ Some job.now → env.now ≡ env_of_job config job.now.name
+            → HasLeaves index.now place true job.now.start_on → event_place self.old c id ≡ Some e
+            → Forgets self.new config (entry.Offered (entry.StartOn job.now.name) e ∷ c)) }
+        ensures holds { IfOk result (λ holds. (config : Configuration) (c : Chronicle) (e : ℕ)
+            → Forgets self.old config c
+            → nth place config.jobs ≡ Some job.now → env.now ≡ env_of_job config job.now.name
+            → HasLeaves index.now place true job.now.start_on → event_place self.old c id ≡ Some e
+            → holds ≡ seen.holds job.now.start_on
+            (seen.seen config (entry.StartOn job.now.name) (entry.Offered (entry.StartOn job.now.name) e ∷ c))) }
+    {
+        let offer = self.offer_to_start(alloc, index, place, job, id, env)?;
+        hold_times(&mut self.events, id, offer.kept)?;
+        Ok(offer.holds)
+    }
+
+    fn fire_stop_of(
+        &mut self,
+        alloc: Global,
+        key: InstanceKey,
+        job: &JobDef,
+    ) -> Result<Firing, AllocError>
+        ensures only { OnOk result (self.new ≡ record self.old {
+            instances = changed_at key (with_stop_on (trigger_at key self.new.instances)) self.old.instances }) }
+        ensures fires { IfOk result (λ firing. Fires (trigger_at key self.old.instances)
+            (trigger_at key self.new.instances) job.now.stop_on firing) }
+    {
+        let firing = fire_stop(&mut self.instances, key, alloc, &job.stop_on)?;
+        Ok(firing)
+    }
+
+    /// The `stop on` of an instance fires; returns the events that it takes, from left to right.
+    pub fn fire_stop(
+        &mut self,
+        alloc: Global,
+        key: InstanceKey,
+        job: &JobDef,
+    ) -> Result<Items<EventId>, AllocError>
+        ensures after { OnOk result ((config : Configuration) (c : Chronicle) (i : ℕ) (ts : List ℕ)
+            → Forgets self.old config c → instance_place self.old c key ≡ Some i
+            → nth key.job config.jobs ≡ Some job.now
+            → Forgets self.new config (entry.Fired (entry.StopOn i) ts ∷ c)) }
+        ensures taken { IfOk result (λ taken. (config : Configuration) (c : Chronicle) (i : ℕ) (ts : List ℕ)
+            → Forgets self.old config c → instance_place self.old c key ≡ Some i
+            → nth key.job config.jobs ≡ Some job.now
+            → map (event_place self.new (entry.Fired (entry.StopOn i) ts ∷ c)) taken
+            ≡ map Some (seen.taken job.now.stop_on (seen.seen config (entry.StopOn i) c))) }
+    {
+        let Firing { taken, kept } = self.fire_stop_of(alloc, key, job)?;
+        free_ids(&mut self.events, kept.as_slice());
+        Ok(taken)
+    }
+
+    fn fire_start_of(
+        &mut self,
+        alloc: Global,
+        place: usize,
+        job: &JobDef,
+    ) -> Result<Firing, AllocError>
+        ensures instances { OnOk result (self.new.instances ≡ self.old.instances) }
+        ensures starts { OnOk result (self.new.starts.items
+            ≡ with_at place (λ old. trigger_in place self.new.starts.items) self.old.starts.items) }
+        ensures events { OnOk result (self.new.events ≡ self.old.events) }
+        ensures reading { OnOk result (self.new.reading ≡ self.old.reading) }
+        ensures fires { IfOk result (λ firing. Fires (trigger_in place self.old.starts.items)
+            (trigger_in place self.new.starts.items) job.now.start_on firing) }
+    {
+        let firing = fire_start(&mut self.starts, place, alloc, &job.start_on)?;
+        Ok(firing)
+    }
+
+    /// The `start on` of the job at a place of the table fires; returns the events that it takes, from left to right.
+    pub fn fire_start(
+        &mut self,
+        alloc: Global,
+        place: usize,
+        job: &JobDef,
+    ) -> Result<Items<EventId>, AllocError>
+        ensures after { OnOk result ((config : Configuration) (c : Chronicle) (ts : List ℕ) → Forgets self.old config c
+            → nth place config.jobs ≡ Some job.now
+            → Forgets self.new config (entry.Fired (entry.StartOn job.now.name) ts ∷ c)) }
+        ensures taken { IfOk result (λ taken. (config : Configuration) (c : Chronicle) (ts : List ℕ)
+            → Forgets self.old config c → nth place config.jobs ≡ Some job.now
+            → map (event_place self.new (entry.Fired (entry.StartOn job.now.name) ts ∷ c)) taken
+            ≡ map Some (seen.taken job.now.start_on (seen.seen config (entry.StartOn job.now.name) c))) }
+    {
+        let Firing { taken, kept } = self.fire_start_of(alloc, place, job)?;
+        free_ids(&mut self.events, kept.as_slice());
+        Ok(taken)
+    }
 }
