@@ -1,3 +1,5 @@
-mod NamedLemmas
-mod RowLemmas
-mod GroupLemmas
+pub mod NamedLemmas
+pub mod Places
+pub mod InstanceLemmas
+pub mod JobLemmas
+pub mod MomentLemmas

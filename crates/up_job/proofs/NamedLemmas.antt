@@ -1,5 +1,5 @@
 -- Laws of lists in byte order of names.
-use Rattle.std.proofs.Common.{◌≡◌, ℕ, zero, suc, ◌+◌, ◌<◌, ◌≤◌, Bool, true, false, cond, List, [], ◌∷◌, Option, None, Some, IsSome, length, get_or, set, insert, remove, bytes_eq, refl, sym, ◌∙◌, ap, subst, arith, add-one, true≢false}
+use Rattle.std.proofs.Common.{◌≡◌, ℕ, zero, suc, ◌+◌, ◌<◌, ◌≤◌, Bool, true, false, cond, List, [], ◌∷◌, Option, None, Some, IsSome, option_map, map, length, get_or, set, insert, remove, bytes_eq, refl, sym, ◌∙◌, ap, subst, arith, add-one, true≢false}
 use Rattle.std.specs.List.Sorted.{IsPartitionPoint, IsPartitionedBy}
 use Rattle.std.specs.declared.cmp.Ordering.{Ordering}
 use Rattle.std.specs.declared.cmp.Ordering.TheVariants.{Less, Equal, Greater}
@@ -9,7 +9,7 @@ use Rattle.std.proofs.lemmas.Cmp.{nat_list_cmp_total}
 use Rattle.std.proofs.lemmas.Map.Text.{is_eq-slice_cmp}
 use Rattle.std.proofs.lemmas.Slice.Eq.{bytes_eq-Decides}
 use Rattle.up_conf.specs.Order.{is_below}
-use Rattle.up_job.specs.Named.{named, position, put, with_replacement, without, IsBelowAll, AreInOrder}
+use Rattle.up_job.specs.Named.{named, place_of, position, put, with_change, without, IsBelowAll, AreInOrder}
 use Rattle.up_model.specs.Values.{Bytes}
 
 less_of : (o : Ordering) → is_lt o ≡ true → o ≡ Less
@@ -160,20 +160,6 @@ module _ {X : Type 0} (key : X → Bytes) where
       by_case ih false below false same some =
           absurd (true≢false (sym (subst IsSome (absent_from name x xs order.0 below same) some)))
 
-  pub replaced_at : (name : Bytes) (y : X) (xs : List X) → AreInOrder key xs → IsSome (named key name xs)
-      → set xs (position key name xs) y ≡ with_replacement key name y xs
-  replaced_at name y [] order there = absurd (true≢false (sym there))
-  replaced_at name y (x ∷ xs) order there = by_case (replaced_at name y xs order.1) (is_below (key x) name) refl (bytes_eq (key x) name) refl there
-    where
-      by_case : (IsSome (named key name xs) → set xs (position key name xs) y ≡ with_replacement key name y xs) → (b : Bool) → is_below (key x) name ≡ b → (e : Bool) → bytes_eq (key x) name ≡ e → IsSome (cond e (Some x) (named key name xs))
-          → set (x ∷ xs) (cond b (position key name xs + 1) 0) y ≡ cond e (y ∷ xs) (x ∷ with_replacement key name y xs)
-      by_case ih true below true same some = absurd (true≢false (sym same ∙ below_not_same (key x) name below))
-      by_case ih true below false same some =
-          ap (λ n. set (x ∷ xs) n y) (add-one (position key name xs)) ∙ ap (λ rest. x ∷ rest) (ih some)
-      by_case ih false below true same some = refl
-      by_case ih false below false same some =
-          absurd (true≢false (sym (subst IsSome (absent_from name x xs order.0 below same) some)))
-
   -- one that has the name is at a place within the list
   pub found_within : (name : Bytes) (xs : List X) → AreInOrder key xs → IsSome (named key name xs) → position key name xs < length xs
   found_within name [] order there = absurd (true≢false (sym there))
@@ -244,22 +230,6 @@ module _ {X : Type 0} (key : X → Bytes) where
       by_case ih true = order.1
       by_case ih false = (below_all_without (key x) name xs order.0, ih)
 
-  below_all_replaced : (k name : Bytes) (y : X) (xs : List X) → key y ≡ name → IsBelowAll key k xs → IsBelowAll key k (with_replacement key name y xs)
-  below_all_replaced k name y [] its b = tt
-  below_all_replaced k name y (x ∷ xs) its b = by_case (below_all_replaced k name y xs its b.1) (bytes_eq (key x) name) refl
-    where
-      by_case : (IsBelowAll key k (with_replacement key name y xs)) → (c : Bool) → bytes_eq (key x) name ≡ c → IsBelowAll key k (cond c (y ∷ xs) (x ∷ with_replacement key name y xs))
-      by_case ih true same = (subst (λ n. is_below k n ≡ true) (same_bytes (key x) name same ∙ sym its) b.0, b.1)
-      by_case ih false same = (b.0, ih)
-
-  pub order_replaced : (name : Bytes) (y : X) (xs : List X) → key y ≡ name → AreInOrder key xs → AreInOrder key (with_replacement key name y xs)
-  order_replaced name y [] its order = tt
-  order_replaced name y (x ∷ xs) its order = by_case (order_replaced name y xs its order.1) (bytes_eq (key x) name) refl
-    where
-      by_case : (AreInOrder key (with_replacement key name y xs)) → (c : Bool) → bytes_eq (key x) name ≡ c → AreInOrder key (cond c (y ∷ xs) (x ∷ with_replacement key name y xs))
-      by_case ih true same = (subst (λ n. IsBelowAll key n xs) (same_bytes (key x) name same ∙ sym its) order.0, order.1)
-      by_case ih false same = (below_all_replaced (key x) name y xs its order.0, ih)
-
   pub length_put : (x : X) (xs : List X) → length (put key x xs) ≡ length xs + 1
   length_put x [] = refl
   length_put x (y ∷ ys) = by_case (is_below (key y) (key x)) (length_put x ys)
@@ -275,14 +245,6 @@ module _ {X : Type 0} (key : X → Bytes) where
       by_case : (c : Bool) → length (without key name xs) ≤ length xs → length (cond c xs (x ∷ without key name xs)) ≤ length (x ∷ xs)
       by_case true h = omega arith
       by_case false h = omega (arith, h)
-
-  pub length_replaced : (name : Bytes) (y : X) (xs : List X) → length (with_replacement key name y xs) ≡ length xs
-  length_replaced name y [] = refl
-  length_replaced name y (x ∷ xs) = by_case (bytes_eq (key x) name) (length_replaced name y xs)
-    where
-      by_case : (c : Bool) → length (with_replacement key name y xs) ≡ length xs → length (cond c (y ∷ xs) (x ∷ with_replacement key name y xs)) ≡ length (x ∷ xs)
-      by_case true h = refl
-      by_case false h = ap suc h
 
   -- what names find after one more was put in
   pub named_put : (k : Bytes) (x : X) (xs : List X) → named key (key x) xs ≡ None
@@ -303,30 +265,6 @@ module _ {X : Type 0} (key : X → Bytes) where
       by_case ih false false same none = refl
       by_case ih true false same none =
           ap (λ rest. cond (bytes_eq (key y) k) (Some y) rest) (ih none) ∙ apart (bytes_eq (key y) k) refl (bytes_eq (key x) k) refl same
-
-  -- what names find after the one of a name was replaced
-  pub named_replaced : (k name : Bytes) (y : X) (xs : List X) → key y ≡ name → IsSome (named key name xs)
-      → named key k (with_replacement key name y xs) ≡ cond (bytes_eq name k) (Some y) (named key k xs)
-  named_replaced k name y [] its there = absurd (true≢false (sym there))
-  named_replaced k name y (x ∷ xs) its there = by_case (named_replaced k name y xs its) (bytes_eq (key x) name) refl there
-    where
-      apart : (e : Bool) → bytes_eq (key x) k ≡ e → (f : Bool) → bytes_eq name k ≡ f → bytes_eq (key x) name ≡ false
-          → cond e (Some x) (cond f (Some y) (named key k xs)) ≡ cond f (Some y) (cond e (Some x) (named key k xs))
-      apart true he true hf differs =
-          absurd (true≢false (sym ((bytes_eq-Decides (key x) name).1 (same_bytes (key x) k he ∙ sym (same_bytes name k hf))) ∙ differs))
-      apart true he false hf differs = refl
-      apart false he f hf differs = refl
-
-      here : (f : Bool) → bytes_eq name k ≡ f → bytes_eq (key x) name ≡ true
-          → cond f (Some y) (named key k xs) ≡ cond f (Some y) (cond (bytes_eq (key x) k) (Some x) (named key k xs))
-      here true e same = refl
-      here false e same = rw (subst (λ n. bytes_eq n k ≡ false) (sym (same_bytes (key x) name same)) e) refl
-
-      by_case : (IsSome (named key name xs) → named key k (with_replacement key name y xs) ≡ cond (bytes_eq name k) (Some y) (named key k xs)) → (c : Bool) → bytes_eq (key x) name ≡ c → IsSome (cond c (Some x) (named key name xs))
-          → named key k (cond c (y ∷ xs) (x ∷ with_replacement key name y xs)) ≡ cond (bytes_eq name k) (Some y) (named key k (x ∷ xs))
-      by_case ih true same some = rw its (here (bytes_eq name k) refl same)
-      by_case ih false same some =
-          ap (λ rest. cond (bytes_eq (key x) k) (Some x) rest) (ih some) ∙ apart (bytes_eq (key x) k) refl (bytes_eq name k) refl same
 
   -- what names find after the one of a name was taken out
   pub named_without : (k name : Bytes) (xs : List X) → AreInOrder key xs
@@ -387,3 +325,101 @@ module _ {X : Type 0} (key : X → Bytes) where
 
   pub absent_beyond : (name : Bytes) (xs : List X) (n : ℕ) → n ≡ position key name xs → length xs ≤ n → named key name xs ≡ None
   absent_beyond name xs n at past = absent_past name xs (subst (λ m. length xs ≤ m) at past)
+
+  -- a write of the one that has the name, changed
+  pub changed_at : (name : Bytes) (f : X → X) (xs : List X) (d : X) → AreInOrder key xs → IsSome (named key name xs)
+      → d ≡ get_or xs (position key name xs) d → set xs (position key name xs) (f d) ≡ with_change key name f xs
+  changed_at name f [] d order there is = absurd (true≢false (sym there))
+  changed_at name f (x ∷ xs) d order there is = by_case (changed_at name f xs d order.1) (is_below (key x) name) refl (bytes_eq (key x) name) refl there is
+    where
+      by_case : (IsSome (named key name xs) → d ≡ get_or xs (position key name xs) d → set xs (position key name xs) (f d) ≡ with_change key name f xs) → (b : Bool) → is_below (key x) name ≡ b → (e : Bool) → bytes_eq (key x) name ≡ e
+          → IsSome (cond e (Some x) (named key name xs)) → d ≡ get_or (x ∷ xs) (cond b (position key name xs + 1) 0) d
+          → set (x ∷ xs) (cond b (position key name xs + 1) 0) (f d) ≡ cond e (f x ∷ xs) (x ∷ with_change key name f xs)
+      by_case ih true below true same some is = absurd (true≢false (sym same ∙ below_not_same (key x) name below))
+      by_case ih true below false same some is =
+          let next : get_or (x ∷ xs) (position key name xs + 1) d ≡ get_or xs (position key name xs) d = ap (λ n. get_or (x ∷ xs) n d) (add-one (position key name xs)) in
+          ap (λ n. set (x ∷ xs) n (f d)) (add-one (position key name xs)) ∙ ap (λ rest. x ∷ rest) (ih some (is ∙ next))
+      by_case ih false below true same some is = ap (λ y. f y ∷ xs) is
+      by_case ih false below false same some is =
+          absurd (true≢false (sym (subst IsSome (absent_from name x xs order.0 below same) some)))
+
+  pub changed_here : (name : Bytes) (f : X → X) (xs : List X) (n : ℕ) (d : X) → n ≡ position key name xs → AreInOrder key xs → IsSome (named key name xs)
+      → d ≡ get_or xs n d → set xs n (f d) ≡ with_change key name f xs
+  changed_here name f xs n d at order there is =
+      ap (λ m. set xs m (f d)) at ∙ changed_at name f xs d order there (is ∙ ap (λ m. get_or xs m d) at)
+
+  -- the names of a list say whether it is in order
+  below_all-names : (name : Bytes) (xs ys : List X) → map key xs ≡ map key ys → IsBelowAll key name xs → IsBelowAll key name ys
+  below_all-names name [] [] same b = tt
+  below_all-names name [] (y ∷ ys) same b = absurd cc
+  below_all-names name (x ∷ xs) [] same b = tt
+  below_all-names name (x ∷ xs) (y ∷ ys) same b =
+      let first : key x ≡ key y = cc in
+      let rest : map key xs ≡ map key ys = cc in
+      (subst (λ k. is_below name k ≡ true) first b.0, below_all-names name xs ys rest b.1)
+
+  pub order-names : (xs ys : List X) → map key xs ≡ map key ys → AreInOrder key xs → AreInOrder key ys
+  order-names [] [] same order = tt
+  order-names [] (y ∷ ys) same order = absurd cc
+  order-names (x ∷ xs) [] same order = tt
+  order-names (x ∷ xs) (y ∷ ys) same order =
+      let first : key x ≡ key y = cc in
+      let rest : map key xs ≡ map key ys = cc in
+      (below_all-names (key y) xs ys rest (subst (λ k. IsBelowAll key k xs) first order.0), order-names xs ys rest order.1)
+
+  pub names-with_change : (name : Bytes) (f : X → X) → ((x : X) → key (f x) ≡ key x) → (xs : List X) → map key xs ≡ map key (with_change key name f xs)
+  names-with_change name f same [] = refl
+  names-with_change name f same (x ∷ xs) = by_case (bytes_eq (key x) name) (names-with_change name f same xs)
+    where
+      by_case : (e : Bool) → map key xs ≡ map key (with_change key name f xs) → map key (x ∷ xs) ≡ map key (cond e (f x ∷ xs) (x ∷ with_change key name f xs))
+      by_case true ih = ap (λ k. k ∷ map key xs) (sym (same x))
+      by_case false ih = ap (λ ks. key x ∷ ks) ih
+
+  -- what names find after the one of a name changed
+  pub named_changed : (k name : Bytes) (f : X → X) → ((x : X) → key (f x) ≡ key x) → (xs : List X)
+      → named key k (with_change key name f xs) ≡ cond (bytes_eq name k) (option_map f (named key k xs)) (named key k xs)
+  named_changed k name f same [] = by_case (bytes_eq name k)
+    where
+      by_case : (c : Bool) → named key k [] ≡ cond c (option_map f (named key k [])) (named key k [])
+      by_case true = refl
+      by_case false = refl
+  named_changed k name f same (x ∷ xs) = by_case (named_changed k name f same xs) (bytes_eq (key x) name) refl
+    where
+      here : (e : Bool) → bytes_eq name k ≡ e → bytes_eq (key x) name ≡ true
+          → cond (bytes_eq (key (f x)) k) (Some (f x)) (named key k xs) ≡ cond e (option_map f (cond (bytes_eq (key x) k) (Some x) (named key k xs))) (cond (bytes_eq (key x) k) (Some x) (named key k xs))
+      here true e its = rw (same x, same_bytes (key x) name its, e) refl
+      here false e its = rw (same x, same_bytes (key x) name its, e) refl
+
+      apart : (e : Bool) → bytes_eq name k ≡ e → (g : Bool) → bytes_eq (key x) k ≡ g → bytes_eq (key x) name ≡ false
+          → cond g (Some x) (cond e (option_map f (named key k xs)) (named key k xs)) ≡ cond e (option_map f (cond g (Some x) (named key k xs))) (cond g (Some x) (named key k xs))
+      apart true e true g its =
+          absurd (true≢false (sym ((bytes_eq-Decides (key x) name).1 (same_bytes (key x) k g ∙ sym (same_bytes name k e))) ∙ its))
+      apart true e false g its = refl
+      apart false e true g its = refl
+      apart false e false g its = refl
+
+      by_case : named key k (with_change key name f xs) ≡ cond (bytes_eq name k) (option_map f (named key k xs)) (named key k xs) → (c : Bool) → bytes_eq (key x) name ≡ c
+          → named key k (cond c (f x ∷ xs) (x ∷ with_change key name f xs)) ≡ cond (bytes_eq name k) (option_map f (named key k (x ∷ xs))) (named key k (x ∷ xs))
+      by_case ih true its = here (bytes_eq name k) refl its
+      by_case ih false its = ap (λ rest. cond (bytes_eq (key x) k) (Some x) rest) ih ∙ apart (bytes_eq name k) refl (bytes_eq (key x) k) refl its
+
+  -- the place of a name is where it belongs, if it is there
+  pub place_found : (name : Bytes) (xs : List X) → AreInOrder key xs → IsSome (named key name xs) → place_of key name xs ≡ Some (position key name xs)
+  place_found name [] order there = absurd (true≢false (sym there))
+  place_found name (x ∷ xs) order there = by_case (place_found name xs order.1) (is_below (key x) name) refl (bytes_eq (key x) name) refl there
+    where
+      by_case : (IsSome (named key name xs) → place_of key name xs ≡ Some (position key name xs)) → (b : Bool) → is_below (key x) name ≡ b → (e : Bool) → bytes_eq (key x) name ≡ e → IsSome (cond e (Some x) (named key name xs))
+          → cond e (Some 0) (option_map (λ at. at + 1) (place_of key name xs)) ≡ Some (cond b (position key name xs + 1) 0)
+      by_case ih true below true same some = absurd (true≢false (sym same ∙ below_not_same (key x) name below))
+      by_case ih true below false same some = ap (λ o. option_map (λ at. at + 1) o) (ih some)
+      by_case ih false below true same some = refl
+      by_case ih false below false same some =
+          absurd (true≢false (sym (subst IsSome (absent_from name x xs order.0 below same) some)))
+
+  pub place_absent : (name : Bytes) (xs : List X) → named key name xs ≡ None → place_of key name xs ≡ None
+  place_absent name [] absent = refl
+  place_absent name (x ∷ xs) absent = by_case (place_absent name xs) (bytes_eq (key x) name) absent
+    where
+      by_case : (named key name xs ≡ None → place_of key name xs ≡ None) → (e : Bool) → cond e (Some x) (named key name xs) ≡ None → cond e (Some 0) (option_map (λ at. at + 1) (place_of key name xs)) ≡ None
+      by_case ih true none = absurd cc
+      by_case ih false none = ap (λ o. option_map (λ at. at + 1) o) (ih none)

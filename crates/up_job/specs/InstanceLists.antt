@@ -1,31 +1,51 @@
--- What a contract sees of the instances: for each job a list of them, in byte order of their names.
-use Rattle.std.specs.Prelude.{ℕ, ◌≤◌, ◌==◌, List, [], Option, None, length, if◌then◌else◌}
+-- The instances of a job, as contracts see them: a list in byte order of their names.
+use Rattle.std.specs.Prelude.{ℕ, ◌≤◌, ◌==◌, false, List, [], Option, None, length, if◌then◌else◌}
+use Rattle.circular_buffer.specs.Buffer.{buffer}
+use Rattle.up_stanza.specs.declared.limit.Limit.{Limit}
 use Rattle.up_model.specs.declared.limits.TheConstants.{MAX_INSTANCES}
-use Rattle.up_job.specs.declared.fault.JobFault.{JobFault}
-use Rattle.up_job.specs.declared.fault.JobFault.TheVariants.{Full, Memory}
-use Rattle.up_job.specs.declared.instance.Instance.{Instance}
-use Rattle.up_job.specs.declared.instance.Life.{Life}
-use Rattle.up_job.specs.Named as by_name
 use Rattle.up_model.specs.declared.state.Goal.TheVariants.{Stop}
 use Rattle.up_model.specs.declared.state.State.TheVariants.{Waiting}
 use Rattle.up_model.specs.Values.{Bytes}
+use Rattle.up_marks.specs.declared.mark.Mark.{Mark}
+use Rattle.up_job.specs.declared.child.Child.{Child}
+use Rattle.up_job.specs.declared.child.Children.{Children}
+use Rattle.up_job.specs.declared.fault.JobFault.{JobFault}
+use Rattle.up_job.specs.declared.fault.JobFault.TheVariants.{Full, Memory}
+use Rattle.up_job.specs.declared.instance.Instance.{Instance}
+use Rattle.up_job.specs.Moments.{room}
+use Rattle.up_job.specs.Named as by_name
 
--- the life of an instance that was just made
-abbrev pub new_life : Life
-new_life = record {
-  goal = Stop;
-  state = Waiting;
-  pids = record { pre_start = None; main = None; post_start = None; pre_stop = None; post_stop = None };
-  pending = [];
-  env = [];
-  stop_env = [];
-  holders = [];
-  failure = None;
-  kill_moment = None;
+-- a process that isn't ordered and doesn't live
+abbrev pub idle_child : Child
+idle_child = record { awaited = false; pid = None }
+
+abbrev pub idle : Children
+idle = record {
+  main = idle_child;
+  pre_start = idle_child;
+  post_start = idle_child;
+  pre_stop = idle_child;
+  post_stop = idle_child;
 }
 
-abbrev pub new_instance : Bytes → Instance
-new_instance name = record { name = name; life = new_life }
+-- an instance that was just made, of a job with this limit, by what its `stop on` remembers
+abbrev pub new_instance : Bytes → Limit → (stop_on : Option (List Mark)) → Instance
+new_instance name limit stop_on = record {
+  name = name;
+  goal = Stop;
+  state = Waiting;
+  restarted = false;
+  pending = None;
+  env = None;
+  stop_env = None;
+  failure = None;
+  holders = [];
+  blocker = None;
+  children = idle;
+  kill_moment = None;
+  moments = buffer [] (room limit);
+  stop_on = stop_on;
+}
 
 abbrev pub name_of : Instance → Bytes
 name_of instance = instance.name
@@ -38,23 +58,22 @@ named name instances = by_name.named name_of name instances
 abbrev pub with_instance : Instance → List Instance → List Instance
 with_instance instance instances = by_name.put name_of instance instances
 
--- another life for the instance of this name
-abbrev pub with_life : Bytes → Life → List Instance → List Instance
-with_life name life instances =
-    by_name.with_replacement name_of name (record { name = name; life = life }) instances
+-- the instance of this name changed so
+abbrev pub with_change : Bytes → (Instance → Instance) → List Instance → List Instance
+with_change name change instances = by_name.with_change name_of name change instances
 
 -- the instances but the one of this name
 abbrev pub without : Bytes → List Instance → List Instance
 without name instances = by_name.without name_of name instances
 
 -- how many instances a job may have
-abbrev pub limit : ℕ
-limit = MAX_INSTANCES
+abbrev pub max_instances : ℕ
+max_instances = MAX_INSTANCES
 
 -- why a job with these instances gets no other one
 abbrev pub refusal : List Instance → JobFault
-refusal instances = if length instances == limit then Full else Memory
+refusal instances = if length instances == max_instances then Full else Memory
 
 -- in byte order of names, no two the same, and no more than a job may have
 abbrev pub IsInstanceList : List Instance → Type 0
-IsInstanceList instances = by_name.AreInOrder name_of instances × (length instances ≤ limit)
+IsInstanceList instances = by_name.AreInOrder name_of instances × (length instances ≤ max_instances)

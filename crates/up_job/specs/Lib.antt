@@ -1,8 +1,20 @@
 -- The refusals of a list of instances.
 pub mod Faults
+-- Lists changed at one place.
+pub mod Lists
 -- Lists of what has a name, in byte order of the names.
 pub mod Named
--- What a contract sees of the instances.
+-- The moments of respawns, as many as the limit counts.
+pub mod Moments
+-- What becomes of an instance, one change at a time.
+pub mod Changes
+-- The instances of a job, as contracts see them.
 pub mod InstanceLists
--- The instances of all jobs, as they are kept.
-pub mod Groups
+-- The instances of all jobs, as contracts see them.
+pub mod JobLists
+-- An event that finishes blocks nobody any more.
+pub mod Unblocking
+-- What the instances are after somebody has written to what a `stop on` remembers.
+pub mod Lending
+-- When the timer kills main, by what is kept of an instance.
+pub mod Timers

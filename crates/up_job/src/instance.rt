@@ -1,79 +1,69 @@
 //! An instance, and what is kept of its life.
 ghost use Rattle.std.specs.Prelude.{◌≡◌, IfOk};
-ghost use Rattle.up_job.specs.InstanceLists.{new_instance, new_life};
+ghost use Rattle.up_job.specs.InstanceLists.{new_instance};
 
+use crate::child::{Children, idle};
+use crate::holder::Holder;
+use crate::moments::Moments;
 use std::alloc::{AllocError, Global};
+use up_marks::Trigger;
 use up_model::{EventId, Failure, Goal, State};
+use up_stanza::Limit;
 use up_text::{Env, Items, Text};
-
-/// The processes that live, by their numbers.
-#[derive(Clone, Copy, Debug)]
-pub struct Pids {
-    pub pre_start: Option<u32>,
-    pub main: Option<u32>,
-    pub post_start: Option<u32>,
-    pub pre_stop: Option<u32>,
-    pub post_stop: Option<u32>,
-}
-
-/// What is kept of an instance, but for its name.
-#[derive(Drop)]
-pub struct Life {
-    pub goal: Goal,
-    pub state: State,
-    pub pids: Pids,
-    /// The environment of the last start, which comes into force at the next entry of starting.
-    pub pending: Env,
-    /// The environment in force.
-    pub env: Env,
-    /// What the last stop adds.
-    pub stop_env: Env,
-    /// The events that wait for the instance.
-    pub holders: Items<EventId>,
-    pub failure: Option<Failure>,
-    /// When the processes that are left are killed.
-    pub kill_moment: Option<u64>,
-}
-
-impl Life {
-    /// The life of an instance that was just made.
-    pub fn new(alloc: Global) -> Self
-        ensures { result ≡ new_life }
-    {
-        Life {
-            goal: Goal::Stop,
-            state: State::Waiting,
-            pids: Pids {
-                pre_start: None,
-                main: None,
-                post_start: None,
-                pre_stop: None,
-                post_stop: None,
-            },
-            pending: Env::new(alloc),
-            env: Env::new(alloc),
-            stop_env: Env::new(alloc),
-            holders: Items::new(Vec::new(alloc)),
-            failure: None,
-            kill_moment: None,
-        }
-    }
-}
 
 /// An instance of a job.
 #[derive(Drop)]
 pub struct Instance {
     pub name: Text,
-    pub life: Life,
+    pub goal: Goal,
+    pub state: State,
+    /// Whether a restart was taken since the state was entered.
+    pub restarted: bool,
+    /// The environment of the last start, unless it is in force.
+    pub pending: Option<Env>,
+    /// The environment in force, if starting was entered.
+    pub env: Option<Env>,
+    /// What the last stop adds, if the goal is stop.
+    pub stop_env: Option<Env>,
+    /// The first failure since starting was entered.
+    pub failure: Option<Failure>,
+    pub holders: Items<Holder>,
+    /// The event of its own that it waits for.
+    pub blocker: Option<EventId>,
+    pub children: Children,
+    /// What the clock read when main was sent its signal, until the timer has sent KILL.
+    pub kill_moment: Option<u64>,
+    /// The last respawns, as many as the limit counts.
+    pub moments: Moments,
+    /// What its `stop on` remembers.
+    pub stop_on: Trigger,
 }
 
-/// An instance of this name, whose life begins.
-pub(crate) fn new_instance(alloc: Global, name: &str) -> Result<Instance, AllocError>
-    ensures { IfOk result (λ instance. instance ≡ new_instance name.now) }
+/// An instance whose life begins, of a job with this limit, by what its `stop on` remembers.
+pub(crate) fn new_instance(
+    alloc: Global,
+    name: &str,
+    limit: Limit,
+    stop_on: Trigger,
+) -> Result<Instance, AllocError>
+    ensures { IfOk result (λ instance. instance ≡ new_instance name.now limit stop_on) }
 {
     let name = Text::from_str(alloc, name)?;
+    let moments = Moments::new(alloc, limit)?;
     Ok(Instance {
         name,
-        life: Life::new(alloc),
+        goal: Goal::Stop,
+        state: State::Waiting,
+        restarted: false,
+        pending: None,
+        env: None,
+        stop_env: None,
+        failure: None,
+        holders: Items::new(Vec::new(alloc)),
+        blocker: None,
+        children: idle(),
+        kill_moment: None,
+        moments,
+        stop_on,
     })
 }

@@ -1,16 +1,24 @@
 //! The instances of one job.
-ghost use Rattle.std.specs.Prelude.{◌≡◌, ◌+◌, ◌<◌, ◌≤◌, [], ◌∷◌, length, IsSome, IfOk, IfErr, OnOk, OnErr, MatchResult, Some, None};
+ghost use Rattle.std.specs.Prelude.{◌≡◌, ◌+◌, ◌<◌, ◌≤◌, [], ◌∷◌, length, map, option_map, IsSome, IfOk, IfErr, OnOk, OnErr, MatchResult, Some, None};
 ghost use Rattle.std.specs.Option.{option_copied};
 ghost use Rattle.up_conf.specs.Order.{is_below};
-ghost use Rattle.up_job.specs.InstanceLists.{limit, name_of, named, new_instance, refusal, with_instance, with_life, without, IsInstanceList};
+ghost use Rattle.std.specs.Borrow.{sem};
+ghost use Rattle.up_job.specs.Changes.{changed};
+ghost use Rattle.up_job.specs.InstanceLists.{max_instances, name_of, named, new_instance, refusal, with_change, with_instance, without, IsInstanceList};
+ghost use Rattle.up_job.specs.Lists.{nth, position_in, with_at, without_at};
+ghost use Rattle.up_job.specs.Lending.{stop_on_of, LendsStopOn};
 ghost use Rattle.up_job.specs.Named as by_name;
+ghost use Rattle.up_job.specs.Unblocking.{unblocked};
 
+use crate::change::{Change, apply};
 use crate::fault::JobFault;
-use crate::instance::{Instance, Life, new_instance};
+use crate::instance::{Instance, new_instance};
+use crate::unblocking::unblock_all;
 use std::alloc::{AllocError, Global};
 use std::marker::Model;
-use std::mem::replace;
-use up_model::MAX_INSTANCES;
+use up_marks::Trigger;
+use up_model::{EventId, MAX_INSTANCES};
+use up_stanza::Limit;
 
 /// The instances of a job in byte order of their names, which contracts see as their list.
 #[derive(Drop)]
@@ -61,14 +69,35 @@ fn place(instances: &[Instance], name: &str) -> Result<usize, usize>
     }
 }
 
-fn insert(instances: &mut Vec<Instance>, instance: Instance) -> Result<(), AllocError>
+fn get(instances: &[Instance], at: usize) -> Option<&Instance>
+    ensures { option_copied result ≡ nth at instances.now }
+{
+    instances.get(at)
+}
+
+// Returns where the instance stands then.
+fn insert(instances: &mut Vec<Instance>, instance: Instance) -> Result<usize, AllocError>
     requires { by_name.AreInOrder name_of instances.old.items }
     ensures added { OnOk result (instances.new.items ≡ with_instance instance instances.old.items) }
+    ensures position { IfOk result (λ at. at
+        ≡ by_name.position name_of instance.name instances.old.items) }
     ensures unchanged { OnErr result (instances.new.items ≡ instances.old.items) }
 {
     let at = position(instances.as_slice(), instance.name.as_str());
     instances.insert(at, instance)?;
-    Ok(())
+    Ok(at)
+}
+
+#[tactic(auto, using(crate::proofs::Places::removed_at, crate::proofs::Places::none_without_at))]
+fn take_at(instances: &mut Vec<Instance>, at: usize) -> Option<Instance>
+    ensures taken { result ≡ nth at instances.old.items }
+    ensures rest { instances.new.items ≡ without_at at instances.old.items }
+{
+    if at < instances.len() {
+        Some(instances.remove(at))
+    } else {
+        None
+    }
 }
 
 fn take(instances: &mut Vec<Instance>, name: &str) -> Instance
@@ -81,32 +110,75 @@ fn take(instances: &mut Vec<Instance>, name: &str) -> Instance
     instances.remove(at)
 }
 
-// Gives the instance of a name another life, and returns the one that it had.
-fn exchange(instances: &mut Vec<Instance>, name: &str, life: Life) -> Life
+#[tactic(auto, using(crate::proofs::Places::set_with_at, crate::proofs::Places::none_with_at))]
+fn change_at(instances: &mut Vec<Instance>, at: usize, its: Change)
+    ensures { instances.new.items ≡ with_at at (changed its) instances.old.items }
+{
+    if at < instances.len() {
+        apply(&mut instances[at], its);
+    } else {
+        drop(its);
+    }
+}
+
+fn change(instances: &mut Vec<Instance>, name: &str, its: Change)
     requires order { by_name.AreInOrder name_of instances.old.items }
     requires there { IsSome (named name.now instances.old.items) }
-    ensures before { named name.now instances.old.items ≡ Some (record { name = name.now; life = result }) }
-    ensures after { instances.new.items ≡ with_life name.now life instances.old.items }
+    ensures { instances.new.items ≡ with_change name.now (changed its) instances.old.items }
 {
-    let at = position(instances.as_slice(), name);
-    replace(&mut instances[at].life, life)
+    let place = position(instances.as_slice(), name);
+    apply(&mut instances[place], its);
 }
 
 impl InstanceList {
-    /// One instance, which is made.
-    pub(crate) fn with(alloc: Global, name: &str) -> Result<Self, AllocError>
-        ensures { IfOk result (λ instance_list. instance_list ≡ new_instance name.now ∷ []) }
+    /// No instance.
+    pub(crate) fn new(alloc: Global) -> Self
+        ensures { result ≡ [] }
+    {
+        InstanceList {
+            instances: Vec::new(alloc),
+        }
+    }
+
+    /// One instance.
+    pub(crate) fn with(alloc: Global, instance: Instance) -> Result<Self, AllocError>
+        ensures { IfOk result (λ instances. instances ≡ instance ∷ []) }
     {
         let mut instances = Vec::new(alloc);
-        instances.push(new_instance(alloc, name)?)?;
+        instances.push(instance)?;
         Ok(InstanceList { instances })
     }
 
+    /// How many there are.
+    pub(crate) fn len(&self) -> usize
+        ensures { result ≡ length self.now }
+    {
+        self.instances.len()
+    }
+
+    /// All of them.
     pub(crate) fn as_slice(&self) -> &[Instance]
         ensures list { result.now ≡ self.now }
         ensures instance_list { IsInstanceList self.now }
     {
         self.instances.as_slice()
+    }
+
+    /// The instance at a place.
+    pub(crate) fn get(&self, at: usize) -> Option<&Instance>
+        ensures { option_copied result ≡ nth at self.now }
+    {
+        get(self.instances.as_slice(), at)
+    }
+
+    /// The place of the instance that has this name.
+    pub(crate) fn position(&self, name: &str) -> Option<usize>
+        ensures { result ≡ by_name.place_of name_of name.now self.now }
+    {
+        match place(self.instances.as_slice(), name) {
+            Ok(at) => Some(at),
+            Err(_) => None,
+        }
     }
 
     /// The instance of a name.
@@ -119,20 +191,36 @@ impl InstanceList {
         }
     }
 
-    /// Makes an instance.
-    pub(crate) fn add(&mut self, name: &str) -> Result<(), JobFault>
+    /// Makes an instance; returns where it stands.
+    pub(crate) fn add(
+        &mut self,
+        name: &str,
+        limit: Limit,
+        stop_on: Trigger,
+    ) -> Result<usize, JobFault>
         requires { named name.now self.old ≡ None }
-        ensures added { OnOk result (self.new ≡ with_instance (new_instance name.now) self.old) }
-        ensures fits { OnOk result (length self.old < limit) }
+        ensures added { OnOk result (self.new
+            ≡ with_instance (new_instance name.now limit stop_on) self.old) }
+        ensures position { IfOk result (λ at. at ≡ position_in name.now (map name_of self.old)) }
+        ensures fits { OnOk result (length self.old < max_instances) }
         ensures refused { IfErr result (λ fault. fault ≡ refusal self.old) }
         ensures unchanged { OnErr result (self.new ≡ self.old) }
     {
         if self.instances.len() == MAX_INSTANCES {
+            drop(stop_on);
             return Err(JobFault::Full);
         }
-        let instance = new_instance(*self.instances.allocator(), name)?;
-        insert(&mut self.instances, instance)?;
-        Ok(())
+        let instance = new_instance(*self.instances.allocator(), name, limit, stop_on)?;
+        let at = insert(&mut self.instances, instance)?;
+        Ok(at)
+    }
+
+    /// Takes the one at a place out, if there is one.
+    pub(crate) fn remove_at(&mut self, at: usize) -> Option<Instance>
+        ensures taken { result ≡ nth at self.old }
+        ensures rest { self.new ≡ without_at at self.old }
+    {
+        take_at(&mut self.instances, at)
     }
 
     /// Takes the instance of a name out.
@@ -144,12 +232,35 @@ impl InstanceList {
         take(&mut self.instances, name)
     }
 
-    /// Gives the instance of a name another life, and returns the one that it had.
-    pub(crate) fn change(&mut self, name: &str, life: Life) -> Life
-        requires { IsSome (named name.now self.old) }
-        ensures before { named name.now self.old ≡ Some (record { name = name.now; life = result }) }
-        ensures after { self.new ≡ with_life name.now life self.old }
+    /// The one at a place changes, if there is one.
+    pub(crate) fn change_at(&mut self, at: usize, its: Change)
+        ensures { self.new ≡ with_at at (changed its) self.old }
     {
-        exchange(&mut self.instances, name, life)
+        change_at(&mut self.instances, at, its);
+    }
+
+    /// The instance of a name changes.
+    pub(crate) fn change(&mut self, name: &str, its: Change)
+        requires { IsSome (named name.now self.old) }
+        ensures { self.new ≡ with_change name.now (changed its) self.old }
+    {
+        change(&mut self.instances, name, its);
+    }
+
+    /// What the `stop on` of the one at a place remembers.
+    pub(crate) fn stop_on_mut(&mut self, at: usize) -> &mut Trigger
+        requires { at < length self.old }
+        ensures* writes_back { sem 𝓛 (LendsStopOn self.entry at result) }
+        ensures value { Some result.now ≡ option_map stop_on_of (nth at self.old) }
+    {
+        let instance = &mut self.instances[at];
+        &mut instance.stop_on
+    }
+
+    /// None of them waits for this event any more.
+    pub(crate) fn unblock(&mut self, id: EventId)
+        ensures { self.new ≡ map (unblocked id) self.old }
+    {
+        unblock_all(&mut self.instances, id);
     }
 }

@@ -1,42 +1,48 @@
 //! The instances of all jobs.
-ghost use Rattle.std.specs.Prelude.{◌≡◌, ◌+◌, ◌<◌, ◌≤◌, [], ◌∷◌, length, IsSome, IfOk, IfErr, OnOk, OnErr, MatchResult, Some, None};
+ghost use Rattle.std.specs.Prelude.{◌≡◌, ◌+◌, ◌<◌, ◌≤◌, [], ◌∷◌, length, map, true, IsSome, IfOk, IfErr, OnOk, OnErr, MatchResult, Some, None};
 ghost use Rattle.std.specs.Option.{option_copied};
 ghost use Rattle.up_conf.specs.Order.{is_below};
-ghost use Rattle.up_job.specs.Groups.{job_of, instances_in, Changes};
-ghost use Rattle.up_job.specs.InstanceLists.{limit, named, new_instance, refusal, with_instance, with_life, without, IsInstanceList};
+ghost use Rattle.up_image.specs.Giving.{are_ascending};
+ghost use Rattle.up_job.specs.Changes.{changed};
+ghost use Rattle.up_job.specs.InstanceLists.{max_instances, named, new_instance, refusal, with_change, with_instance, without, IsInstanceList};
+ghost use Rattle.up_job.specs.JobLists.{job_of, new_job, instances_in, Changes};
 ghost use Rattle.up_job.specs.Named as by_name;
 
+use crate::change::Change;
 use crate::fault::JobFault;
-use crate::instance::{Instance, Life};
+use crate::instance::{Instance, new_instance};
 use crate::instance_list::InstanceList;
 use std::alloc::{AllocError, Global};
 use std::marker::Model;
+use up_conf::JobDef;
+use up_marks::Trigger;
+use up_stanza::Limit;
 use up_text::Name;
 
-/// The instances of a job.
+/// A job, and its instances in byte order of their names.
 #[derive(Drop)]
-pub struct Group {
-    pub(crate) job: Name,
-    pub(crate) instance_list: InstanceList,
+pub struct JobInstances {
+    pub name: Name,
+    pub instances: InstanceList,
 }
 
-/// The instances of all jobs: for each job a list of them, in byte order of their names.
+/// The instances of all jobs: for each job a list of them, in byte order of the jobs' names.
 #[derive(Drop)]
 pub struct Instances {
-    groups: Vec<Group>,
+    pub(crate) jobs: Vec<JobInstances>,
 }
 
 impl Model for Instances {
     ghost use Rattle.std.specs.Prelude.{List};
-    ghost use Rattle.up_job.specs.declared.instances.Group.{Group};
-    ghost use Rattle.up_job.specs.Groups.{job_of};
+    ghost use Rattle.up_job.specs.declared.instances.JobInstances.{JobInstances};
+    ghost use Rattle.up_job.specs.JobLists.{job_of};
     ghost use Rattle.up_job.specs.Named.{AreInOrder};
 
-    ghost Value = { List Group };
+    ghost Value = { List JobInstances };
 
-    ghost view = { λ s. s.groups.items };
+    ghost view = { λ s. s.jobs.items };
 
-    ghost invariant = { λ s. AreInOrder job_of s.groups.items };
+    ghost invariant = { λ s. AreInOrder job_of s.jobs.items };
 }
 
 fn is_before(name: &str, other: &str) -> bool
@@ -45,103 +51,161 @@ fn is_before(name: &str, other: &str) -> bool
     name.cmp(other).is_lt()
 }
 
-// Where a job belongs among groups in order.
-fn position(groups: &[Group], job: &Name) -> usize
-    requires { by_name.AreInOrder job_of groups.now }
-    ensures { result ≡ by_name.position job_of job.now groups.now }
+// Where a job belongs among jobs in order.
+fn position(jobs: &[JobInstances], name: &Name) -> usize
+    requires { by_name.AreInOrder job_of jobs.now }
+    ensures { result ≡ by_name.position job_of name.now jobs.now }
 {
-    groups.partition_point(|group| is_before(group.job.as_str(), job.as_str()))
+    jobs.partition_point(|job| is_before(job.name.as_str(), name.as_str()))
 }
 
-// Where the group of a job stands, or else where it belongs.
-fn place(groups: &[Group], job: &Name) -> Result<usize, usize>
-    requires { by_name.AreInOrder job_of groups.now }
-    ensures place { MatchResult result (λ at. at ≡ by_name.position job_of job.now groups.now)
-        (λ at. at ≡ by_name.position job_of job.now groups.now) }
-    ensures within { IfOk result (λ at. at < length groups.now) }
-    ensures there { OnOk result (IsSome (by_name.named job_of job.now groups.now)) }
-    ensures absent { OnErr result (by_name.named job_of job.now groups.now ≡ None) }
+// Where a job stands, or else where it belongs.
+fn place(jobs: &[JobInstances], name: &Name) -> Result<usize, usize>
+    requires { by_name.AreInOrder job_of jobs.now }
+    ensures place { MatchResult result (λ at. at ≡ by_name.position job_of name.now jobs.now)
+        (λ at. at ≡ by_name.position job_of name.now jobs.now) }
+    ensures within { IfOk result (λ at. at < length jobs.now) }
+    ensures there { OnOk result (IsSome (by_name.named job_of name.now jobs.now)) }
+    ensures absent { OnErr result (by_name.named job_of name.now jobs.now ≡ None) }
 {
-    let at = position(groups, job);
-    if at < groups.len() && groups[at].job.is(job) {
+    let at = position(jobs, name);
+    if at < jobs.len() && jobs[at].name.is(name) {
         Ok(at)
     } else {
         Err(at)
     }
 }
 
-fn group_of(alloc: Global, job: &Name, instance: &str) -> Result<Group, AllocError>
-    ensures { IfOk result (λ group. group
-        ≡ record { job = job.now; instance_list = new_instance instance.now ∷ [] }) }
+// A job without an instance.
+fn empty_job(alloc: Global, name: &Name) -> Result<JobInstances, AllocError>
+    ensures { IfOk result (λ job. job ≡ record { name = name.now; instances = [] }) }
 {
-    let job = job.copy()?;
-    let instance_list = InstanceList::with(alloc, instance)?;
-    Ok(Group { job, instance_list })
+    let name = name.copy()?;
+    Ok(JobInstances {
+        name,
+        instances: InstanceList::new(alloc),
+    })
 }
 
-// Makes the first instance of a job.
-fn add_group(groups: &mut Vec<Group>, job: &Name, instance: &str) -> Result<(), AllocError>
-    requires order { by_name.AreInOrder job_of groups.old.items }
-    requires absent { by_name.named job_of job.now groups.old.items ≡ None }
-    ensures order { OnOk result (by_name.AreInOrder job_of groups.new.items) }
+fn empty_jobs(alloc: Global, jobs: &[JobDef]) -> Result<Vec<JobInstances>, AllocError>
+    ensures { IfOk result (λ all. all.items ≡ map new_job jobs.now) }
+{
+    let mut all = Vec::new(alloc);
+    for job in jobs {
+        all.push(empty_job(alloc, &job.name)?)?;
+    }
+    Ok(all)
+}
+
+// A job with its first instance.
+fn with_first(alloc: Global, name: Name, instance: Instance) -> Result<JobInstances, AllocError>
+    ensures { IfOk result (λ job. job ≡ record { name = name; instances = instance ∷ [] }) }
+{
+    let instances = InstanceList::with(alloc, instance)?;
+    Ok(JobInstances { name, instances })
+}
+
+fn first_of(
+    alloc: Global,
+    job: &Name,
+    instance: &str,
+    limit: Limit,
+    stop_on: Trigger,
+) -> Result<JobInstances, AllocError>
+    ensures { IfOk result (λ its. its
+        ≡ record { name = job.now; instances = new_instance instance.now limit stop_on ∷ [] }) }
+{
+    let instance = new_instance(alloc, instance, limit, stop_on)?;
+    match job.copy() {
+        Ok(name) => with_first(alloc, name, instance),
+        Err(fault) => {
+            drop(instance);
+            Err(fault)
+        }
+    }
+}
+
+// Makes the first instance of a job; returns where the job stands.
+fn add_first(
+    jobs: &mut Vec<JobInstances>,
+    job: &Name,
+    instance: &str,
+    limit: Limit,
+    stop_on: Trigger,
+) -> Result<usize, AllocError>
+    requires order { by_name.AreInOrder job_of jobs.old.items }
+    requires absent { by_name.named job_of job.now jobs.old.items ≡ None }
+    ensures order { OnOk result (by_name.AreInOrder job_of jobs.new.items) }
     ensures added { OnOk result (Changes job.now
-        (with_instance (new_instance instance.now)) groups.old.items groups.new.items) }
-    ensures unchanged { OnErr result (groups.new.items ≡ groups.old.items) }
+        (with_instance (new_instance instance.now limit stop_on)) jobs.old.items jobs.new.items) }
+    ensures unchanged { OnErr result (jobs.new.items ≡ jobs.old.items) }
 {
-    let group = group_of(*groups.allocator(), job, instance)?;
-    let at = position(groups.as_slice(), job);
-    groups.insert(at, group)?;
-    Ok(())
+    let its = first_of(*jobs.allocator(), job, instance, limit, stop_on)?;
+    let at = position(jobs.as_slice(), job);
+    jobs.insert(at, its)?;
+    Ok(at)
 }
 
-// Makes an instance of a job that had some.
-fn add_to(groups: &mut Vec<Group>, job: &Name, instance: &str) -> Result<(), JobFault>
-    requires order { by_name.AreInOrder job_of groups.old.items }
-    requires there { IsSome (by_name.named job_of job.now groups.old.items) }
-    requires absent { named instance.now (instances_in job.now groups.old.items) ≡ None }
-    ensures order { by_name.AreInOrder job_of groups.new.items }
+// Makes an instance of a job that is there.
+fn add_to(
+    jobs: &mut Vec<JobInstances>,
+    job: &Name,
+    instance: &str,
+    limit: Limit,
+    stop_on: Trigger,
+) -> Result<usize, JobFault>
+    requires order { by_name.AreInOrder job_of jobs.old.items }
+    requires there { IsSome (by_name.named job_of job.now jobs.old.items) }
+    requires absent { named instance.now (instances_in job.now jobs.old.items) ≡ None }
+    ensures order { by_name.AreInOrder job_of jobs.new.items }
     ensures added { OnOk result (Changes job.now
-        (with_instance (new_instance instance.now)) groups.old.items groups.new.items) }
-    ensures fits { OnOk result (length (instances_in job.now groups.old.items) < limit) }
-    ensures refused { IfErr result (λ fault. fault ≡ refusal (instances_in job.now groups.old.items)) }
-    ensures unchanged { OnErr result (groups.new.items ≡ groups.old.items) }
+        (with_instance (new_instance instance.now limit stop_on)) jobs.old.items jobs.new.items) }
+    ensures fits { OnOk result (length (instances_in job.now jobs.old.items) < max_instances) }
+    ensures refused { IfErr result (λ fault. fault ≡ refusal (instances_in job.now jobs.old.items)) }
+    ensures unchanged { OnErr result (jobs.new.items ≡ jobs.old.items) }
 {
-    let at = position(groups.as_slice(), job);
-    groups[at].instance_list.add(instance)
+    let at = position(jobs.as_slice(), job);
+    jobs[at].instances.add(instance, limit, stop_on)
 }
 
-fn take(groups: &mut Vec<Group>, job: &Name, instance: &str) -> Instance
-    requires order { by_name.AreInOrder job_of groups.old.items }
-    requires there { IsSome (named instance.now (instances_in job.now groups.old.items)) }
-    ensures order { by_name.AreInOrder job_of groups.new.items }
-    ensures taken { named instance.now (instances_in job.now groups.old.items) ≡ Some result }
-    ensures rest { Changes job.now (without instance.now) groups.old.items groups.new.items }
+fn take(jobs: &mut Vec<JobInstances>, job: &Name, instance: &str) -> Instance
+    requires order { by_name.AreInOrder job_of jobs.old.items }
+    requires there { IsSome (named instance.now (instances_in job.now jobs.old.items)) }
+    ensures order { by_name.AreInOrder job_of jobs.new.items }
+    ensures taken { named instance.now (instances_in job.now jobs.old.items) ≡ Some result }
+    ensures rest { Changes job.now (without instance.now) jobs.old.items jobs.new.items }
 {
-    let at = position(groups.as_slice(), job);
-    groups[at].instance_list.remove(instance)
+    let at = position(jobs.as_slice(), job);
+    jobs[at].instances.remove(instance)
 }
 
-// Gives an instance another life, and returns the one that it had.
-fn exchange(groups: &mut Vec<Group>, job: &Name, instance: &str, life: Life) -> Life
-    requires order { by_name.AreInOrder job_of groups.old.items }
-    requires there { IsSome (named instance.now (instances_in job.now groups.old.items)) }
-    ensures order { by_name.AreInOrder job_of groups.new.items }
-    ensures before { named instance.now (instances_in job.now groups.old.items)
-        ≡ Some (record { name = instance.now; life = result }) }
-    ensures after { Changes job.now (with_life instance.now life) groups.old.items groups.new.items }
+fn change(jobs: &mut Vec<JobInstances>, job: &Name, instance: &str, its: Change)
+    requires order { by_name.AreInOrder job_of jobs.old.items }
+    requires there { IsSome (named instance.now (instances_in job.now jobs.old.items)) }
+    ensures order { by_name.AreInOrder job_of jobs.new.items }
+    ensures after { Changes job.now (with_change instance.now (changed its)) jobs.old.items jobs.new.items }
 {
-    let at = position(groups.as_slice(), job);
-    groups[at].instance_list.change(instance, life)
+    let at = position(jobs.as_slice(), job);
+    jobs[at].instances.change(instance, its);
 }
 
 impl Instances {
-    /// No instance.
+    /// No instance, and no job.
     pub fn new(alloc: Global) -> Self
         ensures { result ≡ [] }
     {
         Instances {
-            groups: Vec::new(alloc),
+            jobs: Vec::new(alloc),
         }
+    }
+
+    /// No instance of these jobs.
+    pub fn of_jobs(alloc: Global, jobs: &[JobDef]) -> Result<Self, AllocError>
+        requires { are_ascending (map (λ job. job.name) jobs.now) ≡ true }
+        ensures { IfOk result (λ instances. instances ≡ map new_job jobs.now) }
+    {
+        let jobs = empty_jobs(alloc, jobs)?;
+        Ok(Instances { jobs })
     }
 
     /// The instances of a job.
@@ -149,8 +213,8 @@ impl Instances {
         ensures list { result.now ≡ instances_in job.now self.now }
         ensures instance_list { IsInstanceList result.now }
     {
-        match place(self.groups.as_slice(), job) {
-            Ok(at) => self.groups[at].instance_list.as_slice(),
+        match place(self.jobs.as_slice(), job) {
+            Ok(at) => self.jobs[at].instances.as_slice(),
             Err(_) => &[],
         }
     }
@@ -159,39 +223,46 @@ impl Instances {
     pub fn find(&self, job: &Name, instance: &str) -> Option<&Instance>
         ensures { option_copied result ≡ named instance.now (instances_in job.now self.now) }
     {
-        match place(self.groups.as_slice(), job) {
-            Ok(at) => self.groups[at].instance_list.find(instance),
+        match place(self.jobs.as_slice(), job) {
+            Ok(at) => self.jobs[at].instances.find(instance),
             Err(_) => None,
         }
     }
 
     /// Makes an instance, whose life begins. It is refused with `Full` if its job has 1,024, however many other jobs have, and else only
     /// for memory; a refusal changes nothing.
-    pub fn add(&mut self, job: &Name, instance: &str) -> Result<(), JobFault>
+    pub fn add(
+        &mut self,
+        job: &Name,
+        instance: &str,
+        limit: Limit,
+        stop_on: Trigger,
+    ) -> Result<(), JobFault>
         requires { named instance.now (instances_in job.now self.old) ≡ None }
         ensures added { OnOk result (Changes job.now
-            (with_instance (new_instance instance.now)) self.old self.new) }
-        ensures fits { OnOk result (length (instances_in job.now self.old) < limit) }
+            (with_instance (new_instance instance.now limit stop_on)) self.old self.new) }
+        ensures fits { OnOk result (length (instances_in job.now self.old) < max_instances) }
         ensures refused { IfErr result (λ fault. fault ≡ refusal (instances_in job.now self.old)) }
         ensures unchanged { OnErr result (self.new ≡ self.old) }
     {
-        match place(self.groups.as_slice(), job) {
-            Ok(_) => add_to(&mut self.groups, job, instance),
+        match place(self.jobs.as_slice(), job) {
+            Ok(_) => {
+                add_to(&mut self.jobs, job, instance, limit, stop_on)?;
+                Ok(())
+            }
             Err(_) => {
-                add_group(&mut self.groups, job, instance)?;
+                add_first(&mut self.jobs, job, instance, limit, stop_on)?;
                 Ok(())
             }
         }
     }
 
-    /// Gives an instance another life, and returns the one that it had. Its name stays, and so do all other instances.
-    pub fn change(&mut self, job: &Name, instance: &str, next: Life) -> Life
+    /// An instance changes. Its name stays, and so do all other instances.
+    pub fn change(&mut self, job: &Name, instance: &str, its: Change)
         requires { IsSome (named instance.now (instances_in job.now self.old)) }
-        ensures before { named instance.now (instances_in job.now self.old)
-            ≡ Some (record { name = instance.now; life = result }) }
-        ensures after { Changes job.now (with_life instance.now next) self.old self.new }
+        ensures { Changes job.now (with_change instance.now (changed its)) self.old self.new }
     {
-        exchange(&mut self.groups, job, instance, next)
+        change(&mut self.jobs, job, instance, its);
     }
 
     /// Removes an instance, and returns it.
@@ -200,6 +271,6 @@ impl Instances {
         ensures taken { named instance.now (instances_in job.now self.old) ≡ Some result }
         ensures rest { Changes job.now (without instance.now) self.old self.new }
     {
-        take(&mut self.groups, job, instance)
+        take(&mut self.jobs, job, instance)
     }
 }

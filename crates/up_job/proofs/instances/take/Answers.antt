@@ -1,38 +1,38 @@
 use Rattle.std.proofs.Common.{◌≡◌, rules, arith, length, IsSome, subst, ap, ◌∙◌}
-use Rattle.up_job.specs.Groups.{job_of}
+use Rattle.up_job.specs.JobLists.{job_of}
 use Rattle.up_job.specs.InstanceLists.{named, without}
 use Rattle.up_job.specs.Named as by_name
 use Rattle.up_job.proofs.NamedLemmas.{within_here}
-use Rattle.up_job.proofs.GroupLemmas.{has_group, list_here, changed_order, changed_group}
+use Rattle.up_job.proofs.JobLemmas.{has_job, list_here, changed_order, changed_job}
 use Rattle.up_job.proofs.instances.take.Goals as goal
 
 pub index_mut-requires : goal.index_mut-requires
 index_mut-requires c =
-    let at : c.position-at.result ≡ by_name.position job_of c.args.job.now c.args.groups.now.items = search rules in
-    let there = has_group c.args.job.now c.args.instance.now c.args.groups.now.items c.requires.there in
-    let within = within_here job_of c.args.job.now c.args.groups.now.items c.position-at.result at c.requires.order there in
+    let at : c.position-at.result ≡ by_name.position job_of c.args.job.now c.args.jobs.now.items = search rules in
+    let there = has_job c.args.job.now c.args.instance.now c.args.jobs.now.items c.requires.there in
+    let within = within_here job_of c.args.job.now c.args.jobs.now.items c.position-at.result at c.requires.order there in
     omega (arith, within, c.as_slice.ensures.len, ap length c.as_slice.ensures.value)
 
 pub remove-requires : goal.remove-requires
 remove-requires c =
-    let at : c.position-at.result ≡ by_name.position job_of c.args.job.now c.args.groups.now.items = search rules in
-    let there = has_group c.args.job.now c.args.instance.now c.args.groups.now.items c.requires.there in
-    subst (λ l. IsSome (named c.args.instance.now l)) (list_here c.args.job.now c.args.groups.now.items c.position-at.result c.index_mut.result.now at c.requires.order there c.index_mut.ensures.value) c.requires.there
+    let at : c.position-at.result ≡ by_name.position job_of c.args.job.now c.args.jobs.now.items = search rules in
+    let there = has_job c.args.job.now c.args.instance.now c.args.jobs.now.items c.requires.there in
+    subst (λ l. IsSome (named c.args.instance.now l)) (list_here c.args.job.now c.args.jobs.now.items c.position-at.result c.index_mut.result.now at c.requires.order there c.index_mut.ensures.value) c.requires.there
 
 pub returns-clause-order : goal.returns-clause-order
 returns-clause-order c =
-    let at : c.position-at.result ≡ by_name.position job_of c.args.job.now c.args.groups.now.items = search rules in
-    let there = has_group c.args.job.now c.args.instance.now c.args.groups.now.items c.requires.there in
-    changed_order c.args.job.now (without c.args.instance.now) c.args.groups.now.items c.position-at.result at c.requires.order c.index_mut.result.now c.remove.new.self there c.index_mut.ensures.value
+    let at : c.position-at.result ≡ by_name.position job_of c.args.job.now c.args.jobs.now.items = search rules in
+    let there = has_job c.args.job.now c.args.instance.now c.args.jobs.now.items c.requires.there in
+    changed_order c.args.job.now (without c.args.instance.now) c.args.jobs.now.items c.position-at.result at c.requires.order c.index_mut.result.now c.remove.new.self there c.index_mut.ensures.value
 
 pub returns-clause-taken : goal.returns-clause-taken
 returns-clause-taken c =
-    let at : c.position-at.result ≡ by_name.position job_of c.args.job.now c.args.groups.now.items = search rules in
-    let there = has_group c.args.job.now c.args.instance.now c.args.groups.now.items c.requires.there in
-    ap (λ l. named c.args.instance.now l) (list_here c.args.job.now c.args.groups.now.items c.position-at.result c.index_mut.result.now at c.requires.order there c.index_mut.ensures.value) ∙ c.remove.ensures.taken
+    let at : c.position-at.result ≡ by_name.position job_of c.args.job.now c.args.jobs.now.items = search rules in
+    let there = has_job c.args.job.now c.args.instance.now c.args.jobs.now.items c.requires.there in
+    ap (λ l. named c.args.instance.now l) (list_here c.args.job.now c.args.jobs.now.items c.position-at.result c.index_mut.result.now at c.requires.order there c.index_mut.ensures.value) ∙ c.remove.ensures.taken
 
 pub returns-clause-rest : goal.returns-clause-rest
 returns-clause-rest c =
-    let at : c.position-at.result ≡ by_name.position job_of c.args.job.now c.args.groups.now.items = search rules in
-    let there = has_group c.args.job.now c.args.instance.now c.args.groups.now.items c.requires.there in
-    changed_group c.args.job.now (without c.args.instance.now) c.args.groups.now.items c.position-at.result at c.requires.order c.index_mut.result.now c.remove.new.self there c.index_mut.ensures.value c.remove.ensures.rest
+    let at : c.position-at.result ≡ by_name.position job_of c.args.job.now c.args.jobs.now.items = search rules in
+    let there = has_job c.args.job.now c.args.instance.now c.args.jobs.now.items c.requires.there in
+    changed_job c.args.job.now (without c.args.instance.now) c.args.jobs.now.items c.position-at.result at c.requires.order c.index_mut.result.now c.remove.new.self there c.index_mut.ensures.value c.remove.ensures.rest

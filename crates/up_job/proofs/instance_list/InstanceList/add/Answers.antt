@@ -1,11 +1,20 @@
-use Rattle.std.proofs.Common.{◌≡◌, ◌<◌, None, length, subst, arith, rules}
-use Rattle.up_job.specs.InstanceLists.{named, new_instance, limit, IsInstanceList}
-use Rattle.up_job.proofs.RowLemmas.{list_with}
+use Rattle.std.proofs.Common.{◌≡◌, ◌<◌, ◌∙◌, None, length, map, sym, ap, subst, arith, rules}
+use Rattle.up_job.specs.InstanceLists.{name_of, named, new_instance, max_instances, IsInstanceList}
+use Rattle.up_job.specs.Lists.{position_in}
+use Rattle.up_job.specs.Named as by_name
+use Rattle.up_job.proofs.InstanceLemmas.{list_with}
+use Rattle.up_job.proofs.Places.{position-map}
 use Rattle.up_job.proofs.instance_list.InstanceList.add.Goals as goal
 
 pub invariant_of-self-2 : goal.invariant_of-self-2
 invariant_of-self-2 c =
     let xs = c.self.inside.instances.items in
     let absent : named c.args.name.now xs ≡ None = search rules in
-    let less : length xs < limit = search (rules, arith) in
-    subst IsInstanceList (search rules) (list_with (new_instance c.args.name.now) xs c.self.invariant absent less)
+    let less : length xs < max_instances = search (rules, arith) in
+    subst IsInstanceList (search rules) (list_with (new_instance c.args.name.now c.args.limit c.args.stop_on) xs c.self.invariant absent less)
+
+pub returns-clause-position : goal.returns-clause-position
+returns-clause-position c =
+    let xs = c.self.inside.instances.items in
+    let at : c.in_ok-at.at ≡ by_name.position name_of c.args.name.now xs = search rules in
+    at ∙ sym (position-map name_of c.args.name.now xs) ∙ ap (λ ys. position_in c.args.name.now (map name_of ys)) c.self.view_is

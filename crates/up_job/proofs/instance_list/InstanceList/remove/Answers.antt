@@ -1,6 +1,6 @@
 use Rattle.std.proofs.Common.{sym, subst}
 use Rattle.up_job.specs.InstanceLists.{IsInstanceList}
-use Rattle.up_job.proofs.RowLemmas.{list_without}
+use Rattle.up_job.proofs.InstanceLemmas.{list_without}
 use Rattle.up_job.proofs.instance_list.InstanceList.remove.Goals as goal
 
 pub invariant_of-self : goal.invariant_of-self

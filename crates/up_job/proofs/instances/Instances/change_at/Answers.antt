@@ -1,0 +1,10 @@
+use Rattle.std.proofs.Common.{refl, sym, subst}
+use Rattle.up_job.specs.Changes.{changed}
+use Rattle.up_job.specs.JobLists.{job_of, changed_in}
+use Rattle.up_job.specs.Named.{AreInOrder}
+use Rattle.up_job.proofs.JobLemmas.{order-with_at}
+use Rattle.up_job.proofs.instances.Instances.change_at.Goals as goal
+
+pub invariant_of-self : goal.invariant_of-self
+invariant_of-self c =
+    subst (AreInOrder job_of) (sym c.change_at.ensures) (order-with_at c.args.key.job (changed_in c.args.key.at (changed c.args.its)) (λ x. refl) c.self.inside.jobs.items c.self.invariant)

@@ -1,0 +1,30 @@
+use Rattle.std.proofs.Common.{◌≡◌, ◌∙◌, refl, ap, subst, sym, IsSome, option_map}
+use Rattle.up_job.specs.JobLists.{job_of, list_of, changed_in, changed_at, instance_at}
+use Rattle.up_job.specs.Lending.{stop_on_of, with_stop_on}
+use Rattle.up_job.specs.Lists.{nth}
+use Rattle.up_job.specs.Named.{AreInOrder}
+use Rattle.up_job.proofs.Places.{nth_get, set_with_at}
+use Rattle.up_job.proofs.JobLemmas.{job_within, order-with_at}
+use Rattle.up_job.proofs.instances.Instances.stop_on_mut.Goals as goal
+
+pub invariant_of-self-lent : goal.invariant_of-self-lent
+invariant_of-self-lent c w =
+    let jobs = c.self.inside.jobs.items in
+    let there : IsSome (instance_at c.args.key jobs) = subst (λ js. IsSome (instance_at c.args.key js)) (sym c.self.view_is) c.requires in
+    subst (AreInOrder job_of) (sym (set_with_at (changed_in c.args.key.at (with_stop_on w)) c.args.key.job jobs c.index_mut-job.result.now (job_within c.args.key jobs there) c.index_mut-job.ensures.value))
+    (order-with_at c.args.key.job (changed_in c.args.key.at (with_stop_on w)) (λ x. refl) jobs c.self.invariant)
+
+pub returns : goal.returns
+returns c =
+    let jobs = c.self.inside.jobs.items in
+    let there : IsSome (instance_at c.args.key jobs) = subst (λ js. IsSome (instance_at c.args.key js)) (sym c.self.view_is) c.requires in
+    let within = job_within c.args.key jobs there in
+    let job = c.index_mut-job.result.now in
+    ((refl, λ w. set_with_at (changed_in c.args.key.at (with_stop_on w)) c.args.key.job jobs job within c.index_mut-job.ensures.value
+    ∙ ap (λ js. changed_at c.args.key (with_stop_on w) js) c.self.view_is),
+    record {
+      writes_back = tt;
+      value = c.stop_on_mut.ensures.value
+          ∙ ap (λ o. option_map stop_on_of (nth c.args.key.at (list_of o))) (sym (nth_get c.args.key.job jobs job within c.index_mut-job.ensures.value))
+          ∙ ap (λ js. option_map stop_on_of (instance_at c.args.key js)) c.self.view_is;
+    })

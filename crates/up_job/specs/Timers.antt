@@ -1,0 +1,15 @@
+-- When the timer kills main, by what is kept of an instance (init(5), "kill timeout").
+use Rattle.std.specs.Prelude.{ℕ, Bool, ◌&&◌, is_some}
+use Rattle.up_stanza.specs.declared.process.Process.TheVariants.{Main}
+use Rattle.up_model.specs.Clock.{has_passed, is_killed, milliseconds}
+use Rattle.up_job.specs.declared.instance.Instance.{Instance}
+use Rattle.up_job.specs.Changes.{child_of}
+
+-- whether an instance is in killed and its main process lives
+abbrev pub is_dying : Instance → Bool
+is_dying instance = is_killed instance.state && is_some (child_of Main instance.children).pid
+
+-- whether the timer is to kill main
+abbrev pub is_overdue : (timeout today : ℕ) → Instance → Bool
+is_overdue timeout today instance =
+    is_dying instance && has_passed instance.kill_moment today (milliseconds timeout)

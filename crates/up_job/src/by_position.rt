@@ -1,0 +1,213 @@
+//! Instances by their keys. None of these calls allocates but `add_at`.
+ghost use Rattle.std.specs.Prelude.{◌≡◌, ◌<◌, length, map, OnOk, OnErr, IfOk, IfErr, option_map, IsSome, Some, None};
+ghost use Rattle.std.specs.Option.{option_copied};
+ghost use Rattle.std.specs.Borrow.{sem};
+ghost use Rattle.up_job.specs.Changes.{changed};
+ghost use Rattle.up_job.specs.InstanceLists.{max_instances, name_of, named, new_instance, refusal};
+ghost use Rattle.up_job.specs.JobLists.{changed_at, changed_in, instance_at, instances_at, key_of, position_at, removed_at, removed_in, with_made};
+ghost use Rattle.up_job.specs.Lending.{stop_on_of, LendsStopOnAt};
+ghost use Rattle.up_job.specs.Lists.{nth, with_at, position_in};
+ghost use Rattle.up_job.specs.Named as by_name;
+ghost use Rattle.up_job.specs.Unblocking.{unblocked_in};
+
+use crate::change::Change;
+use crate::fault::JobFault;
+use crate::instance::Instance;
+use crate::instance_key::InstanceKey;
+use crate::instances::{Instances, JobInstances};
+use up_marks::Trigger;
+use up_model::EventId;
+use up_stanza::Limit;
+
+fn at(jobs: &[JobInstances], key: InstanceKey) -> Option<&Instance>
+    ensures { option_copied result ≡ instance_at key jobs.now }
+{
+    match jobs.get(key.job) {
+        Some(job) => job.instances.get(key.at),
+        None => None,
+    }
+}
+
+fn change_in(job: &mut JobInstances, at: usize, its: Change)
+    ensures { job.new ≡ changed_in at (changed its) job.old }
+{
+    job.instances.change_at(at, its);
+}
+
+#[tactic(auto, using(crate::proofs::Places::set_with_at, crate::proofs::Places::none_with_at))]
+fn change_at(jobs: &mut Vec<JobInstances>, key: InstanceKey, its: Change)
+    ensures { jobs.new.items ≡ changed_at key (changed its) jobs.old.items }
+{
+    if key.job < jobs.len() {
+        change_in(&mut jobs[key.job], key.at, its);
+    } else {
+        drop(its);
+    }
+}
+
+fn remove_in(job: &mut JobInstances, at: usize) -> Option<Instance>
+    ensures taken { result ≡ nth at job.old.instances }
+    ensures rest { job.new ≡ removed_in at job.old }
+{
+    job.instances.remove_at(at)
+}
+
+#[tactic(auto, using(crate::proofs::Places::set_with_at, crate::proofs::Places::none_with_at))]
+fn remove_at(jobs: &mut Vec<JobInstances>, key: InstanceKey) -> Option<Instance>
+    ensures taken { result ≡ instance_at key jobs.old.items }
+    ensures rest { jobs.new.items ≡ removed_at key jobs.old.items }
+{
+    if key.job < jobs.len() {
+        remove_in(&mut jobs[key.job], key.at)
+    } else {
+        None
+    }
+}
+
+fn unblock_in(job: &mut JobInstances, id: EventId)
+    ensures { job.new ≡ unblocked_in id job.old }
+{
+    job.instances.unblock(id);
+}
+
+fn unblock(jobs: &mut Vec<JobInstances>, id: EventId)
+    ensures { jobs.new.items ≡ map (unblocked_in id) jobs.old.items }
+{
+    for i in 0..jobs.len() {
+        unblock_in(&mut jobs[i], id);
+    }
+}
+
+fn add_in(
+    job: &mut JobInstances,
+    name: &str,
+    limit: Limit,
+    stop_on: Trigger,
+) -> Result<usize, JobFault>
+    requires { named name.now job.old.instances ≡ None }
+    ensures added { OnOk result (job.new ≡ with_made (new_instance name.now limit stop_on) job.old) }
+    ensures position { IfOk result (λ at. at ≡ position_in name.now (map name_of job.old.instances)) }
+    ensures fits { OnOk result (length job.old.instances < max_instances) }
+    ensures refused { IfErr result (λ fault. fault ≡ refusal job.old.instances) }
+    ensures unchanged { OnErr result (job.new ≡ job.old) }
+{
+    job.instances.add(name, limit, stop_on)
+}
+
+#[tactic(auto, using(crate::proofs::Places::set_with_at, crate::proofs::Places::nth_get))]
+fn add_at(
+    jobs: &mut Vec<JobInstances>,
+    job: usize,
+    name: &str,
+    limit: Limit,
+    stop_on: Trigger,
+) -> Result<usize, JobFault>
+    requires { named name.now (instances_at job jobs.old.items) ≡ None }
+    ensures added { OnOk result (jobs.new.items
+        ≡ with_at job (with_made (new_instance name.now limit stop_on)) jobs.old.items) }
+    ensures position { IfOk result (λ at. at ≡ position_at name.now job jobs.old.items) }
+    ensures fits { OnOk result (length (instances_at job jobs.old.items) < max_instances) }
+    ensures refused { IfErr result (λ fault. fault ≡ refusal (instances_at job jobs.old.items)) }
+    ensures unchanged { OnErr result (jobs.new.items ≡ jobs.old.items) }
+{
+    if job < jobs.len() {
+        add_in(&mut jobs[job], name, limit, stop_on)
+    } else {
+        drop(stop_on);
+        Err(JobFault::Memory)
+    }
+}
+
+impl Instances {
+    /// How many instances a job has.
+    pub fn count(&self, job: usize) -> usize
+        ensures { result ≡ length (instances_at job self.now) }
+    {
+        match self.jobs.get(job) {
+            Some(job) => job.instances.len(),
+            None => 0,
+        }
+    }
+
+    /// An instance.
+    pub fn at(&self, key: InstanceKey) -> Option<&Instance>
+        ensures { option_copied result ≡ instance_at key self.now }
+    {
+        at(self.jobs.as_slice(), key)
+    }
+
+    /// Its name.
+    pub fn name_at(&self, key: InstanceKey) -> Option<&str>
+        ensures { option_copied result ≡ option_map name_of (instance_at key self.now) }
+    {
+        match self.at(key) {
+            Some(instance) => Some(instance.name.as_str()),
+            None => None,
+        }
+    }
+
+    /// The key of the instance that has this name.
+    pub fn position(&self, job: usize, name: &str) -> Option<InstanceKey>
+        ensures { result ≡ key_of job name.now self.now }
+    {
+        match self.jobs.get(job) {
+            Some(its) => match its.instances.position(name) {
+                Some(at) => Some(InstanceKey { job, at }),
+                None => None,
+            },
+            None => None,
+        }
+    }
+
+    /// An instance changes, if there is one.
+    pub fn change_at(&mut self, key: InstanceKey, its: Change)
+        ensures { self.new ≡ changed_at key (changed its) self.old }
+    {
+        change_at(&mut self.jobs, key, its);
+    }
+
+    /// Removes an instance, if there is one, and returns it.
+    pub fn remove_at(&mut self, key: InstanceKey) -> Option<Instance>
+        ensures taken { result ≡ instance_at key self.old }
+        ensures rest { self.new ≡ removed_at key self.old }
+    {
+        remove_at(&mut self.jobs, key)
+    }
+
+    /// Makes an instance, whose life begins; returns where it stands among those of its job. It is refused as
+    /// `add` refuses it, and for want of a job with `Memory`.
+    pub fn add_at(
+        &mut self,
+        job: usize,
+        name: &str,
+        limit: Limit,
+        stop_on: Trigger,
+    ) -> Result<usize, JobFault>
+        requires { named name.now (instances_at job self.old) ≡ None }
+        ensures added { OnOk result (self.new
+            ≡ with_at job (with_made (new_instance name.now limit stop_on)) self.old) }
+        ensures position { IfOk result (λ at. at ≡ position_at name.now job self.old) }
+        ensures fits { OnOk result (length (instances_at job self.old) < max_instances) }
+        ensures refused { IfErr result (λ fault. fault ≡ refusal (instances_at job self.old)) }
+        ensures unchanged { OnErr result (self.new ≡ self.old) }
+    {
+        add_at(&mut self.jobs, job, name, limit, stop_on)
+    }
+
+    /// What the `stop on` of an instance remembers.
+    pub fn stop_on_mut(&mut self, key: InstanceKey) -> &mut Trigger
+        requires { IsSome (instance_at key self.old) }
+        ensures* writes_back { sem 𝓛 (LendsStopOnAt self.entry key result) }
+        ensures value { Some result.now ≡ option_map stop_on_of (instance_at key self.old) }
+    {
+        let job = &mut self.jobs[key.job];
+        job.instances.stop_on_mut(key.at)
+    }
+
+    /// No instance waits for this event any more.
+    pub fn unblock(&mut self, event: EventId)
+        ensures { self.new ≡ map (unblocked_in event) self.old }
+    {
+        unblock(&mut self.jobs, event);
+    }
+}

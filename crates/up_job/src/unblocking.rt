@@ -1,0 +1,32 @@
+//! An event that finishes blocks nobody any more.
+ghost use Rattle.std.specs.Prelude.{◌≡◌, map};
+ghost use Rattle.up_job.specs.Unblocking.{is_event, unblocked};
+
+use crate::instance::Instance;
+use up_model::EventId;
+
+fn is_event(event: Option<EventId>, id: EventId) -> bool
+    ensures { result ≡ is_event id event }
+{
+    match event {
+        Some(other) => other.key == id.key,
+        None => false,
+    }
+}
+
+fn unblock(instance: &mut Instance, id: EventId)
+    ensures { instance.new ≡ unblocked id instance.old }
+{
+    if is_event(instance.blocker, id) {
+        instance.blocker = None;
+    }
+}
+
+/// None of these waits for this event any more.
+pub(crate) fn unblock_all(instances: &mut Vec<Instance>, id: EventId)
+    ensures { instances.new.items ≡ map (unblocked id) instances.old.items }
+{
+    for i in 0..instances.len() {
+        unblock(&mut instances[i], id);
+    }
+}
