@@ -1,21 +1,40 @@
 //! Instances of a few jobs.
-use std::alloc::Global;
+use std::alloc::{AllocError, Global};
 use std::test::Fail;
-use up_job::{Instances, JobFault, Life};
-use up_model::{Goal, State};
+use up_conf::Limit;
+use up_job::{Change, InstanceKey, Instances, JobFault, Moments};
+use up_marks::Trigger;
+use up_model::State;
 use up_text::Name;
 
-const LIMIT: u32 = 1024;
+const MAX: u32 = 1024;
+
+// Three respawns in five seconds.
+const LIMIT: Limit = Limit {
+    count: 3,
+    interval: 5,
+};
+
+const UNLIMITED: Limit = Limit {
+    count: 0,
+    interval: 5,
+};
 
 // Makes an instance that isn't there yet, and returns the number of its refusal, or 0.
-fn make(instances: &mut Instances, job: &Name, name: &str) -> u8 {
+fn make(
+    alloc: Global,
+    instances: &mut Instances,
+    job: &Name,
+    name: &str,
+) -> Result<u8, AllocError> {
     let there = instances.find(job, name).is_some();
     if there {
-        return 1;
+        return Ok(1);
     }
-    match instances.add(job, name) {
-        Ok(()) => 0,
-        Err(fault) => fault.number(),
+    let stop_on = Trigger::new(alloc, &None)?;
+    match instances.add(job, name, LIMIT, stop_on) {
+        Ok(()) => Ok(0),
+        Err(fault) => Ok(fault.number()),
     }
 }
 
@@ -29,20 +48,17 @@ fn remove(instances: &mut Instances, job: &Name, name: &str) -> bool {
 }
 
 // Lets an instance run, if it is there.
-fn run(alloc: Global, instances: &mut Instances, job: &Name, name: &str) -> bool {
+fn run(instances: &mut Instances, job: &Name, name: &str) -> bool {
     let there = instances.find(job, name).is_some();
     if there {
-        let mut life = Life::new(alloc);
-        life.goal = Goal::Start;
-        life.state = State::Running;
-        drop(instances.change(job, name, life));
+        instances.change(job, name, Change::Enters(State::Running));
     }
     there
 }
 
 fn state_of(instances: &Instances, job: &Name, name: &str) -> Option<State> {
     let instance = instances.find(job, name)?;
-    Some(instance.life.state)
+    Some(instance.state)
 }
 
 // Whether the instances of a job have these names, in this order.
@@ -58,9 +74,9 @@ fn are_named(instances: &Instances, job: &Name, names: &[&str]) -> bool {
 // As many instances of a job as it may have.
 fn full(alloc: Global, job: &Name) -> Result<Instances, Fail> {
     let mut instances = Instances::new(alloc);
-    for number in 0..LIMIT {
+    for number in 0..MAX {
         let name = format!(in alloc; "{number}")?;
-        make(&mut instances, job, name.as_str());
+        make(alloc, &mut instances, job, name.as_str())?;
     }
     Ok(instances)
 }
@@ -69,11 +85,11 @@ fn full(alloc: Global, job: &Name) -> Result<Instances, Fail> {
 fn instances_stand_in_byte_order(rt: HostRuntime) -> Result<(), Fail> {
     let job = Name::new(rt.alloc(), "job")?;
     let mut instances = Instances::new(rt.alloc());
-    make(&mut instances, &job, "b");
-    make(&mut instances, &job, "a");
-    make(&mut instances, &job, "c");
-    make(&mut instances, &job, "ab");
-    make(&mut instances, &job, "");
+    make(rt.alloc(), &mut instances, &job, "b")?;
+    make(rt.alloc(), &mut instances, &job, "a")?;
+    make(rt.alloc(), &mut instances, &job, "c")?;
+    make(rt.alloc(), &mut instances, &job, "ab")?;
+    make(rt.alloc(), &mut instances, &job, "")?;
     assert!(rt; are_named(&instances, &job, &["", "a", "ab", "b", "c"]));
     Ok(())
 }
@@ -84,8 +100,8 @@ fn a_full_job_leaves_others_room(rt: HostRuntime) -> Result<(), Fail> {
     let other = Name::new(rt.alloc(), "other")?;
     let mut instances = full(rt.alloc(), &job)?;
     let count = instances.of(&job).len();
-    let refused = make(&mut instances, &job, "one more");
-    let made = make(&mut instances, &other, "one more");
+    let refused = make(rt.alloc(), &mut instances, &job, "one more")?;
+    let made = make(rt.alloc(), &mut instances, &other, "one more")?;
     let counts = (instances.of(&job).len(), instances.of(&other).len());
     assert_eq!(rt; (count, refused, made, counts), (1024, 43, 0, (1024, 1)));
     Ok(())
@@ -96,9 +112,9 @@ fn a_removed_one_is_not_found(rt: HostRuntime) -> Result<(), Fail> {
     let job = Name::new(rt.alloc(), "job")?;
     let other = Name::new(rt.alloc(), "other")?;
     let mut instances = Instances::new(rt.alloc());
-    make(&mut instances, &job, "a");
-    make(&mut instances, &job, "b");
-    make(&mut instances, &other, "a");
+    make(rt.alloc(), &mut instances, &job, "a")?;
+    make(rt.alloc(), &mut instances, &job, "b")?;
+    make(rt.alloc(), &mut instances, &other, "a")?;
     let removed = remove(&mut instances, &job, "a");
     let found = (
         state_of(&instances, &job, "a"),
@@ -114,9 +130,9 @@ fn a_removed_one_is_not_found(rt: HostRuntime) -> Result<(), Fail> {
 fn a_changed_one_is_found_so(rt: HostRuntime) -> Result<(), Fail> {
     let job = Name::new(rt.alloc(), "job")?;
     let mut instances = Instances::new(rt.alloc());
-    make(&mut instances, &job, "a");
-    make(&mut instances, &job, "b");
-    let changed = run(rt.alloc(), &mut instances, &job, "b");
+    make(rt.alloc(), &mut instances, &job, "a")?;
+    make(rt.alloc(), &mut instances, &job, "b")?;
+    let changed = run(&mut instances, &job, "b");
     let found = (
         state_of(&instances, &job, "a"),
         state_of(&instances, &job, "b"),
@@ -125,6 +141,58 @@ fn a_changed_one_is_found_so(rt: HostRuntime) -> Result<(), Fail> {
         (changed, found),
         (true, (Some(State::Waiting), Some(State::Running)))
     );
+    Ok(())
+}
+
+// The place of a job's instance, of which the first job has none.
+fn place(instances: &Instances, name: &str) -> Option<usize> {
+    let key = instances.position(0, name)?;
+    Some(key.at)
+}
+
+#[test]
+fn keys_are_places_in_order(rt: HostRuntime) -> Result<(), Fail> {
+    let job = Name::new(rt.alloc(), "job")?;
+    let mut instances = Instances::new(rt.alloc());
+    make(rt.alloc(), &mut instances, &job, "a")?;
+    make(rt.alloc(), &mut instances, &job, "c")?;
+    let before = place(&instances, "c");
+    make(rt.alloc(), &mut instances, &job, "b")?;
+    let after = place(&instances, "c");
+    drop(instances.remove_at(InstanceKey { job: 0, at: 0 }));
+    let last = place(&instances, "c");
+    let places = (before, after, last, place(&instances, "a"));
+    assert_eq!(rt; places, (Some(1), Some(2), Some(1), None));
+    assert_eq!(rt; (instances.count(0), instances.count(1)), (2, 0));
+    Ok(())
+}
+
+#[test]
+fn the_respawn_limit_slides(rt: HostRuntime) -> Result<(), Fail> {
+    let mut moments = Moments::new(rt.alloc(), LIMIT)?;
+    moments.note(1000);
+    moments.note(2000);
+    let two = moments.may_respawn(LIMIT, 2000);
+    moments.note(3000);
+    let three = (
+        moments.may_respawn(LIMIT, 5999),
+        moments.may_respawn(LIMIT, 6000),
+    );
+    moments.note(6000);
+    let four = (
+        moments.may_respawn(LIMIT, 6000),
+        moments.may_respawn(LIMIT, 7000),
+    );
+    assert_eq!(rt; (two, three, four), (true, (false, true), (false, true)));
+    Ok(())
+}
+
+#[test]
+fn no_limit_counts_nothing(rt: HostRuntime) -> Result<(), Fail> {
+    let mut moments = Moments::new(rt.alloc(), UNLIMITED)?;
+    moments.note(1000);
+    moments.note(1000);
+    assert!(rt; moments.may_respawn(UNLIMITED, 1000));
     Ok(())
 }
 

@@ -1,5 +1,5 @@
 -- The instances of each job after a job changed or came.
-use Rattle.std.proofs.Common.{◌≡◌, ℕ, zero, suc, ◌+◌, ◌<◌, Bool, true, false, cond, ◌&&◌, List, [], ◌∷◌, ◌++◌, Option, None, Some, Result, Ok, Err, OnOk, OnErr, IsSome, option_map, map, length, get_or, set, insert, bytes_eq, refl, sym, ◌∙◌, ap, subst, true≢false}
+use Rattle.std.proofs.Common.{◌≡◌, ℕ, ◌<◌, Bool, true, false, cond, ◌&&◌, List, [], ◌∷◌, Option, None, Some, Result, Ok, Err, OnOk, OnErr, IsSome, option_map, map, length, get_or, set, insert, bytes_eq, refl, sym, ◌∙◌, ap, subst, true≢false}
 use Rattle.up_conf.specs.declared.job.JobDef.{JobDef}
 use Rattle.up_conf.specs.Order.{is_below}
 use Rattle.up_image.specs.Giving.{are_ascending}
@@ -12,7 +12,7 @@ use Rattle.up_job.specs.InstanceLists as list
 use Rattle.up_job.specs.Lists.{nth, with_at}
 use Rattle.up_job.specs.Named.{named, position, put, with_change, AreInOrder, IsBelowAll}
 use Rattle.up_job.specs.Unblocking.{unblocked_in}
-use Rattle.up_job.proofs.NamedLemmas.{below_trans, same_bytes, has_name, named_here, put_at, order_put, named_put, changed_here, order-names, names-with_change, named_changed}
+use Rattle.up_job.proofs.NamedLemmas.{below_trans, same_bytes, named_here, put_at, order_put, named_put, changed_here, order-names, names-with_change, named_changed}
 use Rattle.up_job.proofs.Places.{map-map, map-with_at, nth_get, nth_within}
 use Rattle.up_model.specs.Values.{Bytes}
 
@@ -133,5 +133,5 @@ order-unblocked id jobs = order-names job_of jobs (map (unblocked_in id) jobs) (
 -- jobs stay in order if one changes, or none where the change is refused
 pub order-if_ok : {A E : Type 0} (r : Result A E) (place : ℕ) (f : JobInstances → JobInstances) → ((x : JobInstances) → job_of (f x) ≡ job_of x) → (old new : List JobInstances)
     → OnOk r (new ≡ with_at place f old) → OnErr r (new ≡ old) → AreInOrder job_of old → AreInOrder job_of new
-order-if_ok (Ok x) place f same old new ok err order = subst (AreInOrder job_of) (sym ok) (order-with_at place f same old order)
-order-if_ok (Err e) place f same old new ok err order = subst (AreInOrder job_of) (sym err) order
+order-if_ok (Ok x) place f keeps old new ok err order = subst (AreInOrder job_of) (sym ok) (order-with_at place f keeps old order)
+order-if_ok (Err e) place f keeps old new ok err order = subst (AreInOrder job_of) (sym err) order

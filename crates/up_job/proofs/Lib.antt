@@ -3,3 +3,4 @@ pub mod Places
 pub mod InstanceLemmas
 pub mod JobLemmas
 pub mod MomentLemmas
+pub mod TimerLemmas

@@ -1,10 +1,10 @@
 -- What the moments that are kept say of all moments.
-use Rattle.std.proofs.Common.{◌≡◌, ℕ, zero, suc, ◌+◌, ◌-◌, ◌<◌, ◌≤◌, nat_lt, Bool, true, false, cond, ◌&&◌, ◌||◌, ◌==◌, List, [], ◌∷◌, take, count_by, refl, sym, ◌∙◌, ap, subst, arith, add-one}
+use Rattle.std.proofs.Common.{◌≡◌, ℕ, zero, suc, ◌+◌, ◌-◌, ◌<◌, ◌≤◌, nat_lt, Bool, true, false, cond, ◌&&◌, ◌||◌, ◌==◌, List, [], ◌∷◌, take, count_by, refl, sym, ◌∙◌, ap, arith}
 use Rattle.std.proofs.lemmas.Bool.{le-ltb, lt-ltb, ltb-false, ltb-true}
 use Rattle.std.proofs.lemmas.List.Sums.{sum_by-cons}
 use Rattle.circular_buffer.specs.Buffer.{buffer}
 use Rattle.up_stanza.specs.declared.limit.Limit.{Limit}
-use Rattle.up_model.specs.Chronicle.{Chronicle, Entry, Respawned}
+use Rattle.up_model.specs.Chronicle.{Chronicle, Respawned}
 use Rattle.up_model.specs.Clock.{is_unlimited, may_respawn, now, milliseconds, respawns}
 use Rattle.up_job.specs.Moments.{allows, moments_of, noted, recent, room, Falls}
 

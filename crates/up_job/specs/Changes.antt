@@ -1,5 +1,5 @@
 -- What becomes of an instance, one change at a time.
-use Rattle.std.specs.Prelude.{ℕ, Bool, true, false, List, Option, None, Some, if◌then◌else◌}
+use Rattle.std.specs.Prelude.{ℕ, Bool, true, false, Option, None, Some, if◌then◌else◌}
 use Rattle.up_stanza.specs.declared.process.Process.{Process}
 use Rattle.up_stanza.specs.declared.process.Process.TheVariants.{Main, PreStart, PostStart, PreStop, PostStop}
 use Rattle.up_model.specs.declared.state.Goal.TheVariants.{Start, Stop}
@@ -58,7 +58,10 @@ begun instance =
 
 abbrev pub entered : State → Instance → Instance
 entered state instance = record (if is_starting state then begun instance else instance) {
-  state = state; restarted = false; kill_moment = None }
+  state = state;
+  restarted = false;
+  kill_moment = None;
+}
 
 -- an instance after a change
 abbrev pub changed : Change → Instance → Instance

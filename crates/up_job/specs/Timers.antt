@@ -1,7 +1,9 @@
 -- When the timer kills main, by what is kept of an instance (init(5), "kill timeout").
-use Rattle.std.specs.Prelude.{ℕ, Bool, ◌&&◌, is_some}
+use Rattle.std.specs.Prelude.{◌≡◌, ℕ, Bool, ◌&&◌, is_some}
 use Rattle.up_stanza.specs.declared.process.Process.TheVariants.{Main}
-use Rattle.up_model.specs.Clock.{has_passed, is_killed, milliseconds}
+use Rattle.up_model.specs.Chronicle.{Chronicle}
+use Rattle.up_model.specs.Clock.{has_passed, is_killed, kill_moment, milliseconds}
+use Rattle.up_model.specs.Readings.{pid_of, state_of}
 use Rattle.up_job.specs.declared.instance.Instance.{Instance}
 use Rattle.up_job.specs.Changes.{child_of}
 
@@ -13,3 +15,9 @@ is_dying instance = is_killed instance.state && is_some (child_of Main instance.
 abbrev pub is_overdue : (timeout today : ℕ) → Instance → Bool
 is_overdue timeout today instance =
     is_dying instance && has_passed instance.kill_moment today (milliseconds timeout)
+
+-- what is kept of an instance is what the timer reads in a history
+pub record IsKept (place : ℕ) (c : Chronicle) (instance : Instance) : Type 0 where
+  pub state : instance.state ≡ state_of place c
+  pub main : (child_of Main instance.children).pid ≡ pid_of place Main c
+  pub moment : instance.kill_moment ≡ kill_moment place c

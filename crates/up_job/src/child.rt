@@ -6,14 +6,14 @@ ghost use Rattle.up_job.specs.InstanceLists.{idle};
 use up_model::Process;
 
 /// A process: whether it was ordered and not answered since, and its number while it lives.
-#[derive(Clone, Copy, Debug)]
+#[derive(Clone, Copy)]
 pub struct Child {
     pub awaited: bool,
     pub pid: Option<u32>,
 }
 
 /// The five processes of an instance.
-#[derive(Clone, Copy, Debug)]
+#[derive(Clone, Copy)]
 pub struct Children {
     pub main: Child,
     pub pre_start: Child,

@@ -2,7 +2,7 @@
 
 /// An instance that exists: of which job, and which of that job's instances, in byte order of their names. If
 /// a job gets or loses an instance, its others have new keys.
-#[derive(Clone, Copy, Debug)]
+#[derive(Clone, Copy)]
 pub struct InstanceKey {
     pub job: usize,
     pub at: usize,

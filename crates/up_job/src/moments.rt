@@ -82,7 +82,6 @@ impl Moments {
             → self.now.items ≡ take (room limit) (moments_of instance c)
             → Falls now (moments_of instance c) → result ≡ clock.may_respawn limit instance c }
     {
-        is_unlimited(limit)
-            || self.recent(now, milliseconds(limit.interval)) < limit.count as usize
+        is_unlimited(limit) || self.recent(now, milliseconds(limit.interval)) < limit.count as usize
     }
 }

@@ -1,7 +1,9 @@
 //! When the timer kills main.
-ghost use Rattle.std.specs.Prelude.{◌≡◌, is_some};
+ghost use Rattle.std.specs.Prelude.{◌≡◌, ℕ, is_some};
+ghost use Rattle.up_conf.specs.declared.job.JobDef.{JobDef as JobDefValue};
+ghost use Rattle.up_model.specs.Chronicle.{Chronicle};
 ghost use Rattle.up_model.specs.Clock as clock;
-ghost use Rattle.up_job.specs.Timers.{is_dying, is_overdue};
+ghost use Rattle.up_job.specs.Timers.{is_dying, is_overdue, IsKept};
 
 use crate::child::child_of;
 use crate::instance::Instance;
@@ -40,10 +42,18 @@ fn is_dying(instance: &Instance) -> bool
     is_killed(instance.state) && child_of(&instance.children, Process::Main).pid.is_some()
 }
 
-/// Whether the timer is to kill main of an instance, by the kill timeout of its job in seconds (init(5),
-/// `kill timeout`).
-pub fn is_overdue(instance: &Instance, timeout: u32, now: u64) -> bool
+fn overdue(instance: &Instance, timeout: u32, now: u64) -> bool
     ensures { result ≡ is_overdue timeout now instance.now }
 {
     is_dying(instance) && has_passed(instance.kill_moment, now, milliseconds(timeout))
+}
+
+/// Whether the timer is to kill main of an instance, by the kill timeout of its job in seconds (init(5),
+/// `kill timeout`).
+pub fn is_overdue(instance: &Instance, timeout: u32, now: u64) -> bool
+    ensures kept { result ≡ is_overdue timeout now instance.now }
+    ensures model { (job : JobDefValue) (i : ℕ) (c : Chronicle) → now ≡ clock.now c
+        → timeout ≡ job.kill_timeout → IsKept i c instance.now → result ≡ clock.kill_due job i c }
+{
+    overdue(instance, timeout, now)
 }

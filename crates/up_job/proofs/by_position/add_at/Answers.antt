@@ -1,4 +1,4 @@
-use Rattle.std.proofs.Common.{◌≡◌, arith, sym, ap, length, ◌<◌, ◌≤◌}
+use Rattle.std.proofs.Common.{arith, sym, ap, length, ◌<◌, ◌≤◌}
 use Rattle.up_job.specs.InstanceLists.{new_instance, refusal}
 use Rattle.up_job.specs.JobLists.{list_of, with_made}
 use Rattle.up_job.proofs.JobLemmas.{on_ok}

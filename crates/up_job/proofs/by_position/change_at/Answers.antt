@@ -1,4 +1,4 @@
-use Rattle.std.proofs.Common.{◌≡◌, arith, length, ◌<◌}
+use Rattle.std.proofs.Common.{arith, length, ◌<◌}
 use Rattle.up_job.specs.Changes.{changed}
 use Rattle.up_job.specs.JobLists.{changed_in}
 use Rattle.up_job.proofs.Places.{set_with_at}

@@ -1,4 +1,4 @@
-use Rattle.std.proofs.Common.{◌≡◌, arith, sym, ap, length, ◌<◌, ◌≤◌}
+use Rattle.std.proofs.Common.{arith, sym, ap, length, ◌<◌, ◌≤◌}
 use Rattle.up_job.specs.JobLists.{list_of, removed_in}
 use Rattle.up_job.specs.Lists.{nth}
 use Rattle.up_job.proofs.Places.{nth_none, set_with_at}

@@ -1,4 +1,4 @@
-use Rattle.std.proofs.Common.{◌≡◌, rules, arith, length, set, sym, ap, ◌∙◌}
+use Rattle.std.proofs.Common.{◌≡◌, rules, arith, length, ap}
 use Rattle.up_job.specs.Changes.{changed}
 use Rattle.up_job.specs.InstanceLists.{name_of}
 use Rattle.up_job.specs.Named as by_name

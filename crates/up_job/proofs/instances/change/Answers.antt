@@ -1,4 +1,4 @@
-use Rattle.std.proofs.Common.{◌≡◌, rules, arith, length, IsSome, subst, ap, ◌∙◌}
+use Rattle.std.proofs.Common.{◌≡◌, rules, arith, length, IsSome, subst, ap}
 use Rattle.up_job.specs.Changes.{changed}
 use Rattle.up_job.specs.JobLists.{job_of}
 use Rattle.up_job.specs.InstanceLists.{named, with_change}

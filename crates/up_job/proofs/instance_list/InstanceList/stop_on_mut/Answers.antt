@@ -1,4 +1,4 @@
-use Rattle.std.proofs.Common.{◌≡◌, ◌∙◌, refl, sym, ap, subst, length, ◌<◌, option_map}
+use Rattle.std.proofs.Common.{◌∙◌, refl, sym, ap, subst, length, ◌<◌, option_map}
 use Rattle.up_job.specs.InstanceLists.{IsInstanceList}
 use Rattle.up_job.specs.Lending.{stop_on_of, with_stop_on}
 use Rattle.up_job.specs.Lists.{nth, with_at}
@@ -14,11 +14,15 @@ invariant_of-self-lent c w =
 
 pub returns : goal.returns
 returns c =
-    let within : c.args.at < length c.self.inside.instances.items = rw c.self.view_is c.requires in
-    ((refl, λ w. set_with_at (with_stop_on w) c.args.at c.self.inside.instances.items c.index_mut-instance.result.now within c.index_mut-instance.ensures.value
-    ∙ ap (λ xs. with_at c.args.at (with_stop_on w) xs) c.self.view_is),
-    record {
-      writes_back = tt;
-      value = ap (λ o. option_map stop_on_of o) (sym (nth_get c.args.at c.self.inside.instances.items c.index_mut-instance.result.now within c.index_mut-instance.ensures.value))
-          ∙ ap (λ xs. option_map stop_on_of (nth c.args.at xs)) c.self.view_is;
-    })
+    let within : c.args.at < length c.self.inside.instances.items = rw c.self.view_is c.requires in (
+      (
+        refl,
+        λ w. set_with_at (with_stop_on w) c.args.at c.self.inside.instances.items c.index_mut-instance.result.now within c.index_mut-instance.ensures.value
+            ∙ ap (λ xs. with_at c.args.at (with_stop_on w) xs) c.self.view_is,
+      ),
+      record {
+        writes_back = tt;
+        value = ap (λ o. option_map stop_on_of o) (sym (nth_get c.args.at c.self.inside.instances.items c.index_mut-instance.result.now within c.index_mut-instance.ensures.value))
+            ∙ ap (λ xs. option_map stop_on_of (nth c.args.at xs)) c.self.view_is;
+      },
+    )

@@ -1,4 +1,4 @@
-use Rattle.std.proofs.Common.{◌≡◌, ◌∙◌, refl, ap, subst, sym, IsSome, option_map}
+use Rattle.std.proofs.Common.{◌∙◌, refl, ap, subst, sym, IsSome, option_map}
 use Rattle.up_job.specs.JobLists.{job_of, list_of, changed_in, changed_at, instance_at}
 use Rattle.up_job.specs.Lending.{stop_on_of, with_stop_on}
 use Rattle.up_job.specs.Lists.{nth}
@@ -19,12 +19,16 @@ returns c =
     let jobs = c.self.inside.jobs.items in
     let there : IsSome (instance_at c.args.key jobs) = subst (λ js. IsSome (instance_at c.args.key js)) (sym c.self.view_is) c.requires in
     let within = job_within c.args.key jobs there in
-    let job = c.index_mut-job.result.now in
-    ((refl, λ w. set_with_at (changed_in c.args.key.at (with_stop_on w)) c.args.key.job jobs job within c.index_mut-job.ensures.value
-    ∙ ap (λ js. changed_at c.args.key (with_stop_on w) js) c.self.view_is),
-    record {
-      writes_back = tt;
-      value = c.stop_on_mut.ensures.value
-          ∙ ap (λ o. option_map stop_on_of (nth c.args.key.at (list_of o))) (sym (nth_get c.args.key.job jobs job within c.index_mut-job.ensures.value))
-          ∙ ap (λ js. option_map stop_on_of (instance_at c.args.key js)) c.self.view_is;
-    })
+    let job = c.index_mut-job.result.now in (
+      (
+        refl,
+        λ w. set_with_at (changed_in c.args.key.at (with_stop_on w)) c.args.key.job jobs job within c.index_mut-job.ensures.value
+            ∙ ap (λ js. changed_at c.args.key (with_stop_on w) js) c.self.view_is,
+      ),
+      record {
+        writes_back = tt;
+        value = c.stop_on_mut.ensures.value
+            ∙ ap (λ o. option_map stop_on_of (nth c.args.key.at (list_of o))) (sym (nth_get c.args.key.job jobs job within c.index_mut-job.ensures.value))
+            ∙ ap (λ js. option_map stop_on_of (instance_at c.args.key js)) c.self.view_is;
+      },
+    )

@@ -1,0 +1,7 @@
+use Rattle.std.proofs.Common.{◌∙◌}
+use Rattle.up_job.proofs.TimerLemmas.{overdue_model}
+use Rattle.up_job.proofs.timer.is_overdue.Goals as goal
+
+pub returns-clause-model : goal.returns-clause-model
+returns-clause-model c job i c' today timeout kept =
+    c.overdue.ensures ∙ overdue_model job i c' c.args.timeout c.args.now c.args.instance.now today timeout kept
