@@ -36,11 +36,17 @@ fn folder_jobs(alloc: Global, folder: &Folder) -> Result<Jobs, AllocError> {
     let read = Ok(Items::new(Vec::new(alloc)));
     let printed = render_folder(alloc, folder, Env::new(alloc), "-", read)?;
     match compile(alloc, folder) {
-        Ok((table, _)) => Ok(Jobs {
-            printed,
-            table: Some(table),
-        }),
-        Err(CompileError::Memory) => Err(AllocError),
+        Ok((table, report)) => {
+            drop(report);
+            Ok(Jobs {
+                printed,
+                table: Some(table),
+            })
+        }
+        Err(CompileError::Memory) => {
+            drop(printed);
+            Err(AllocError)
+        }
         Err(_) => no_run(Ok(printed)),
     }
 }
@@ -68,7 +74,11 @@ fn read_folder<R: Files + AllocGlobal + Clone + Drop>(
     dir: &str,
 ) -> Result<Jobs, AllocError> {
     match walk(rt, dir) {
-        Ok(folder) => folder_jobs(rt.alloc(), &folder),
+        Ok(folder) => {
+            let jobs = folder_jobs(rt.alloc(), &folder);
+            drop(folder);
+            jobs
+        }
         Err(WalkError::Unusable(path)) => no_run(cannot_use(rt.alloc(), path.as_str())),
         Err(WalkError::Memory) => Err(AllocError),
     }

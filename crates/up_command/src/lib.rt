@@ -2,6 +2,7 @@
 #![tactic(auto)]
 
 pub mod answer;
+mod arguments;
 pub mod command;
 pub mod disk;
 pub mod image;

@@ -16,7 +16,7 @@ const SHORT_PAUSES: u64 = 8;
 pub(crate) const SHORT_PAUSE: u64 = 100;
 
 /// How long a run pauses: a moment right after something happened, and longer the longer nothing does.
-#[derive(Clone, Copy, Debug, PartialEq, Eq)]
+#[derive(Clone, Copy)]
 pub(crate) struct Pace {
     // how many rounds did nothing since one did something
     quiet: u64,

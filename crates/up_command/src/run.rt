@@ -24,7 +24,7 @@ use up_text::{Env, Name};
 const SEARCHED: &str = "/usr/sbin:/usr/bin:/sbin:/bin";
 
 /// The rounds of a run, and its pauses.
-#[derive(Clone, Copy, Debug, PartialEq, Eq)]
+#[derive(Clone, Copy, PartialEq, Eq)]
 pub struct Rounds {
     /// How many rounds there are.
     pub count: u32,
@@ -52,18 +52,38 @@ fn first_inputs(alloc: Global) -> Result<Vec<Input>, AllocError> {
     Ok(inputs)
 }
 
+fn engine_over(alloc: Global, table: Table) -> Result<Engine, AllocError> {
+    match base(alloc) {
+        Ok(base) => Engine::new(alloc, table, base),
+        Err(refused) => {
+            drop(table);
+            Err(refused)
+        }
+    }
+}
+
+// The engine is fed its first inputs. What its run gave has no reader yet.
+fn feed(engine: &mut Engine, inputs: Vec<Input>) -> Result<(), AllocError> {
+    let Ok(run) = engine.run(inputs) else {
+        return Err(AllocError);
+    };
+    let down = run.down;
+    drop(run);
+    if down { Err(AllocError) } else { Ok(()) }
+}
+
 // A daemon over these jobs, whose engine was fed these inputs.
 fn started(alloc: Global, table: Table, inputs: Vec<Input>) -> Result<Daemon, AllocError> {
-    let mut engine = Engine::new(alloc, table, base(alloc)?)?;
-    match engine.run(inputs) {
-        Ok(run) => {
-            if run.down {
-                return Err(AllocError);
-            }
-            drop(run);
-            Ok(Daemon::new(alloc, engine))
+    let Ok(mut engine) = engine_over(alloc, table) else {
+        drop(inputs);
+        return Err(AllocError);
+    };
+    match feed(&mut engine, inputs) {
+        Ok(()) => Ok(Daemon::new(alloc, engine)),
+        Err(refused) => {
+            drop(engine);
+            Err(refused)
         }
-        Err(_) => Err(AllocError),
     }
 }
 
@@ -121,6 +141,41 @@ fn unusable(rt: &(impl Print + AllocGlobal), path: &str) -> io::Result<ExitStatu
     print(rt, cannot_use(rt.alloc(), path))
 }
 
+// A daemon over jobs, with the first inputs in the record.
+fn first_daemon<R: Eprint + AllocGlobal, W: Write + Drop>(
+    rt: &R,
+    table: Table,
+    teller: &mut Teller<W>,
+) -> Result<Daemon, AllocError> {
+    match first_inputs(rt.alloc()) {
+        Ok(inputs) => {
+            teller.note(rt, rt.alloc(), inputs.as_slice(), false);
+            started(rt.alloc(), table, inputs)
+        }
+        Err(refused) => {
+            drop(table);
+            Err(refused)
+        }
+    }
+}
+
+// The rounds of a daemon with the system's processes, and the status.
+fn serve_with<R: Processes + Clock + Print + Eprint + AllocGlobal + Clone + Drop, W: Write + Drop>(
+    rt: &R,
+    daemon: &mut Daemon,
+    door: &mut UnixDoor,
+    rounds: Rounds,
+    teller: &mut Teller<W>,
+) -> io::Result<ExitStatus> {
+    let Ok(mut host) = RealHost::new(rt.alloc(), rt.clone()?) else {
+        return unusable(rt, "the clock");
+    };
+    let status = all_rounds(rt, daemon, &mut host, door, rounds, teller);
+    teller.finish(rt);
+    drop(host);
+    Ok(status)
+}
+
 // The rounds over jobs with the system's processes, and the status.
 fn serve<R: Processes + Clock + Print + Eprint + AllocGlobal + Clone + Drop, W: Write + Drop>(
     rt: &R,
@@ -129,15 +184,22 @@ fn serve<R: Processes + Clock + Print + Eprint + AllocGlobal + Clone + Drop, W: 
     rounds: Rounds,
     teller: &mut Teller<W>,
 ) -> io::Result<ExitStatus> {
-    let inputs = first_inputs(rt.alloc())?;
-    teller.note(rt, rt.alloc(), inputs.as_slice(), false);
-    let mut daemon = started(rt.alloc(), table, inputs)?;
-    let Ok(mut host) = RealHost::new(rt.alloc(), rt.clone()?) else {
-        return unusable(rt, "the clock");
-    };
-    let status = all_rounds(rt, &mut daemon, &mut host, door, rounds, teller);
-    teller.finish(rt);
-    Ok(status)
+    let mut daemon = first_daemon(rt, table, teller)?;
+    let served = serve_with(rt, &mut daemon, door, rounds, teller);
+    drop(daemon);
+    served
+}
+
+// What is said of a socket that isn't made, and the status.
+fn no_socket(
+    rt: &(impl Print + AllocGlobal),
+    socket: &str,
+    fault: SocketFault,
+) -> io::Result<ExitStatus> {
+    match fault {
+        SocketFault::Memory => Ok(ExitStatus::Memory),
+        _ => unusable(rt, socket),
+    }
 }
 
 // The rounds over jobs, with a socket that is made before the first.
@@ -152,9 +214,15 @@ where
     R: Files + Net + Processes + Clock + Print + Eprint + AllocGlobal + Clone + Drop,
 {
     match UnixDoor::bind(rt, rt.alloc(), socket) {
-        Ok(mut door) => serve(rt, table, &mut door, rounds, teller),
-        Err(SocketFault::Memory) => Ok(ExitStatus::Memory),
-        Err(_) => unusable(rt, socket),
+        Ok(mut door) => {
+            let served = serve(rt, table, &mut door, rounds, teller);
+            drop(door);
+            served
+        }
+        Err(fault) => {
+            drop(table);
+            no_socket(rt, socket, fault)
+        }
     }
 }
 
@@ -169,6 +237,25 @@ fn open_log<R: Files>(rt: &R, log: Option<&str>) -> Option<Option<R::File>> {
     }
 }
 
+// What tells of a run, once the file of its record is there; none if that can't be made.
+fn teller_of<R: Files + AllocGlobal>(
+    rt: &R,
+    source: &str,
+    telling: Telling,
+) -> Result<Option<Teller<R::File>>, AllocError> {
+    let Some(file) = open_log(rt, telling.log) else {
+        return Ok(None);
+    };
+    let path = telling.log.unwrap_or("-");
+    match log_head(rt.alloc(), source, path, SEARCHED) {
+        Ok(head) => Ok(Some(Teller::new(telling.verbose, file, head))),
+        Err(refused) => {
+            drop(file);
+            Err(refused)
+        }
+    }
+}
+
 // The run over jobs, once the file of its record is there.
 fn run_jobs<R>(
     rt: &R,
@@ -180,13 +267,48 @@ fn run_jobs<R>(
 where
     R: Files + Net + Processes + Clock + Print + Eprint + AllocGlobal + Clone + Drop,
 {
-    let path = telling.log.unwrap_or("-");
-    let Some(file) = open_log(rt, telling.log) else {
-        return unusable(rt, path);
+    match teller_of(rt, source, telling) {
+        Ok(Some(mut teller)) => {
+            let served = run_table(rt, table, socket, rounds, &mut teller);
+            drop(teller);
+            served
+        }
+        Ok(None) => {
+            drop(table);
+            unusable(rt, telling.log.unwrap_or("-"))
+        }
+        Err(refused) => {
+            drop(table);
+            Err(io::Error::from(refused))
+        }
+    }
+}
+
+// The run over the jobs that were found, if there are some and what is printed before it was, and the status.
+fn run_found<R>(
+    rt: &R,
+    table: Option<Table>,
+    printed: ExitStatus,
+    (source, socket): (&str, &str),
+    rounds: Rounds,
+    telling: Telling,
+) -> io::Result<ExitStatus>
+where
+    R: Files + Net + Processes + Clock + Print + Eprint + AllocGlobal + Clone + Drop,
+{
+    let Some(table) = table else {
+        return Ok(printed);
     };
-    let head = log_head(rt.alloc(), source, path, SEARCHED)?;
-    let mut teller = Teller::new(telling.verbose, file, head);
-    run_table(rt, table, socket, rounds, &mut teller)
+    if printed != ExitStatus::Done && printed != ExitStatus::Failed {
+        drop(table);
+        return Ok(printed);
+    }
+    let status = run_jobs(rt, table, (source, socket), rounds, telling)?;
+    if status == ExitStatus::Done {
+        Ok(printed)
+    } else {
+        Ok(status)
+    }
 }
 
 /// Reads the jobs of a folder or of an image, prints the faults of a folder's files, makes the socket, and does the rounds. Returns the
@@ -200,19 +322,11 @@ pub fn run_source<R: Files + Net + Processes + Clock + Print + Eprint + AllocGlo
     telling: Telling,
 ) -> io::Result<ExitStatus> {
     let jobs = read_jobs(rt, source)?;
-    let found = print(rt, Ok(jobs.printed))?;
-    match jobs.table {
-        Some(table) => {
-            if found != ExitStatus::Done && found != ExitStatus::Failed {
-                return Ok(found);
-            }
-            let status = run_jobs(rt, table, (source, socket), rounds, telling)?;
-            if status == ExitStatus::Done {
-                Ok(found)
-            } else {
-                Ok(status)
-            }
+    match print(rt, Ok(jobs.printed)) {
+        Ok(printed) => run_found(rt, jobs.table, printed, (source, socket), rounds, telling),
+        Err(error) => {
+            drop(jobs.table);
+            Err(error)
         }
-        None => Ok(found),
     }
 }

@@ -15,7 +15,7 @@ use up_text::Items;
 const MOST_WAITING: usize = 65_536;
 
 /// What is told of a run.
-#[derive(Clone, Copy, Debug, PartialEq, Eq)]
+#[derive(Clone, Copy, PartialEq, Eq)]
 pub struct Telling<'a> {
     /// Whether standard output gets the lines that a replay prints.
     pub verbose: bool,

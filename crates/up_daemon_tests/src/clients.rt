@@ -1,9 +1,9 @@
 //! Rounds with clients at a door that plays a script.
-use crate::stage::{ON_GO, daemon, door, host, same};
-use std::alloc::Global;
+use crate::stage::{Scene, door, host, make_scene, same};
+use std::alloc::{AllocError, Global};
 use std::test::Fail;
-use up_daemon::{Daemon, Door, Passed, ScriptDoor, Visitor};
-use up_host::ScriptHost;
+use up_daemon::{Door, Passed, ScriptDoor, Visitor};
+use up_host::{Failure, ScriptHost};
 use up_text::Items;
 
 /// The request `reload a`, which is refused at once.
@@ -12,9 +12,6 @@ const RELOAD: [u8; 11] = [0, 0, 0, 7, 7, 0, 0, 1, 97, 0, 0];
 /// The bytes of its answer.
 const ANSWERED: usize = 26;
 
-/// A frame whose length is over the limit.
-const TOO_LARGE: [u8; 4] = [0, 1, 0, 1];
-
 /// What a client does at one read.
 #[derive(Clone, Copy)]
 pub(crate) enum Said<'a> {
@@ -22,13 +19,11 @@ pub(crate) enum Said<'a> {
     Nothing,
 }
 
-/// A client that says these pieces, and whose writes take so many bytes.
-pub(crate) fn visitor(
+fn push_pieces(
     alloc: Global,
+    pieces: &mut Vec<Option<Items<u8>>>,
     says: &[Said<'_>],
-    takes: &[usize],
-) -> Result<Option<Visitor>, Fail> {
-    let mut pieces: Vec<Option<Items<u8>>> = Vec::new(alloc);
+) -> Result<(), AllocError> {
     for said in says {
         match said {
             Said::Bytes(bytes) => {
@@ -38,8 +33,33 @@ pub(crate) fn visitor(
             Said::Nothing => pieces.push(None)?,
         }
     }
+    Ok(())
+}
+
+// A client that says these pieces, and whose writes take so many bytes.
+fn visitor(alloc: Global, says: &[Said<'_>], takes: &[usize]) -> Result<Visitor, AllocError> {
     let takes = Vec::from_slice(alloc, takes)?;
-    Ok(Some(Visitor::new(pieces, takes)))
+    let mut pieces: Vec<Option<Items<u8>>> = Vec::new(alloc);
+    match push_pieces(alloc, &mut pieces, says) {
+        Ok(()) => Ok(Visitor::new(pieces, takes)),
+        Err(refused) => {
+            drop(pieces);
+            drop(takes);
+            Err(refused)
+        }
+    }
+}
+
+/// One client more that comes.
+pub(crate) fn push_client(
+    alloc: Global,
+    visits: &mut Vec<Option<Visitor>>,
+    says: &[Said<'_>],
+    takes: &[usize],
+) -> Result<(), AllocError> {
+    let visitor = visitor(alloc, says, takes)?;
+    visits.push(Some(visitor))?;
+    Ok(())
 }
 
 /// The request of a client.
@@ -62,105 +82,149 @@ fn add(sum: Passing, entry: &Passed) -> Passing {
     }
 }
 
-/// What passes at the door in one round.
-pub(crate) fn pass(
-    daemon: &mut Daemon,
-    host: &mut ScriptHost,
-    door: &mut ScriptDoor,
-) -> Result<Passing, Fail> {
-    let round = daemon.round(host, door)?;
-    drop(round);
+// What passed at the door in its last round.
+fn passed(door: &ScriptDoor) -> Passing {
     let mut sum: Passing = (0, 0, 0);
     for entry in door.happened() {
         sum = add(sum, entry);
     }
-    Ok(sum)
+    sum
 }
 
-// Some rounds with one client, and what passes in each.
-fn check(
-    alloc: Global,
-    says: &[Said<'_>],
-    takes: &[usize],
-    expected: &[Passing],
-) -> Result<(), Fail> {
-    let mut daemon = daemon(alloc, ON_GO)?;
-    let mut host = host(alloc, &[100], Vec::new(alloc), &[])?;
-    let mut visits: Vec<Option<Visitor>> = Vec::new(alloc);
-    visits.push(visitor(alloc, says, takes)?)?;
-    let mut door = door(alloc, visits, &[])?;
+/// What passes at the door in one round.
+pub(crate) fn pass(scene: &mut Scene) -> Result<Passing, Fail> {
+    let round = scene.daemon.round(&mut scene.host, &mut scene.door)?;
+    drop(round);
+    Ok(passed(&scene.door))
+}
+
+/// A host with one process.
+pub(crate) fn one_process(alloc: Global) -> Result<ScriptHost, AllocError> {
+    host(alloc, &[100], Vec::new(alloc), &[])
+}
+
+// Some rounds, and what passes in each.
+fn check_rounds(scene: &mut Scene, name: &str, expected: &[Passing]) -> Result<(), Fail> {
     for passing in expected {
-        let found = pass(&mut daemon, &mut host, &mut door)?;
-        same("what passes", found, *passing)?;
+        let found = pass(scene)?;
+        same(name, found, *passing)?;
     }
     Ok(())
 }
 
-#[test]
-fn a_request_is_answered_in_its_round(rt: HostRuntime) -> Result<(), Fail> {
-    check(rt.alloc(), &[asks()], &[], &[(1, ANSWERED, 0), (0, 0, 0)])
+fn check(
+    alloc: Global,
+    name: &str,
+    door: Result<ScriptDoor, AllocError>,
+    expected: &[Passing],
+) -> Result<(), Fail> {
+    let mut scene = make_scene(alloc, one_process(alloc), door)?;
+    let checked = check_rounds(&mut scene, name, expected);
+    drop(scene);
+    checked
 }
 
-#[test]
-fn half_a_frame_waits_for_the_rest(rt: HostRuntime) -> Result<(), Fail> {
-    let says = [
-        Said::Bytes(&RELOAD[..5]),
-        Said::Nothing,
-        Said::Bytes(&RELOAD[5..]),
-    ];
-    check(
-        rt.alloc(),
-        &says,
-        &[],
-        &[(1, 0, 0), (0, 0, 0), (0, ANSWERED, 0)],
-    )
-}
-
-#[test]
-fn a_frame_that_is_too_large_closes_its_client(rt: HostRuntime) -> Result<(), Fail> {
-    let says = [Said::Bytes(&TOO_LARGE)];
-    check(rt.alloc(), &says, &[], &[(1, 0, 1), (0, 0, 0)])
-}
-
-#[test]
-fn an_end_of_input_closes_its_client(rt: HostRuntime) -> Result<(), Fail> {
-    let says = [Said::Bytes(&[])];
-    check(rt.alloc(), &says, &[], &[(1, 0, 1), (0, 0, 0)])
-}
-
-#[test]
-fn bytes_wait_for_a_client_that_does_not_read(rt: HostRuntime) -> Result<(), Fail> {
-    let says = [asks()];
-    let expected = [(1, 0, 0), (0, 0, 0), (0, 20, 0), (0, 6, 0), (0, 0, 0)];
-    check(rt.alloc(), &says, &[0, 0, 20], &expected)
-}
-
-#[test]
-fn a_client_that_goes_while_bytes_wait_loses_them(rt: HostRuntime) -> Result<(), Fail> {
-    let says = [asks(), Said::Bytes(&[])];
-    check(rt.alloc(), &says, &[0], &[(1, 0, 0), (0, 0, 1), (0, 0, 0)])
-}
-
-// Sixty-five clients, of whom the first goes in the second round.
-fn try_many(alloc: Global) -> Result<(), Fail> {
-    let mut daemon = daemon(alloc, ON_GO)?;
-    let mut host = host(alloc, &[100], Vec::new(alloc), &[])?;
-    let mut visits: Vec<Option<Visitor>> = Vec::new(alloc);
-    let goes = [Said::Nothing, Said::Bytes(&[])];
-    visits.push(visitor(alloc, &goes, &[])?)?;
-    for _ in 0..64u32 {
-        visits.push(visitor(alloc, &[asks()], &[])?)?;
+/// A door to which these clients come, unless one of them couldn't be made.
+pub(crate) fn door_of(
+    alloc: Global,
+    visits: Vec<Option<Visitor>>,
+    made: Result<(), AllocError>,
+    failures: &[Failure],
+) -> Result<ScriptDoor, AllocError> {
+    match made {
+        Ok(()) => door(alloc, visits, failures),
+        Err(refused) => {
+            drop(visits);
+            Err(refused)
+        }
     }
-    let mut door = door(alloc, visits, &[])?;
-    let first = pass(&mut daemon, &mut host, &mut door)?;
-    same("the first round", first, (64, 63 * ANSWERED, 0))?;
-    let second = pass(&mut daemon, &mut host, &mut door)?;
-    same("the second round", second, (0, 0, 1))?;
-    let third = pass(&mut daemon, &mut host, &mut door)?;
-    same("the third round", third, (1, ANSWERED, 0))
 }
+
+// A door to which one client comes.
+fn one_client(alloc: Global, says: &[Said<'_>], takes: &[usize]) -> Result<ScriptDoor, AllocError> {
+    let mut visits: Vec<Option<Visitor>> = Vec::new(alloc);
+    let made = push_client(alloc, &mut visits, says, takes);
+    door_of(alloc, visits, made, &[])
+}
+
+// What one client says and takes, and what passes in each round.
+struct Case {
+    name: &'static str,
+    says: &'static [Said<'static>],
+    takes: &'static [usize],
+    expected: &'static [Passing],
+}
+
+static CASES: [Case; 6] = [
+    Case {
+        name: "a request is answered in its round",
+        says: &[Said::Bytes(&RELOAD)],
+        takes: &[],
+        expected: &[(1, ANSWERED, 0), (0, 0, 0)],
+    },
+    Case {
+        name: "half a frame waits for the rest",
+        says: &[
+            Said::Bytes(&[0, 0, 0, 7, 7]),
+            Said::Nothing,
+            Said::Bytes(&[0, 0, 1, 97, 0, 0]),
+        ],
+        takes: &[],
+        expected: &[(1, 0, 0), (0, 0, 0), (0, ANSWERED, 0)],
+    },
+    Case {
+        name: "a frame whose length is over the limit closes its client",
+        says: &[Said::Bytes(&[0, 1, 0, 1])],
+        takes: &[],
+        expected: &[(1, 0, 1), (0, 0, 0)],
+    },
+    Case {
+        name: "an end of input closes its client",
+        says: &[Said::Bytes(&[])],
+        takes: &[],
+        expected: &[(1, 0, 1), (0, 0, 0)],
+    },
+    Case {
+        name: "bytes wait for a client that does not read",
+        says: &[Said::Bytes(&RELOAD)],
+        takes: &[0, 0, 20],
+        expected: &[(1, 0, 0), (0, 0, 0), (0, 20, 0), (0, 6, 0), (0, 0, 0)],
+    },
+    Case {
+        name: "a client that goes while bytes wait loses them",
+        says: &[Said::Bytes(&RELOAD), Said::Bytes(&[])],
+        takes: &[0],
+        expected: &[(1, 0, 0), (0, 0, 1), (0, 0, 0)],
+    },
+];
+
+#[test]
+fn one_client_is_read_answered_and_closed(rt: HostRuntime) -> Result<(), Fail> {
+    for case in &CASES {
+        let door = one_client(rt.alloc(), case.says, case.takes);
+        check(rt.alloc(), case.name, door, case.expected)?;
+    }
+    Ok(())
+}
+
+fn push_many(alloc: Global, visits: &mut Vec<Option<Visitor>>) -> Result<(), AllocError> {
+    push_client(alloc, visits, &[Said::Nothing, Said::Bytes(&[])], &[])?;
+    for _ in 0..64u32 {
+        push_client(alloc, visits, &[asks()], &[])?;
+    }
+    Ok(())
+}
+
+// A door to which sixty-five clients come, of whom the first goes in the second round.
+fn many_clients(alloc: Global) -> Result<ScriptDoor, AllocError> {
+    let mut visits: Vec<Option<Visitor>> = Vec::new(alloc);
+    let made = push_many(alloc, &mut visits);
+    door_of(alloc, visits, made, &[])
+}
+
+static MANY: [Passing; 3] = [(64, 63 * ANSWERED, 0), (0, 0, 1), (1, ANSWERED, 0)];
 
 #[test]
 fn the_sixty_fifth_client_waits_until_one_goes(rt: HostRuntime) -> Result<(), Fail> {
-    try_many(rt.alloc())
+    check(rt.alloc(), "what passes", many_clients(rt.alloc()), &MANY)
 }

@@ -1,29 +1,45 @@
 //! Rounds over doors that fail.
-use crate::clients::{Passing, Said, asks, pass, visitor};
-use crate::stage::{ON_GO, daemon, door, host, same};
-use std::alloc::Global;
+use crate::clients::{Passing, Said, asks, door_of, one_process, pass, push_client};
+use crate::stage::{Scene, make_scene, same};
+use std::alloc::{AllocError, Global};
 use std::test::Fail;
-use up_daemon::{Door, Visitor};
+use up_daemon::{Door, ScriptDoor, Visitor};
 use up_host::Failure;
 
-// What passes in six rounds when calls fail: of two clients each asks once, and the second goes then.
-fn passing(alloc: Global, failure: Failure) -> Result<(Passing, u64), Fail> {
-    let mut daemon = daemon(alloc, ON_GO)?;
-    let mut host = host(alloc, &[100], Vec::new(alloc), &[])?;
+// Two clients of whom each asks once; the second goes then.
+fn push_two(alloc: Global, visits: &mut Vec<Option<Visitor>>) -> Result<(), AllocError> {
+    push_client(alloc, visits, &[asks()], &[])?;
+    push_client(alloc, visits, &[asks(), Said::Bytes(&[])], &[])
+}
+
+// A door to which they come, and at which calls fail.
+fn failing_door(alloc: Global, failure: Failure) -> Result<ScriptDoor, AllocError> {
     let mut visits: Vec<Option<Visitor>> = Vec::new(alloc);
-    visits.push(visitor(alloc, &[asks()], &[])?)?;
-    visits.push(visitor(alloc, &[asks(), Said::Bytes(&[])], &[])?)?;
-    let mut door = door(alloc, visits, &[failure])?;
+    let made = push_two(alloc, &mut visits);
+    door_of(alloc, visits, made, &[failure])
+}
+
+// What passes in six rounds.
+fn six_rounds(scene: &mut Scene) -> Result<Passing, Fail> {
     let mut sum: Passing = (0, 0, 0);
     for _ in 0..6u32 {
-        let found = pass(&mut daemon, &mut host, &mut door)?;
+        let found = pass(scene)?;
         sum = (
             sum.0.saturating_add(found.0),
             sum.1.saturating_add(found.1),
             sum.2.saturating_add(found.2),
         );
     }
-    Ok((sum, door.faults()))
+    Ok(sum)
+}
+
+// What passes in six rounds when calls fail, and how many failed.
+fn passing(alloc: Global, failure: Failure) -> Result<(Passing, u64), Fail> {
+    let mut scene = make_scene(alloc, one_process(alloc), failing_door(alloc, failure))?;
+    let sum = six_rounds(&mut scene);
+    let faults = scene.door.faults();
+    drop(scene);
+    Ok((sum?, faults))
 }
 
 // The calls of the first round: three accepts, two reads and two writes.

@@ -6,46 +6,117 @@ use up_conf::Folder;
 use up_daemon::{Daemon, Round, ScriptDoor, Visitor};
 use up_engine::Engine;
 use up_host::{Failure, Script, ScriptHost};
-use up_image::compile;
+use up_image::{Table, compile};
 use up_model::{Event, How, Input, Output, Process, Who};
 use up_replay::push_output;
 use up_text::{Env, Items, Name, Text};
 
-/// A job that an event starts.
-pub(crate) const ON_GO: &str = "start on go\nexec /bin/d\n";
+// A job that an event starts.
+const ON_GO: &str = "start on go\nexec /bin/d\n";
 
 /// The end of a process.
 pub(crate) type End = (Who, Process, How);
 
-fn engine(alloc: Global, file: &str) -> Result<Engine, Fail> {
-    let mut folder = Folder::new(alloc);
+fn add_job(alloc: Global, folder: &mut Folder, file: &str) -> Result<(), Fail> {
     let path = Text::from_str(alloc, "a.conf")?;
     let bytes = Vec::from_slice(alloc, file.as_bytes())?;
     folder.add(path, Items::new(bytes))?;
-    let (table, _) = compile(alloc, &folder)?;
-    let engine = Engine::new(alloc, table, Env::new(alloc))?;
-    Ok(engine)
+    Ok(())
 }
 
-/// A daemon of a folder with this job file alone, to which the event `go` has happened.
-pub(crate) fn daemon(alloc: Global, file: &str) -> Result<Daemon, Fail> {
-    let mut engine = engine(alloc, file)?;
-    let go = Event {
-        name: Name::new(alloc, "go")?,
-        vars: Env::new(alloc),
+fn compiled(alloc: Global, folder: &Folder) -> Result<Table, Fail> {
+    let (table, report) = compile(alloc, folder)?;
+    drop(report);
+    Ok(table)
+}
+
+// The table of a folder with this job file alone. The folder is dropped by a call, as are hosts and doors below: the prover would go through
+// each field of what a scope drops.
+fn table_of(alloc: Global, file: &str) -> Result<Table, Fail> {
+    let mut folder = Folder::new(alloc);
+    let table = match add_job(alloc, &mut folder, file) {
+        Ok(()) => compiled(alloc, &folder),
+        Err(fail) => Err(fail),
     };
-    let outputs = engine.step(Input::Emit(go))?;
+    drop(folder);
+    table
+}
+
+fn engine(alloc: Global, file: &str) -> Result<Engine, Fail> {
+    let table = table_of(alloc, file)?;
+    Ok(Engine::new(alloc, table, Env::new(alloc))?)
+}
+
+// The event `go` happens.
+fn emit_go(alloc: Global, engine: &mut Engine) -> Result<(), Fail> {
+    let name = Name::new(alloc, "go")?;
+    let vars = Env::new(alloc);
+    let outputs = engine.step(Input::Emit(Event { name, vars }))?;
     drop(outputs);
-    Ok(Daemon::new(alloc, engine))
+    Ok(())
+}
+
+// A daemon of the job, to which the event `go` has happened.
+fn daemon(alloc: Global) -> Result<Daemon, Fail> {
+    let mut engine = engine(alloc, ON_GO)?;
+    match emit_go(alloc, &mut engine) {
+        Ok(()) => Ok(Daemon::new(alloc, engine)),
+        Err(fail) => {
+            drop(engine);
+            Err(fail)
+        }
+    }
+}
+
+/// A daemon with its host and its door.
+#[derive(Drop)]
+pub(crate) struct Scene {
+    pub(crate) daemon: Daemon,
+    pub(crate) host: ScriptHost,
+    pub(crate) door: ScriptDoor,
+}
+
+// Both values, or that memory ran out if one of them was refused. The other is dropped here, where the prover knows of it no more than its
+// type's name.
+fn both<A: Drop, B: Drop>(
+    first: Result<A, AllocError>,
+    second: Result<B, AllocError>,
+) -> Result<(A, B), AllocError> {
+    let first = first?;
+    let second = second?;
+    Ok((first, second))
+}
+
+fn scene_of(alloc: Global, host: ScriptHost, door: ScriptDoor) -> Result<Scene, Fail> {
+    match daemon(alloc) {
+        Ok(daemon) => Ok(Scene { daemon, host, door }),
+        Err(fail) => {
+            drop(host);
+            drop(door);
+            Err(fail)
+        }
+    }
+}
+
+/// A daemon of the job, to which `go` has happened, with this host and this door.
+pub(crate) fn make_scene(
+    alloc: Global,
+    host: Result<ScriptHost, AllocError>,
+    door: Result<ScriptDoor, AllocError>,
+) -> Result<Scene, Fail> {
+    match both(host, door) {
+        Ok((host, door)) => scene_of(alloc, host, door),
+        Err(refused) => Err(Fail::from(refused)),
+    }
 }
 
 /// The end of the job's main process by a status.
-pub(crate) fn exit(alloc: Global, status: u8) -> Result<End, Fail> {
-    let who = Who {
-        job: Name::new(alloc, "a")?,
-        instance: Text::from_str(alloc, "")?,
+pub(crate) fn exit(alloc: Global, status: u8) -> Result<End, AllocError> {
+    let Ok(job) = Name::new(alloc, "a") else {
+        return Err(AllocError);
     };
-    Ok((who, Process::Main, How::Exit(status)))
+    let instance = Text::from_str(alloc, "")?;
+    Ok((Who { job, instance }, Process::Main, How::Exit(status)))
 }
 
 /// A host whose processes have these numbers, and whose polls find these ends.
@@ -54,13 +125,25 @@ pub(crate) fn host(
     pids: &[u32],
     ends: Vec<Option<End>>,
     failures: &[Failure],
-) -> Result<ScriptHost, Fail> {
-    let script = Script {
-        pids: Vec::from_slice(alloc, pids)?,
-        ends,
-        readings: Vec::new(alloc),
-    };
-    Ok(ScriptHost::new(alloc, script, Vec::from_slice(alloc, failures)?))
+) -> Result<ScriptHost, AllocError> {
+    match both(
+        Vec::from_slice(alloc, pids),
+        Vec::from_slice(alloc, failures),
+    ) {
+        Ok((pids, failures)) => {
+            let readings = Vec::new(alloc);
+            let script = Script {
+                pids,
+                ends,
+                readings,
+            };
+            Ok(ScriptHost::new(alloc, script, failures))
+        }
+        Err(refused) => {
+            drop(ends);
+            Err(refused)
+        }
+    }
 }
 
 /// A door to which nobody comes.
@@ -73,8 +156,14 @@ pub(crate) fn door(
     alloc: Global,
     visits: Vec<Option<Visitor>>,
     failures: &[Failure],
-) -> Result<ScriptDoor, Fail> {
-    Ok(ScriptDoor::new(alloc, visits, Vec::from_slice(alloc, failures)?))
+) -> Result<ScriptDoor, AllocError> {
+    match Vec::from_slice(alloc, failures) {
+        Ok(failures) => Ok(ScriptDoor::new(alloc, visits, failures)),
+        Err(refused) => {
+            drop(visits);
+            Err(refused)
+        }
+    }
 }
 
 fn push(text: &mut Vec<u8>, piece: &str) -> Result<(), AllocError> {

@@ -1,11 +1,11 @@
 //! Real children.
-use crate::orders::{order_in, same, shell, who};
+use crate::orders::{order_in, path_of, same, shell, who};
 use std::alloc::Global;
 use std::test::Fail;
 use std::time::{Duration, Instant};
-use std::{env, fs, io, process, thread};
+use std::{fs, io, thread};
 use up_host::{Happened, Host, HostFault, RealHost};
-use up_model::{How, Process};
+use up_model::{How, Order, Process};
 
 type System = RealHost<HostRuntime>;
 
@@ -14,6 +14,19 @@ const MOST_WAIT: u32 = 20_000;
 
 fn host_of(rt: &HostRuntime) -> io::Result<System> {
     RealHost::new(rt.alloc(), rt.clone()?)
+}
+
+// Tries something with a host, which is dropped by a call: the prover would go through each field of one that a scope drops.
+fn with_host<F: Fn(&HostRuntime, &mut System) -> Result<(), Fail>>(
+    rt: &HostRuntime,
+    attempt: F,
+) -> Result<(), Fail>
+    requires { F.IsAlwaysCallable attempt }
+{
+    let mut host = host_of(rt)?;
+    let tried = attempt(rt, &mut host);
+    drop(host);
+    tried
 }
 
 // How a process ended, by its next end.
@@ -41,12 +54,27 @@ fn next_end(rt: &HostRuntime, host: &mut System) -> Result<Option<How>, Fail> {
 
 fn run_line(rt: &HostRuntime, host: &mut System, line: &str) -> Result<u32, Fail> {
     let order = shell(rt.alloc(), line)?;
-    Ok(host.spawn(&order)?)
+    let spawned = host.spawn(&order);
+    drop(order);
+    Ok(spawned?)
 }
 
-fn send(rt: &HostRuntime, host: &mut System, pid: u32, signal: u8) -> Result<(), Fail> {
+// What comes of a signal.
+fn signal(
+    rt: &HostRuntime,
+    host: &mut System,
+    pid: u32,
+    signal: u8,
+) -> Result<Result<(), HostFault>, Fail> {
     let who = who(rt.alloc())?;
-    Ok(host.signal(&who, pid, signal)?)
+    let sent = host.signal(&who, pid, signal);
+    drop(who);
+    Ok(sent)
+}
+
+fn send(rt: &HostRuntime, host: &mut System, pid: u32, number: u8) -> Result<(), Fail> {
+    signal(rt, host, pid, number)??;
+    Ok(())
 }
 
 struct Refused {
@@ -85,7 +113,9 @@ const REFUSED: &'static [Refused] = &[
 
 fn is_refused(rt: &HostRuntime, host: &mut System, case: &Refused) -> Result<bool, Fail> {
     let order = order_in(rt.alloc(), case.dir, case.argv, true)?;
-    Ok(host.spawn(&order) == Err(HostFault))
+    let refused = host.spawn(&order) == Err(HostFault);
+    drop(order);
+    Ok(refused)
 }
 
 fn try_refused(rt: &HostRuntime, host: &mut System) -> Result<(), Fail> {
@@ -111,8 +141,7 @@ fn is_childless(rt: &HostRuntime) -> io::Result<bool> {
 
 #[test]
 fn what_cannot_start_is_refused_and_leaves_no_zombie(rt: HostRuntime) -> Result<(), Fail> {
-    let mut host = host_of(&rt)?;
-    try_refused(&rt, &mut host)
+    with_host(&rt, try_refused)
 }
 
 struct Ending {
@@ -156,17 +185,23 @@ fn try_endings(rt: &HostRuntime, host: &mut System) -> Result<(), Fail> {
 
 #[test]
 fn an_end_is_reported_as_it_came(rt: HostRuntime) -> Result<(), Fail> {
-    let mut host = host_of(&rt)?;
-    try_endings(&rt, &mut host)
+    with_host(&rt, try_endings)
+}
+
+// Starts so many children.
+fn spawn_all(host: &mut System, order: &Order, count: u32) -> Result<(), HostFault> {
+    for _ in 0..count {
+        let _ = host.spawn(order)?;
+    }
+    Ok(())
 }
 
 // Starts so many children that end at once.
 fn start_many(rt: &HostRuntime, host: &mut System, count: u32) -> Result<(), Fail> {
     let order = order_in(rt.alloc(), "/", &["/bin/true"], true)?;
-    for _ in 0..count {
-        let _ = host.spawn(&order)?;
-    }
-    Ok(())
+    let spawned = spawn_all(host, &order, count);
+    drop(order);
+    Ok(spawned?)
 }
 
 // How many ends come.
@@ -189,18 +224,29 @@ fn try_many(rt: &HostRuntime, host: &mut System) -> Result<(), Fail> {
 
 #[test]
 fn children_that_end_at_once_have_one_end_each(rt: HostRuntime) -> Result<(), Fail> {
-    let mut host = host_of(&rt)?;
-    try_many(&rt, &mut host)
+    with_host(&rt, try_many)
 }
 
-// Starts so many children that sleep; the numbers of their processes.
-fn start_sleepers(rt: &HostRuntime, host: &mut System, count: u32) -> Result<Vec<u32>, Fail> {
-    let order = order_in(rt.alloc(), "/", &["/bin/sleep", "1000"], true)?;
-    let mut pids: Vec<u32> = Vec::new(rt.alloc());
+// Starts so many children; the numbers of their processes.
+fn spawn_each(
+    alloc: Global,
+    host: &mut System,
+    order: &Order,
+    count: u32,
+) -> Result<Vec<u32>, Fail> {
+    let mut pids: Vec<u32> = Vec::new(alloc);
     for _ in 0..count {
-        pids.push(host.spawn(&order)?)?;
+        pids.push(host.spawn(order)?)?;
     }
     Ok(pids)
+}
+
+// Starts so many children that sleep.
+fn start_sleepers(rt: &HostRuntime, host: &mut System, count: u32) -> Result<Vec<u32>, Fail> {
+    let order = order_in(rt.alloc(), "/", &["/bin/sleep", "1000"], true)?;
+    let pids = spawn_each(rt.alloc(), host, &order, count);
+    drop(order);
+    pids
 }
 
 // How many polls find nothing before one finds an end.
@@ -245,8 +291,7 @@ fn try_last_of_many(rt: &HostRuntime, host: &mut System) -> Result<(), Fail> {
 
 #[test]
 fn an_end_among_many_is_found_by_the_sixth_poll(rt: HostRuntime) -> Result<(), Fail> {
-    let mut host = host_of(&rt)?;
-    try_last_of_many(&rt, &mut host)
+    with_host(&rt, try_last_of_many)
 }
 
 // Whether a child runs the program of this name, once it does.
@@ -293,25 +338,21 @@ fn try_kill(rt: &HostRuntime, host: &mut System) -> Result<(), Fail> {
 
 #[test]
 fn a_child_that_ignores_term_is_ended_by_kill(rt: HostRuntime) -> Result<(), Fail> {
-    let mut host = host_of(&rt)?;
-    try_kill(&rt, &mut host)
+    with_host(&rt, try_kill)
 }
 
 fn try_signals(rt: &HostRuntime, host: &mut System) -> Result<(), Fail> {
     let pid = run_line(rt, host, "exec sleep 50")?;
     send(rt, host, pid, 1)?;
     same("an end", next_end(rt, host)?, Some(How::Signal(1)))?;
-    let who = who(rt.alloc())?;
-    same("a signal", host.signal(&who, pid, 9), Err(HostFault))?;
-    same("a signal", host.signal(&who, 1, 15), Err(HostFault))?;
-    same("faults", host.faults(), 2)?;
-    Ok(())
+    same("a signal", signal(rt, host, pid, 9)?, Err(HostFault))?;
+    same("a signal", signal(rt, host, 1, 15)?, Err(HostFault))?;
+    same("faults", host.faults(), 2)
 }
 
 #[test]
 fn a_signal_reaches_a_child_and_no_stranger(rt: HostRuntime) -> Result<(), Fail> {
-    let mut host = host_of(&rt)?;
-    try_signals(&rt, &mut host)
+    with_host(&rt, try_signals)
 }
 
 fn try_poll(rt: &HostRuntime, host: &mut System) -> Result<(), Fail> {
@@ -328,17 +369,7 @@ fn try_poll(rt: &HostRuntime, host: &mut System) -> Result<(), Fail> {
 
 #[test]
 fn a_poll_does_not_wait(rt: HostRuntime) -> Result<(), Fail> {
-    let mut host = host_of(&rt)?;
-    try_poll(&rt, &mut host)
-}
-
-// A file of this test run.
-fn path_of(rt: &HostRuntime, name: &str) -> Result<String, Fail> {
-    let folder = env::temp_dir(rt)?;
-    let pid = process::id(rt.process());
-    let name = format!(in rt.alloc(); "up_edge_tests-{name}-{pid}")?;
-    let path = folder.join(rt.alloc(), name.as_str())?;
-    Ok(String::from_str(rt.alloc(), path.as_path().as_str())?)
+    with_host(&rt, try_poll)
 }
 
 // What a line writes to its output, which is a file. The shell stays, and keeps its own streams.
@@ -351,14 +382,27 @@ fn written(rt: &HostRuntime, name: &str, line: &str, silent: bool) -> Result<Str
 }
 
 fn write_to(rt: &HostRuntime, path: &str, line: &str, silent: bool) -> Result<(), Fail> {
-    let line = format!(in rt.alloc(); "({line}) > {path}; exit 0")?;
-    let mut host = host_of(rt)?;
-    run_to_end(rt, &mut host, line.as_str(), silent)
+    let order = order_to(rt.alloc(), path, line, silent)?;
+    let ended = run_to_end(rt, &order);
+    drop(order);
+    ended
 }
 
-fn run_to_end(rt: &HostRuntime, host: &mut System, line: &str, silent: bool) -> Result<(), Fail> {
-    let order = order_in(rt.alloc(), "/usr", &["/bin/sh", "-c", line], silent)?;
-    let _ = host.spawn(&order)?;
+// An order for the shell to run a line whose output is a file.
+fn order_to(alloc: Global, path: &str, line: &str, silent: bool) -> Result<Order, Fail> {
+    let line = format!(in alloc; "({line}) > {path}; exit 0")?;
+    order_in(alloc, "/usr", &["/bin/sh", "-c", line.as_str()], silent)
+}
+
+fn run_to_end(rt: &HostRuntime, order: &Order) -> Result<(), Fail> {
+    let mut host = host_of(rt)?;
+    let ended = end_of(rt, &mut host, order);
+    drop(host);
+    ended
+}
+
+fn end_of(rt: &HostRuntime, host: &mut System, order: &Order) -> Result<(), Fail> {
+    let _ = host.spawn(order)?;
     let _ = next_end(rt, host)?;
     Ok(())
 }
@@ -410,6 +454,5 @@ fn try_clock(rt: &HostRuntime, host: &mut System) -> Result<(), Fail> {
 
 #[test]
 fn the_clock_begins_at_0_and_goes_on(rt: HostRuntime) -> Result<(), Fail> {
-    let mut host = host_of(&rt)?;
-    try_clock(&rt, &mut host)
+    with_host(&rt, try_clock)
 }

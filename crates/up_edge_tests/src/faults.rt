@@ -98,10 +98,43 @@ fn host_of(rt: &HostRuntime, readings: u32) -> io::Result<System> {
     RealHost::new(rt.alloc(), FakeSystem { readings })
 }
 
-fn start(rt: &HostRuntime, host: &mut System, program: &str) -> Result<(), Fail> {
+// Tries something with such a host.
+fn with_host<F: Fn(&HostRuntime, &mut System) -> Result<(), Fail>>(
+    rt: &HostRuntime,
+    readings: u32,
+    attempt: F,
+) -> Result<(), Fail>
+    requires { F.IsAlwaysCallable attempt }
+{
+    let mut host = host_of(rt, readings)?;
+    let tried = attempt(rt, &mut host);
+    drop(host);
+    tried
+}
+
+// What comes of a spawn.
+fn spawn(
+    rt: &HostRuntime,
+    host: &mut System,
+    program: &str,
+) -> Result<Result<u32, HostFault>, Fail> {
     let order = order_in(rt.alloc(), "/", &[program], true)?;
-    let _ = host.spawn(&order)?;
+    let spawned = host.spawn(&order);
+    drop(order);
+    Ok(spawned)
+}
+
+fn start(rt: &HostRuntime, host: &mut System, program: &str) -> Result<(), Fail> {
+    let _ = spawn(rt, host, program)??;
     Ok(())
+}
+
+// What comes of a signal.
+fn signal(rt: &HostRuntime, host: &mut System) -> Result<Result<(), HostFault>, Fail> {
+    let who = who(rt.alloc())?;
+    let sent = host.signal(&who, 7, 9);
+    drop(who);
+    Ok(sent)
 }
 
 fn polled(host: &mut System) -> Result<Option<How>, HostFault> {
@@ -119,8 +152,7 @@ fn try_stopped(rt: &HostRuntime, host: &mut System) -> Result<(), Fail> {
 
 #[test]
 fn an_unknown_status_is_signal_0(rt: HostRuntime) -> Result<(), Fail> {
-    let mut host = host_of(&rt, 1)?;
-    try_stopped(&rt, &mut host)
+    with_host(&rt, 1, try_stopped)
 }
 
 fn try_lost(rt: &HostRuntime, host: &mut System) -> Result<(), Fail> {
@@ -139,8 +171,7 @@ fn try_lost(rt: &HostRuntime, host: &mut System) -> Result<(), Fail> {
 
 #[test]
 fn a_child_of_which_nothing_is_told_hides_no_other(rt: HostRuntime) -> Result<(), Fail> {
-    let mut host = host_of(&rt, 1)?;
-    try_lost(&rt, &mut host)
+    with_host(&rt, 1, try_lost)
 }
 
 fn try_living(rt: &HostRuntime, host: &mut System) -> Result<(), Fail> {
@@ -159,16 +190,13 @@ fn try_living(rt: &HostRuntime, host: &mut System) -> Result<(), Fail> {
 
 #[test]
 fn a_child_that_lives_is_not_waited_for(rt: HostRuntime) -> Result<(), Fail> {
-    let mut host = host_of(&rt, 1)?;
-    try_living(&rt, &mut host)
+    with_host(&rt, 1, try_living)
 }
 
 fn try_refusals(rt: &HostRuntime, host: &mut System) -> Result<(), Fail> {
-    let order = order_in(rt.alloc(), "/", &["/refused"], true)?;
-    same("a spawn", host.spawn(&order), Err(HostFault))?;
+    same("a spawn", spawn(rt, host, "/refused")?, Err(HostFault))?;
     start(rt, host, "/living")?;
-    let who = who(rt.alloc())?;
-    same("a signal", host.signal(&who, 7, 9), Err(HostFault))?;
+    same("a signal", signal(rt, host)?, Err(HostFault))?;
     same("a reading", host.now(), Ok(0))?;
     same("a reading", host.now(), Err(HostFault))?;
     same(
@@ -182,6 +210,5 @@ fn try_refusals(rt: &HostRuntime, host: &mut System) -> Result<(), Fail> {
 #[test]
 fn what_the_system_refuses_is_a_fault(rt: HostRuntime) -> Result<(), Fail> {
     same("a host without a clock", host_of(&rt, 0).is_err(), true)?;
-    let mut host = host_of(&rt, 2)?;
-    try_refusals(&rt, &mut host)
+    with_host(&rt, 2, try_refusals)
 }

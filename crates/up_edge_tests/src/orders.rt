@@ -2,6 +2,7 @@
 use std::alloc::Global;
 use std::fmt::Debug;
 use std::test::Fail;
+use std::{env, process};
 use up_model::{Order, Process, Who};
 use up_text::{Env, Items, Name, Text};
 
@@ -48,6 +49,15 @@ pub(crate) fn order_in(
 /// An order for the shell to run a line.
 pub(crate) fn shell(alloc: Global, line: &str) -> Result<Order, Fail> {
     order_in(alloc, "/", &["/bin/sh", "-c", line], true)
+}
+
+/// A path of this test run. That of a socket may have 101 bytes.
+pub(crate) fn path_of(rt: &HostRuntime, name: &str) -> Result<String, Fail> {
+    let folder = env::temp_dir(rt)?;
+    let pid = process::id(rt.process());
+    let name = format!(in rt.alloc(); "up_edge-{name}-{pid}")?;
+    let path = folder.join(rt.alloc(), name.as_str())?;
+    Ok(String::from_str(rt.alloc(), path.as_path().as_str())?)
 }
 
 /// Fails with the case's name, what came and what was expected, unless these are the same.

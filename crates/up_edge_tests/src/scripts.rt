@@ -13,19 +13,32 @@ fn end(alloc: Global, how: How) -> Result<End, Fail> {
     Ok((who(alloc)?, Process::Main, how))
 }
 
-// Two spawns, an end, nothing once, and another end.
-fn script(alloc: Global) -> Result<Script, Fail> {
-    let mut pids: Vec<u32> = Vec::new(alloc);
-    pids.push(100)?;
-    pids.push(101)?;
-    let mut ends: Vec<Option<End>> = Vec::new(alloc);
+fn push_ends(alloc: Global, ends: &mut Vec<Option<End>>) -> Result<(), Fail> {
     let first = end(alloc, How::Exit(3))?;
     ends.push(Some(first))?;
     ends.push(None)?;
     let second = end(alloc, How::Signal(15))?;
     ends.push(Some(second))?;
-    let mut readings: Vec<u64> = Vec::new(alloc);
-    readings.push(7)?;
+    Ok(())
+}
+
+// An end, nothing once, and another end.
+fn ends(alloc: Global) -> Result<Vec<Option<End>>, Fail> {
+    let mut ends: Vec<Option<End>> = Vec::new(alloc);
+    match push_ends(alloc, &mut ends) {
+        Ok(()) => Ok(ends),
+        Err(fail) => {
+            drop(ends);
+            Err(fail)
+        }
+    }
+}
+
+// Two spawns, and those ends.
+fn script(alloc: Global) -> Result<Script, Fail> {
+    let pids = Vec::from_slice(alloc, &[100, 101])?;
+    let readings = Vec::from_slice(alloc, &[7])?;
+    let ends = ends(alloc)?;
     Ok(Script {
         pids,
         ends,
@@ -34,14 +47,14 @@ fn script(alloc: Global) -> Result<Script, Fail> {
 }
 
 fn one_failure(alloc: Global, failure: Failure) -> Result<Vec<Failure>, Fail> {
-    let mut failures: Vec<Failure> = Vec::new(alloc);
-    failures.push(failure)?;
-    Ok(failures)
+    Ok(Vec::from_slice(alloc, &[failure])?)
 }
 
 fn spawned(alloc: Global, host: &mut ScriptHost) -> Result<Option<u32>, Fail> {
     let order = shell(alloc, "x")?;
-    Ok(host.spawn(&order).ok())
+    let spawned = host.spawn(&order).ok();
+    drop(order);
+    Ok(spawned)
 }
 
 // How the process ended whose end a poll finds.
@@ -54,7 +67,9 @@ fn polled(host: &mut ScriptHost) -> Result<Option<How>, HostFault> {
 
 fn is_signalled(alloc: Global, host: &mut ScriptHost) -> Result<bool, Fail> {
     let who = who(alloc)?;
-    Ok(host.signal(&who, 101, 15).is_ok())
+    let signalled = host.signal(&who, 101, 15).is_ok();
+    drop(who);
+    Ok(signalled)
 }
 
 fn scripted(alloc: Global) -> Result<ScriptHost, Fail> {
@@ -89,7 +104,9 @@ fn try_script(rt: &HostRuntime, host: &mut ScriptHost) -> Result<(), Fail> {
 #[test]
 fn a_host_plays_its_script(rt: HostRuntime) -> Result<(), Fail> {
     let mut host = scripted(rt.alloc())?;
-    try_script(&rt, &mut host)
+    let tried = try_script(&rt, &mut host);
+    drop(host);
+    tried
 }
 
 // Which of four calls in a row fail.
@@ -112,9 +129,8 @@ fn a_failure_is_of_one_call_or_of_each_from_it_on(rt: HostRuntime) -> Result<(),
 }
 
 fn failing_host(alloc: Global) -> Result<ScriptHost, Fail> {
-    let script = script(alloc)?;
     let failures = one_failure(alloc, Failure::Once(1))?;
-    Ok(ScriptHost::new(alloc, script, failures))
+    Ok(ScriptHost::new(alloc, script(alloc)?, failures))
 }
 
 fn try_failing_poll(rt: &HostRuntime, host: &mut ScriptHost) -> Result<(), Fail> {
@@ -132,7 +148,9 @@ fn try_failing_poll(rt: &HostRuntime, host: &mut ScriptHost) -> Result<(), Fail>
 #[test]
 fn an_end_comes_after_a_poll_that_fails(rt: HostRuntime) -> Result<(), Fail> {
     let mut host = failing_host(rt.alloc())?;
-    try_failing_poll(&rt, &mut host)
+    let tried = try_failing_poll(&rt, &mut host);
+    drop(host);
+    tried
 }
 
 #[test]
@@ -145,23 +163,44 @@ fn piece(alloc: Global, bytes: &[u8]) -> Result<Option<Items<u8>>, Fail> {
     Ok(Some(Items::new(bytes)))
 }
 
-// Nobody, and then one who says nothing, five bytes and the end, and takes two bytes at first.
-fn visits(alloc: Global) -> Result<Vec<Option<Visitor>>, Fail> {
-    let mut says: Vec<Option<Items<u8>>> = Vec::new(alloc);
+// One who says nothing, five bytes and the end.
+fn push_pieces(alloc: Global, says: &mut Vec<Option<Items<u8>>>) -> Result<(), Fail> {
     says.push(None)?;
     says.push(piece(alloc, b"abcde")?)?;
     says.push(piece(alloc, b"")?)?;
-    let mut takes: Vec<usize> = Vec::new(alloc);
-    takes.push(2)?;
-    let mut visits: Vec<Option<Visitor>> = Vec::new(alloc);
+    Ok(())
+}
+
+// One who says that, and takes two bytes at first.
+fn visitor(alloc: Global) -> Result<Visitor, Fail> {
+    let takes = Vec::from_slice(alloc, &[2])?;
+    let mut says: Vec<Option<Items<u8>>> = Vec::new(alloc);
+    match push_pieces(alloc, &mut says) {
+        Ok(()) => Ok(Visitor::new(says, takes)),
+        Err(fail) => {
+            drop(says);
+            Err(fail)
+        }
+    }
+}
+
+// Nobody, and then that one.
+fn push_visits(alloc: Global, visits: &mut Vec<Option<Visitor>>) -> Result<(), Fail> {
     visits.push(None)?;
-    visits.push(Some(Visitor::new(says, takes)))?;
-    Ok(visits)
+    visits.push(Some(visitor(alloc)?))?;
+    Ok(())
 }
 
 fn scripted_door(alloc: Global, failures: Vec<Failure>) -> Result<ScriptDoor, Fail> {
-    let visits = visits(alloc)?;
-    Ok(ScriptDoor::new(alloc, visits, failures))
+    let mut visits: Vec<Option<Visitor>> = Vec::new(alloc);
+    match push_visits(alloc, &mut visits) {
+        Ok(()) => Ok(ScriptDoor::new(alloc, visits, failures)),
+        Err(fail) => {
+            drop(visits);
+            drop(failures);
+            Err(fail)
+        }
+    }
 }
 
 fn try_door(rt: &HostRuntime, door: &mut ScriptDoor) -> Result<(), Fail> {
@@ -212,7 +251,9 @@ fn try_door(rt: &HostRuntime, door: &mut ScriptDoor) -> Result<(), Fail> {
 #[test]
 fn a_door_plays_its_script(rt: HostRuntime) -> Result<(), Fail> {
     let mut door = scripted_door(rt.alloc(), Vec::new(rt.alloc()))?;
-    try_door(&rt, &mut door)
+    let tried = try_door(&rt, &mut door);
+    drop(door);
+    tried
 }
 
 fn try_failing_close(rt: &HostRuntime, door: &mut ScriptDoor) -> Result<(), Fail> {
@@ -234,5 +275,7 @@ fn try_failing_close(rt: &HostRuntime, door: &mut ScriptDoor) -> Result<(), Fail
 #[test]
 fn a_close_that_fails_closes(rt: HostRuntime) -> Result<(), Fail> {
     let mut door = scripted_door(rt.alloc(), one_failure(rt.alloc(), Failure::Once(2))?)?;
-    try_failing_close(&rt, &mut door)
+    let tried = try_failing_close(&rt, &mut door);
+    drop(door);
+    tried
 }

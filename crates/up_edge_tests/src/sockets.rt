@@ -1,25 +1,44 @@
 //! Real sockets.
-use crate::orders::same;
+use crate::orders::{path_of, same};
 use mio::net::UnixStream;
 use std::fs::{metadata, remove_file};
 use std::io::{ErrorKind, Read, Write};
 use std::os::unix::fs::PermissionsExt;
 use std::test::Fail;
 use std::time::{Duration, Instant};
-use std::{env, process};
 use up_daemon::{Door, DoorFault, SocketFault, UnixDoor};
-
-// A path of this test run.
-fn path_of(rt: &HostRuntime, name: &str) -> Result<String, Fail> {
-    let folder = env::temp_dir(rt)?;
-    let pid = process::id(rt.process());
-    let name = format!(in rt.alloc(); "up_edge-{name}-{pid}")?;
-    let path = folder.join(rt.alloc(), name.as_str())?;
-    Ok(String::from_str(rt.alloc(), path.as_path().as_str())?)
-}
 
 fn bind(rt: &HostRuntime, path: &str) -> Result<UnixDoor, SocketFault> {
     UnixDoor::bind(rt, rt.alloc(), path)
+}
+
+// Tries something with a door at a path.
+fn with_door_at<F: Fn(&HostRuntime, &mut UnixDoor, &str) -> Result<(), Fail>>(
+    rt: &HostRuntime,
+    path: &str,
+    attempt: F,
+) -> Result<(), Fail>
+    requires { F.IsAlwaysCallable attempt }
+{
+    let mut door = bind(rt, path)?;
+    let tried = attempt(rt, &mut door, path);
+    drop(door);
+    tried
+}
+
+// Tries something with a door whose path has this name. Both are dropped by a call: the prover would go through each field of what a scope
+// drops.
+fn with_door<F: Fn(&HostRuntime, &mut UnixDoor, &str) -> Result<(), Fail>>(
+    rt: &HostRuntime,
+    name: &str,
+    attempt: F,
+) -> Result<(), Fail>
+    requires { F.IsAlwaysCallable attempt }
+{
+    let path = path_of(rt, name)?;
+    let tried = with_door_at(rt, path.as_str(), attempt);
+    drop(path);
+    tried
 }
 
 // Clients of the socket at a path, whose name goes then.
@@ -58,7 +77,7 @@ fn a_path_that_is_empty_or_too_long_or_there_is_refused(rt: HostRuntime) -> Resu
 }
 
 // The mode of a socket, whether it can be made again, and whether the folder in which it was made is left.
-fn try_mode(rt: &HostRuntime, path: &str) -> Result<(), Fail> {
+fn try_mode(rt: &HostRuntime, _door: &mut UnixDoor, path: &str) -> Result<(), Fail> {
     let mode = metadata(rt, path)?.permissions().mode();
     let again = refusal(rt, path);
     let folder = format!(in rt.alloc(); "{path}.new")?;
@@ -72,9 +91,7 @@ fn try_mode(rt: &HostRuntime, path: &str) -> Result<(), Fail> {
 
 #[test]
 fn the_socket_is_its_owner_s_alone(rt: HostRuntime) -> Result<(), Fail> {
-    let path = path_of(&rt, "mode")?;
-    let _door = bind(&rt, path.as_str())?;
-    try_mode(&rt, path.as_str())
+    with_door(&rt, "mode", try_mode)
 }
 
 fn try_half(rt: &HostRuntime, door: &mut UnixDoor, path: &str) -> Result<(), Fail> {
@@ -97,9 +114,7 @@ fn try_half(rt: &HostRuntime, door: &mut UnixDoor, path: &str) -> Result<(), Fai
 
 #[test]
 fn half_a_frame_comes_and_then_nothing(rt: HostRuntime) -> Result<(), Fail> {
-    let path = path_of(&rt, "half")?;
-    let mut door = bind(&rt, path.as_str())?;
-    try_half(&rt, &mut door, path.as_str())
+    with_door(&rt, "half", try_half)
 }
 
 fn try_gone(rt: &HostRuntime, door: &mut UnixDoor, path: &str) -> Result<(), Fail> {
@@ -119,9 +134,7 @@ fn try_gone(rt: &HostRuntime, door: &mut UnixDoor, path: &str) -> Result<(), Fai
 
 #[test]
 fn a_peer_that_closes_leaves_its_bytes_and_the_process_alive(rt: HostRuntime) -> Result<(), Fail> {
-    let path = path_of(&rt, "gone")?;
-    let mut door = bind(&rt, path.as_str())?;
-    try_gone(&rt, &mut door, path.as_str())
+    with_door(&rt, "gone", try_gone)
 }
 
 // How many bytes a client that never reads takes, in writes of 4,096 bytes.
@@ -161,9 +174,7 @@ fn try_full(rt: &HostRuntime, door: &mut UnixDoor, path: &str) -> Result<(), Fai
 
 #[test]
 fn a_client_that_never_reads_fills_its_socket_alone(rt: HostRuntime) -> Result<(), Fail> {
-    let path = path_of(&rt, "full")?;
-    let mut door = bind(&rt, path.as_str())?;
-    try_full(&rt, &mut door, path.as_str())
+    with_door(&rt, "full", try_full)
 }
 
 fn try_lost(rt: &HostRuntime, door: &mut UnixDoor, path: &str) -> Result<(), Fail> {
@@ -182,9 +193,7 @@ fn try_lost(rt: &HostRuntime, door: &mut UnixDoor, path: &str) -> Result<(), Fai
 
 #[test]
 fn a_peer_that_closes_while_bytes_wait_for_it_is_a_fault(rt: HostRuntime) -> Result<(), Fail> {
-    let path = path_of(&rt, "lost")?;
-    let mut door = bind(&rt, path.as_str())?;
-    try_lost(&rt, &mut door, path.as_str())
+    with_door(&rt, "lost", try_lost)
 }
 
 // Reads all that has come.
@@ -214,9 +223,7 @@ fn try_room(rt: &HostRuntime, door: &mut UnixDoor, path: &str) -> Result<(), Fai
 
 #[test]
 fn a_pause_ends_when_a_full_socket_takes_bytes_again(rt: HostRuntime) -> Result<(), Fail> {
-    let path = path_of(&rt, "room")?;
-    let mut door = bind(&rt, path.as_str())?;
-    try_room(&rt, &mut door, path.as_str())
+    with_door(&rt, "room", try_room)
 }
 
 // How many clients wait, whose numbers are 0 and so on.
@@ -247,9 +254,7 @@ fn try_many(rt: &HostRuntime, door: &mut UnixDoor, path: &str) -> Result<(), Fai
 
 #[test]
 fn many_clients_have_numbers_of_their_own(rt: HostRuntime) -> Result<(), Fail> {
-    let path = path_of(&rt, "many")?;
-    let mut door = bind(&rt, path.as_str())?;
-    try_many(&rt, &mut door, path.as_str())
+    with_door(&rt, "many", try_many)
 }
 
 // How long a pause of at most two seconds took, in milliseconds.
@@ -273,7 +278,5 @@ fn try_pause(rt: &HostRuntime, door: &mut UnixDoor, path: &str) -> Result<(), Fa
 
 #[test]
 fn a_pause_ends_when_a_client_or_a_byte_comes(rt: HostRuntime) -> Result<(), Fail> {
-    let path = path_of(&rt, "pause")?;
-    let mut door = bind(&rt, path.as_str())?;
-    try_pause(&rt, &mut door, path.as_str())
+    with_door(&rt, "pause", try_pause)
 }

@@ -23,13 +23,23 @@ pub(crate) fn add(
     folder.add(path, Items::new(bytes))
 }
 
-// The folder of these files.
+fn add_all(alloc: Global, folder: &mut Folder, files: &[(&str, &[u8])]) -> Result<(), AllocError> {
+    for (path, bytes) in files {
+        add(alloc, folder, *path, *bytes)?;
+    }
+    Ok(())
+}
+
+// The folder of these files. Large values are dropped by a call, here and below: the prover would go through each field of what a scope drops.
 pub(crate) fn folder_of(alloc: Global, files: &[(&str, &[u8])]) -> Result<Folder, AllocError> {
     let mut folder = Folder::new(alloc);
-    for (path, bytes) in files {
-        add(alloc, &mut folder, *path, *bytes)?;
+    match add_all(alloc, &mut folder, files) {
+        Ok(()) => Ok(folder),
+        Err(refused) => {
+            drop(folder);
+            Err(refused)
+        }
     }
-    Ok(folder)
 }
 
 // Whether an expression is an event without values.
@@ -73,7 +83,11 @@ type Reading = Result<usize, (u32, u8)>;
 
 fn read(alloc: Global, bytes: &[u8]) -> Reading {
     match read_conf(alloc, bytes) {
-        Ok(stanzas) => Ok(stanzas.as_slice().len()),
+        Ok(stanzas) => {
+            let count = stanzas.as_slice().len();
+            drop(stanzas);
+            Ok(count)
+        }
         Err(fault) => Err((fault.line, fault.code.number())),
     }
 }
@@ -85,7 +99,11 @@ const BYTES: &'static [(&'static [u8], Reading)] = &[
 
 fn gives(alloc: Global, bytes: &[u8], reading: Reading) -> Result<bool, AllocError> {
     match read_bytes(alloc, bytes)? {
-        Ok(stanzas) => Ok(reading == Ok(stanzas.as_slice().len())),
+        Ok(stanzas) => {
+            let count = stanzas.as_slice().len();
+            drop(stanzas);
+            Ok(reading == Ok(count))
+        }
         Err(fault) => Ok(reading == Err((fault.line, fault.code.number()))),
     }
 }
@@ -208,7 +226,11 @@ fn is_run(stanzas: &[Stanza], run: &Run) -> bool {
 
 fn holds(alloc: Global, run: &Run) -> bool {
     match read_conf(alloc, run.bytes) {
-        Ok(stanzas) => is_run(stanzas.as_slice(), run),
+        Ok(stanzas) => {
+            let is_run = is_run(stanzas.as_slice(), run);
+            drop(stanzas);
+            is_run
+        }
         Err(_) => false,
     }
 }

@@ -5,13 +5,23 @@ use std::test::Fail;
 use up_conf::{Folder, Report};
 use up_image::{CompileError, Table, compile};
 
+// Adds files with these paths, each with an `exec`.
+fn add_paths(alloc: Global, folder: &mut Folder, paths: &[&str]) -> Result<(), AllocError> {
+    for path in paths {
+        add(alloc, folder, *path, b"exec x\n")?;
+    }
+    Ok(())
+}
+
 // Whether a folder of files with these paths, each with an `exec`, is refused for a path that stands twice.
 fn has_same_name(alloc: Global, paths: &[&str]) -> Result<bool, AllocError> {
     let mut folder = Folder::new(alloc);
-    for path in paths {
-        add(alloc, &mut folder, *path, b"exec x\n")?;
-    }
-    Ok(matches!(compile(alloc, &folder), Err(CompileError::SameName)))
+    let refused = match add_paths(alloc, &mut folder, paths) {
+        Ok(()) => Ok(is_refused(alloc, &folder, CompileError::SameName)),
+        Err(refused) => Err(refused),
+    };
+    drop(folder);
+    refused
 }
 
 // The place of the first folder for which it is otherwise.
@@ -87,9 +97,27 @@ fn tells(report: &Report, paths: &[&str]) -> bool {
 // Whether a folder gives these jobs, each a task or not, and these faulty files.
 fn gives_named(alloc: Global, folder: &Folder, named: &[(&str, bool)], faulty: &[&str]) -> bool {
     match compile(alloc, folder) {
-        Ok(made) => lends(&made.0, named) && tells(&made.1, faulty),
+        Ok((table, report)) => {
+            let gives = lends(&table, named) && tells(&report, faulty);
+            drop(table);
+            drop(report);
+            gives
+        }
         Err(_) => false,
     }
+}
+
+// Whether the folder of these files does.
+fn are_named(
+    alloc: Global,
+    files: &[(&str, &[u8])],
+    named: &[(&str, bool)],
+    faulty: &[&str],
+) -> Result<bool, AllocError> {
+    let folder = folder_of(alloc, files)?;
+    let gives = gives_named(alloc, &folder, named, faulty);
+    drop(folder);
+    Ok(gives)
 }
 
 // Five jobs, of which `a` has an override, and two faulty files.
@@ -117,8 +145,7 @@ const FAULTY: &'static [&'static str] = &["x=.conf", "z.conf"];
 
 #[test]
 fn a_table_lends_its_jobs_by_name(rt: HostRuntime) -> Result<(), Fail> {
-    let folder = folder_of(rt.alloc(), FIVE_JOBS)?;
-    assert!(rt; gives_named(rt.alloc(), &folder, BY_NAME, FAULTY));
+    assert!(rt; are_named(rt.alloc(), FIVE_JOBS, BY_NAME, FAULTY)?);
     Ok(())
 }
 
@@ -129,24 +156,27 @@ const NO_JOBS: &'static [(&'static str, &'static [u8])] = &[
 
 #[test]
 fn an_empty_folder_has_no_job(rt: HostRuntime) -> Result<(), Fail> {
-    let folder = folder_of(rt.alloc(), NO_JOBS)?;
-    assert!(rt; gives_named(rt.alloc(), &folder, &[], &[]));
+    assert!(rt; are_named(rt.alloc(), NO_JOBS, &[], &[])?);
     Ok(())
 }
 
-fn folder_of_1024_jobs(alloc: Global) -> Result<Folder, AllocError> {
-    let mut folder = Folder::new(alloc);
+fn add_1024_jobs(alloc: Global, folder: &mut Folder) -> Result<(), AllocError> {
     for n in 0..1024u32 {
         let path = format!(in alloc; "{n}.conf")?;
-        add(alloc, &mut folder, path.as_str(), b"exec x\n")?;
+        add(alloc, folder, path.as_str(), b"exec x\n")?;
     }
-    Ok(folder)
+    Ok(())
 }
 
 // Whether a folder gives so many jobs and faults.
 fn gives(alloc: Global, folder: &Folder, jobs: usize, faults: usize) -> bool {
     match compile(alloc, folder) {
-        Ok(made) => made.0.len() == jobs && made.1.len() == faults,
+        Ok((table, report)) => {
+            let gives = table.len() == jobs && report.len() == faults;
+            drop(table);
+            drop(report);
+            gives
+        }
         Err(_) => false,
     }
 }
@@ -154,13 +184,18 @@ fn gives(alloc: Global, folder: &Folder, jobs: usize, faults: usize) -> bool {
 // Whether a folder is refused for this.
 fn is_refused(alloc: Global, folder: &Folder, error: CompileError) -> bool {
     match compile(alloc, folder) {
-        Ok(_) => false,
+        Ok((table, report)) => {
+            drop(table);
+            drop(report);
+            false
+        }
         Err(found) => found == error,
     }
 }
 
-// Whether the folder of 1,024 jobs is compiled, with a faulty file too, and refused with a job more, and with a path twice.
+// Whether a folder of 1,024 jobs is compiled, with a faulty file too, and refused with a job more, and with a path twice.
 fn are_the_most(alloc: Global, folder: &mut Folder) -> Result<bool, AllocError> {
+    add_1024_jobs(alloc, folder)?;
     if !gives(alloc, folder, 1024, 0) {
         return Ok(false);
     }
@@ -178,29 +213,37 @@ fn are_the_most(alloc: Global, folder: &mut Folder) -> Result<bool, AllocError> 
 
 #[test]
 fn a_table_has_1024_jobs(rt: HostRuntime) -> Result<(), Fail> {
-    let mut folder = folder_of_1024_jobs(rt.alloc())?;
-    assert!(rt; are_the_most(rt.alloc(), &mut folder)?);
+    let mut folder = Folder::new(rt.alloc());
+    let most = are_the_most(rt.alloc(), &mut folder);
+    drop(folder);
+    assert!(rt; most?);
     Ok(())
 }
 
-fn folder_of_65535_files(alloc: Global) -> Result<Folder, AllocError> {
-    let mut folder = Folder::new(alloc);
+fn add_65535_files(alloc: Global, folder: &mut Folder) -> Result<(), AllocError> {
     for n in 0..32_767u32 {
         let conf = format!(in alloc; "{n}.conf")?;
-        add(alloc, &mut folder, conf.as_str(), b"")?;
+        add(alloc, folder, conf.as_str(), b"")?;
         let over = format!(in alloc; "{n}.override")?;
-        add(alloc, &mut folder, over.as_str(), b"")?;
+        add(alloc, folder, over.as_str(), b"")?;
     }
-    add(alloc, &mut folder, "last.conf", b"")?;
-    Ok(folder)
+    add(alloc, folder, "last.conf", b"")
+}
+
+// Whether so many, of which one stands twice, are refused for it.
+fn are_compared(alloc: Global, folder: &mut Folder) -> Result<bool, AllocError> {
+    add_65535_files(alloc, folder)?;
+    add(alloc, folder, "0.override", b"")?;
+    Ok(is_refused(alloc, folder, CompileError::SameName))
 }
 
 // So many that a comparison of each two would take minutes.
 #[test]
 fn many_files_are_compared(rt: HostRuntime) -> Result<(), Fail> {
-    let mut folder = folder_of_65535_files(rt.alloc())?;
-    add(rt.alloc(), &mut folder, "0.override", b"")?;
-    assert!(rt; is_refused(rt.alloc(), &folder, CompileError::SameName));
+    let mut folder = Folder::new(rt.alloc());
+    let compared = are_compared(rt.alloc(), &mut folder);
+    drop(folder);
+    assert!(rt; compared?);
     Ok(())
 }
 

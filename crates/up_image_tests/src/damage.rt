@@ -1,5 +1,6 @@
 //! Images that were damaged.
 use crate::folders::{BOTH, MANY, STARTUP_IMAGE, again, image_of, refusal};
+use crate::images::comes_back;
 use std::alloc::Global;
 use std::test::Fail;
 use up_image::ImageError;
@@ -28,24 +29,36 @@ fn with_byte(
     Ok(refusal(alloc, bytes.as_slice()))
 }
 
+// A byte at a place of an image, and why the image is refused with it, if it is.
+type Change = (usize, u8, Option<ImageError>);
+
+// The first place at which another thing comes of a change.
+fn first_other(alloc: Global, image: &[u8], changes: &[Change]) -> Result<Option<usize>, Fail> {
+    for (place, byte, wanted) in changes {
+        if with_byte(alloc, image, *place, *byte)? != *wanted {
+            return Ok(Some(*place));
+        }
+    }
+    Ok(None)
+}
+
+// Why an image is refused with a byte more.
+fn longer(alloc: Global, image: &[u8]) -> Result<Option<ImageError>, Fail> {
+    let mut bytes = Vec::from_slice(alloc, image)?;
+    bytes.push(0)?;
+    Ok(refusal(alloc, bytes.as_slice()))
+}
+
+static HEAD: [Change; 2] = [
+    (0, 0x56, Some(ImageError::BadMagic)),
+    (5, 2, Some(ImageError::BadVersion)),
+];
+
 #[test]
 fn damaged_images(rt: HostRuntime) -> Result<(), Fail> {
-    let alloc = rt.alloc();
-    assert_eq!(rt; first_whole(alloc, STARTUP_IMAGE), 112);
-    let mut longer = Vec::from_slice(alloc, STARTUP_IMAGE)?;
-    longer.push(0)?;
-    assert_eq!(rt;
-        refusal(alloc, longer.as_slice()),
-        Some(ImageError::Trailing)
-    );
-    assert_eq!(rt;
-        with_byte(alloc, STARTUP_IMAGE, 0, 0x56)?,
-        Some(ImageError::BadMagic)
-    );
-    assert_eq!(rt;
-        with_byte(alloc, STARTUP_IMAGE, 5, 2)?,
-        Some(ImageError::BadVersion)
-    );
+    assert!(rt; first_whole(rt.alloc(), STARTUP_IMAGE) == 112);
+    assert!(rt; longer(rt.alloc(), STARTUP_IMAGE)? == Some(ImageError::Trailing));
+    assert_eq!(rt; first_other(rt.alloc(), STARTUP_IMAGE, &HEAD)?, None);
     Ok(())
 }
 
@@ -60,35 +73,37 @@ fn with_ends_exchanged(alloc: Global, image: &[u8], len: usize) -> Result<Vec<u8
     Ok(bytes)
 }
 
-// An entry for a name of one letter has 14 bytes.
+// Why an image is refused with its last entries exchanged. An entry for a name of one letter has 14 bytes.
+fn exchanged(alloc: Global, image: &[u8]) -> Result<Option<ImageError>, Fail> {
+    let exchanged = with_ends_exchanged(alloc, image, 14)?;
+    Ok(refusal(alloc, exchanged.as_slice()))
+}
+
 #[test]
 fn an_index_out_of_order_is_refused(rt: HostRuntime) -> Result<(), Fail> {
     let image = image_of(rt.alloc(), BOTH)?;
-    assert_eq!(rt; refusal(rt.alloc(), image.as_slice()), None);
-    let exchanged = with_ends_exchanged(rt.alloc(), image.as_slice(), 14)?;
-    assert_eq!(rt;
-        refusal(rt.alloc(), exchanged.as_slice()),
-        Some(ImageError::BadTable)
-    );
+    assert!(rt; refusal(rt.alloc(), image.as_slice()) == None);
+    assert!(rt; exchanged(rt.alloc(), image.as_slice())? == Some(ImageError::BadTable));
     Ok(())
 }
 
 // After the last node there are the number of nodes of `stop on`, the number of entries and two entries: 34 bytes, before which the
 // node names its sides in four.
+fn names_no_later(alloc: Global, image: &[u8]) -> Result<bool, Fail> {
+    let Some(node) = image.len().checked_sub(38) else {
+        return Ok(false);
+    };
+    let changes = [
+        (node + 1, 2, Some(ImageError::BadTable)),
+        (node + 3, 3, Some(ImageError::BadTable)),
+    ];
+    Ok(image.get(node + 3) == Some(&1) && first_other(alloc, image, &changes)? == None)
+}
+
 #[test]
 fn a_node_names_no_later_one(rt: HostRuntime) -> Result<(), Fail> {
     let image = image_of(rt.alloc(), BOTH)?;
-    let len = image.len();
-    assert!(rt; len > 38);
-    assert_eq!(rt; image[len - 35], 1);
-    assert_eq!(rt;
-        with_byte(rt.alloc(), image.as_slice(), len - 37, 2)?,
-        Some(ImageError::BadTable)
-    );
-    assert_eq!(rt;
-        with_byte(rt.alloc(), image.as_slice(), len - 35, 3)?,
-        Some(ImageError::BadTable)
-    );
+    assert!(rt; names_no_later(rt.alloc(), image.as_slice())?);
     Ok(())
 }
 
@@ -97,14 +112,27 @@ const LENGTHS: &'static [usize] = &[
     12, 18, 22, 39, 41, 43, 46, 48, 61, 70, 73, 84, 86, 88, 92, 103,
 ];
 
+// The first of some places at which an image has this byte and isn't refused.
+fn first_taken(
+    alloc: Global,
+    image: &[u8],
+    places: &[usize],
+    byte: u8,
+) -> Result<Option<usize>, Fail> {
+    for place in places {
+        if with_byte(alloc, image, *place, byte)? != Some(ImageError::BadTable) {
+            return Ok(Some(*place));
+        }
+    }
+    Ok(None)
+}
+
 #[test]
 fn a_length_that_wraps_is_refused(rt: HostRuntime) -> Result<(), Fail> {
-    for place in LENGTHS {
-        assert_eq!(rt;
-            with_byte(rt.alloc(), STARTUP_IMAGE, *place, 0xff)?,
-            Some(ImageError::BadTable)
-        );
-    }
+    assert_eq!(rt;
+        first_taken(rt.alloc(), STARTUP_IMAGE, LENGTHS, 0xff)?,
+        None
+    );
     Ok(())
 }
 
@@ -168,14 +196,16 @@ fn with_long_word(alloc: Global, len: u32) -> Result<Vec<u8>, Fail> {
     Ok(bytes)
 }
 
+fn reads_long_word(alloc: Global, len: u32) -> Result<bool, Fail> {
+    let image = with_long_word(alloc, len)?;
+    Ok(comes_back(alloc, image.as_slice())?)
+}
+
 // No job file with such a word is read, but one could have it.
 #[test]
 fn a_word_longer_than_files_is_read(rt: HostRuntime) -> Result<(), Fail> {
     let one = with_long_word(rt.alloc(), 1)?;
-    assert!(rt; one.as_slice() == STARTUP_IMAGE);
-    let image = with_long_word(rt.alloc(), 3_000_000)?;
-    let second = again(rt.alloc(), image.as_slice())?;
-    assert!(rt; second.as_slice() == image.as_slice());
+    assert!(rt; one.as_slice() == STARTUP_IMAGE && reads_long_word(rt.alloc(), 3_000_000)?);
     Ok(())
 }
 
@@ -194,21 +224,32 @@ fn all_refused(alloc: Global, image: &[u8], place: usize, bytes: &[u8]) -> Resul
 fn texts_that_no_file_gives_are_refused(rt: HostRuntime) -> Result<(), Fail> {
     assert!(rt; all_refused(rt.alloc(), STARTUP_IMAGE, 65, b"\0\t\n #$;'\"\\()~")?);
     assert!(rt; all_refused(rt.alloc(), STARTUP_IMAGE, 77, b"\0\t\n #$='\"\\()")?);
-    assert_eq!(rt; with_byte(rt.alloc(), STARTUP_IMAGE, 65, b'y')?, None);
+    assert_eq!(rt;
+        first_other(rt.alloc(), STARTUP_IMAGE, &[(65, b'y', None)])?,
+        None
+    );
     Ok(())
 }
 
 /// A job of the shell.
 const SHELL: &'static [(&'static str, &'static [u8])] = &[("a.conf", b"exec /a 'b' c\n")];
 
+// At 62 stands the `c`.
+static TAKEN: [Change; 3] = [(62, b'c', None), (62, b'd', None), (62, b'\n', None)];
+
+// Whether an image is taken with these bytes, and refused with others.
+fn reads_as_itself(alloc: Global, image: &[u8]) -> Result<bool, Fail> {
+    Ok(
+        first_other(alloc, image, &TAKEN)? == None
+            && all_refused(alloc, image, 62, b" \t\0#\\'\"")?
+            && all_refused(alloc, image, 55, b" \t\n\0#'\"")?,
+    )
+}
+
 // What the shell gets is `exec /a 'b' c`, from 50 on. With a line feed for the `c` it is a script.
 #[test]
 fn commands_that_do_not_read_as_themselves_are_refused(rt: HostRuntime) -> Result<(), Fail> {
     let image = image_of(rt.alloc(), SHELL)?;
-    assert_eq!(rt; refusal(rt.alloc(), image.as_slice()), None);
-    assert!(rt; all_refused(rt.alloc(), image.as_slice(), 62, b" \t\0#\\'\"")?);
-    assert!(rt; all_refused(rt.alloc(), image.as_slice(), 55, b" \t\n\0#'\"")?);
-    assert_eq!(rt; with_byte(rt.alloc(), image.as_slice(), 62, b'd')?, None);
-    assert_eq!(rt; with_byte(rt.alloc(), image.as_slice(), 62, b'\n')?, None);
+    assert!(rt; reads_as_itself(rt.alloc(), image.as_slice())?);
     Ok(())
 }

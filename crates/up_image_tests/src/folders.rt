@@ -38,32 +38,60 @@ pub(crate) const MANY: &'static [(&'static str, &'static [u8])] = &[
     ("a.override", b"env L=\\\\\nstop on b PLACE=\"#1\"\n"),
 ];
 
-pub(crate) fn folder_of(alloc: Global, files: &[(&str, &[u8])]) -> Result<Folder, AllocError> {
-    let mut folder = Folder::new(alloc);
-    for (path, bytes) in files {
-        let path = Text::from_str(alloc, *path)?;
-        let bytes = Vec::from_slice(alloc, *bytes)?;
-        folder.add(path, Items::new(bytes))?;
-    }
-    Ok(folder)
+fn add_file(
+    alloc: Global,
+    folder: &mut Folder,
+    path: &str,
+    bytes: &[u8],
+) -> Result<(), AllocError> {
+    let path = Text::from_str(alloc, path)?;
+    let bytes = Vec::from_slice(alloc, bytes)?;
+    folder.add(path, Items::new(bytes))
 }
 
-pub(crate) fn table_of(alloc: Global, files: &[(&str, &[u8])]) -> Result<Table, Fail> {
-    let folder = folder_of(alloc, files)?;
-    let (table, _report) = compile(alloc, &folder)?;
+fn add_files(
+    alloc: Global,
+    folder: &mut Folder,
+    files: &[(&str, &[u8])],
+) -> Result<(), AllocError> {
+    for (path, bytes) in files {
+        add_file(alloc, folder, path, bytes)?;
+    }
+    Ok(())
+}
+
+/// The table of a folder.
+pub(crate) fn compiled(alloc: Global, folder: &Folder) -> Result<Table, Fail> {
+    let (table, report) = compile(alloc, folder)?;
+    drop(report);
     Ok(table)
+}
+
+// Large values are dropped by a call, here and below: the prover would go through each field of what a scope drops.
+pub(crate) fn table_of(alloc: Global, files: &[(&str, &[u8])]) -> Result<Table, Fail> {
+    let mut folder = Folder::new(alloc);
+    let table = match add_files(alloc, &mut folder, files) {
+        Ok(()) => compiled(alloc, &folder),
+        Err(refused) => Err(Fail::from(refused)),
+    };
+    drop(folder);
+    table
 }
 
 pub(crate) fn image_of(alloc: Global, files: &[(&str, &[u8])]) -> Result<Vec<u8>, Fail> {
     let table = table_of(alloc, files)?;
-    let image = table.to_bytes(alloc)?;
-    Ok(image)
+    let image = table.to_bytes(alloc);
+    drop(table);
+    Ok(image?)
 }
 
 /// Why bytes are refused, if they are.
 pub(crate) fn refusal(alloc: Global, bytes: &[u8]) -> Option<ImageError> {
     match Table::from_bytes(alloc, bytes) {
-        Ok(_table) => None,
+        Ok(table) => {
+            drop(table);
+            None
+        }
         Err(error) => Some(error),
     }
 }
@@ -71,6 +99,7 @@ pub(crate) fn refusal(alloc: Global, bytes: &[u8]) -> Option<ImageError> {
 /// The image of the table that is read from an image.
 pub(crate) fn again(alloc: Global, bytes: &[u8]) -> Result<Vec<u8>, ImageError> {
     let table = Table::from_bytes(alloc, bytes)?;
-    let image = table.to_bytes(alloc)?;
-    Ok(image)
+    let image = table.to_bytes(alloc);
+    drop(table);
+    image
 }

@@ -4,12 +4,16 @@ use std::alloc::Global;
 use std::test::Fail;
 use up_image::{ImageError, Table};
 
+// Whether files have this image.
+fn has_image(alloc: Global, files: &[(&str, &[u8])], wanted: &[u8]) -> Result<bool, Fail> {
+    let image = image_of(alloc, files)?;
+    Ok(image.as_slice() == wanted)
+}
+
 #[test]
 fn image_bytes(rt: HostRuntime) -> Result<(), Fail> {
-    let image = image_of(rt.alloc(), STARTUP)?;
-    assert_eq!(rt; image.as_slice(), STARTUP_IMAGE);
-    let empty = image_of(rt.alloc(), &[])?;
-    assert_eq!(rt; empty.as_slice(), EMPTY_IMAGE);
+    assert!(rt; has_image(rt.alloc(), STARTUP, STARTUP_IMAGE)?);
+    assert!(rt; has_image(rt.alloc(), &[], EMPTY_IMAGE)?);
     Ok(())
 }
 
@@ -21,29 +25,37 @@ fn has_one(table: &Table, name: &str) -> bool {
 // Whether an image is that of one job, with this name.
 fn reads_one(alloc: Global, image: &[u8], name: &str) -> Result<bool, ImageError> {
     let table = Table::from_bytes(alloc, image)?;
-    Ok(has_one(&table, name))
+    let has = has_one(&table, name);
+    drop(table);
+    Ok(has)
 }
 
 // How many jobs an image has.
 fn count(alloc: Global, image: &[u8]) -> Result<usize, ImageError> {
     let table = Table::from_bytes(alloc, image)?;
-    Ok(table.len())
+    let len = table.len();
+    drop(table);
+    Ok(len)
+}
+
+/// Whether the table that is read from an image has the same image.
+pub(crate) fn comes_back(alloc: Global, image: &[u8]) -> Result<bool, ImageError> {
+    let second = again(alloc, image)?;
+    Ok(second.as_slice() == image)
 }
 
 #[test]
 fn an_image_gives_its_table_back(rt: HostRuntime) -> Result<(), Fail> {
     assert!(rt; reads_one(rt.alloc(), STARTUP_IMAGE, "a")?);
-    let image = again(rt.alloc(), STARTUP_IMAGE)?;
-    assert_eq!(rt; image.as_slice(), STARTUP_IMAGE);
-    assert_eq!(rt; count(rt.alloc(), EMPTY_IMAGE)?, 0);
+    assert!(rt; comes_back(rt.alloc(), STARTUP_IMAGE)?);
+    assert!(rt; count(rt.alloc(), EMPTY_IMAGE)? == 0);
     Ok(())
 }
 
 #[test]
 fn every_stanza_comes_back(rt: HostRuntime) -> Result<(), Fail> {
     let image = image_of(rt.alloc(), MANY)?;
-    let second = again(rt.alloc(), image.as_slice())?;
-    assert_eq!(rt; second.as_slice(), image.as_slice());
+    assert!(rt; comes_back(rt.alloc(), image.as_slice())?);
     Ok(())
 }
 

@@ -45,6 +45,8 @@ fn starts_on(alloc: Global, table: &Table, said: &[&str]) -> Result<bool, Fail> 
 #[test]
 fn nodes_stand_in_post_order(rt: HostRuntime) -> Result<(), Fail> {
     let table = table_of(rt.alloc(), FILES)?;
-    assert!(rt; starts_on(rt.alloc(), &table, SAID)?);
+    let starts = starts_on(rt.alloc(), &table, SAID);
+    drop(table);
+    assert!(rt; starts?);
     Ok(())
 }

@@ -145,7 +145,10 @@ fn first_other(
     match read_folder(alloc, folder) {
         Ok((jobs, report)) => {
             let job = first_other_job(jobs.as_slice(), case.jobs);
-            Ok(job.or(first_other_fault(&report, case.faults)))
+            drop(jobs);
+            let fault = first_other_fault(&report, case.faults);
+            drop(report);
+            Ok(job.or(fault))
         }
         Err(fault) => Err(fault),
     }
@@ -153,7 +156,9 @@ fn first_other(
 
 fn check(alloc: Global, case: &Case) -> Result<(), Fail> {
     let folder = folder_of(alloc, case.files)?;
-    match first_other(alloc, &folder, case)? {
+    let other = first_other(alloc, &folder, case);
+    drop(folder);
+    match other? {
         Some(other) => Err(Fail::new(format_args!("other than told: {other}"))),
         None => Ok(()),
     }
@@ -182,13 +187,12 @@ fn add_job(alloc: Global, folder: &mut Folder, n: u32) -> Result<(), AllocError>
     add(alloc, folder, over.as_str(), b"manual\n")
 }
 
-// A folder of so many jobs.
-fn folder_of_many(alloc: Global, count: u32) -> Result<Folder, AllocError> {
-    let mut folder = Folder::new(alloc);
+// Adds so many jobs.
+fn add_jobs(alloc: Global, folder: &mut Folder, count: u32) -> Result<(), AllocError> {
     for n in 0..count {
-        add_job(alloc, &mut folder, n)?;
+        add_job(alloc, folder, n)?;
     }
-    Ok(folder)
+    Ok(())
 }
 
 // How many of these jobs start on no event.
@@ -197,20 +201,33 @@ fn unstarted(jobs: &[JobDef]) -> usize {
 }
 
 // How many jobs a folder has, how many of them start on no event, and whether it has no fault.
-fn counts(alloc: Global, folder: &Folder) -> Result<(usize, usize, bool), ConfFault> {
-    match read_folder(alloc, folder) {
-        Ok((jobs, report)) => Ok((
-            jobs.as_slice().len(),
-            unstarted(jobs.as_slice()),
-            report.is_empty(),
-        )),
-        Err(fault) => Err(fault),
-    }
+type Counts = (usize, usize, bool);
+
+fn counts(alloc: Global, folder: &Folder) -> Result<Counts, ConfFault> {
+    let (jobs, report) = read_folder(alloc, folder)?;
+    let counts = (
+        jobs.as_slice().len(),
+        unstarted(jobs.as_slice()),
+        report.is_empty(),
+    );
+    drop(jobs);
+    drop(report);
+    Ok(counts)
+}
+
+// The same of a folder of so many jobs.
+fn counts_of_many(alloc: Global, count: u32) -> Result<Counts, ConfFault> {
+    let mut folder = Folder::new(alloc);
+    let counts = match add_jobs(alloc, &mut folder, count) {
+        Ok(()) => counts(alloc, &folder),
+        Err(refused) => Err(ConfFault::from(refused)),
+    };
+    drop(folder);
+    counts
 }
 
 #[test]
 fn many_files_are_read(rt: HostRuntime) -> Result<(), Fail> {
-    let folder = folder_of_many(rt.alloc(), 1024)?;
-    assert_eq!(rt; counts(rt.alloc(), &folder)?, (1024, 1024, true));
+    assert_eq!(rt; counts_of_many(rt.alloc(), 1024)?, (1024, 1024, true));
     Ok(())
 }

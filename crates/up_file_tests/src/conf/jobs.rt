@@ -2,26 +2,44 @@
 use crate::conf::{are_texts, is_event, runs};
 use std::alloc::{AllocError, Global};
 use std::test::Fail;
-use up_conf::{ConfFault, Exit, JobDef, Setting, apply_override, job_of, read_conf};
-use up_text::Name;
+use up_conf::{ConfFault, Exit, JobDef, Setting, Stanza, apply_override, job_of, read_conf};
+use up_text::{Items, Name};
+
+fn name(alloc: Global) -> Result<Name, AllocError> {
+    match Name::new(alloc, "a") {
+        Ok(name) => Ok(name),
+        Err(_) => Err(AllocError),
+    }
+}
+
+// The job `a` of a file's stanzas and its override.
+fn overridden_by(alloc: Global, conf: &Items<Stanza>, over: &[u8]) -> Result<JobDef, ConfFault> {
+    let over = read_conf(alloc, over)?;
+    let job = match name(alloc) {
+        Ok(name) => apply_override(alloc, name, conf, &over),
+        Err(refused) => Err(refused),
+    };
+    drop(over);
+    Ok(job?)
+}
 
 // The job `a` of a file and its override.
 fn overridden(alloc: Global, conf: &[u8], over: &[u8]) -> Result<JobDef, ConfFault> {
-    let Ok(name) = Name::new(alloc, "a") else {
-        return Err(AllocError.into());
-    };
     let conf = read_conf(alloc, conf)?;
-    let over = read_conf(alloc, over)?;
-    Ok(apply_override(alloc, name, &conf, &over)?)
+    let job = overridden_by(alloc, &conf, over);
+    drop(conf);
+    job
 }
 
 // The job `a` of a file alone.
 fn alone(alloc: Global, conf: &[u8]) -> Result<JobDef, ConfFault> {
-    let Ok(name) = Name::new(alloc, "a") else {
-        return Err(AllocError.into());
-    };
     let conf = read_conf(alloc, conf)?;
-    Ok(job_of(alloc, name, &conf)?)
+    let job = match name(alloc) {
+        Ok(name) => job_of(alloc, name, &conf),
+        Err(refused) => Err(refused),
+    };
+    drop(conf);
+    Ok(job?)
 }
 
 // Something that a job says.
@@ -161,11 +179,6 @@ fn job(alloc: Global, conf: &[u8], over: Option<&[u8]>) -> Result<JobDef, ConfFa
     }
 }
 
-// In a box, since a local value of so many parts takes the prover long.
-fn boxed(alloc: Global, job: JobDef) -> Result<Box<JobDef>, AllocError> {
-    Ok(Box::new(alloc, job)?)
-}
-
 // The place of the first fact that the job of a file doesn't state, or a fault.
 fn first_other(
     alloc: Global,
@@ -173,8 +186,10 @@ fn first_other(
     over: Option<&[u8]>,
     facts: &[Fact],
 ) -> Result<Option<usize>, ConfFault> {
-    let job = boxed(alloc, job(alloc, conf, over)?)?;
-    Ok(first_unstated(&job, facts))
+    let job = job(alloc, conf, over)?;
+    let other = first_unstated(&job, facts);
+    drop(job);
+    Ok(other)
 }
 
 fn check_job(

@@ -1,0 +1,190 @@
+//! The commands of `initd`, and the arguments that each takes.
+use clap::{Arg, ArgAction, Command, value_parser};
+use std::alloc::{AllocError, Global};
+
+/// The longest pause between two rounds, in milliseconds.
+const MAX_PAUSE: i64 = 60_000;
+
+// How an argument is given, and what it may be.
+#[derive(Clone, Copy)]
+enum ArgumentKind {
+    // In its place, and required.
+    Place,
+    // After its option.
+    Text,
+    // After its option, which may be given again and again.
+    Texts,
+    // The option alone.
+    Flag,
+    // A count from 1 on, after its option.
+    Count,
+    // A pause in milliseconds, after its option.
+    Pause,
+}
+
+// An argument of a command. An option has its name after two dashes.
+struct Argument {
+    id: &'static str,
+    // What stands for it in the help.
+    shown: &'static str,
+    help: &'static str,
+    kind: ArgumentKind,
+}
+
+// A command with its arguments, in their order.
+struct Subcommand {
+    name: &'static str,
+    about: &'static str,
+    arguments: &'static [Argument],
+}
+
+const DIR: Argument = Argument {
+    id: "DIR",
+    shown: "DIR",
+    help: "The folder of job files",
+    kind: ArgumentKind::Place,
+};
+
+const IMAGE: Argument = Argument {
+    id: "IMAGE",
+    shown: "IMAGE",
+    help: "The file of the image",
+    kind: ArgumentKind::Place,
+};
+
+static SUBCOMMANDS: [Subcommand; 5] = [
+    Subcommand {
+        name: "check",
+        about: "Prints the faults of a folder's job files",
+        arguments: &[DIR],
+    },
+    Subcommand {
+        name: "compile",
+        about: "Writes the image of a folder's jobs, and prints the faults of its job files",
+        arguments: &[DIR, IMAGE],
+    },
+    Subcommand {
+        name: "show",
+        about: "Prints the jobs of an image as job files",
+        arguments: &[IMAGE],
+    },
+    Subcommand {
+        name: "replay",
+        about: "Prints what a script of events makes the jobs of a folder do",
+        arguments: &[
+            DIR,
+            Argument {
+                id: "SCRIPT",
+                shown: "SCRIPT",
+                help: "The file of what happens",
+                kind: ArgumentKind::Place,
+            },
+            Argument {
+                id: "env",
+                shown: "KEY=VALUE",
+                help: "Sets a variable for each process, on top of which its job's are set; may be given again and again",
+                kind: ArgumentKind::Texts,
+            },
+        ],
+    },
+    Subcommand {
+        name: "run",
+        about: "Runs the jobs of a folder or of an image, and answers clients at a socket",
+        arguments: &[
+            Argument {
+                id: "SOURCE",
+                shown: "DIR|IMAGE",
+                help: "The folder of job files, or the file of an image",
+                kind: ArgumentKind::Place,
+            },
+            Argument {
+                id: "SOCKET",
+                shown: "SOCKET",
+                help: "The path of the socket at which clients ask; nothing may be there yet",
+                kind: ArgumentKind::Place,
+            },
+            Argument {
+                id: "rounds",
+                shown: "N",
+                help: "Ends after so many rounds, 1 to 4294967295; without it, after 4294967295",
+                kind: ArgumentKind::Count,
+            },
+            Argument {
+                id: "pause",
+                shown: "MS",
+                help: "The longest pause after a round that did nothing, in milliseconds: 10 if left out. The end of a process is noticed up to so much later; with 0 there is no pause, and a processor is busy all the time",
+                kind: ArgumentKind::Pause,
+            },
+            Argument {
+                id: "verbose",
+                shown: "",
+                help: "Prints what the init does, in the lines of a replay",
+                kind: ArgumentKind::Flag,
+            },
+            Argument {
+                id: "record",
+                shown: "FILE",
+                help: "Writes what happens to FILE as a script, whose replay prints what the init did",
+                kind: ArgumentKind::Text,
+            },
+        ],
+    },
+];
+
+// An option with a value.
+fn option<'a>(arg: Arg<'a>, argument: &Argument) -> Arg<'a> {
+    arg.long(argument.id)
+        .value_name(argument.shown)
+        .action(ArgAction::Set)
+}
+
+fn arg_of<'a>(alloc: Global, argument: &Argument) -> Arg<'a> {
+    let arg = Arg::new(alloc, argument.id).help(argument.help);
+    match argument.kind {
+        ArgumentKind::Place => arg
+            .value_name(argument.shown)
+            .required(true)
+            .action(ArgAction::Set),
+        ArgumentKind::Text => option(arg, argument),
+        ArgumentKind::Texts => option(arg, argument).action(ArgAction::Append),
+        ArgumentKind::Flag => arg.long(argument.id).action(ArgAction::SetTrue),
+        ArgumentKind::Count => option(arg, argument).value_parser(value_parser!(u32).range(1..)),
+        ArgumentKind::Pause => option(arg, argument).value_parser(value_parser!(u64).range(
+            0..=MAX_PAUSE,
+        )),
+    }
+}
+
+// Each argument is added to a command that moves on, so that none is owned at the `?`, where it would be dropped field by field.
+fn command_of<'a>(alloc: Global, subcommand: &Subcommand) -> Result<Command<'a>, AllocError> {
+    let mut command = Command::new(alloc, subcommand.name).about(subcommand.about);
+    for argument in subcommand.arguments {
+        command = command.arg(arg_of(alloc, argument))?;
+    }
+    Ok(command)
+}
+
+// A command line with one command more.
+fn add<'a>(
+    line: Command<'a>,
+    command: Result<Command<'a>, AllocError>,
+) -> Result<Command<'a>, AllocError> {
+    match command {
+        Ok(command) => line.subcommand(command),
+        Err(refused) => {
+            drop(line);
+            Err(refused)
+        }
+    }
+}
+
+/// The commands of the program. Without a word it reads a bundle from standard input.
+pub(crate) fn command<'a>(alloc: Global) -> Result<Command<'a>, AllocError> {
+    let mut line = Command::new(alloc, "initd").version("0.1.0").about(
+        "Runs and replays job files; without a command, replays a bundle on standard input",
+    );
+    for subcommand in &SUBCOMMANDS {
+        line = add(line, command_of(alloc, subcommand))?;
+    }
+    Ok(line)
+}
