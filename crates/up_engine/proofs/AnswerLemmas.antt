@@ -1,5 +1,6 @@
 -- The answers of a release, one after another.
-use Rattle.std.proofs.Common.{◌≡◌, ℕ, ◌+◌, ◌<◌, Bool, true, false, List, [], ◌∷◌, ◌++◌, Option, None, Some, codes, if◌then◌else◌, length, drop, get_or, map, refl, sym, ◌∙◌, ap, add-one, drop-cons, append_assoc, ◌==◌, eq-eqb}
+use Rattle.std.proofs.Common.{◌≡◌, ℕ, ◌+◌, ◌<◌, Bool, true, false, List, [], ◌∷◌, ◌++◌, Option, None, Some, codes, if◌then◌else◌, length, drop, get_or, map, refl, sym, ◌∙◌, ap, add-one, drop-cons, append_assoc, ◌==◌, eq-eqb, arith}
+use Rattle.std.proofs.lemmas.Bool.Decides.{Decides-eqb}
 use Rattle.up_engine.specs.declared.keys.EventKey.{EventKey}
 use Rattle.up_engine.specs.declared.record.Record.{Record}
 use Rattle.up_engine.specs.Records.{place_of, chronicle, entry_of}
@@ -36,3 +37,8 @@ list_left jobs i job c within here =
 pub lines_filled : (job : Bytes) (its : List Instance) (n : ℕ) (c : Chronicle) → n ≡ length its → (n == 0) ≡ false → statuses its c ≡ job_lines job its c
 lines_filled job [] n c same some = let none : (n == 0) ≡ true = eq-eqb n 0 same in absurd (cc)
 lines_filled job (x ∷ xs) n c same some = refl
+
+-- and one without any has a line of its own
+pub lines_none : (job : Bytes) (its : List Instance) (n : ℕ) (c : Chronicle) → n ≡ length its → (n == 0) ≡ true → stopped_text job ∷ [] ≡ job_lines job its c
+lines_none job [] n c same none = refl
+lines_none job (x ∷ xs) n c same none = let zero : n ≡ 0 = (Decides-eqb n 0).0 none in absurd (omega (arith, same, zero))

@@ -1,6 +1,5 @@
 -- Lists of entries.
 use Rattle.std.proofs.Common.{◌≡◌, ℕ, false, true, Bool, List, [], ◌∷◌, ◌++◌, Option, None, Some, is_some, option_map, map, refl, sym, ◌∙◌, ap, append_assoc}
-use Rattle.up_engine.specs.Keys.{instance_at}
 use Rattle.up_model.specs.Chronicle.{Chronicle, Entry, Offered, Fired, StartOn, StopOn}
 use Rattle.up_model.specs.Predicates.{or_else}
 use Rattle.up_model.specs.Values.{Bytes}
@@ -67,6 +66,3 @@ same_offer p q = cc
 
 pub same_start : {job other : Bytes} {xs ys : List ℕ} → job ≡ other → xs ≡ ys → Fired (StartOn job) xs ≡ Fired (StartOn other) ys
 same_start p q = cc
-
-pub same_instance : {i j : ℕ} {name other : Bytes} → i ≡ j → name ≡ other → instance_at i name ≡ instance_at j other
-same_instance p q = cc

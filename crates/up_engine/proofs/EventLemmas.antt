@@ -1,7 +1,7 @@
 -- The events that are left, one on.
 use Rattle.std.proofs.Common.{◌≡◌, ℕ, suc, ◌+◌, ◌<◌, List, [], ◌∷◌, Bor, Option, length, drop, get_or, map, refl, sym, ◌∙◌, ap, add-one, drop-cons}
 use Rattle.up_engine.specs.declared.keys.EventKey.{EventKey}
-use Rattle.up_engine.proofs.Slots.{KeyThere}
+use Rattle.up_engine.proofs.EventKeys.{KeyThere}
 use Rattle.up_model.specs.declared.event.Event.{Event}
 use Rattle.up_model.specs.Chronicle.{Chronicle}
 use Rattle.up_model.specs.Events.{events_at, with_event, with_export, with_exports}

@@ -4,7 +4,7 @@ use Rattle.std.proofs.lemmas.List.{take_more, take-append-drop, take-set, drop-s
 use Rattle.std.proofs.lemmas.Slice.Eq.{bytes_eq-Decides}
 use Rattle.up_conf.specs.Order.{is_below, put_by}
 use Rattle.up_engine.specs.declared.groups.Group.{Group}
-use Rattle.up_engine.specs.declared.keys.Slot.{Slot}
+use Rattle.up_engine.specs.declared.groups.Slot.{Slot}
 use Rattle.up_engine.specs.Groups.{instance_of, position_in, with_slot, with_slot_in, without_slot, slots_of, listed, insert_slot, remove_slot}
 use Rattle.up_model.specs.Instances.{Instance, with_instance, without_instance}
 use Rattle.up_model.specs.Values.{Bytes}
@@ -43,7 +43,7 @@ map-with_slot new (slot ∷ slots) = by_case (is_below slot.name new.name) (map-
 
 map-without_slot : (place : ℕ) (slots : List Slot) → map instance_of (without_slot place slots) ≡ without_instance place (map instance_of slots)
 map-without_slot place [] = refl
-map-without_slot place (slot ∷ slots) = by_case (slot.key.place == place) (map-without_slot place slots)
+map-without_slot place (slot ∷ slots) = by_case (slot.place == place) (map-without_slot place slots)
   where
     by_case : (b : Bool) → map instance_of (without_slot place slots) ≡ without_instance place (map instance_of slots)
         → map instance_of (cond (not b) (slot ∷ without_slot place slots) (without_slot place slots))

@@ -2,7 +2,7 @@
 use Rattle.std.proofs.Common.{◌≡◌, ℕ, ◌+◌, ◌<◌, ◌==◌, ◌||◌, List, ◌∷◌, ◌++◌, length, drop, get_or, map, sym, ap, add-one, drop-cons, append_assoc}
 use Rattle.up_conf.specs.declared.job.JobDef.{JobDef}
 use Rattle.up_engine.specs.declared.keys.EventKey.{EventKey}
-use Rattle.up_engine.specs.declared.keys.Slot.{Slot}
+use Rattle.up_engine.specs.declared.groups.Slot.{Slot}
 use Rattle.up_engine.specs.Groups.{instance_of}
 use Rattle.up_engine.specs.Records.{place_of}
 use Rattle.up_model.specs.Chronicle.{Chronicle}
@@ -29,7 +29,7 @@ places_left keys i d within =
 -- the instances from one on
 pub instances_left : (config : Configuration) (job : JobDef) (slots : List Slot) (i : ℕ) (d : Slot) (c : Chronicle) → i < length slots
     → held_by_instances config job (map instance_of (drop i slots)) c
-    ≡ held_by config job (get_or slots i d).key.place c ++ held_by_instances config job (map instance_of (drop (i + 1) slots)) c
+    ≡ held_by config job (get_or slots i d).place c ++ held_by_instances config job (map instance_of (drop (i + 1) slots)) c
 instances_left config job slots i d c within =
     let one : drop i slots ≡ get_or slots i d ∷ drop (i + 1) slots = rw add-one (drop-cons slots i d within) in
     ap (λ left. held_by_instances config job (map instance_of left) c) one

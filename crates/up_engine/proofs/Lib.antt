@@ -1,12 +1,15 @@
 pub mod Entries
 pub mod FolderLemmas
-pub mod Slots
+pub mod EventKeys
 pub mod Chronicles
 pub mod AnswerLemmas
 pub mod EventLemmas
 pub mod ClockLemmas
 pub mod GroupLemmas
 pub mod HeldLemmas
+pub mod HolderLemmas
+pub mod TurnLemmas
+pub mod KeyLemmas
 pub mod StandingLemmas
 pub mod CountLemmas
 pub mod MoveLemmas

@@ -2,15 +2,15 @@
 use Rattle.std.proofs.Common.{◌≡◌, ℕ, suc, Bool, ◌+◌, ◌<◌, ◌&&◌, false, true, List, [], ◌∷◌, ◌++◌, length, drop, get_or, refl, sym, ◌∙◌, ap, add-one, drop-cons, Option, Some, None}
 use Rattle.up_conf.specs.declared.job.JobDef.{JobDef}
 use Rattle.up_engine.specs.declared.keys.InstanceKey.{InstanceKey}
-use Rattle.up_engine.specs.declared.keys.Slot.{Slot}
-use Rattle.up_engine.specs.Keys.{instance_at, FindsMove}
+use Rattle.up_engine.specs.Keys.{FindsMove}
 use Rattle.up_engine.proofs.Entries.{or_else-some, or_else-none, filled_five}
-use Rattle.up_engine.proofs.Slots.{SlotThere}
+use Rattle.up_engine.proofs.KeyLemmas.{InstanceThere}
 use Rattle.up_model.specs.declared.life.Entry as life
 use Rattle.up_model.specs.declared.state.State.{State}
 use Rattle.up_model.specs.declared.who.Who.{Who}
 use Rattle.up_stanza.specs.declared.process.Process.TheVariants.{Main}
 use Rattle.up_model.specs.Chronicle.{Chronicle, Entry, Entered, Signalled}
+use Rattle.up_model.specs.Configuration.{Configuration}
 use Rattle.up_model.specs.Instances.{Instance, instances_of}
 use Rattle.up_model.specs.Moves.{may_leave, move, move_of, move_in, move_first, enter, who_of, next_of, emitting, ordering}
 use Rattle.up_model.specs.Life.{entering}
@@ -62,16 +62,18 @@ stays : (job : JobDef) (instance : Instance) (c : Chronicle) → may_leave job i
 stays job instance c may = ap (λ (b : Bool). entries_if b (move job instance c)) may
 
 -- the search ends at an instance that may leave its state
-pub finds_here : (places : InstanceKey → Option ℕ) (slot : Slot) (job : JobDef) (instances : List Instance) (n : ℕ) (c : Chronicle) → (there : SlotThere places slot instances n)
-    → true ≡ may_leave job there.place c → move_in job (drop n instances) c ≡ move_in job instances c → FindsMove places (Some slot) job instances c
-finds_here places slot job instances n c there some left =
-    let it = instance_at there.place slot.name in
+pub finds_here : (config : Configuration) (c : Chronicle) (key : InstanceKey) (job : JobDef) → (there : InstanceThere config c key (instances_of job.name c))
+    → true ≡ may_leave job there.instance.place c → move_in job (drop key.at (instances_of job.name c)) c ≡ move_in job (instances_of job.name c) c → FindsMove config (Some key) job c
+finds_here config c key job there some left =
+    let it = there.instance in
     let first : move_of job it c ≡ move job it c = moves job it c (sym some) in
     let filled : is_filled (move_of job it c) ≡ true = ap is_filled first ∙ filled_move job it c in
-    (there.place, (there.is, sym left ∙ ap (λ is. move_in job is c) there.rest ∙ or_else-some _ _ filled ∙ first))
+    (it, (there.is, sym left ∙ ap (λ is. move_in job is c) there.rest ∙ or_else-some _ _ filled ∙ first))
 
-pub finds_past : (places : InstanceKey → Option ℕ) (slot : Slot) (job : JobDef) (instances : List Instance) (n : ℕ) (c : Chronicle) → (there : SlotThere places slot instances n)
-    → false ≡ may_leave job there.place c → move_in job (drop n instances) c ≡ move_in job instances c → move_in job (drop (n + 1) instances) c ≡ move_in job instances c
-finds_past places slot job instances n c there none left =
-    let it = instance_at there.place slot.name in
-    rw add-one (sym (ap (λ entries. or_else entries (move_in job (drop (suc n) instances) c)) (stays job it c (sym none))) ∙ sym (ap (λ is. move_in job is c) there.rest) ∙ left)
+pub finds_past : (config : Configuration) (c : Chronicle) (key : InstanceKey) (job : JobDef) → (there : InstanceThere config c key (instances_of job.name c))
+    → false ≡ may_leave job there.instance.place c → move_in job (drop key.at (instances_of job.name c)) c ≡ move_in job (instances_of job.name c) c
+    → move_in job (drop (key.at + 1) (instances_of job.name c)) c ≡ move_in job (instances_of job.name c) c
+finds_past config c key job there none left =
+    let it = there.instance in
+    let rest = drop (suc key.at) (instances_of job.name c) in
+    rw add-one (sym (ap (λ entries. or_else entries (move_in job rest c)) (stays job it c (sym none))) ∙ sym (ap (λ is. move_in job is c) there.rest) ∙ left)

@@ -2,48 +2,37 @@
 use Rattle.std.proofs.Common.{◌≡◌, ℕ, suc, Bool, not, ◌+◌, ◌<◌, false, true, List, [], ◌∷◌, ◌++◌, length, drop, get_or, map, refl, sym, ◌∙◌, ap, subst, add-one, drop-cons, Option, Some, None, option_map, if◌then◌else◌, bytes_eq}
 use Rattle.up_conf.specs.declared.job.JobDef.{JobDef}
 use Rattle.up_engine.specs.declared.keys.InstanceKey.{InstanceKey}
-use Rattle.up_engine.specs.declared.keys.Slot.{Slot}
 use Rattle.up_engine.specs.Keys.{FindsOpen}
 use Rattle.up_engine.proofs.Entries.{or_else-some, or_else-none, filled_last}
-use Rattle.up_engine.proofs.Slots.{SlotThere}
+use Rattle.up_engine.proofs.KeyLemmas.{InstanceThere}
 use Rattle.up_model.specs.Chronicle.{Chronicle, Entry, Offered, StartOn}
 use Rattle.up_model.specs.Configuration.{Configuration}
-use Rattle.up_model.specs.Instances.{Instance, instances_of, place_named}
+use Rattle.up_model.specs.Instances.{instances_of}
 use Rattle.up_model.specs.Offers.{is_open, stop_offer, stop_offer_in, start_offer, offer_in, offer_first}
 use Rattle.up_model.specs.Predicates.{entries_if, or_else}
-use Rattle.up_model.specs.Values.{Bytes}
 use Rattle.up_text.specs.Scripts.{is_filled}
 
 pub filled_stop : (config : Configuration) (job : JobDef) (i e : ℕ) (c : Chronicle) → is_filled (stop_offer config job i e c) ≡ true
 filled_stop config job i e c = filled_last _ _
 
 -- the search ends at an instance whose expression is still to be offered the event
-pub opens_here : (places : InstanceKey → Option ℕ) (slot : Slot) (config : Configuration) (job : JobDef) (instances : List Instance) (n e : ℕ) (c : Chronicle) → (there : SlotThere places slot instances n)
-    → is_open there.place c ≡ true → stop_offer_in config job (drop n instances) e c ≡ stop_offer_in config job instances e c → FindsOpen places (Some slot.key) config job instances e c
-opens_here places slot config job instances n e c there left so_far =
-    let first : entries_if (is_open there.place c) (stop_offer config job there.place e c) ≡ stop_offer config job there.place e c = ap (λ (b : Bool). entries_if b (stop_offer config job there.place e c)) left in
-    (there.place, (there.is, sym so_far ∙ ap (λ is. stop_offer_in config job is e c) there.rest ∙ ap (λ entries. or_else entries (stop_offer_in config job (drop (suc n) instances) e c)) first ∙ or_else-some _ _ (filled_stop config job there.place e c)))
+pub opens_here : (config : Configuration) (c : Chronicle) (key : InstanceKey) (job : JobDef) (e : ℕ) → (there : InstanceThere config c key (instances_of job.name c))
+    → is_open there.instance.place c ≡ true → stop_offer_in config job (drop key.at (instances_of job.name c)) e c ≡ stop_offer_in config job (instances_of job.name c) e c
+    → FindsOpen config (Some key) job e c
+opens_here config c key job e there left so_far =
+    let i = there.instance.place in
+    let rest = stop_offer_in config job (drop (suc key.at) (instances_of job.name c)) e c in
+    let first : entries_if (is_open i c) (stop_offer config job i e c) ≡ stop_offer config job i e c = ap (λ (b : Bool). entries_if b (stop_offer config job i e c)) left in
+    (i, (there.place, sym so_far ∙ ap (λ is. stop_offer_in config job is e c) there.rest ∙ ap (λ entries. or_else entries rest) first ∙ or_else-some _ _ (filled_stop config job i e c)))
 
-pub opens_past : (places : InstanceKey → Option ℕ) (slot : Slot) (config : Configuration) (job : JobDef) (instances : List Instance) (n e : ℕ) (c : Chronicle) → (there : SlotThere places slot instances n)
-    → is_open there.place c ≡ false → stop_offer_in config job (drop n instances) e c ≡ stop_offer_in config job instances e c
-    → stop_offer_in config job (drop (n + 1) instances) e c ≡ stop_offer_in config job instances e c
-opens_past places slot config job instances n e c there closed so_far =
-    let first : entries_if (is_open there.place c) (stop_offer config job there.place e c) ≡ [] = ap (λ (b : Bool). entries_if b (stop_offer config job there.place e c)) closed in
-    rw add-one (sym (ap (λ entries. or_else entries (stop_offer_in config job (drop (suc n) instances) e c)) first) ∙ sym (ap (λ is. stop_offer_in config job is e c) there.rest) ∙ so_far)
-
--- the instance of this name is here
-pub named_here : (places : InstanceKey → Option ℕ) (slot : Slot) (name : Bytes) (instances : List Instance) (n : ℕ) → (there : SlotThere places slot instances n)
-    → bytes_eq slot.name name ≡ true → place_named name (drop n instances) ≡ place_named name instances → option_map places (Some slot.key) ≡ option_map Some (place_named name instances)
-named_here places slot name instances n there same so_far =
-    let first : place_named name (drop n instances) ≡ Some there.place = ap (place_named name) there.rest ∙ ap (λ (b : Bool). if b then Some there.place else place_named name (drop (suc n) instances)) same in
-    ap Some there.is ∙ ap (option_map Some) (sym first ∙ so_far)
-
--- or further on
-pub named_past : (places : InstanceKey → Option ℕ) (slot : Slot) (name : Bytes) (instances : List Instance) (n : ℕ) → (there : SlotThere places slot instances n)
-    → bytes_eq slot.name name ≡ false → place_named name (drop n instances) ≡ place_named name instances → place_named name (drop (n + 1) instances) ≡ place_named name instances
-named_past places slot name instances n there differs so_far =
-    let first : place_named name (drop n instances) ≡ place_named name (drop (suc n) instances) = ap (place_named name) there.rest ∙ ap (λ (b : Bool). if b then Some there.place else place_named name (drop (suc n) instances)) differs in
-    rw add-one (sym first ∙ so_far)
+pub opens_past : (config : Configuration) (c : Chronicle) (key : InstanceKey) (job : JobDef) (e : ℕ) → (there : InstanceThere config c key (instances_of job.name c))
+    → is_open there.instance.place c ≡ false → stop_offer_in config job (drop key.at (instances_of job.name c)) e c ≡ stop_offer_in config job (instances_of job.name c) e c
+    → stop_offer_in config job (drop (key.at + 1) (instances_of job.name c)) e c ≡ stop_offer_in config job (instances_of job.name c) e c
+opens_past config c key job e there closed so_far =
+    let i = there.instance.place in
+    let rest = stop_offer_in config job (drop (suc key.at) (instances_of job.name c)) e c in
+    let first : entries_if (is_open i c) (stop_offer config job i e c) ≡ [] = ap (λ (b : Bool). entries_if b (stop_offer config job i e c)) closed in
+    rw add-one (sym (ap (λ entries. or_else entries rest) first) ∙ sym (ap (λ is. stop_offer_in config job is e c) there.rest) ∙ so_far)
 
 -- the jobs from one on
 offer_left : (config : Configuration) (jobs : List JobDef) (i e : ℕ) (d : JobDef) (c : Chronicle) → i < length jobs

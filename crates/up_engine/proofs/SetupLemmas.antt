@@ -1,6 +1,7 @@
 -- The environments of jobs.
 use Rattle.std.proofs.Common.{◌≡◌, ℕ, ◌+◌, ◌<◌, true, Bool, List, [], ◌∷◌, length, map, drop, get_or, slice_get, unwrap_or, Option, None, Some, option_map, if◌then◌else◌, bytes_eq, ◌⊎◌, inl, inr, Result, Ok, Err, refl, sym, ◌∙◌, ap, add-one, drop-cons}
 use Rattle.std.proofs.lemmas.Option.{slice_get-map, slice_get-get_or}
+use Rattle.std.proofs.lemmas.Slice.Eq.{bytes_eq-Decides}
 use Rattle.up_conf.specs.declared.job.JobDef.{JobDef}
 use Rattle.up_stanza.specs.declared.setting.Setting.{Setting}
 use Rattle.up_model.specs.Configuration.{job_named}
@@ -19,6 +20,15 @@ pub settings_left : (base : Bindings) (settings : List Setting) (i : ℕ) (d : S
 settings_left base settings i d environment within =
     let one : drop i settings ≡ get_or settings i d ∷ drop (i + 1) settings = rw add-one (drop-cons settings i d within) in
     ap (λ left. with_settings base left environment) one
+
+-- the job that was found
+pub job_there : (jobs : List JobDef) (name : Bytes) (i : ℕ) (job : JobDef) → i < length jobs → job ≡ get_or jobs i job → bytes_eq job.name name ≡ true
+    → job_named name (drop i jobs) ≡ job_named name jobs → (job_named name jobs ≡ Some job) × ((slice_get jobs i ≡ Some job) × (job.name ≡ name))
+job_there jobs name i job within here called left =
+    let named : job_named name jobs ≡ Some job =
+    sym left ∙ jobs_left jobs name i job within ∙ ap (λ j. if bytes_eq j.name name then Some j else job_named name (drop (i + 1) jobs)) (sym here)
+    ∙ ap (λ (b : Bool). if b then Some job else job_named name (drop (i + 1) jobs)) called in
+    (named, (slice_get-get_or jobs i job within ∙ ap Some (sym here), (bytes_eq-Decides job.name name).0 called))
 
 -- the environment of the job that was found
 pub environment_there : (base : Bindings) (environments : List Bindings) (jobs : List JobDef) (name : Bytes) (i : ℕ) (job : JobDef) → i < length jobs

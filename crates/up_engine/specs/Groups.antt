@@ -3,12 +3,12 @@ use Rattle.std.specs.Prelude.{ℕ, ◌+◌, not, ◌==◌, List, [], ◌∷◌, 
 use Rattle.std.specs.Str.{bytes_eq}
 use Rattle.up_conf.specs.Order.{is_below, put_by}
 use Rattle.up_engine.specs.declared.groups.Group.{Group}
-use Rattle.up_engine.specs.declared.keys.Slot.{Slot}
+use Rattle.up_engine.specs.declared.groups.Slot.{Slot}
 use Rattle.up_model.specs.Instances.{Instance}
 use Rattle.up_model.specs.Values.{Bytes}
 
 abbrev pub instance_of : Slot → Instance
-instance_of slot = record { place = slot.key.place; name = slot.name }
+instance_of slot = record { place = slot.place; name = slot.name }
 
 -- where a name belongs among slots in order
 abbrev pub position_in : Bytes → List Slot → ℕ
@@ -19,7 +19,7 @@ abbrev pub with_slot : Slot → List Slot → List Slot
 with_slot slot slots = put_by (λ x y. is_below x.name y.name) slot slots
 
 abbrev pub without_slot : ℕ → List Slot → List Slot
-without_slot place slots = filter (λ slot. not (slot.key.place == place)) slots
+without_slot place slots = filter (λ slot. not (slot.place == place)) slots
 
 -- the slots of a job
 abbrev pub slots_of : Bytes → List Group → List Slot

@@ -1,15 +1,22 @@
 -- What the code of requests hands on.
-use Rattle.std.specs.Prelude.{true, false, [], Option, None, Some}
+use Rattle.std.specs.Prelude.{◌≡◌, true, false, [], Option, None, Some, ⊤}
 use Rattle.up_engine.specs.declared.target.Target.{Target}
 use Rattle.up_engine.specs.declared.target.Target.TheVariants as target
 use Rattle.up_model.specs.declared.request.Answer.{Answer}
+use Rattle.up_engine.specs.Keys.{name_at}
 use Rattle.up_model.specs.Commands as model
+use Rattle.up_model.specs.Configuration.{Configuration}
 use Rattle.up_model.specs.Values.{Bytes}
 
 -- whom a request names, as the model says it
 abbrev pub target_of : Target → model.Target
 target_of (target.Nobody text) = model.Nobody text
-target_of (target.Concerns job who environment) = model.Concerns job.now who environment
+target_of (target.Concerns index job who environment) = model.Concerns job.now who environment
+
+-- whom a request names has the index of its job
+abbrev pub IsIndexed : Configuration → Target → Type 0
+IsIndexed config (target.Nobody text) = ⊤
+IsIndexed config (target.Concerns index job who environment) = name_at config index ≡ Some who.job
 
 -- an outcome, unless it is refused with a text
 abbrev pub unless : Option Bytes → model.Outcome → model.Outcome

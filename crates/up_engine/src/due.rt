@@ -1,12 +1,13 @@
 //! What is due, the effect of an input, and whether it is expected.
-ghost use Rattle.std.specs.Prelude.{◌≡◌, ℕ, List, ◌∷◌, [], ◌++◌, map, Option, Some, option_map, IfOk, OnOk};
-ghost use Rattle.up_engine.specs.Keys.{Mode, Resting, Stepping, live_at};
+ghost use Rattle.std.specs.Prelude.{◌≡◌, ℕ, false, List, ◌∷◌, [], ◌++◌, map, Option, Some, option_map, IfOk, OnOk};
+ghost use Rattle.up_engine.specs.Keys.{Mode, Resting, Stepping, live_at, instance_place};
 ghost use Rattle.up_model.specs.declared.input.Input.TheVariants as given_as;
 ghost use Rattle.up_model.specs.Answers as answer;
 ghost use Rattle.up_model.specs.Chronicle.{Chronicle};
 ghost use Rattle.up_model.specs.Chronicle as entry;
 ghost use Rattle.up_model.specs.Configuration.{Configuration};
 ghost use Rattle.up_model.specs.Due as model;
+ghost use Rattle.up_model.specs.Held as held;
 ghost use Rattle.up_model.specs.Instances.{instance_named};
 ghost use Rattle.up_model.specs.Queue as queue;
 ghost use Rattle.up_text.specs.Scripts.{is_filled};
@@ -14,9 +15,9 @@ ghost use Rattle.up_text.specs.Scripts.{is_filled};
 use crate::book::Book;
 use crate::events::failure_of_event;
 use crate::judgement::{conclude, verdict_on};
-use crate::keys::{EventKey, Live};
+use crate::keys::{EventKey, InstanceKey, Live};
 use crate::moves::move_first;
-use crate::offers::{instance_named, offer_next};
+use crate::offers::offer_next;
 use crate::requests::take_request;
 use crate::setup::Setup;
 use crate::time::kill_overdue;
@@ -44,21 +45,32 @@ pub(crate) fn do_next<B: Book>(
     book.reply_last()
 }
 
-fn awaits<B: Book>(book: &B, who: &Who, process: Process) -> bool
-    ensures { (mode : Mode) (config : Configuration) (c : Chronicle) → B.stands book.now mode config c
+// The instance that is known outside by these names.
+fn find<B: Book>(setup: &Setup, book: &B, who: &Who) -> Option<InstanceKey>
+    ensures { (mode : Mode) (c : Chronicle) → B.stands book.now mode setup.now c
+        → option_map (instance_place setup.now c) result ≡ option_map Some (instance_named who.now c) }
+{
+    match setup.job_named(who.job.as_str()) {
+        Some((index, _)) => book.find(index, who.instance.as_str()),
+        None => None,
+    }
+}
+
+fn awaits<B: Book>(setup: &Setup, book: &B, who: &Who, process: Process) -> bool
+    ensures { (mode : Mode) (c : Chronicle) → B.stands book.now mode setup.now c
         → result ≡ answer.awaits (instance_named who.now c) process c }
 {
-    match instance_named(book, &who.job, who.instance.as_str()) {
+    match find(setup, book, who) {
         Some(key) => book.awaits(key, process),
         None => false,
     }
 }
 
-fn has_living<B: Book>(book: &B, who: &Who, process: Process) -> bool
-    ensures { (mode : Mode) (config : Configuration) (c : Chronicle) → B.stands book.now mode config c
+fn has_living<B: Book>(setup: &Setup, book: &B, who: &Who, process: Process) -> bool
+    ensures { (mode : Mode) (c : Chronicle) → B.stands book.now mode setup.now c
         → result ≡ answer.has_living (instance_named who.now c) process c }
 {
-    match instance_named(book, &who.job, who.instance.as_str()) {
+    match find(setup, book, who) {
         Some(key) => book.lives(key, process),
         None => false,
     }
@@ -66,15 +78,15 @@ fn has_living<B: Book>(book: &B, who: &Who, process: Process) -> bool
 
 /// Whether an input is expected: the answer for a process that is ordered and unanswered, the end of one that lives, or any other.
 #[tactic(auto, unfolding(up_model::specs::Answers::is_expected))]
-pub(crate) fn is_expected<B: Book>(book: &B, input: &Input) -> bool
-    ensures { (mode : Mode) (config : Configuration) (c : Chronicle) → B.stands book.now mode config c
+pub(crate) fn is_expected<B: Book>(setup: &Setup, book: &B, input: &Input) -> bool
+    ensures { (mode : Mode) (c : Chronicle) → B.stands book.now mode setup.now c
         → result ≡ answer.is_expected input.now c }
 {
     match input {
         Input::Spawned { who, process, .. } | Input::Refused { who, process } => awaits(
-            book, who, *process,
+            setup, book, who, *process,
         ),
-        Input::Ended { who, process, .. } => has_living(book, who, *process),
+        Input::Ended { who, process, .. } => has_living(setup, book, who, *process),
         Input::Emit(_) | Input::Request { .. } | Input::Clock(_) | Input::Turn => true,
     }
 }
@@ -148,7 +160,7 @@ fn failed_event_of<B: Book>(
 fn finish<B: Book>(alloc: Global, book: &mut B, key: EventKey) -> Result<(), AllocError>
     ensures { OnOk result ((config : Configuration) (c : Chronicle) (e : ℕ)
         → B.stands book.old Resting config c
-        → B.event_place book.old c key ≡ Some e
+        → B.event_place book.old c key ≡ Some e → held.is_held config e c ≡ false
         → B.stands book.new Stepping config (model.finishing e (entry.Given given_as.Turn ∷ c)
         ++ entry.Given given_as.Turn ∷ c)) }
 {
@@ -175,6 +187,7 @@ fn turn_by<B: Book>(alloc: Global, book: &mut B, live: Live) -> Result<(), Alloc
     ensures { OnOk result ((config : Configuration) (c : Chronicle) (e : ℕ)
         → B.stands book.old Resting config c
         → B.event_place book.old c live.key ≡ Some e
+        → model.turn_event config (queue.queue c) c ≡ Some (queue.live_at e live.handled)
         → B.stands book.new Stepping config (model.turn_of (Some (queue.live_at e live.handled))
         (entry.Given given_as.Turn ∷ c) ++ entry.Given given_as.Turn ∷ c)) }
 {

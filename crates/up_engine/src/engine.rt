@@ -82,10 +82,11 @@ impl Engine {
         ensures { IfOk result (λ engine. Stands engine (record { base = base; jobs = table }) []) }
     {
         let setup = Setup::new(alloc, table, base)?;
+        let book = StoringBook::new(alloc, &setup)?;
         Ok(Engine {
             alloc,
             setup,
-            book: StoringBook::new(alloc),
+            book,
             down: false,
             live: 0,
             turns: false,
@@ -159,6 +160,14 @@ impl Engine {
         }
     }
 
+    // Whether an input is expected.
+    fn expects(&self, given: &Input) -> bool
+        ensures { (config : Configuration) (c : Chronicle) → Stands self.now config c
+            → result ≡ answer.is_expected given.now c }
+    {
+        is_expected(&self.setup, &self.book, given)
+    }
+
     /// Takes one input, and answers what it asks for, in order. Refused with `NotExpected` for the answer or the end of a process
     /// that isn't expected, which changes nothing; with `Memory`, after which the engine is down; and with `Down` if it is.
     pub fn step(&mut self, given: Input) -> Result<Vec<Output>, StepError>
@@ -172,7 +181,7 @@ impl Engine {
             drop(given);
             return Err(StepError::Down);
         }
-        if !is_expected(&self.book, &given) {
+        if !self.expects(&given) {
             drop(given);
             return Err(StepError::NotExpected);
         }

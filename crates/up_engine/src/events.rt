@@ -3,16 +3,17 @@ ghost use Rattle.std.specs.Prelude.{◌≡◌, List, ℕ, [], ◌∷◌, ◌++�
 ghost use Rattle.std.specs.Fmt.{decimal};
 ghost use Rattle.std.specs.Option.{option_copied, option_map_or};
 ghost use Rattle.up_text.specs.Bindings.{value_of, set_in, set_all};
-ghost use Rattle.up_engine.specs.Keys.{Mode, instance_at};
+ghost use Rattle.up_engine.specs.Keys.{Mode, instance_at, instance_place};
 ghost use Rattle.up_model.specs.declared.event.Event.{Event as EventValue};
 ghost use Rattle.up_model.specs.Chronicle.{Chronicle};
 ghost use Rattle.up_model.specs.Configuration.{Configuration};
 ghost use Rattle.up_model.specs.Events as model;
+ghost use Rattle.up_model.specs.Instances.{Instance};
 ghost use Rattle.up_model.specs.Moves as moves;
 ghost use Rattle.up_model.specs.Signals.{signal_text};
 
 use crate::book::Book;
-use crate::keys::{EventKey, Slot};
+use crate::keys::{EventKey, InstanceKey};
 use std::alloc::{AllocError, Global};
 use up_conf::signal_name;
 use up_model::{Cause, Event, Failure, How, JobDef, JobEvent, process_name};
@@ -172,24 +173,40 @@ fn export_all(vars: &mut Env, environment: Option<&Env>, keys: &[Text]) -> Resul
     Ok(())
 }
 
+// An event of the life of the instance of this name, with the keys that its job exports of the environment in force.
+fn event_of_life<B: Book>(
+    alloc: Global,
+    book: &B,
+    job: &JobDef,
+    key: InstanceKey,
+    instance: &str,
+    kind: JobEvent,
+) -> Result<Event, AllocError>
+    ensures { IfOk result (λ event. (mode : Mode) (config : Configuration) (c : Chronicle) (i : ℕ)
+        → B.stands book.now mode config c → instance_place config c key ≡ Some i
+        → event ≡ moves.job_event job.now (record { job = job.now.name; instance = instance.now }) i kind c) }
+{
+    let failure = book.failure(key);
+    let Event { name, mut vars } = life_event(alloc, kind, &job.name, instance, failure)?;
+    export_all(&mut vars, book.env(key), job.export.as_slice())?;
+    Ok(Event { name, vars })
+}
+
 /// An event of an instance's life (starting(7), started(7), stopping(7), stopped(7)), with the keys that its job exports of the
 /// environment in force.
 pub(crate) fn job_event<B: Book>(
     alloc: Global,
     book: &B,
     job: &JobDef,
-    slot: &Slot,
+    key: InstanceKey,
     kind: JobEvent,
 ) -> Result<Event, AllocError>
-    ensures { IfOk result (λ event. (mode : Mode) (config : Configuration) (c : Chronicle) (i : ℕ)
-        → B.stands book.now mode config c
-        → B.instance_place book.now c slot.now.key ≡ Some i
-        → event ≡ moves.job_event job.now (moves.who_of job.now (instance_at i slot.now.name)) i kind c) }
+    ensures { IfOk result (λ event. (mode : Mode) (config : Configuration) (c : Chronicle) (its : Instance)
+        → B.stands book.now mode config c → instance_at config c key ≡ Some its
+        → event ≡ moves.job_event job.now (moves.who_of job.now its) its.place kind c) }
 {
-    let failure = book.failure(slot.key);
-    let Event { name, mut vars } = life_event(alloc, kind, &job.name, slot.name.as_str(), failure)?;
-    export_all(&mut vars, book.env(slot.key), job.export.as_slice())?;
-    Ok(Event { name, vars })
+    let event = event_of_life(alloc, book, job, key, book.name(key), kind)?;
+    Ok(event)
 }
 
 fn tells_failure(event: &Event) -> bool

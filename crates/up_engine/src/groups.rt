@@ -1,13 +1,20 @@
 //! The instances that exist, by their jobs.
-ghost use Rattle.std.specs.Prelude.{◌≡◌, ◌≤◌, List, ℕ, length, map, take, drop, ◌++◌, filter, not, ◌==◌, OnOk, IfOk, ◌∷◌, [], if◌then◌else◌};
+ghost use Rattle.std.specs.Prelude.{◌≡◌, ◌≤◌, List, ℕ, length, map, take, drop, ◌++◌, filter, not, ◌==◌, OnOk, IfOk, ◌∷◌, [], Some, option_map, slice_get, if◌then◌else◌};
 ghost use Rattle.std.specs.Str.{bytes_eq};
 ghost use Rattle.up_conf.specs.Order.{is_below};
 ghost use Rattle.up_engine.specs.Groups.{position_in, instance_of, without_slot, with_slot, slots_of, insert_slot, remove_slot, with_slot_in};
+ghost use Rattle.up_model.specs.Instances.{place_named};
 
-use crate::keys::Slot;
 use std::alloc::{AllocError, Global};
 use std::marker::Model;
-use up_text::Name;
+use up_text::{Name, Text};
+
+/// An instance: its name, and where it was made.
+#[derive(Debug, Drop)]
+pub struct Slot {
+    pub name: Text,
+    pub place: usize,
+}
 
 /// Instances in byte order of their names, seen by contracts as their list.
 #[derive(Drop)]
@@ -17,7 +24,7 @@ pub struct Slots {
 
 impl Model for Slots {
     ghost use Rattle.std.specs.Prelude.{List};
-    ghost use Rattle.up_engine.specs.declared.keys.Slot.{Slot};
+    ghost use Rattle.up_engine.specs.declared.groups.Slot.{Slot};
 
     ghost Value = { List Slot };
 
@@ -59,9 +66,9 @@ fn insert_by_name(slots: &mut Vec<Slot>, slot: Slot) -> Result<(), AllocError>
 }
 
 fn keep_others(slots: &mut Vec<Slot>, place: usize)
-    ensures { slots.new.items ≡ filter (λ slot. not (slot.key.place == place)) slots.old.items }
+    ensures { slots.new.items ≡ filter (λ slot. not (slot.place == place)) slots.old.items }
 {
-    slots.retain(|slot| slot.key.place != place);
+    slots.retain(|slot| slot.place != place);
 }
 
 impl Slots {
@@ -148,4 +155,17 @@ pub(crate) fn slots_of<'a>(groups: &'a [Group], job: &Name) -> &'a [Slot]
         }
     }
     &[]
+}
+
+/// Where the slot of a name is.
+pub(crate) fn position_named(slots: &[Slot], name: &str) -> Option<usize>
+    ensures { option_map (λ at. option_map (λ its. its.place) (slice_get (map instance_of slots.now) at)) result
+        ≡ option_map Some (place_named name.now (map instance_of slots.now)) }
+{
+    for (at, slot) in slots.iter().enumerate() {
+        if slot.name.is(name) {
+            return Some(at);
+        }
+    }
+    None
 }

@@ -6,8 +6,8 @@ ghost use Rattle.up_model.specs.Held as model;
 ghost use Rattle.up_model.specs.Instances.{instances_of};
 ghost use Rattle.up_model.specs.Values.{Bytes};
 
-use crate::groups::{Group, slots_of};
-use crate::keys::{EventKey, Slot};
+use crate::groups::{Group, Slot, slots_of};
+use crate::keys::EventKey;
 use crate::reading::life::holders;
 use crate::record::{Record, Wanted};
 use crate::setup::Setup;
@@ -70,7 +70,7 @@ fn add_held_by_instances(
         ++ model.held_by_instances setup.now job.now (map instance_of slots.now) (chronicle records.now)) }
 {
     for slot in slots {
-        add_held_by(alloc, setup, records, job, slot.key.place, held)?;
+        add_held_by(alloc, setup, records, job, slot.place, held)?;
     }
     Ok(())
 }

@@ -1,6 +1,6 @@
 //! What the end or the refusal of a process does to its instance.
 ghost use Rattle.std.specs.Prelude.{◌≡◌, ℕ, List, ◌++◌, map, Option, None, Some, IfOk, OnOk};
-ghost use Rattle.up_engine.specs.Keys.{Mode, Stepping, Judges};
+ghost use Rattle.up_engine.specs.Keys.{Mode, Stepping, name_at, instance_place, Judges};
 ghost use Rattle.std.specs.List.{list_any};
 ghost use Rattle.up_conf.specs.Jobs.{same_exit};
 ghost use Rattle.up_model.specs.Chronicle.{Chronicle, Entry as EntryValue};
@@ -12,8 +12,6 @@ ghost use Rattle.up_model.specs.Judgement as model;
 use crate::book::Book;
 use crate::keys::InstanceKey;
 use crate::life::is_start;
-use crate::offers::instance_named;
-use crate::outputs::job_named;
 use crate::setup::Setup;
 use std::alloc::AllocError;
 use up_conf::Exit;
@@ -24,11 +22,11 @@ use up_model::{End, Failure, How, JobDef, Process, Verdict, Who};
 fn end_itself<B: Book>(book: &mut B, key: InstanceKey) -> Result<(), AllocError>
     ensures instances { OnOk result ((config : Configuration) (c : Chronicle) (i : ℕ)
         → B.stands book.old Stepping config c
-        → B.instance_place book.old c key ≡ Some i
-        → B.instance_place book.new (model.end_itself i c ++ c) key ≡ Some i) }
+        → instance_place config c key ≡ Some i
+        → instance_place config (model.end_itself i c ++ c) key ≡ Some i) }
     ensures after { OnOk result ((config : Configuration) (c : Chronicle) (i : ℕ)
         → B.stands book.old Stepping config c
-        → B.instance_place book.old c key ≡ Some i
+        → instance_place config c key ≡ Some i
         → B.stands book.new Stepping config (model.end_itself i c ++ c)) }
 {
     if is_start(book.goal(key)) {
@@ -41,7 +39,7 @@ fn end_itself<B: Book>(book: &mut B, key: InstanceKey) -> Result<(), AllocError>
 fn fail<B: Book>(book: &mut B, key: InstanceKey, failure: Failure) -> Result<(), AllocError>
     ensures { OnOk result ((config : Configuration) (c : Chronicle) (i : ℕ)
         → B.stands book.old Stepping config c
-        → B.instance_place book.old c key ≡ Some i
+        → instance_place config c key ≡ Some i
         → B.stands book.new Stepping config (model.fail i failure c ++ c)) }
 {
     let is_first = book.failure(key).is_none();
@@ -55,7 +53,7 @@ fn fail<B: Book>(book: &mut B, key: InstanceKey, failure: Failure) -> Result<(),
 fn carry_out<B: Book>(book: &mut B, key: InstanceKey, verdict: Verdict) -> Result<(), AllocError>
     ensures { OnOk result ((config : Configuration) (c : Chronicle) (i : ℕ)
         → B.stands book.old Stepping config c
-        → B.instance_place book.old c key ≡ Some i
+        → instance_place config c key ≡ Some i
         → B.stands book.new Stepping config (model.carry_out i verdict c ++ c)) }
 {
     match verdict {
@@ -103,7 +101,7 @@ fn verdict_on_end<B: Book>(
     end: End,
 ) -> Verdict
     ensures { (mode : Mode) (config : Configuration) (c : Chronicle) (i : ℕ) → B.stands book.now mode config c
-        → B.instance_place book.now c key ≡ Some i → result ≡ model.verdict_on_end job.now i process end c }
+        → instance_place config c key ≡ Some i → result ≡ model.verdict_on_end job.now i process end c }
 {
     let goal = book.goal(key);
     let state = book.state_of(key);
@@ -124,16 +122,17 @@ fn verdict_on_end<B: Book>(
 // What the end of a process does to which instance of a job, if that exists.
 fn verdict_in<B: Book>(
     book: &B,
+    index: usize,
     job: &JobDef,
     who: &Who,
     process: Process,
     end: End,
 ) -> Option<(InstanceKey, Verdict)>
     ensures { (mode : Mode) (config : Configuration) (c : Chronicle) → B.stands book.now mode config c
-        → Judges (B.instance_place book.now c) result
-        (end_of (Some job.now) (instance_named who.now c) process end c) c }
+        → name_at config index ≡ Some who.now.job
+        → Judges config result (end_of (Some job.now) (instance_named who.now c) process end c) c }
 {
-    match instance_named(book, &who.job, who.instance.as_str()) {
+    match book.find(index, who.instance.as_str()) {
         Some(key) => Some((key, verdict_on_end(book, job, key, process, end))),
         None => None,
     }
@@ -148,11 +147,11 @@ pub(crate) fn verdict_on<B: Book>(
     end: End,
 ) -> Option<(InstanceKey, Verdict)>
     ensures { (mode : Mode) (c : Chronicle) → B.stands book.now mode setup.now c
-        → Judges (B.instance_place book.now c) result
+        → Judges setup.now result
         (end_of (job_named who.now.job setup.now.jobs) (instance_named who.now c) process end c) c }
 {
-    match job_named(setup.jobs(), &who.job) {
-        Some(job) => verdict_in(book, job, who, process, end),
+    match setup.job_named(who.job.as_str()) {
+        Some((index, job)) => verdict_in(book, index, job, who, process, end),
         None => None,
     }
 }
@@ -164,7 +163,7 @@ pub(crate) fn conclude<B: Book>(
 ) -> Result<(), AllocError>
     ensures { OnOk result ((config : Configuration) (c : Chronicle) (entries : List EntryValue)
         → B.stands book.old Stepping config c
-        → Judges (B.instance_place book.old c) verdict_on_end entries c
+        → Judges config verdict_on_end entries c
         → B.stands book.new Stepping config (entries ++ c)) }
 {
     match verdict_on_end {

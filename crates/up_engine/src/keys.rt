@@ -1,39 +1,27 @@
 //! What a book hands out to name events and instances by.
-ghost use Rattle.std.specs.Prelude.{◌≡◌, IfOk};
+use up_text::Items;
 
-use std::alloc::AllocError;
-use up_text::Text;
-
-/// An event that hasn't finished, or a request: what may hold an instance.
+/// An event that hasn't finished.
 #[derive(Clone, Copy, Debug)]
 pub struct EventKey {
     pub place: usize,
 }
 
-/// An instance that exists.
+/// Who holds an instance from a start, a stop or a restart on.
+#[derive(Drop)]
+pub enum Holders {
+    /// The events that an expression took, from left to right.
+    Taken(Items<EventKey>),
+    /// The client of this step's request, which waits.
+    Client,
+    Nobody,
+}
+
+/// An instance that exists: the index of its job in the table, and its own among the job's instances in byte order of their names.
 #[derive(Clone, Copy, Debug)]
 pub struct InstanceKey {
-    pub place: usize,
-}
-
-/// An instance with its name.
-#[derive(Debug, Drop)]
-pub struct Slot {
-    pub name: Text,
-    pub key: InstanceKey,
-}
-
-impl Slot {
-    /// An equal value in memory of its own.
-    pub(crate) fn copy(&self) -> Result<Self, AllocError>
-        ensures { IfOk result (λ slot. slot ≡ self.now) }
-    {
-        let name = self.name.copy()?;
-        Ok(Slot {
-            name,
-            key: self.key,
-        })
-    }
+    pub job: usize,
+    pub at: usize,
 }
 
 /// An event that hasn't finished, and whether a turn took it up.

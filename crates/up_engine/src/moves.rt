@@ -1,12 +1,11 @@
 //! The moves of instances from state to state.
 ghost use Rattle.std.specs.Prelude.{◌≡◌, ℕ, false, not, ◌&&◌, ◌||◌, List, ◌∷◌, [], ◌++◌, map, Option, Some, IfOk, OnOk};
-ghost use Rattle.std.specs.Option.{option_copied};
-ghost use Rattle.up_conf.specs.declared.job.JobDef.{JobDef as JobValue};
-ghost use Rattle.up_engine.specs.Keys.{Mode, Stepping, is_waiting, instance_at, slot_at, FindsMove};
+ghost use Rattle.up_engine.specs.Keys.{Mode, Stepping, is_waiting, name_at, instance_at, instance_place, FindsMove};
 ghost use Rattle.up_model.specs.declared.state.State.TheVariants as entered;
 ghost use Rattle.up_model.specs.Chronicle.{Chronicle};
 ghost use Rattle.up_model.specs.Chronicle as entry;
 ghost use Rattle.up_model.specs.Configuration.{Configuration};
+ghost use Rattle.up_model.specs.Instances.{Instance};
 ghost use Rattle.up_model.specs.Instances as model_instances;
 ghost use Rattle.up_model.specs.Life as life;
 ghost use Rattle.up_model.specs.Moves as model;
@@ -18,7 +17,7 @@ ghost use Rattle.up_text.specs.Scripts.{is_filled};
 
 use crate::book::Book;
 use crate::events::job_event;
-use crate::keys::{InstanceKey, Slot};
+use crate::keys::InstanceKey;
 use crate::life::{has_process, is_start, is_waiting};
 use crate::setup::Setup;
 use std::alloc::{AllocError, Global};
@@ -28,7 +27,7 @@ use up_model::{Entry, Goal, JobDef, JobEvent, Process, State};
 // Whether an order was answered, if the job has the process.
 fn is_answered<B: Book>(book: &B, job: &JobDef, key: InstanceKey, process: Process) -> bool
     ensures { (mode : Mode) (config : Configuration) (c : Chronicle) (i : ℕ) → B.stands book.now mode config c
-        → B.instance_place book.now c key ≡ Some i
+        → instance_place config c key ≡ Some i
         → result ≡ model.is_over job.now i (life.ForAnswer process) c }
 {
     !has_process(job, process) || !book.awaits(key, process)
@@ -36,7 +35,7 @@ fn is_answered<B: Book>(book: &B, job: &JobDef, key: InstanceKey, process: Proce
 
 fn is_at_work<B: Book>(book: &B, key: InstanceKey, process: Process) -> bool
     ensures { (mode : Mode) (config : Configuration) (c : Chronicle) (i : ℕ) → B.stands book.now mode config c
-        → B.instance_place book.now c key ≡ Some i
+        → instance_place config c key ≡ Some i
         → result ≡ (read.is_awaited i process c || read.lives i process c) }
 {
     book.awaits(key, process) || book.lives(key, process)
@@ -45,7 +44,7 @@ fn is_at_work<B: Book>(book: &B, key: InstanceKey, process: Process) -> bool
 // Whether a process was refused or has ended, if the job has it.
 fn is_through<B: Book>(book: &B, job: &JobDef, key: InstanceKey, process: Process) -> bool
     ensures { (mode : Mode) (config : Configuration) (c : Chronicle) (i : ℕ) → B.stands book.now mode config c
-        → B.instance_place book.now c key ≡ Some i
+        → instance_place config c key ≡ Some i
         → result ≡ model.is_over job.now i (life.ForProcess process) c }
 {
     !has_process(job, process) || !is_at_work(book, key, process)
@@ -53,7 +52,7 @@ fn is_through<B: Book>(book: &B, job: &JobDef, key: InstanceKey, process: Proces
 
 fn is_main_gone<B: Book>(book: &B, job: &JobDef, key: InstanceKey) -> bool
     ensures { (mode : Mode) (config : Configuration) (c : Chronicle) (i : ℕ) → B.stands book.now mode config c
-        → B.instance_place book.now c key ≡ Some i
+        → instance_place config c key ≡ Some i
         → result ≡ (model.has_process job.now process.Main && not (read.lives i process.Main c)) }
 {
     has_process(job, Process::Main) && !book.lives(key, Process::Main)
@@ -62,7 +61,7 @@ fn is_main_gone<B: Book>(book: &B, job: &JobDef, key: InstanceKey) -> bool
 // Whether there is a reason to leave running.
 fn is_changed<B: Book>(book: &B, job: &JobDef, key: InstanceKey) -> bool
     ensures { (mode : Mode) (config : Configuration) (c : Chronicle) (i : ℕ) → B.stands book.now mode config c
-        → B.instance_place book.now c key ≡ Some i → result ≡ model.is_over job.now i life.ForChange c }
+        → instance_place config c key ≡ Some i → result ≡ model.is_over job.now i life.ForChange c }
 {
     !is_start(book.goal(key)) || book.was_restarted(key) || is_main_gone(book, job, key)
 }
@@ -70,7 +69,7 @@ fn is_changed<B: Book>(book: &B, job: &JobDef, key: InstanceKey) -> bool
 // Whether what an instance waits for in a state has come.
 fn is_over<B: Book>(book: &B, job: &JobDef, key: InstanceKey, from: State) -> bool
     ensures { (mode : Mode) (config : Configuration) (c : Chronicle) (i : ℕ) → B.stands book.now mode config c
-        → B.instance_place book.now c key ≡ Some i → result ≡ model.is_over job.now i (life.wait_in from) c }
+        → instance_place config c key ≡ Some i → result ≡ model.is_over job.now i (life.wait_in from) c }
 {
     match from {
         State::Waiting => is_start(book.goal(key)),
@@ -88,7 +87,7 @@ fn is_over<B: Book>(book: &B, job: &JobDef, key: InstanceKey, from: State) -> bo
 
 fn may_leave<B: Book>(book: &B, job: &JobDef, key: InstanceKey) -> bool
     ensures { (mode : Mode) (config : Configuration) (c : Chronicle) (i : ℕ) → B.stands book.now mode config c
-        → B.instance_place book.now c key ≡ Some i → result ≡ model.may_leave job.now i c }
+        → instance_place config c key ≡ Some i → result ≡ model.may_leave job.now i c }
 {
     let from = book.state_of(key);
     is_over(book, job, key, from)
@@ -107,7 +106,7 @@ fn following(goal: Goal, from: State, has_main: bool, lives: bool) -> State
 // The state that an instance enters next.
 fn next_of<B: Book>(book: &B, job: &JobDef, key: InstanceKey) -> State
     ensures { (mode : Mode) (config : Configuration) (c : Chronicle) (i : ℕ) → B.stands book.now mode config c
-        → B.instance_place book.now c key ≡ Some i → result ≡ model.next_of job.now i c }
+        → instance_place config c key ≡ Some i → result ≡ model.next_of job.now i c }
 {
     let goal = book.goal(key);
     let from = book.state_of(key);
@@ -124,11 +123,10 @@ fn order<B: Book>(
     orders: Option<Process>,
 ) -> Result<(), AllocError>
     ensures after { OnOk result ((c : Chronicle) (i : ℕ) → B.stands book.old Stepping setup.now c
-        → B.instance_place book.old c key ≡ Some i
+        → instance_place setup.now c key ≡ Some i
         → B.stands book.new Stepping setup.now (model.ordering job.now i orders ++ c)) }
-    ensures instances { OnOk result ((c : Chronicle) (i : ℕ) → B.stands book.old Stepping setup.now c
-        → B.instance_place book.old c key ≡ Some i
-        → B.instance_place book.new (model.ordering job.now i orders ++ c) key ≡ Some i) }
+    ensures stays { OnOk result ((c : Chronicle) (i : ℕ)
+        → instance_at setup.now (model.ordering job.now i orders ++ c) key ≡ instance_at setup.now c key) }
 {
     match orders {
         Some(process) => {
@@ -146,25 +144,22 @@ fn emit<B: Book>(
     alloc: Global,
     book: &mut B,
     job: &JobDef,
-    slot: &Slot,
+    key: InstanceKey,
     to: State,
     emits: Option<JobEvent>,
 ) -> Result<(), AllocError>
-    ensures after { OnOk result ((config : Configuration) (c : Chronicle) (i : ℕ)
-        → B.stands book.old Stepping config c
-        → B.instance_place book.old c slot.now.key ≡ Some i
-        → B.stands book.new Stepping config (model.emitting job.now
-        (model.who_of job.now (instance_at i slot.now.name)) i to emits c ++ c)) }
-    ensures instances { OnOk result ((config : Configuration) (c : Chronicle) (i : ℕ)
-        → B.stands book.old Stepping config c
-        → B.instance_place book.old c slot.now.key ≡ Some i
-        → B.instance_place book.new (model.emitting job.now
-        (model.who_of job.now (instance_at i slot.now.name)) i to emits c ++ c) slot.now.key ≡ Some i) }
+    ensures after { OnOk result ((config : Configuration) (c : Chronicle) (its : Instance)
+        → B.stands book.old Stepping config c → instance_at config c key ≡ Some its
+        → B.stands book.new Stepping config
+        (model.emitting job.now (model.who_of job.now its) its.place to emits c ++ c)) }
+    ensures stays { OnOk result ((config : Configuration) (c : Chronicle) (its : Instance)
+        → instance_at config (model.emitting job.now (model.who_of job.now its) its.place to emits c ++ c) key
+        ≡ instance_at config c key) }
 {
     match emits {
         Some(kind) => {
-            let event = job_event(alloc, book, job, slot, kind)?;
-            book.announce(slot.key, to, event)?;
+            let event = job_event(alloc, book, job, key, kind)?;
+            book.announce(key, to, event)?;
         }
         None => {}
     }
@@ -174,14 +169,11 @@ fn emit<B: Book>(
 // Sends main its signal.
 fn kill<B: Book>(book: &mut B, key: InstanceKey, signal: u8, kills: bool) -> Result<(), AllocError>
     ensures after { OnOk result ((config : Configuration) (c : Chronicle) (i : ℕ)
-        → B.stands book.old Stepping config c
-        → B.instance_place book.old c key ≡ Some i
+        → B.stands book.old Stepping config c → instance_place config c key ≡ Some i
         → B.stands book.new Stepping config (entries_if kills (entry.Signalled i signal false ∷ []) ++ c)) }
-    ensures instances { OnOk result ((config : Configuration) (c : Chronicle) (i : ℕ)
-        → B.stands book.old Stepping config c
-        → B.instance_place book.old c key ≡ Some i
-        → B.instance_place book.new (entries_if kills (entry.Signalled i signal false ∷ []) ++ c) key
-        ≡ Some i) }
+    ensures stays { OnOk result ((config : Configuration) (c : Chronicle) (i : ℕ)
+        → instance_at config (entries_if kills (entry.Signalled i signal false ∷ []) ++ c) key
+        ≡ instance_at config c key) }
 {
     if kills {
         book.signal(key, signal)?;
@@ -191,8 +183,7 @@ fn kill<B: Book>(book: &mut B, key: InstanceKey, signal: u8, kills: bool) -> Res
 
 fn release<B: Book>(book: &mut B, key: InstanceKey, releases: bool) -> Result<(), AllocError>
     ensures { OnOk result ((config : Configuration) (c : Chronicle) (i : ℕ)
-        → B.stands book.old Stepping config c
-        → B.instance_place book.old c key ≡ Some i
+        → B.stands book.old Stepping config c → instance_place config c key ≡ Some i
         → B.stands book.new Stepping config (entries_if releases (replies.releasing i false c) ++ c)) }
 {
     if releases {
@@ -207,26 +198,26 @@ fn enter_with<B: Book>(
     setup: &Setup,
     book: &mut B,
     job: &JobDef,
-    slot: &Slot,
+    key: InstanceKey,
     to: State,
     table: Entry,
 ) -> Result<(), AllocError>
-    ensures after { OnOk result ((c : Chronicle) (i : ℕ) → B.stands book.old Stepping setup.now c
-        → B.instance_place book.old c slot.now.key ≡ Some i → is_waiting to ≡ false
+    ensures after { OnOk result ((c : Chronicle) (its : Instance) → B.stands book.old Stepping setup.now c
+        → instance_at setup.now c key ≡ Some its → is_waiting to ≡ false
         → B.stands book.new Stepping setup.now
-        (model.emitting job.now (model.who_of job.now (instance_at i slot.now.name)) i to table.emits
-        (model.ordering job.now i table.orders ++ entry.Entered i to ∷ c)
-        ++ (model.ordering job.now i table.orders ++ entry.Entered i to ∷ c))) }
-    ensures instances { OnOk result ((c : Chronicle) (i : ℕ) → B.stands book.old Stepping setup.now c
-        → B.instance_place book.old c slot.now.key ≡ Some i → is_waiting to ≡ false
-        → B.instance_place book.new
-        (model.emitting job.now (model.who_of job.now (instance_at i slot.now.name)) i to table.emits
-        (model.ordering job.now i table.orders ++ entry.Entered i to ∷ c)
-        ++ (model.ordering job.now i table.orders ++ entry.Entered i to ∷ c)) slot.now.key ≡ Some i) }
+        (model.emitting job.now (model.who_of job.now its) its.place to table.emits
+        (model.ordering job.now its.place table.orders ++ entry.Entered its.place to ∷ c)
+        ++ (model.ordering job.now its.place table.orders ++ entry.Entered its.place to ∷ c))) }
+    ensures stays { OnOk result ((c : Chronicle) (its : Instance) → B.stands book.old Stepping setup.now c
+        → instance_at setup.now c key ≡ Some its → is_waiting to ≡ false
+        → instance_at setup.now
+        (model.emitting job.now (model.who_of job.now its) its.place to table.emits
+        (model.ordering job.now its.place table.orders ++ entry.Entered its.place to ∷ c)
+        ++ (model.ordering job.now its.place table.orders ++ entry.Entered its.place to ∷ c)) key ≡ Some its) }
 {
-    book.enter(slot.key, to)?;
-    order(setup, book, job, slot.key, table.orders)?;
-    emit(alloc, book, job, slot, to, table.emits)?;
+    book.enter(key, to)?;
+    order(setup, book, job, key, table.orders)?;
+    emit(alloc, book, job, key, to, table.emits)?;
     Ok(())
 }
 
@@ -236,24 +227,19 @@ fn enter_other<B: Book>(
     setup: &Setup,
     book: &mut B,
     job: &JobDef,
-    slot: &Slot,
+    key: InstanceKey,
     to: State,
     table: Entry,
 ) -> Result<(), AllocError>
-    ensures { OnOk result ((c : Chronicle) (i : ℕ) → B.stands book.old Stepping setup.now c
-        → B.instance_place book.old c slot.now.key ≡ Some i → is_waiting to ≡ false
+    ensures { OnOk result ((c : Chronicle) (its : Instance) → B.stands book.old Stepping setup.now c
+        → instance_at setup.now c key ≡ Some its → is_waiting to ≡ false
         → B.stands book.new Stepping setup.now
-        (model.enter_whole job.now (model.who_of job.now (instance_at i slot.now.name)) i to table c ++ c)) }
+        (model.enter_whole job.now (model.who_of job.now its) its.place to table c ++ c)) }
 {
-    let lives = book.lives(slot.key, Process::Main);
-    enter_with(alloc, setup, book, job, slot, to, table)?;
-    kill(
-        book,
-        slot.key,
-        job.kill_signal.number(),
-        table.kills && lives,
-    )?;
-    release(book, slot.key, table.releases)?;
+    let lives = book.lives(key, Process::Main);
+    enter_with(alloc, setup, book, job, key, to, table)?;
+    kill(book, key, job.kill_signal.number(), table.kills && lives)?;
+    release(book, key, table.releases)?;
     Ok(())
 }
 
@@ -262,18 +248,17 @@ fn enter_waiting<B: Book>(
     alloc: Global,
     book: &mut B,
     job: &JobDef,
-    slot: &Slot,
+    key: InstanceKey,
     from: State,
 ) -> Result<(), AllocError>
-    ensures { OnOk result ((config : Configuration) (c : Chronicle) (i : ℕ)
-        → B.stands book.old Stepping config c
-        → B.instance_place book.old c slot.now.key ≡ Some i
+    ensures { OnOk result ((config : Configuration) (c : Chronicle) (its : Instance)
+        → B.stands book.old Stepping config c → instance_at config c key ≡ Some its
         → B.stands book.new Stepping config
-        (model.enter_whole job.now (model.who_of job.now (instance_at i slot.now.name)) i entered.Waiting
+        (model.enter_whole job.now (model.who_of job.now its) its.place entered.Waiting
         (life.entering entered.Waiting from job.now.task) c ++ c)) }
 {
-    let event = job_event(alloc, book, job, slot, JobEvent::Stopped)?;
-    book.leave(slot.key, event)?;
+    let event = job_event(alloc, book, job, key, JobEvent::Stopped)?;
+    book.leave(key, event)?;
     Ok(())
 }
 
@@ -283,23 +268,23 @@ fn move_on<B: Book>(
     setup: &Setup,
     book: &mut B,
     job: &JobDef,
-    slot: &Slot,
+    key: InstanceKey,
 ) -> Result<(), AllocError>
-    ensures { OnOk result ((c : Chronicle) (i : ℕ) → B.stands book.old Stepping setup.now c
-        → B.instance_place book.old c slot.now.key ≡ Some i
-        → B.stands book.new Stepping setup.now (model.move job.now (instance_at i slot.now.name) c ++ c)) }
+    ensures { OnOk result ((c : Chronicle) (its : Instance) → B.stands book.old Stepping setup.now c
+        → instance_at setup.now c key ≡ Some its
+        → B.stands book.new Stepping setup.now (model.move job.now its c ++ c)) }
 {
-    let from = book.state_of(slot.key);
-    let to = next_of(book, job, slot.key);
+    let from = book.state_of(key);
+    let to = next_of(book, job, key);
     if is_waiting(to) {
-        enter_waiting(alloc, book, job, slot, from)?;
+        enter_waiting(alloc, book, job, key, from)?;
     } else {
         enter_other(
             alloc,
             setup,
             book,
             job,
-            slot,
+            key,
             to,
             entering(to, from, job.task),
         )?;
@@ -307,35 +292,19 @@ fn move_on<B: Book>(
     Ok(())
 }
 
-// The first of these instances that may leave its state.
-fn first_moving<'a, B: Book>(book: &B, job: &JobDef, slots: &'a [Slot]) -> Option<&'a Slot>
-    ensures { (mode : Mode) (config : Configuration) (c : Chronicle) (its : List model_instances.Instance)
-        → B.stands book.now mode config c
-        → map (slot_at (B.instance_place book.now c)) slots.now ≡ map Some its
-        → FindsMove (B.instance_place book.now c) (option_copied result) job.now its c }
+// The first of a job's instances that may leave its state.
+fn first_moving<B: Book>(book: &B, index: usize, job: &JobDef) -> Option<InstanceKey>
+    ensures { (mode : Mode) (config : Configuration) (c : Chronicle) → B.stands book.now mode config c
+        → name_at config index ≡ Some job.now.name
+        → FindsMove config result job.now c }
 {
-    for slot in slots {
-        if may_leave(book, job, slot.key) {
-            return Some(slot);
+    for at in 0..book.count(index) {
+        let key = InstanceKey { job: index, at };
+        if may_leave(book, job, key) {
+            return Some(key);
         }
     }
     None
-}
-
-// A copy of the first of a job's instances that may leave its state.
-fn copy_of_moving<B: Book>(book: &B, job: &JobDef) -> Result<Option<Slot>, AllocError>
-    ensures { IfOk result (λ slot. (mode : Mode) (config : Configuration) (c : Chronicle)
-        → B.stands book.now mode config c
-        → FindsMove (B.instance_place book.now c) slot job.now
-        (model_instances.instances_of job.now.name c) c) }
-{
-    match first_moving(book, job, book.instances(&job.name)) {
-        Some(slot) => {
-            let copy = slot.copy()?;
-            Ok(Some(copy))
-        }
-        None => Ok(None),
-    }
 }
 
 // Moves the first of a job's instances that may leave its state; returns whether there was one.
@@ -343,17 +312,20 @@ fn move_in<B: Book>(
     alloc: Global,
     setup: &Setup,
     book: &mut B,
+    index: usize,
     job: &JobDef,
 ) -> Result<bool, AllocError>
     ensures entries { OnOk result ((c : Chronicle) → B.stands book.old Stepping setup.now c
+        → name_at setup.now index ≡ Some job.now.name
         → B.stands book.new Stepping setup.now
         (model.move_in job.now (model_instances.instances_of job.now.name c) c ++ c)) }
     ensures any { IfOk result (λ moved. (c : Chronicle) → B.stands book.old Stepping setup.now c
+        → name_at setup.now index ≡ Some job.now.name
         → moved ≡ is_filled (model.move_in job.now (model_instances.instances_of job.now.name c) c)) }
 {
-    match copy_of_moving(book, job)? {
-        Some(slot) => {
-            move_on(alloc, setup, book, job, &slot)?;
+    match first_moving(book, index, job) {
+        Some(key) => {
+            move_on(alloc, setup, book, job, key)?;
             Ok(true)
         }
         None => Ok(false),
@@ -367,13 +339,15 @@ pub(crate) fn move_first<B: Book>(
     book: &mut B,
     jobs: &[JobDef],
 ) -> Result<bool, AllocError>
-    ensures entries { OnOk result ((c : Chronicle) → B.stands book.old Stepping setup.now c
+    ensures entries { OnOk result ((c : Chronicle) → jobs.now ≡ setup.now.jobs
+        → B.stands book.old Stepping setup.now c
         → B.stands book.new Stepping setup.now (model.move_first jobs.now c ++ c)) }
-    ensures any { IfOk result (λ moved. (c : Chronicle) → B.stands book.old Stepping setup.now c
+    ensures any { IfOk result (λ moved. (c : Chronicle) → jobs.now ≡ setup.now.jobs
+        → B.stands book.old Stepping setup.now c
         → moved ≡ is_filled (model.move_first jobs.now c)) }
 {
-    for job in jobs {
-        if move_in(alloc, setup, book, job)? {
+    for (index, job) in jobs.iter().enumerate() {
+        if move_in(alloc, setup, book, index, job)? {
             return Ok(true);
         }
     }

@@ -1,8 +1,6 @@
 //! How the event of a turn is offered to the expressions, and what one does that fires.
 ghost use Rattle.std.specs.Prelude.{◌≡◌, ℕ, nat_lt, length, false, not, List, ◌∷◌, [], ◌++◌, map, Option, None, Some, option_map, IfOk, OnOk};
-ghost use Rattle.up_conf.specs.declared.job.JobDef.{JobDef as JobValue};
-ghost use Rattle.up_engine.specs.declared.keys.InstanceKey.{InstanceKey as InstanceKeyValue};
-ghost use Rattle.up_engine.specs.Keys.{Mode, Stepping, slot_at, FindsOpen};
+ghost use Rattle.up_engine.specs.Keys.{Mode, Stepping, held_as, request_place, name_at, instance_place, FindsOpen};
 ghost use Rattle.up_model.specs.Chronicle.{Chronicle};
 ghost use Rattle.up_model.specs.Chronicle as entry;
 ghost use Rattle.up_model.specs.Configuration.{Configuration};
@@ -11,11 +9,12 @@ ghost use Rattle.up_model.specs.Environments as environments;
 ghost use Rattle.up_model.specs.Instances as model_instances;
 ghost use Rattle.up_model.specs.Offers as model;
 ghost use Rattle.up_model.specs.Seen.{seen, taken};
+ghost use Rattle.up_model.specs.Values.{Bytes};
 ghost use Rattle.up_text.specs.Scripts.{is_filled};
 
 use crate::book::Book;
 use crate::events::{add_instance, events_env, stop_env};
-use crate::keys::{EventKey, InstanceKey, Slot};
+use crate::keys::{EventKey, Holders, InstanceKey};
 use crate::life::is_start;
 use crate::setup::Setup;
 use std::alloc::{AllocError, Global};
@@ -27,11 +26,12 @@ pub(crate) fn stop_of<B: Book>(
     book: &mut B,
     key: InstanceKey,
     environment: Env,
-    holders: Items<EventKey>,
+    holders: Holders,
 ) -> Result<(), AllocError>
     ensures { OnOk result ((config : Configuration) (c : Chronicle) (i : ℕ) (places : List ℕ)
         → B.stands book.old Stepping config c
-        → B.instance_place book.old c key ≡ Some i → map (B.event_place book.old c) holders ≡ map Some places
+        → instance_place config c key ≡ Some i
+        → held_as (B.event_place book.old c) (request_place c) holders ≡ map Some places
         → B.stands book.new Stepping config (model.stop_of i environment places c ++ c)) }
 {
     book.release(key)?;
@@ -48,12 +48,12 @@ fn stop_by<B: Book>(
 ) -> Result<(), AllocError>
     ensures { OnOk result ((config : Configuration) (c : Chronicle) (i : ℕ) (events : List ℕ)
         → B.stands book.old Stepping config c
-        → B.instance_place book.old c key ≡ Some i → map (B.event_place book.old c) holders ≡ map Some events
+        → instance_place config c key ≡ Some i → map (B.event_place book.old c) holders ≡ map Some events
         → B.stands book.new Stepping config (model.stop_by i events c ++ c)) }
 {
     if is_start(book.goal(key)) {
         let environment = stop_env(alloc, book, holders.as_slice())?;
-        stop_of(book, key, environment, holders)?;
+        stop_of(book, key, environment, Holders::Taken(holders))?;
     }
     Ok(())
 }
@@ -67,7 +67,7 @@ fn stop_fires<B: Book>(
     key: InstanceKey,
 ) -> Result<(), AllocError>
     ensures { OnOk result ((c : Chronicle) (i : ℕ) → B.stands book.old Stepping setup.now c
-        → B.instance_place book.old c key ≡ Some i
+        → instance_place setup.now c key ≡ Some i
         → B.stands book.new Stepping setup.now
         (model.stop_by i (taken job.now.stop_on (seen setup.now (entry.StopOn i) c))
         (entry.Fired (entry.StopOn i) (taken job.now.stop_on (seen setup.now (entry.StopOn i) c)) ∷ c)
@@ -88,7 +88,7 @@ fn offer_stop<B: Book>(
     event: EventKey,
 ) -> Result<(), AllocError>
     ensures { OnOk result ((c : Chronicle) (i e : ℕ) → B.stands book.old Stepping setup.now c
-        → B.instance_place book.old c key ≡ Some i → B.event_place book.old c event ≡ Some e
+        → instance_place setup.now c key ≡ Some i → B.event_place book.old c event ≡ Some e
         → B.stands book.new Stepping setup.now (model.stop_offer setup.now job.now i e c ++ c)) }
 {
     let holds = book.offer_stop(setup, job, key, event)?;
@@ -100,7 +100,7 @@ fn offer_stop<B: Book>(
 
 fn is_settled<B: Book>(book: &B, key: InstanceKey) -> bool
     ensures { (mode : Mode) (config : Configuration) (c : Chronicle) (i : ℕ) → B.stands book.now mode config c
-        → B.instance_place book.now c key ≡ Some i → not result ≡ model.is_open i c }
+        → instance_place config c key ≡ Some i → not result ≡ model.is_open i c }
 {
     book.is_newborn(key) || book.was_offered_stop(key)
 }
@@ -108,22 +108,21 @@ fn is_settled<B: Book>(book: &B, key: InstanceKey) -> bool
 // Whether an instance's `stop on` is still to be offered the event of this step.
 fn is_open<B: Book>(book: &B, key: InstanceKey) -> bool
     ensures { (mode : Mode) (config : Configuration) (c : Chronicle) (i : ℕ) → B.stands book.now mode config c
-        → B.instance_place book.now c key ≡ Some i → result ≡ model.is_open i c }
+        → instance_place config c key ≡ Some i → result ≡ model.is_open i c }
 {
     !is_settled(book, key)
 }
 
-// The first of these instances whose `stop on` is still to be offered the event.
-fn first_open<B: Book>(book: &B, slots: &[Slot]) -> Option<InstanceKey>
-    ensures { (mode : Mode) (config conf : Configuration) (job : JobValue) (e : ℕ) (c : Chronicle)
-        (its : List model_instances.Instance)
-        → B.stands book.now mode config c → map (slot_at (B.instance_place book.now c)) slots.now
-        ≡ map Some its
-        → FindsOpen (B.instance_place book.now c) result conf job its e c }
+// The first of a job's instances whose `stop on` is still to be offered the event.
+fn first_open<B: Book>(book: &B, index: usize, job: &JobDef) -> Option<InstanceKey>
+    ensures { (mode : Mode) (config : Configuration) (e : ℕ) (c : Chronicle)
+        → B.stands book.now mode config c → name_at config index ≡ Some job.now.name
+        → FindsOpen config result job.now e c }
 {
-    for slot in slots {
-        if is_open(book, slot.key) {
-            return Some(slot.key);
+    for at in 0..book.count(index) {
+        let key = InstanceKey { job: index, at };
+        if is_open(book, key) {
+            return Some(key);
         }
     }
     None
@@ -134,12 +133,13 @@ fn start_old<B: Book>(
     book: &mut B,
     key: InstanceKey,
     environment: Env,
-    holders: Items<EventKey>,
+    holders: Holders,
 ) -> Result<(), AllocError>
-    ensures { OnOk result ((config : Configuration) (c : Chronicle) (who : WhoValue) (i : ℕ) (events : List ℕ)
+    ensures { OnOk result ((config : Configuration) (c : Chronicle) (who : WhoValue) (i : ℕ) (places : List ℕ)
         → B.stands book.old Stepping config c
-        → B.instance_place book.old c key ≡ Some i → map (B.event_place book.old c) holders ≡ map Some events
-        → B.stands book.new Stepping config (model.start_of who environment events (Some i) c ++ c)) }
+        → instance_place config c key ≡ Some i
+        → held_as (B.event_place book.old c) (request_place c) holders ≡ map Some places
+        → B.stands book.new Stepping config (model.start_of who environment places (Some i) c ++ c)) }
 {
     if !is_start(book.goal(key)) {
         book.release(key)?;
@@ -149,27 +149,28 @@ fn start_old<B: Book>(
 }
 
 /// Whether a job may have an instance more.
-#[tactic(auto, using(crate::proofs::Slots::slots_length))]
-pub(crate) fn has_room<B: Book>(book: &B, job: &Name) -> bool
-    ensures { (mode : Mode) (config : Configuration) (c : Chronicle) → B.stands book.now mode config c
-        → result ≡ nat_lt (length (model_instances.instances_of job.now c)) model.max_instances }
+pub(crate) fn has_room<B: Book>(book: &B, job: usize) -> bool
+    ensures { (mode : Mode) (config : Configuration) (c : Chronicle) (its : Bytes)
+        → B.stands book.now mode config c → name_at config job ≡ Some its
+        → result ≡ nat_lt (length (model_instances.instances_of its c)) model.max_instances }
 {
-    book.instances(job).len() < MAX_INSTANCES
+    book.count(job) < MAX_INSTANCES
 }
 
 // A job gets an instance, whose goal becomes start, if it may have one more.
 fn start_new<B: Book>(
     book: &mut B,
-    job: &Name,
+    job: usize,
     name: &str,
     environment: Env,
-    holders: Items<EventKey>,
+    holders: Holders,
 ) -> Result<(), AllocError>
-    ensures { OnOk result ((config : Configuration) (c : Chronicle) (events : List ℕ)
-        → B.stands book.old Stepping config c
-        → map (B.event_place book.old c) holders ≡ map Some events
+    ensures { OnOk result ((config : Configuration) (c : Chronicle) (its : Bytes) (places : List ℕ)
+        → B.stands book.old Stepping config c → name_at config job ≡ Some its
+        → model_instances.instance_named (record { job = its; instance = name.now }) c ≡ None
+        → held_as (B.event_place book.old c) (request_place c) holders ≡ map Some places
         → B.stands book.new Stepping config (model.start_of
-        (record { job = job.now; instance = name.now }) environment events None c ++ c)) }
+        (record { job = its; instance = name.now }) environment places None c ++ c)) }
 {
     if has_room(book, job) {
         let key = book.make(job, name)?;
@@ -178,71 +179,45 @@ fn start_new<B: Book>(
     Ok(())
 }
 
-// The one of these instances that has a name.
-fn named(slots: &[Slot], name: &str) -> Option<InstanceKey>
-    ensures { (places : InstanceKeyValue → Option ℕ) (its : List model_instances.Instance)
-        → map (slot_at places) slots.now ≡ map Some its
-        → option_map places result ≡ option_map Some (model_instances.place_named name.now its) }
-{
-    for slot in slots {
-        if slot.name.is(name) {
-            return Some(slot.key);
-        }
-    }
-    None
-}
-
-/// The instance of a job that has a name.
-pub(crate) fn instance_named<B: Book>(book: &B, job: &Name, name: &str) -> Option<InstanceKey>
-    ensures { (mode : Mode) (config : Configuration) (c : Chronicle) → B.stands book.now mode config c
-        → option_map (B.instance_place book.now c) result
-        ≡ option_map Some (model_instances.instance_named (record { job = job.now; instance = name.now }) c) }
-{
-    named(book.instances(job), name)
-}
-
 // The goal of an instance becomes start with this environment.
 fn start_of<B: Book>(
     book: &mut B,
-    job: &Name,
+    job: usize,
     name: &str,
     environment: Env,
-    holders: Items<EventKey>,
+    holders: Holders,
 ) -> Result<(), AllocError>
-    ensures { OnOk result ((config : Configuration) (c : Chronicle) (events : List ℕ)
-        → B.stands book.old Stepping config c
-        → map (B.event_place book.old c) holders ≡ map Some events
+    ensures { OnOk result ((config : Configuration) (c : Chronicle) (its : Bytes) (places : List ℕ)
+        → B.stands book.old Stepping config c → name_at config job ≡ Some its
+        → held_as (B.event_place book.old c) (request_place c) holders ≡ map Some places
         → B.stands book.new Stepping config
-        (model.start_of (record {
-          job = job.now;
-          instance =
-              name.now;
-        }) environment events
-        (model_instances.instance_named (record { job = job.now; instance = name.now }) c) c ++ c)) }
+        (model.start_of (record { job = its; instance = name.now }) environment places
+        (model_instances.instance_named (record { job = its; instance = name.now }) c) c ++ c)) }
 {
-    match instance_named(book, job, name) {
+    match book.find(job, name) {
         Some(key) => start_old(book, key, environment, holders)?,
         None => start_new(book, job, name, environment, holders)?,
     }
     Ok(())
 }
 
-/// The goal of an instance becomes start with this environment, and what that says of the instance.
+/// The goal of an instance becomes start with this environment, and what that says of the instance. The job has this index.
 pub(crate) fn start_called<B: Book>(
     book: &mut B,
+    index: usize,
     job: &Name,
     name: &str,
     mut environment: Env,
-    holders: Items<EventKey>,
+    holders: Holders,
 ) -> Result<(), AllocError>
-    ensures { OnOk result ((config : Configuration) (c : Chronicle) (events : List ℕ)
-        → B.stands book.old Stepping config c
-        → map (B.event_place book.old c) holders ≡ map Some events
-        → B.stands book.new Stepping config (model.start_who environment events
+    ensures { OnOk result ((config : Configuration) (c : Chronicle) (places : List ℕ)
+        → B.stands book.old Stepping config c → name_at config index ≡ Some job.now
+        → held_as (B.event_place book.old c) (request_place c) holders ≡ map Some places
+        → B.stands book.new Stepping config (model.start_who environment places
         (model.who_called job.now (Some name.now)) c ++ c)) }
 {
     add_instance(&mut environment, job, name)?;
-    start_of(book, job, name, environment, holders)?;
+    start_of(book, index, name, environment, holders)?;
     Ok(())
 }
 
@@ -264,17 +239,22 @@ fn start_by<B: Book>(
     alloc: Global,
     setup: &Setup,
     book: &mut B,
+    index: usize,
     job: &JobDef,
     holders: Items<EventKey>,
 ) -> Result<(), AllocError>
     ensures { OnOk result ((c : Chronicle) (events : List ℕ) → B.stands book.old Stepping setup.now c
+        → name_at setup.now index ≡ Some job.now.name
         → map (B.event_place book.old c) holders ≡ map Some events
         → B.stands book.new Stepping setup.now (model.start_by setup.now job.now events c ++ c)) }
 {
     let base = setup.environment(&job.name);
     let environment = events_env(alloc, base, book, holders.as_slice())?;
     match instance_name(alloc, job, &environment)? {
-        Some(name) => start_called(book, &job.name, name.as_str(), environment, holders)?,
+        Some(name) => {
+            let holders = Holders::Taken(holders);
+            start_called(book, index, &job.name, name.as_str(), environment, holders)?;
+        }
         None => {}
     }
     Ok(())
@@ -285,9 +265,11 @@ fn start_fires<B: Book>(
     alloc: Global,
     setup: &Setup,
     book: &mut B,
+    index: usize,
     job: &JobDef,
 ) -> Result<(), AllocError>
     ensures { OnOk result ((c : Chronicle) → B.stands book.old Stepping setup.now c
+        → name_at setup.now index ≡ Some job.now.name
         → B.stands book.new Stepping setup.now
         (model.start_by setup.now job.now
         (taken job.now.start_on (seen setup.now (entry.StartOn job.now.name) c))
@@ -297,7 +279,7 @@ fn start_fires<B: Book>(
         (taken job.now.start_on (seen setup.now (entry.StartOn job.now.name) c)) ∷ c)) }
 {
     let holders = book.fire_start(setup, job)?;
-    start_by(alloc, setup, book, job, holders)?;
+    start_by(alloc, setup, book, index, job, holders)?;
     Ok(())
 }
 
@@ -306,16 +288,18 @@ fn offer_start<B: Book>(
     alloc: Global,
     setup: &Setup,
     book: &mut B,
+    index: usize,
     job: &JobDef,
     event: EventKey,
 ) -> Result<(), AllocError>
     ensures { OnOk result ((c : Chronicle) (e : ℕ) → B.stands book.old Stepping setup.now c
+        → name_at setup.now index ≡ Some job.now.name
         → B.event_place book.old c event ≡ Some e
         → B.stands book.new Stepping setup.now (model.start_offer setup.now job.now e c ++ c)) }
 {
     let holds = book.offer_start(setup, job, event)?;
     if holds {
-        start_fires(alloc, setup, book, job)?;
+        start_fires(alloc, setup, book, index, job)?;
     }
     Ok(())
 }
@@ -325,19 +309,22 @@ fn offer_stop_in<B: Book>(
     alloc: Global,
     setup: &Setup,
     book: &mut B,
+    index: usize,
     job: &JobDef,
     event: EventKey,
 ) -> Result<bool, AllocError>
     ensures entries { OnOk result ((c : Chronicle) (e : ℕ) → B.stands book.old Stepping setup.now c
+        → name_at setup.now index ≡ Some job.now.name
         → B.event_place book.old c event ≡ Some e
         → B.stands book.new Stepping setup.now
         (model.stop_offer_in setup.now job.now (model_instances.instances_of job.now.name c) e c ++ c)) }
     ensures any { IfOk result (λ offered. (c : Chronicle) (e : ℕ) → B.stands book.old Stepping setup.now c
+        → name_at setup.now index ≡ Some job.now.name
         → offered ≡ is_filled (model.stop_offer_in setup.now job.now
         (model_instances.instances_of job.now.name c) e c)) }
     ensures same { IfOk result (λ offered. offered ≡ false → book.new ≡ book.old) }
 {
-    match first_open(book, book.instances(&job.name)) {
+    match first_open(book, index, job) {
         Some(key) => {
             offer_stop(alloc, setup, book, job, key, event)?;
             Ok(true)
@@ -351,23 +338,26 @@ fn offer_in<B: Book>(
     alloc: Global,
     setup: &Setup,
     book: &mut B,
+    index: usize,
     job: &JobDef,
     event: EventKey,
 ) -> Result<bool, AllocError>
     ensures entries { OnOk result ((c : Chronicle) (e : ℕ) → B.stands book.old Stepping setup.now c
+        → name_at setup.now index ≡ Some job.now.name
         → B.event_place book.old c event ≡ Some e
         → B.stands book.new Stepping setup.now (model.offer_in setup.now job.now e c ++ c)) }
     ensures any { IfOk result (λ offered. (c : Chronicle) (e : ℕ) → B.stands book.old Stepping setup.now c
+        → name_at setup.now index ≡ Some job.now.name
         → offered ≡ is_filled (model.offer_in setup.now job.now e c)) }
     ensures same { IfOk result (λ offered. offered ≡ false → book.new ≡ book.old) }
 {
-    if offer_stop_in(alloc, setup, book, job, event)? {
+    if offer_stop_in(alloc, setup, book, index, job, event)? {
         return Ok(true);
     }
     if book.was_offered_start(&job.name) {
         return Ok(false);
     }
-    offer_start(alloc, setup, book, job, event)?;
+    offer_start(alloc, setup, book, index, job, event)?;
     Ok(true)
 }
 
@@ -379,14 +369,16 @@ fn offer_first<B: Book>(
     jobs: &[JobDef],
     event: EventKey,
 ) -> Result<bool, AllocError>
-    ensures entries { OnOk result ((c : Chronicle) (e : ℕ) → B.stands book.old Stepping setup.now c
+    ensures entries { OnOk result ((c : Chronicle) (e : ℕ) → jobs.now ≡ setup.now.jobs
+        → B.stands book.old Stepping setup.now c
         → B.event_place book.old c event ≡ Some e
         → B.stands book.new Stepping setup.now (model.offer_first setup.now jobs.now e c ++ c)) }
-    ensures any { IfOk result (λ offered. (c : Chronicle) (e : ℕ) → B.stands book.old Stepping setup.now c
+    ensures any { IfOk result (λ offered. (c : Chronicle) (e : ℕ) → jobs.now ≡ setup.now.jobs
+        → B.stands book.old Stepping setup.now c
         → offered ≡ is_filled (model.offer_first setup.now jobs.now e c)) }
 {
-    for job in jobs {
-        if offer_in(alloc, setup, book, job, event)? {
+    for (index, job) in jobs.iter().enumerate() {
+        if offer_in(alloc, setup, book, index, job, event)? {
             return Ok(true);
         }
     }

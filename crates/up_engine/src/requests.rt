@@ -1,8 +1,8 @@
 //! What the requests of clients do (initctl(8)).
-ghost use Rattle.std.specs.Prelude.{◌≡◌, ℕ, true, false, List, length, ◌∷◌, [], ◌++◌, map, Option, Some, IfOk, OnOk};
+ghost use Rattle.std.specs.Prelude.{◌≡◌, ℕ, true, false, List, length, ◌∷◌, [], ◌++◌, map, Option, None, Some, IfOk, OnOk};
 ghost use Rattle.up_engine.specs.declared.keys.EventKey.{EventKey as EventKeyValue};
-ghost use Rattle.up_engine.specs.Keys.{Mode, Resting, Stepping};
-ghost use Rattle.up_engine.specs.Requests.{target_of as said_of, answer_of, unless};
+ghost use Rattle.up_engine.specs.Keys.{Mode, Resting, Stepping, held_as, request_place, name_at, instance_place};
+ghost use Rattle.up_engine.specs.Requests.{target_of as said_of, IsIndexed, answer_of, unless};
 ghost use Rattle.up_model.specs.declared.input.Input.{Input as InputValue};
 ghost use Rattle.up_model.specs.declared.input.Input.TheVariants as given_as;
 ghost use Rattle.up_model.specs.Chronicle.{Chronicle};
@@ -18,9 +18,9 @@ ghost use Rattle.up_model.specs.Values.{Bindings};
 
 use crate::book::Book;
 use crate::events::event_of;
-use crate::keys::{EventKey, InstanceKey};
+use crate::keys::{Holders, InstanceKey};
 use crate::life::{is_running, is_start};
-use crate::offers::{has_room, instance_named, start_called, stop_of};
+use crate::offers::{has_room, start_called, stop_of};
 use crate::setup::Setup;
 use crate::status::{list, status};
 use crate::target::{Target, target_of};
@@ -30,7 +30,7 @@ use crate::texts::{
 };
 use std::alloc::{AllocError, Global};
 use up_model::{Answer, Command, Input, MAX_EVENTS, Request, Who};
-use up_text::{Env, Items, Text};
+use up_text::{Env, Text};
 
 // A request is refused.
 fn refuse<B: Book>(book: &mut B, text: Text) -> Result<(), AllocError>
@@ -55,66 +55,115 @@ fn tell<B: Book>(book: &mut B, text: Text) -> Result<(), AllocError>
 }
 
 // A client that waits holds the instance that it acts on.
-fn holders_of(alloc: Global, key: EventKey, wait: bool) -> Result<Items<EventKey>, AllocError>
-    ensures { IfOk result (λ holders. (places : EventKeyValue → Option ℕ) (given : ℕ)
-        → places key ≡ Some given
-        → map places holders ≡ map Some (model.holders_of given wait)) }
+fn holders_of(wait: bool) -> Holders
+    ensures { (places : EventKeyValue → Option ℕ) (request : Option ℕ) (given : ℕ) → request ≡ Some given
+        → held_as places request result ≡ map Some (model.holders_of given wait) }
 {
-    let mut holders = Vec::new(alloc);
     if wait {
-        holders.push(key)?;
+        Holders::Client
+    } else {
+        Holders::Nobody
     }
-    Ok(Items::new(holders))
+}
+
+// Why a start of an instance that exists is refused, if it is.
+fn running_refusal<B: Book>(
+    alloc: Global,
+    book: &B,
+    who: &Who,
+    key: InstanceKey,
+) -> Result<Option<Text>, AllocError>
+    ensures { IfOk result (λ text. (mode : Mode) (config : Configuration) (c : Chronicle) (i : ℕ)
+        (places : List ℕ) (environment : Bindings)
+        → B.stands book.now mode config c → instance_place config c key ≡ Some i
+        → model.start_at places who.now environment (Some i) c
+        ≡ unless text (model.Done (offer.start_of who.now environment places (Some i) c))) }
+{
+    if is_start(book.goal(key)) {
+        let text = already_running(alloc, who)?;
+        return Ok(Some(text));
+    }
+    Ok(None)
+}
+
+// Why a start of a new instance is refused, if it is.
+fn room_refusal<B: Book>(
+    alloc: Global,
+    book: &B,
+    index: usize,
+    who: &Who,
+) -> Result<Option<Text>, AllocError>
+    ensures { IfOk result (λ text. (mode : Mode) (config : Configuration) (c : Chronicle) (places : List ℕ)
+        (environment : Bindings)
+        → B.stands book.now mode config c → name_at config index ≡ Some who.now.job
+        → model.start_at places who.now environment None c
+        ≡ unless text (model.Done (offer.start_of who.now environment places None c))) }
+{
+    if !has_room(book, index) {
+        let text = too_many_instances(alloc, who.job.as_str())?;
+        return Ok(Some(text));
+    }
+    Ok(None)
 }
 
 // Why a start is refused, if it is.
-fn start_refusal<B: Book>(alloc: Global, book: &B, who: &Who) -> Result<Option<Text>, AllocError>
+fn start_refusal<B: Book>(
+    alloc: Global,
+    book: &B,
+    index: usize,
+    who: &Who,
+) -> Result<Option<Text>, AllocError>
     ensures { IfOk result (λ text. (mode : Mode) (config : Configuration) (c : Chronicle) (places : List ℕ)
         (environment : Bindings)
-        → B.stands book.now mode config c
+        → B.stands book.now mode config c → name_at config index ≡ Some who.now.job
         → model.start_at places who.now environment (model_instances.instance_named who.now c) c
         ≡ unless text (model.Done (offer.start_of who.now environment places
         (model_instances.instance_named who.now c) c))) }
 {
-    match instance_named(book, &who.job, who.instance.as_str()) {
+    match book.find(index, who.instance.as_str()) {
         Some(key) => {
-            if is_start(book.goal(key)) {
-                let text = already_running(alloc, who)?;
-                return Ok(Some(text));
-            }
+            let text = running_refusal(alloc, book, who, key)?;
+            Ok(text)
         }
         None => {
-            if !has_room(book, &who.job) {
-                let text = too_many_instances(alloc, who.job.as_str())?;
-                return Ok(Some(text));
-            }
+            let text = room_refusal(alloc, book, index, who)?;
+            Ok(text)
         }
     }
-    Ok(None)
 }
 
 fn start_who<B: Book>(
     alloc: Global,
     book: &mut B,
-    holders: Items<EventKey>,
+    holders: Holders,
+    index: usize,
     who: &Who,
     environment: Env,
 ) -> Result<(), AllocError>
     ensures { OnOk result ((config : Configuration) (c : Chronicle) (input : InputValue) (places : List ℕ)
         → B.stands book.old Stepping config (entry.Given input ∷ c)
-        → map (B.event_place book.old (entry.Given input ∷ c)) holders ≡ map Some places
+        → name_at config index ≡ Some who.now.job
+        → held_as (B.event_place book.old (entry.Given input ∷ c)) (request_place (entry.Given input ∷ c)) holders
+        ≡ map Some places
         → B.stands book.new Stepping config
         (model.entries_of (length c) (model.start_at places who.now (with_instance who.now environment)
         (model_instances.instance_named who.now (entry.Given input ∷ c)) (entry.Given input ∷ c))
         ++ entry.Given input ∷ c)) }
 {
-    match start_refusal(alloc, book, who)? {
+    match start_refusal(alloc, book, index, who)? {
         Some(text) => {
             drop(holders);
             drop(environment);
             refuse(book, text)?;
         }
-        None => start_called(book, &who.job, who.instance.as_str(), environment, holders)?,
+        None => start_called(
+            book,
+            index,
+            &who.job,
+            who.instance.as_str(),
+            environment,
+            holders,
+        )?,
     }
     Ok(())
 }
@@ -122,12 +171,13 @@ fn start_who<B: Book>(
 fn start<B: Book>(
     alloc: Global,
     book: &mut B,
-    holders: Items<EventKey>,
+    holders: Holders,
     target: Target,
 ) -> Result<(), AllocError>
     ensures { OnOk result ((config : Configuration) (c : Chronicle) (input : InputValue) (places : List ℕ)
-        → B.stands book.old Stepping config (entry.Given input ∷ c)
-        → map (B.event_place book.old (entry.Given input ∷ c)) holders ≡ map Some places
+        → B.stands book.old Stepping config (entry.Given input ∷ c) → IsIndexed config target.entry
+        → held_as (B.event_place book.old (entry.Given input ∷ c)) (request_place (entry.Given input ∷ c)) holders
+        ≡ map Some places
         → B.stands book.new Stepping config
         (model.entries_of (length c) (model.start places (said_of target.entry) (entry.Given input ∷ c))
         ++ entry.Given input ∷ c)) }
@@ -138,10 +188,11 @@ fn start<B: Book>(
             refuse(book, text)?;
         }
         Target::Concerns {
+            index,
             job: _,
             who,
             environment,
-        } => start_who(alloc, book, holders, &who, environment)?,
+        } => start_who(alloc, book, holders, index, &who, environment)?,
     }
     Ok(())
 }
@@ -150,15 +201,16 @@ fn start<B: Book>(
 fn stop_found<B: Book>(
     alloc: Global,
     book: &mut B,
-    holders: Items<EventKey>,
+    holders: Holders,
     vars: Env,
     who: &Who,
     key: InstanceKey,
 ) -> Result<(), AllocError>
     ensures { OnOk result ((config : Configuration) (c : Chronicle) (input : InputValue) (places : List ℕ)
         (i : ℕ) → B.stands book.old Stepping config (entry.Given input ∷ c)
-        → B.instance_place book.old (entry.Given input ∷ c) key ≡ Some i
-        → map (B.event_place book.old (entry.Given input ∷ c)) holders ≡ map Some places
+        → instance_place config (entry.Given input ∷ c) key ≡ Some i
+        → held_as (B.event_place book.old (entry.Given input ∷ c)) (request_place (entry.Given input ∷ c)) holders
+        ≡ map Some places
         → B.stands book.new Stepping config
         (model.entries_of (length c) (model.stop_at places vars who.now (Some i) (entry.Given input ∷ c))
         ++ entry.Given input ∷ c)) }
@@ -177,19 +229,22 @@ fn stop_found<B: Book>(
 fn stop_who<B: Book>(
     alloc: Global,
     book: &mut B,
-    holders: Items<EventKey>,
+    holders: Holders,
     vars: Env,
+    index: usize,
     who: &Who,
 ) -> Result<(), AllocError>
     ensures { OnOk result ((config : Configuration) (c : Chronicle) (input : InputValue) (places : List ℕ)
         → B.stands book.old Stepping config (entry.Given input ∷ c)
-        → map (B.event_place book.old (entry.Given input ∷ c)) holders ≡ map Some places
+        → name_at config index ≡ Some who.now.job
+        → held_as (B.event_place book.old (entry.Given input ∷ c)) (request_place (entry.Given input ∷ c)) holders
+        ≡ map Some places
         → B.stands book.new Stepping config
         (model.entries_of (length c) (model.stop_at places vars who.now
         (model_instances.instance_named who.now (entry.Given input ∷ c)) (entry.Given input ∷ c))
         ++ entry.Given input ∷ c)) }
 {
-    match instance_named(book, &who.job, who.instance.as_str()) {
+    match book.find(index, who.instance.as_str()) {
         Some(key) => stop_found(alloc, book, holders, vars, who, key)?,
         None => {
             drop(holders);
@@ -204,13 +259,14 @@ fn stop_who<B: Book>(
 fn stop<B: Book>(
     alloc: Global,
     book: &mut B,
-    holders: Items<EventKey>,
+    holders: Holders,
     vars: Env,
     target: Target,
 ) -> Result<(), AllocError>
     ensures { OnOk result ((config : Configuration) (c : Chronicle) (input : InputValue) (places : List ℕ)
-        → B.stands book.old Stepping config (entry.Given input ∷ c)
-        → map (B.event_place book.old (entry.Given input ∷ c)) holders ≡ map Some places
+        → B.stands book.old Stepping config (entry.Given input ∷ c) → IsIndexed config target.entry
+        → held_as (B.event_place book.old (entry.Given input ∷ c)) (request_place (entry.Given input ∷ c)) holders
+        ≡ map Some places
         → B.stands book.new Stepping config
         (model.entries_of (length c) (model.stop places vars (said_of target.entry) (entry.Given input ∷ c))
         ++ entry.Given input ∷ c)) }
@@ -222,12 +278,13 @@ fn stop<B: Book>(
             refuse(book, text)?;
         }
         Target::Concerns {
+            index,
             job: _,
             who,
             environment,
         } => {
             drop(environment);
-            stop_who(alloc, book, holders, vars, &who)?;
+            stop_who(alloc, book, holders, vars, index, &who)?;
         }
     }
     Ok(())
@@ -237,14 +294,15 @@ fn stop<B: Book>(
 fn restart_found<B: Book>(
     alloc: Global,
     book: &mut B,
-    holders: Items<EventKey>,
+    holders: Holders,
     who: &Who,
     key: InstanceKey,
 ) -> Result<(), AllocError>
     ensures { OnOk result ((config : Configuration) (c : Chronicle) (input : InputValue) (places : List ℕ)
         (i : ℕ) → B.stands book.old Stepping config (entry.Given input ∷ c)
-        → B.instance_place book.old (entry.Given input ∷ c) key ≡ Some i
-        → map (B.event_place book.old (entry.Given input ∷ c)) holders ≡ map Some places
+        → instance_place config (entry.Given input ∷ c) key ≡ Some i
+        → held_as (B.event_place book.old (entry.Given input ∷ c)) (request_place (entry.Given input ∷ c)) holders
+        ≡ map Some places
         → B.stands book.new Stepping config
         (model.entries_of (length c) (model.restart_at places who.now (Some i) (entry.Given input ∷ c))
         ++ entry.Given input ∷ c)) }
@@ -263,18 +321,21 @@ fn restart_found<B: Book>(
 fn restart_who<B: Book>(
     alloc: Global,
     book: &mut B,
-    holders: Items<EventKey>,
+    holders: Holders,
+    index: usize,
     who: &Who,
 ) -> Result<(), AllocError>
     ensures { OnOk result ((config : Configuration) (c : Chronicle) (input : InputValue) (places : List ℕ)
         → B.stands book.old Stepping config (entry.Given input ∷ c)
-        → map (B.event_place book.old (entry.Given input ∷ c)) holders ≡ map Some places
+        → name_at config index ≡ Some who.now.job
+        → held_as (B.event_place book.old (entry.Given input ∷ c)) (request_place (entry.Given input ∷ c)) holders
+        ≡ map Some places
         → B.stands book.new Stepping config
         (model.entries_of (length c) (model.restart_at places who.now
         (model_instances.instance_named who.now (entry.Given input ∷ c)) (entry.Given input ∷ c))
         ++ entry.Given input ∷ c)) }
 {
-    match instance_named(book, &who.job, who.instance.as_str()) {
+    match book.find(index, who.instance.as_str()) {
         Some(key) => restart_found(alloc, book, holders, who, key)?,
         None => {
             drop(holders);
@@ -288,12 +349,13 @@ fn restart_who<B: Book>(
 fn restart<B: Book>(
     alloc: Global,
     book: &mut B,
-    holders: Items<EventKey>,
+    holders: Holders,
     target: Target,
 ) -> Result<(), AllocError>
     ensures { OnOk result ((config : Configuration) (c : Chronicle) (input : InputValue) (places : List ℕ)
-        → B.stands book.old Stepping config (entry.Given input ∷ c)
-        → map (B.event_place book.old (entry.Given input ∷ c)) holders ≡ map Some places
+        → B.stands book.old Stepping config (entry.Given input ∷ c) → IsIndexed config target.entry
+        → held_as (B.event_place book.old (entry.Given input ∷ c)) (request_place (entry.Given input ∷ c)) holders
+        ≡ map Some places
         → B.stands book.new Stepping config
         (model.entries_of (length c) (model.restart places (said_of target.entry) (entry.Given input ∷ c))
         ++ entry.Given input ∷ c)) }
@@ -304,12 +366,13 @@ fn restart<B: Book>(
             refuse(book, text)?;
         }
         Target::Concerns {
+            index,
             job: _,
             who,
             environment,
         } => {
             drop(environment);
-            restart_who(alloc, book, holders, &who)?;
+            restart_who(alloc, book, holders, index, &who)?;
         }
     }
     Ok(())
@@ -340,12 +403,11 @@ fn change<B: Book>(
     alloc: Global,
     setup: &Setup,
     book: &mut B,
-    key: EventKey,
     request: Request,
 ) -> Result<(), AllocError>
     ensures { OnOk result ((c : Chronicle) (input : InputValue)
         → B.stands book.old Stepping setup.now (entry.Given input ∷ c)
-        → B.event_place book.old (entry.Given input ∷ c) key ≡ Some (length c)
+        → request_place (entry.Given input ∷ c) ≡ Some (length c)
         → B.stands book.new Stepping setup.now
         (model.entries_of (length c) (model.outcome_of setup.now (length c) request (entry.Given input ∷ c))
         ++ entry.Given input ∷ c)) }
@@ -359,19 +421,19 @@ fn change<B: Book>(
     match command {
         Command::Start => {
             let target = target_of(alloc, setup, name.as_str(), &vars)?;
-            let holders = holders_of(alloc, key, wait)?;
+            let holders = holders_of(wait);
             start(alloc, book, holders, target)?;
             Ok(())
         }
         Command::Stop => {
             let target = target_of(alloc, setup, name.as_str(), &vars)?;
-            let holders = holders_of(alloc, key, wait)?;
+            let holders = holders_of(wait);
             stop(alloc, book, holders, vars, target)?;
             Ok(())
         }
         Command::Restart => {
             let target = target_of(alloc, setup, name.as_str(), &vars)?;
-            let holders = holders_of(alloc, key, wait)?;
+            let holders = holders_of(wait);
             restart(alloc, book, holders, target)?;
             Ok(())
         }
@@ -416,7 +478,7 @@ pub(crate) fn take_request<B: Book>(
         → B.stands book.new Stepping setup.now (effect setup.now (given_as.Request id request) c ++ c)) }
 {
     let asked = request.copy()?;
-    let key = book.given(Input::Request { id, request })?;
-    change(alloc, setup, book, key, asked)?;
+    book.given(Input::Request { id, request })?;
+    change(alloc, setup, book, asked)?;
     Ok(())
 }

@@ -1,6 +1,8 @@
 //! What an engine is made with.
-ghost use Rattle.std.specs.Prelude.{◌≡◌, map, Some, slice_get, unwrap_or, IfOk, OnOk};
+ghost use Rattle.std.specs.Prelude.{◌≡◌, map, None, Some, slice_get, unwrap_or, IfOk, OnOk, IfSome, IfNone};
 ghost use Rattle.std.specs.Option.{option_copied};
+ghost use Rattle.std.specs.Str.{bytes_eq};
+ghost use Rattle.up_engine.specs.Keys.{name_at};
 ghost use Rattle.up_model.specs.Configuration.{job_named};
 ghost use Rattle.up_model.specs.Environments.{with_value, setting_value, with_settings, job_env, env_by_job, env_of_job};
 
@@ -123,6 +125,27 @@ fn find<'a>(base: &'a Env, environments: &'a [Env], jobs: &[JobDef], name: &Name
     base
 }
 
+fn is_called(job: &JobDef, name: &str) -> bool
+    ensures { result ≡ bytes_eq job.now.name name.now }
+{
+    job.name.as_str() == name
+}
+
+// The job of this name among these, and its index.
+#[tactic(auto, using(crate::proofs::OutputLemmas::jobs_left))]
+fn find_job<'a>(jobs: &'a [JobDef], name: &str) -> Option<(usize, &'a JobDef)>
+    ensures some { IfSome result (λ found. (job_named name.now jobs.now ≡ Some found.1.now)
+        × (slice_get jobs.now found.0 ≡ Some found.1.now) × (found.1.now.name ≡ name.now)) }
+    ensures none { IfNone result (job_named name.now jobs.now ≡ None) }
+{
+    for (index, job) in jobs.iter().enumerate() {
+        if is_called(job, name) {
+            return Some((index, job));
+        }
+    }
+    None
+}
+
 impl Setup {
     pub(crate) fn new(alloc: Global, table: Table, base: Env) -> Result<Self, AllocError>
         ensures { IfOk result (λ setup. setup ≡ record { base = base; jobs = table }) }
@@ -140,6 +163,15 @@ impl Setup {
         ensures { result.now ≡ self.now.jobs }
     {
         self.table.as_slice()
+    }
+
+    /// The job of this name, and its index.
+    pub(crate) fn job_named(&self, name: &str) -> Option<(usize, &JobDef)>
+        ensures some { IfSome result (λ found. (job_named name.now self.now.jobs ≡ Some found.1.now)
+            × (name_at self.now found.0 ≡ Some name.now) × (found.1.now.name ≡ name.now)) }
+        ensures none { IfNone result (job_named name.now self.now.jobs ≡ None) }
+    {
+        find_job(self.table.as_slice(), name)
     }
 
     /// The environment of the job of this name.

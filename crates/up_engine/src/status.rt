@@ -1,7 +1,7 @@
 //! What clients are told of instances: `status` and `list`.
-ghost use Rattle.std.specs.Prelude.{◌≡◌, ℕ, List, ◌∷◌, [], ◌++◌, map, Some, IfOk, OnOk, string_bytes, if◌then◌else◌};
-ghost use Rattle.up_engine.specs.Keys.{Mode, slot_at};
-ghost use Rattle.up_engine.specs.Requests.{target_of as said_of, answer_of};
+ghost use Rattle.std.specs.Prelude.{◌≡◌, ◌==◌, ℕ, List, ◌∷◌, [], ◌++◌, map, Some, IfOk, OnOk, string_bytes, if◌then◌else◌};
+ghost use Rattle.up_engine.specs.Keys.{Mode, name_at, instance_place};
+ghost use Rattle.up_engine.specs.Requests.{target_of as said_of, IsIndexed, answer_of};
 ghost use Rattle.up_model.specs.Chronicle.{Chronicle};
 ghost use Rattle.up_model.specs.Commands as model;
 ghost use Rattle.up_model.specs.Configuration.{Configuration};
@@ -10,8 +10,7 @@ ghost use Rattle.up_model.specs.Replies.{status_of};
 ghost use Rattle.up_model.specs.Values.{Bytes};
 
 use crate::book::Book;
-use crate::keys::{InstanceKey, Slot};
-use crate::offers::instance_named;
+use crate::keys::InstanceKey;
 use crate::setup::Setup;
 use crate::target::Target;
 use crate::texts::{stopped, unknown_instance};
@@ -35,14 +34,15 @@ fn absent(alloc: Global, job: &JobDef, who: &Who) -> Result<Answer, AllocError>
 fn status_at<B: Book>(
     alloc: Global,
     book: &B,
+    index: usize,
     job: &JobDef,
     who: &Who,
 ) -> Result<Answer, AllocError>
     ensures { IfOk result (λ answer. (mode : Mode) (config : Configuration) (c : Chronicle)
-        → B.stands book.now mode config c
+        → B.stands book.now mode config c → name_at config index ≡ Some who.now.job
         → answer ≡ answer_of (model.status_at job.now who.now (model_instances.instance_named who.now c) c)) }
 {
-    match instance_named(book, &who.job, who.instance.as_str()) {
+    match book.find(index, who.instance.as_str()) {
         Some(key) => {
             let text = book.status_of(key)?;
             Ok(Answer { ok: true, text })
@@ -57,18 +57,19 @@ fn status_at<B: Book>(
 /// The status of the instance that a request names.
 pub(crate) fn status<B: Book>(alloc: Global, book: &B, target: Target) -> Result<Answer, AllocError>
     ensures { IfOk result (λ answer. (mode : Mode) (config : Configuration) (c : Chronicle)
-        → B.stands book.now mode config c
+        → B.stands book.now mode config c → IsIndexed config target.entry
         → answer ≡ answer_of (model.status (said_of target.entry) c)) }
 {
     match target {
         Target::Nobody(text) => Ok(Answer { ok: false, text }),
         Target::Concerns {
+            index,
             job,
             who,
             environment,
         } => {
             drop(environment);
-            let answer = status_at(alloc, book, job, &who)?;
+            let answer = status_at(alloc, book, index, job, &who)?;
             Ok(answer)
         }
     }
@@ -76,8 +77,7 @@ pub(crate) fn status<B: Book>(alloc: Global, book: &B, target: Target) -> Result
 
 fn push_status<B: Book>(book: &B, key: InstanceKey, lines: &mut Vec<Text>) -> Result<(), AllocError>
     ensures { OnOk result ((mode : Mode) (config : Configuration) (c : Chronicle) (i : ℕ)
-        → B.stands book.now mode config c
-        → B.instance_place book.now c key ≡ Some i
+        → B.stands book.now mode config c → instance_place config c key ≡ Some i
         → lines.new.items ≡ lines.old.items ++ status_of i c ∷ []) }
 {
     let text = book.status_of(key)?;
@@ -85,14 +85,14 @@ fn push_status<B: Book>(book: &B, key: InstanceKey, lines: &mut Vec<Text>) -> Re
     Ok(())
 }
 
-fn add_statuses<B: Book>(book: &B, slots: &[Slot], lines: &mut Vec<Text>) -> Result<(), AllocError>
-    ensures { OnOk result ((mode : Mode) (config : Configuration) (c : Chronicle)
-        (its : List model_instances.Instance) → B.stands book.now mode config c
-        → map (slot_at (B.instance_place book.now c)) slots.now ≡ map Some its
-        → lines.new.items ≡ lines.old.items ++ model.statuses its c) }
+// Adds a line for each instance of a job.
+fn add_statuses<B: Book>(book: &B, job: usize, lines: &mut Vec<Text>) -> Result<(), AllocError>
+    ensures { OnOk result ((mode : Mode) (config : Configuration) (c : Chronicle) (its : Bytes)
+        → B.stands book.now mode config c → name_at config job ≡ Some its
+        → lines.new.items ≡ lines.old.items ++ model.statuses (model_instances.instances_of its c) c) }
 {
-    for slot in slots {
-        push_status(book, slot.key, lines)?;
+    for at in 0..book.count(job) {
+        push_status(book, InstanceKey { job, at }, lines)?;
     }
     Ok(())
 }
@@ -105,23 +105,29 @@ fn push_stopped(alloc: Global, job: &JobDef, lines: &mut Vec<Text>) -> Result<()
     Ok(())
 }
 
-// Adds a line for each of these instances of a job, or one for a job without any.
-fn add_slots<B: Book>(
+fn is_zero(count: usize) -> bool
+    ensures { result ≡ (count == 0) }
+{
+    count == 0
+}
+
+// Adds a line for each instance of a job, or one for a job without any.
+fn add_job<B: Book>(
     alloc: Global,
     book: &B,
+    index: usize,
     job: &JobDef,
-    slots: &[Slot],
     lines: &mut Vec<Text>,
 ) -> Result<(), AllocError>
     ensures { OnOk result ((mode : Mode) (config : Configuration) (c : Chronicle)
-        (its : List model_instances.Instance) → B.stands book.now mode config c
-        → map (slot_at (B.instance_place book.now c)) slots.now ≡ map Some its
-        → lines.new.items ≡ lines.old.items ++ model.job_lines job.now.name its c) }
+        → B.stands book.now mode config c → name_at config index ≡ Some job.now.name
+        → lines.new.items ≡ lines.old.items
+        ++ model.job_lines job.now.name (model_instances.instances_of job.now.name c) c) }
 {
-    if slots.is_empty() {
+    if is_zero(book.count(index)) {
         push_stopped(alloc, job, lines)?;
     } else {
-        add_statuses(book, slots, lines)?;
+        add_statuses(book, index, lines)?;
     }
     Ok(())
 }
@@ -129,12 +135,12 @@ fn add_slots<B: Book>(
 // The lines about these jobs.
 fn lines_of<B: Book>(alloc: Global, book: &B, jobs: &[JobDef]) -> Result<Vec<Text>, AllocError>
     ensures { IfOk result (λ lines. (mode : Mode) (config : Configuration) (c : Chronicle)
-        → B.stands book.now mode config c
+        → B.stands book.now mode config c → jobs.now ≡ config.jobs
         → lines.items ≡ model.list_lines jobs.now c) }
 {
     let mut lines = Vec::new(alloc);
-    for job in jobs {
-        add_slots(alloc, book, job, book.instances(&job.name), &mut lines)?;
+    for (index, job) in jobs.iter().enumerate() {
+        add_job(alloc, book, index, job, &mut lines)?;
     }
     Ok(lines)
 }

@@ -1,9 +1,13 @@
 //! A book that stores all that happened: the plain program of the model, with which a cleverer one can be compared.
-ghost use Rattle.std.specs.Prelude.{◌≡◌, ℕ, true, ◌&&◌, not, List, ◌∷◌, [], map, length, OnOk, IfOk};
+ghost use Rattle.std.specs.Prelude.{◌≡◌, ℕ, true, ◌&&◌, not, List, ◌∷◌, [], map, length, slice_get, Some, option_map, OnOk, IfOk};
 ghost use Rattle.std.specs.Option.{option_copied};
-ghost use Rattle.up_engine.specs.Groups.{listed};
-ghost use Rattle.up_engine.specs.Keys.{Mode, Resting, Stepping};
+ghost use Rattle.std.specs.List.{list_any};
+ghost use Rattle.std.specs.Str.{bytes_eq};
+ghost use Rattle.up_engine.specs.Groups.{instance_of, listed};
+ghost use Rattle.up_engine.specs.declared.keys.EventKey.{EventKey as EventKeyValue};
+ghost use Rattle.up_engine.specs.Keys.{Mode, Resting, Stepping, held_as, request_place, name_at, instance_place};
 ghost use Rattle.up_engine.specs.Records.{chronicle, entry_of, expression_of, place_of, event_key};
+ghost use Rattle.up_engine.specs.Stored.{is_of_table};
 ghost use Rattle.up_engine.specs.Standings.{standing_of, IsYoungestSpoilt};
 ghost use Rattle.up_model.specs.declared.input.Input.{Input as InputValue};
 ghost use Rattle.up_model.specs.declared.state.Goal.TheVariants.{Stop as goal_stop};
@@ -19,9 +23,9 @@ ghost use Rattle.up_model.specs.Values.{Bytes};
 
 use crate::book::Book;
 use crate::changes::{changes_held, update_queue, youngest_spoilt_after};
-use crate::groups::{Group, insert_slot, remove_everywhere, slots_of};
+use crate::groups::{Group, Slot, insert_slot, position_named, remove_everywhere, slots_of};
 use crate::held::held_by_jobs;
-use crate::keys::{EventKey, InstanceKey, Live, Slot};
+use crate::keys::{EventKey, Holders, InstanceKey, Live};
 use crate::outputs::outputs;
 use crate::queue::Queue;
 use crate::reading::{answers, clock, environment, life, place, process, seen, spoilt, status};
@@ -62,10 +66,7 @@ fn add_instance(
         → (k : Bytes) → listed k groups.new.items ≡ instances_of k (entry.Made job.now name.now ∷ c)) }
 {
     let name = name.copy()?;
-    let slot = Slot {
-        name,
-        key: InstanceKey { place },
-    };
+    let slot = Slot { name, place };
     insert_slot(alloc, groups, job, slot)?;
     Ok(())
 }
@@ -152,6 +153,44 @@ fn made_record(alloc: Global, job: &Name, name: &str) -> Result<Record, AllocErr
     Ok(Record::Made { job, name })
 }
 
+fn names_of(alloc: Global, jobs: &[JobDef]) -> Result<Vec<Name>, AllocError>
+    ensures { IfOk result (λ names. names.items ≡ map (λ job. job.name) jobs.now) }
+{
+    let mut names = Vec::with_capacity(alloc, jobs.len())?;
+    for job in jobs {
+        names.push(job.name.copy()?)?;
+    }
+    Ok(names)
+}
+
+fn name_of(names: &[Name], job: usize) -> Option<&Name>
+    ensures { option_copied result ≡ slice_get names.now job }
+{
+    names.get(job)
+}
+
+fn slot_at(slots: &[Slot], at: usize) -> Option<&Slot>
+    ensures { option_copied result ≡ slice_get slots.now at }
+{
+    slots.get(at)
+}
+
+fn has_name(names: &[Name], job: &Name) -> bool
+    ensures { result ≡ list_any (λ name. bytes_eq name job.now) names.now }
+{
+    names.iter().any(|name| name.is(job))
+}
+
+// Whether the job of an instance that is made is one of these.
+fn is_of_table(names: &[Name], next: &Record) -> bool
+    ensures { result ≡ is_of_table names.now (entry_of next.now) }
+{
+    match next {
+        Record::Made { job, .. } => has_name(names, job),
+        _ => true,
+    }
+}
+
 fn released(instance: usize, failed: bool) -> Record
     ensures { entry_of result ≡ entry.Released instance failed }
 {
@@ -198,6 +237,21 @@ fn keys_of(alloc: Global, places: &[usize]) -> Result<Items<EventKey>, AllocErro
     Ok(Items::new(keys))
 }
 
+#[tactic(auto, using(crate::proofs::HolderLemmas::one_known, crate::proofs::HolderLemmas::none_known))]
+fn keys_of_one(alloc: Global, key: Option<EventKey>) -> Result<Items<EventKey>, AllocError>
+    ensures { IfOk result (λ keys. (places : List ℕ) → option_map place_of key ∷ [] ≡ map Some places
+        → map place_of keys ≡ places) }
+{
+    match key {
+        Some(key) => {
+            let mut keys = Vec::with_capacity(alloc, 1)?;
+            keys.push(key)?;
+            Ok(Items::new(keys))
+        }
+        None => Ok(Items::new(Vec::new(alloc))),
+    }
+}
+
 /// All that happened, and beside it the queue of events and the instances that exist.
 #[derive(Drop)]
 pub struct StoringBook {
@@ -209,6 +263,8 @@ pub struct StoringBook {
     // No event that was queued after this place was spoilt.
     youngest_spoilt: usize,
     groups: Vec<Group>,
+    // The names of the table's jobs.
+    names: Vec<Name>,
 }
 
 impl StoringBook {
@@ -220,11 +276,53 @@ impl StoringBook {
     ghost use Rattle.up_model.specs.Seen as model_seen;
     ghost use Rattle.up_engine.specs.Verdicts.{verdict};
 
-    // One record more, between two steps or within one.
+    // The instances of a job.
+    fn slots(&self, job: usize) -> &[Slot]
+        ensures { (mode : Mode) (config : Configuration) (c : Chronicle) (its : Bytes)
+            → Stored self.now mode config c → name_at config job ≡ Some its
+            → map instance_of result.now ≡ instances_of its c }
+    {
+        match name_of(self.names.as_slice(), job) {
+            Some(name) => slots_of(self.groups.as_slice(), name),
+            None => &[],
+        }
+    }
+
+    // The place where an instance was made.
+    fn place(&self, key: InstanceKey) -> usize
+        ensures { (mode : Mode) (config : Configuration) (c : Chronicle) (i : ℕ)
+            → Stored self.now mode config c → instance_place config c key ≡ Some i → result ≡ i }
+    {
+        match slot_at(self.slots(key.job), key.at) {
+            Some(slot) => slot.place,
+            None => 0,
+        }
+    }
+
+    // The record of an instance more of a job.
+    fn made(&self, job: usize, name: &str) -> Result<Record, AllocError>
+        ensures { IfOk result (λ made. (mode : Mode) (config : Configuration) (c : Chronicle) (its : Bytes)
+            → Stored self.now mode config c → name_at config job ≡ Some its
+            → entry_of made ≡ entry.Made its name.now) }
+    {
+        match name_of(self.names.as_slice(), job) {
+            Some(its) => {
+                let made = made_record(self.alloc, its, name)?;
+                Ok(made)
+            }
+            None => Err(AllocError),
+        }
+    }
+
+    // One record more, between two steps or within one. No job but those of the table gets an instance.
     fn put(&mut self, next: Record) -> Result<(), AllocError>
         ensures { OnOk result ((mode : Mode) (config : Configuration) (c : Chronicle)
             → Stored self.old mode config c → Stored self.new Stepping config (entry_of next ∷ c)) }
     {
+        if !is_of_table(self.names.as_slice(), &next) {
+            drop(next);
+            return Err(AllocError);
+        }
         let changes = changes_held(&next);
         let youngest = youngest_spoilt_after(self.records.as_slice(), &next, self.youngest_spoilt);
         let kept = add(
@@ -415,6 +513,32 @@ impl StoringBook {
         Ok(())
     }
 
+    // The key by which this step's request holds an instance.
+    fn request_key(&self) -> Option<EventKey>
+        ensures { (config : Configuration) (c : Chronicle) → Stored self.now Stepping config c
+            → result ≡ option_map event_key (request_place c) }
+    {
+        match answers::request_place(self.records.as_slice()) {
+            Some(place) => Some(key_of(place)),
+            None => None,
+        }
+    }
+
+    // The keys of who holds an instance.
+    #[tactic(auto, using(crate::proofs::HolderLemmas::key_place, crate::proofs::EventKeys::places_known))]
+    fn keys_held(&self, holders: Holders) -> Result<Items<EventKey>, AllocError>
+        ensures { IfOk result (λ keys. (config : Configuration) (c : Chronicle) (places : List ℕ)
+            → Stored self.now Stepping config c
+            → held_as (λ (key : EventKeyValue). Some key.place) (request_place c) holders ≡ map Some places
+            → map place_of keys ≡ places) }
+    {
+        match holders {
+            Holders::Taken(keys) => Ok(keys),
+            Holders::Client => keys_of_one(self.alloc, self.request_key()),
+            Holders::Nobody => Ok(Items::new(Vec::new(self.alloc))),
+        }
+    }
+
     // What the clock reads.
     fn today(&self) -> u64
         ensures { (config : Configuration) (c : Chronicle) → Stored self.now Stepping config c
@@ -439,34 +563,34 @@ impl Book for StoringBook {
 
     ghost event_place = { stored.event_place };
 
-    ghost instance_place = { stored.instance_place };
-
     #[tactic(auto, using(crate::proofs::CountLemmas::held_none))]
-    fn new(alloc: Global) -> Self {
-        StoringBook {
+    fn new(alloc: Global, setup: &Setup) -> Result<Self, AllocError> {
+        let names = names_of(alloc, setup.jobs())?;
+        Ok(StoringBook {
             alloc,
             records: Vec::new(alloc),
             queue: Queue::new(alloc),
             counted: true,
             youngest_spoilt: 0,
             groups: Vec::new(alloc),
-        }
+            names,
+        })
     }
 
     fn goal(&self, key: InstanceKey) -> Goal {
-        life::goal(self.records.as_slice(), key.place)
+        life::goal(self.records.as_slice(), self.place(key))
     }
 
     fn state_of(&self, key: InstanceKey) -> State {
-        life::state_of(self.records.as_slice(), key.place)
+        life::state_of(self.records.as_slice(), self.place(key))
     }
 
     fn was_restarted(&self, key: InstanceKey) -> bool {
-        life::was_restarted(self.records.as_slice(), key.place)
+        life::was_restarted(self.records.as_slice(), self.place(key))
     }
 
     fn status_of(&self, key: InstanceKey) -> Result<Text, AllocError> {
-        let text = status::status_of(self.alloc, self.records.as_slice(), key.place)?;
+        let text = status::status_of(self.alloc, self.records.as_slice(), self.place(key))?;
         Ok(text)
     }
 
@@ -475,35 +599,50 @@ impl Book for StoringBook {
     }
 
     fn may_respawn(&self, key: InstanceKey, limit: Limit) -> bool {
-        clock::may_respawn(self.records.as_slice(), key.place, limit)
+        clock::may_respawn(self.records.as_slice(), self.place(key), limit)
     }
 
     fn kill_moment(&self, key: InstanceKey) -> Option<u64> {
-        clock::kill_moment(self.records.as_slice(), key.place)
+        clock::kill_moment(self.records.as_slice(), self.place(key))
     }
 
     fn env(&self, key: InstanceKey) -> Option<&Env> {
-        environment::env(self.records.as_slice(), key.place)
+        environment::env(self.records.as_slice(), self.place(key))
     }
 
     fn failure(&self, key: InstanceKey) -> Option<Failure> {
-        life::failure(self.records.as_slice(), key.place)
+        life::failure(self.records.as_slice(), self.place(key))
     }
 
     fn is_blocked(&self, key: InstanceKey) -> bool {
-        life::blocker(self.records.as_slice(), key.place).is_some()
+        life::blocker(self.records.as_slice(), self.place(key)).is_some()
     }
 
     fn awaits(&self, key: InstanceKey, process: Process) -> bool {
-        process::is_awaited(self.records.as_slice(), key.place, process)
+        process::is_awaited(self.records.as_slice(), self.place(key), process)
     }
 
     fn lives(&self, key: InstanceKey, process: Process) -> bool {
-        process::pid_of(self.records.as_slice(), key.place, process).is_some()
+        process::pid_of(self.records.as_slice(), self.place(key), process).is_some()
     }
 
-    fn instances(&self, job: &Name) -> &[Slot] {
-        slots_of(self.groups.as_slice(), job)
+    #[tactic(auto, using(crate::proofs::KeyLemmas::count_known))]
+    fn count(&self, job: usize) -> usize {
+        self.slots(job).len()
+    }
+
+    fn name(&self, key: InstanceKey) -> &str {
+        match slot_at(self.slots(key.job), key.at) {
+            Some(slot) => slot.name.as_str(),
+            None => "",
+        }
+    }
+
+    fn find(&self, job: usize, name: &str) -> Option<InstanceKey> {
+        match position_named(self.slots(job), name) {
+            Some(at) => Some(InstanceKey { job, at }),
+            None => None,
+        }
     }
 
     fn event_at(&self, key: EventKey) -> Option<&Event> {
@@ -522,11 +661,11 @@ impl Book for StoringBook {
     }
 
     fn is_newborn(&self, key: InstanceKey) -> bool {
-        seen::is_newborn(self.records.as_slice(), key.place)
+        seen::is_newborn(self.records.as_slice(), self.place(key))
     }
 
     fn was_offered_stop(&self, key: InstanceKey) -> bool {
-        seen::was_offered(self.records.as_slice(), Wanted::StopOn(key.place))
+        seen::was_offered(self.records.as_slice(), Wanted::StopOn(self.place(key)))
     }
 
     fn was_offered_start(&self, job: &Name) -> bool {
@@ -545,10 +684,9 @@ impl Book for StoringBook {
         self.queue.turn()
     }
 
-    fn given(&mut self, input: Input) -> Result<EventKey, AllocError> {
-        let place = count(&self.records);
+    fn given(&mut self, input: Input) -> Result<(), AllocError> {
         self.begin(input)?;
-        Ok(EventKey { place })
+        Ok(())
     }
 
     fn emit(&mut self, event: Event) -> Result<(), AllocError> {
@@ -578,16 +716,14 @@ impl Book for StoringBook {
     }
 
     fn enter(&mut self, key: InstanceKey, state: State) -> Result<(), AllocError> {
-        self.write(Record::Entered {
-            instance: key.place,
-            state,
-        })?;
+        let instance = self.place(key);
+        self.write(Record::Entered { instance, state })?;
         Ok(())
     }
 
     fn leave(&mut self, key: InstanceKey, event: Event) -> Result<(), AllocError> {
+        let instance = self.place(key);
         let state = State::Waiting;
-        let instance = key.place;
         let origin = Origin::Entering { instance, state };
         self.write(Record::Entered { instance, state })?;
         self.write(Record::Queued { origin, event })?;
@@ -596,25 +732,22 @@ impl Book for StoringBook {
     }
 
     fn order(&mut self, _: &Setup, key: InstanceKey, process: Process) -> Result<(), AllocError> {
-        self.write(Record::Ordered {
-            instance: key.place,
-            process,
-        })?;
+        let instance = self.place(key);
+        self.write(Record::Ordered { instance, process })?;
         Ok(())
     }
 
     fn announce(&mut self, key: InstanceKey, state: State, event: Event) -> Result<(), AllocError> {
-        let origin = Origin::Entering {
-            instance: key.place,
-            state,
-        };
+        let instance = self.place(key);
+        let origin = Origin::Entering { instance, state };
         self.write(Record::Queued { origin, event })?;
         Ok(())
     }
 
     fn signal(&mut self, key: InstanceKey, signal: u8) -> Result<(), AllocError> {
+        let instance = self.place(key);
         self.write(Record::Signalled {
-            instance: key.place,
+            instance,
             signal,
             by_timer: false,
         })?;
@@ -622,8 +755,9 @@ impl Book for StoringBook {
     }
 
     fn kill(&mut self, key: InstanceKey) -> Result<(), AllocError> {
+        let instance = self.place(key);
         self.write(Record::Signalled {
-            instance: key.place,
+            instance,
             signal: KILL,
             by_timer: true,
         })?;
@@ -631,16 +765,15 @@ impl Book for StoringBook {
     }
 
     fn respawn(&mut self, key: InstanceKey) -> Result<(), AllocError> {
+        let instance = self.place(key);
         let moment = self.today();
-        self.write(Record::Respawned {
-            instance: key.place,
-            moment,
-        })?;
+        self.write(Record::Respawned { instance, moment })?;
         Ok(())
     }
 
     fn release(&mut self, key: InstanceKey) -> Result<(), AllocError> {
-        self.let_go(key.place, false)?;
+        let place = self.place(key);
+        self.let_go(place, false)?;
         Ok(())
     }
 
@@ -649,10 +782,12 @@ impl Book for StoringBook {
         key: InstanceKey,
         goal: Goal,
         environment: Env,
-        holders: Items<EventKey>,
+        holders: Holders,
     ) -> Result<(), AllocError> {
+        let instance = self.place(key);
+        let holders = self.keys_held(holders)?;
         self.write(Record::Aimed {
-            instance: key.place,
+            instance,
             goal,
             environment,
             holders,
@@ -660,32 +795,34 @@ impl Book for StoringBook {
         Ok(())
     }
 
-    fn restart(&mut self, key: InstanceKey, holders: Items<EventKey>) -> Result<(), AllocError> {
-        self.write(Record::Restarted {
-            instance: key.place,
-            holders,
-        })?;
+    fn restart(&mut self, key: InstanceKey, holders: Holders) -> Result<(), AllocError> {
+        let instance = self.place(key);
+        let holders = self.keys_held(holders)?;
+        self.write(Record::Restarted { instance, holders })?;
         Ok(())
     }
 
     fn end_itself(&mut self, key: InstanceKey) -> Result<(), AllocError> {
-        let ended = ended_record(self.alloc, self.records.as_slice(), key.place)?;
+        let instance = self.place(key);
+        let ended = ended_record(self.alloc, self.records.as_slice(), instance)?;
         self.write(ended)?;
         Ok(())
     }
 
     fn fail(&mut self, key: InstanceKey, failure: Failure) -> Result<(), AllocError> {
-        let instance = key.place;
+        let instance = self.place(key);
         self.write(Record::Failed { instance, failure })?;
         self.let_go(instance, true)?;
         Ok(())
     }
 
-    fn make(&mut self, job: &Name, name: &str) -> Result<InstanceKey, AllocError> {
-        let place = count(&self.records);
-        let made = made_record(self.alloc, job, name)?;
+    fn make(&mut self, job: usize, name: &str) -> Result<InstanceKey, AllocError> {
+        let made = self.made(job, name)?;
         self.write(made)?;
-        Ok(InstanceKey { place })
+        match self.find(job, name) {
+            Some(key) => Ok(key),
+            None => Err(AllocError),
+        }
     }
 
     fn offer_stop(
@@ -695,11 +832,12 @@ impl Book for StoringBook {
         key: InstanceKey,
         event: EventKey,
     ) -> Result<bool, AllocError> {
+        let instance = self.place(key);
         self.write(Record::Offered {
-            expression: Expression::StopOn(key.place),
+            expression: Expression::StopOn(instance),
             event: event.place,
         })?;
-        let holds = self.holds(setup, Wanted::StopOn(key.place), &job.stop_on)?;
+        let holds = self.holds(setup, Wanted::StopOn(instance), &job.stop_on)?;
         Ok(holds)
     }
 
@@ -721,8 +859,9 @@ impl Book for StoringBook {
         job: &JobDef,
         key: InstanceKey,
     ) -> Result<Items<EventKey>, AllocError> {
-        let taken = self.taken(setup, Wanted::StopOn(key.place), &job.stop_on)?;
-        let keys = self.fire(Expression::StopOn(key.place), taken)?;
+        let instance = self.place(key);
+        let taken = self.taken(setup, Wanted::StopOn(instance), &job.stop_on)?;
+        let keys = self.fire(Expression::StopOn(instance), taken)?;
         Ok(keys)
     }
 
@@ -749,4 +888,6 @@ impl Book for StoringBook {
         let found = outputs(self.alloc, setup, self.records.as_slice())?;
         Ok(found)
     }
+
+    ghost known = { λ book mode config c job s none. s.known job none };
 }

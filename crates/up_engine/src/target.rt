@@ -1,9 +1,9 @@
 //! Whom a request names.
-ghost use Rattle.std.specs.Prelude.{◌≡◌, IfOk};
-ghost use Rattle.std.specs.Option.{option_copied};
-ghost use Rattle.up_engine.specs.Requests.{target_of as said_of};
+ghost use Rattle.std.specs.Prelude.{◌≡◌, Some, IfOk};
+ghost use Rattle.up_engine.specs.Keys.{name_at};
+ghost use Rattle.up_engine.specs.Requests.{target_of as said_of, IsIndexed};
 ghost use Rattle.up_model.specs.Commands as model;
-ghost use Rattle.up_model.specs.Configuration.{job_named};
+ghost use Rattle.up_model.specs.Configuration.{Configuration};
 ghost use Rattle.up_text.specs.Expansion.{expand as expansion};
 
 use crate::setup::Setup;
@@ -17,24 +17,13 @@ use up_text::{Env, Expanded, Text, TextFault, expand};
 pub(crate) enum Target<'a> {
     /// Nobody, which this text says.
     Nobody(Text),
-    /// An instance of a job that there may be, and the environment that a start would give it.
+    /// An instance that there may be of a job, which has this index, and the environment that a start would give it.
     Concerns {
+        index: usize,
         job: &'a JobDef,
         who: Who,
         environment: Env,
     },
-}
-
-#[tactic(auto, using(crate::proofs::OutputLemmas::jobs_left))]
-fn job_called<'a>(jobs: &'a [JobDef], name: &str) -> Option<&'a JobDef>
-    ensures { option_copied result ≡ job_named name.now jobs.now }
-{
-    for job in jobs {
-        if job.name.as_str() == name {
-            return Some(job);
-        }
-    }
-    None
 }
 
 fn request_env(setup: &Setup, job: &JobDef, vars: &Env) -> Result<Env, AllocError>
@@ -53,14 +42,22 @@ fn who_of(job: &JobDef, instance: Text) -> Result<Who, AllocError>
 }
 
 // The instance whose name this environment gives.
-fn target_in<'a>(alloc: Global, job: &'a JobDef, environment: Env) -> Result<Target<'a>, AllocError>
-    ensures { IfOk result (λ target. said_of target
+fn target_in<'a>(
+    alloc: Global,
+    index: usize,
+    job: &'a JobDef,
+    environment: Env,
+) -> Result<Target<'a>, AllocError>
+    ensures target { IfOk result (λ target. said_of target
         ≡ model.target_as job.now environment (expansion job.now.instance environment)) }
+    ensures index { IfOk result (λ target. (config : Configuration)
+        → name_at config index ≡ Some job.now.name → IsIndexed config target) }
 {
     match expand(alloc, job.instance.as_str(), &environment) {
         Ok(Expanded::Text(name)) => {
             let who = who_of(job, name)?;
             Ok(Target::Concerns {
+                index,
                 job,
                 who,
                 environment,
@@ -81,12 +78,13 @@ pub(crate) fn target_of<'a>(
     name: &str,
     vars: &Env,
 ) -> Result<Target<'a>, AllocError>
-    ensures { IfOk result (λ target. said_of target ≡ model.target_of setup.now name.now vars.now) }
+    ensures target { IfOk result (λ target. said_of target ≡ model.target_of setup.now name.now vars.now) }
+    ensures index { IfOk result (λ target. IsIndexed setup.now target) }
 {
-    match job_called(setup.jobs(), name) {
-        Some(job) => {
+    match setup.job_named(name) {
+        Some((index, job)) => {
             let environment = request_env(setup, job, vars)?;
-            let target = target_in(alloc, job, environment)?;
+            let target = target_in(alloc, index, job, environment)?;
             Ok(target)
         }
         None => Ok(Target::Nobody(unknown_job(alloc, name)?)),

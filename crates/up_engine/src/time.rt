@@ -1,14 +1,14 @@
 //! Times in milliseconds, and what the timer does.
 ghost use Rattle.std.specs.Prelude.{◌≡◌, ℕ, List, ◌∷◌, ◌++◌, [], map, Some, IfOk, OnOk};
-ghost use Rattle.up_engine.specs.Keys.{Mode, Stepping, slot_at};
+ghost use Rattle.up_engine.specs.Keys.{Mode, Stepping, name_at, instance_place};
 ghost use Rattle.up_model.specs.Chronicle.{Chronicle};
 ghost use Rattle.up_model.specs.Clock as clock;
 ghost use Rattle.up_model.specs.Configuration.{Configuration};
-ghost use Rattle.up_model.specs.Instances.{Instance};
+ghost use Rattle.up_model.specs.Instances.{instances_of};
 ghost use Rattle.up_model.specs.Predicates.{entries_if};
 
 use crate::book::Book;
-use crate::keys::{InstanceKey, Slot};
+use crate::keys::InstanceKey;
 use std::alloc::{AllocError, Global};
 use up_model::{JobDef, Process, State};
 
@@ -37,7 +37,7 @@ fn has_passed(moment: Option<u64>, today: u64, span: u64) -> bool
 
 fn is_overdue<B: Book>(book: &B, job: &JobDef, key: InstanceKey) -> bool
     ensures { (mode : Mode) (config : Configuration) (c : Chronicle) (i : ℕ) → B.stands book.now mode config c
-        → B.instance_place book.now c key ≡ Some i
+        → instance_place config c key ≡ Some i
         → result ≡ clock.has_passed (clock.kill_moment i c) (clock.now c)
         (clock.milliseconds job.now.kill_timeout) }
 {
@@ -50,7 +50,7 @@ fn is_overdue<B: Book>(book: &B, job: &JobDef, key: InstanceKey) -> bool
 
 fn is_in_killed<B: Book>(book: &B, key: InstanceKey) -> bool
     ensures { (mode : Mode) (config : Configuration) (c : Chronicle) (i : ℕ) → B.stands book.now mode config c
-        → B.instance_place book.now c key ≡ Some i → result ≡ clock.is_dying i c }
+        → instance_place config c key ≡ Some i → result ≡ clock.is_dying i c }
 {
     is_killed(book.state_of(key)) && book.lives(key, Process::Main)
 }
@@ -58,7 +58,7 @@ fn is_in_killed<B: Book>(book: &B, key: InstanceKey) -> bool
 // Whether the timer is to kill main of an instance.
 fn kill_due<B: Book>(book: &B, job: &JobDef, key: InstanceKey) -> bool
     ensures { (mode : Mode) (config : Configuration) (c : Chronicle) (i : ℕ) → B.stands book.now mode config c
-        → B.instance_place book.now c key ≡ Some i → result ≡ clock.kill_due job.now i c }
+        → instance_place config c key ≡ Some i → result ≡ clock.kill_due job.now i c }
 {
     is_in_killed(book, key) && is_overdue(book, job, key)
 }
@@ -72,9 +72,9 @@ fn add_if_due<B: Book>(
 ) -> Result<(), AllocError>
     ensures { OnOk result ((mode : Mode) (config : Configuration) (c : Chronicle) (i : ℕ) (done : List ℕ)
         → B.stands book.now mode config c
-        → B.instance_place book.now c key ≡ Some i
-        → map (B.instance_place book.now c) keys.old.items ≡ map Some done
-        → map (B.instance_place book.now c) keys.new.items
+        → instance_place config c key ≡ Some i
+        → map (instance_place config c) keys.old.items ≡ map Some done
+        → map (instance_place config c) keys.new.items
         ≡ map Some (done ++ entries_if (clock.kill_due job.now i c) (i ∷ []))) }
 {
     if kill_due(book, job, key) {
@@ -86,18 +86,18 @@ fn add_if_due<B: Book>(
 // Adds those of a job's instances whose main process the timer is to kill.
 fn add_overdue<B: Book>(
     book: &B,
+    index: usize,
     job: &JobDef,
-    slots: &[Slot],
     keys: &mut Vec<InstanceKey>,
 ) -> Result<(), AllocError>
-    ensures { OnOk result ((mode : Mode) (config : Configuration) (c : Chronicle) (its : List Instance)
-        (done : List ℕ) → B.stands book.now mode config c
-        → map (slot_at (B.instance_place book.now c)) slots.now ≡ map Some its
-        → map (B.instance_place book.now c) keys.old.items ≡ map Some done
-        → map (B.instance_place book.now c) keys.new.items ≡ map Some (done ++ clock.overdue job.now its c)) }
+    ensures { OnOk result ((mode : Mode) (config : Configuration) (c : Chronicle) (done : List ℕ)
+        → B.stands book.now mode config c → name_at config index ≡ Some job.now.name
+        → map (instance_place config c) keys.old.items ≡ map Some done
+        → map (instance_place config c) keys.new.items
+        ≡ map Some (done ++ clock.overdue job.now (instances_of job.now.name c) c)) }
 {
-    for slot in slots {
-        add_if_due(book, job, slot.key, keys)?;
+    for at in 0..book.count(index) {
+        add_if_due(book, job, InstanceKey { job: index, at }, keys)?;
     }
     Ok(())
 }
@@ -114,12 +114,12 @@ fn all_overdue<B: Book>(
     jobs: &[JobDef],
 ) -> Result<Vec<InstanceKey>, AllocError>
     ensures { IfOk result (λ keys. (mode : Mode) (config : Configuration) (c : Chronicle)
-        → B.stands book.now mode config c
-        → map (B.instance_place book.now c) keys.items ≡ map Some (clock.all_overdue jobs.now c)) }
+        → B.stands book.now mode config c → jobs.now ≡ config.jobs
+        → map (instance_place config c) keys.items ≡ map Some (clock.all_overdue jobs.now c)) }
 {
     let mut keys = no_keys(alloc);
-    for job in jobs {
-        add_overdue(book, job, book.instances(&job.name), &mut keys)?;
+    for (index, job) in jobs.iter().enumerate() {
+        add_overdue(book, index, job, &mut keys)?;
     }
     Ok(keys)
 }
@@ -128,7 +128,7 @@ fn all_overdue<B: Book>(
 fn kill_each<B: Book>(book: &mut B, keys: &[InstanceKey]) -> Result<(), AllocError>
     ensures { OnOk result ((config : Configuration) (c : Chronicle) (places : List ℕ)
         → B.stands book.old Stepping config c
-        → map (B.instance_place book.old c) keys.now ≡ map Some places
+        → map (instance_place config c) keys.now ≡ map Some places
         → B.stands book.new Stepping config (clock.killing places ++ c)) }
 {
     for key in keys {
@@ -144,6 +144,7 @@ pub(crate) fn kill_overdue<B: Book>(
     jobs: &[JobDef],
 ) -> Result<(), AllocError>
     ensures { OnOk result ((config : Configuration) (c : Chronicle) → B.stands book.old Stepping config c
+        → jobs.now ≡ config.jobs
         → B.stands book.new Stepping config (clock.killing (clock.all_overdue jobs.now c) ++ c)) }
 {
     let keys = all_overdue(alloc, book, jobs)?;

@@ -1,5 +1,6 @@
 //! Who is to be answered at the end of a step.
 ghost use Rattle.std.specs.Prelude.{◌≡◌, ◌∷◌, length, unwrap_or};
+ghost use Rattle.up_engine.specs.Keys.{request_place};
 ghost use Rattle.up_engine.specs.Records.{entry_of, chronicle};
 ghost use Rattle.up_model.specs.Chronicle.{Chronicle};
 ghost use Rattle.up_model.specs.Replies as model;
@@ -100,6 +101,32 @@ pub(crate) fn request_instance(records: &[Record]) -> Option<usize>
     'back: while left > 0 {
         left -= 1;
         if let Some(found) = request_instance_by(&records[left]) {
+            return found;
+        }
+    }
+    None
+}
+
+fn request_place_by(next: &Record, place: usize) -> Option<Option<usize>>
+    ensures { (c : Chronicle) → length c ≡ place
+        → request_place (entry_of next.now ∷ c) ≡ unwrap_or result (request_place c) }
+{
+    match next {
+        Record::Given(Input::Request { .. }) => Some(Some(place)),
+        Record::Given(_) => Some(None),
+        _ => None,
+    }
+}
+
+/// The place of this step's request.
+#[tactic(auto, using(crate::proofs::Chronicles::chronicle_more, crate::proofs::Chronicles::length_front))]
+pub(crate) fn request_place(records: &[Record]) -> Option<usize>
+    ensures { result ≡ request_place (chronicle records.now) }
+{
+    let mut left = records.len();
+    'back: while left > 0 {
+        left -= 1;
+        if let Some(found) = request_place_by(&records[left], left) {
             return found;
         }
     }

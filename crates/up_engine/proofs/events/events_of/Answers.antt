@@ -1,7 +1,7 @@
 use Rattle.std.proofs.Common.{◌≡◌, ◌∙◌, ◌+◌, sym, ap, ◌++◌, ◌∷◌, [], Some, map, drop, arith, append-nil, length}
 use Rattle.std.proofs.lemmas.List.{drop_all}
 use Rattle.up_model.specs.Events.{events_at}
-use Rattle.up_engine.proofs.Slots.{key_there, keys_length}
+use Rattle.up_engine.proofs.EventKeys.{key_there, keys_length}
 use Rattle.up_engine.proofs.EventLemmas.{key_events}
 use Rattle.up_engine.proofs.events.events_of.Goals as goal
 

@@ -5,8 +5,8 @@ use Rattle.up_model.specs.Offers.{offer_first}
 use Rattle.up_engine.proofs.offers.offer_first.Given as goal
 
 -- nothing was offered yet, and what is left gives the whole
-abbrev pub invariant-loop-job : goal.invariant-loop-job
-invariant-loop-job g l = record {
+abbrev pub invariant-loop-index : goal.invariant-loop-index
+invariant-loop-index g l = record {
   same : l.book ≡ l.fn.book;
-  left : (c : Chronicle) (e : ℕ) → g.B.Book.stands l.fn.book Stepping l.setup c → offer_first l.setup (drop l.job-index l.jobs) e c ≡ offer_first l.setup l.jobs e c;
+  left : (c : Chronicle) (e : ℕ) → l.jobs ≡ l.setup.jobs → g.B.Book.stands l.fn.book Stepping l.setup c → offer_first l.setup (drop l.index l.jobs) e c ≡ offer_first l.setup l.jobs e c;
 }

@@ -7,4 +7,4 @@ pub returns : goal.returns
 returns g c c' i s known =
     let config = c.args.setup.now in
     let events = taken c.args.job.now.stop_on (seen config (StopOn i) c') in
-    c.in_ok-stop_by.ensures config (Fired (StopOn i) events ∷ c') i events (c.in_ok-holders.ensures.after c' i s known) (c.in_ok-holders.ensures.instances c' i s known) (c.in_ok-holders.ensures.taken c' i s known)
+    c.in_ok-stop_by.ensures config (Fired (StopOn i) events ∷ c') i events (c.in_ok-holders.ensures.after c' i s known) known (c.in_ok-holders.ensures.taken c' i s known)

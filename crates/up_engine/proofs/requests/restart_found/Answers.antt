@@ -4,6 +4,7 @@ use Rattle.up_model.specs.Chronicle.{Chronicle, Given}
 use Rattle.up_model.specs.Commands.{is_running}
 use Rattle.up_model.specs.Readings.{state_of}
 use Rattle.up_model.specs.Replies.{releasing}
+use Rattle.up_engine.proofs.KeyLemmas.{released_there}
 use Rattle.up_engine.proofs.requests.restart_found.Goals as goal
 
 pub returns-in_ok-restart : goal.returns-in_ok-restart
@@ -12,7 +13,7 @@ returns-in_ok-restart g c config c' input places i s known held =
     let same : c.is_running.result ≡ is_running (state_of i c') = c.is_running.ensures ∙ ap is_running (c.state_of.ensures Stepping config d i s known) in
     let now = c.in_ok-release.ensures.after config d i s known in
     rw (sym same ∙ c.if-is_running.true)
-    (c.in_ok-restart.ensures config (releasing i false d ++ d) i places now (c.in_ok-release.ensures.instances config d i s known) (c.in_ok-release.ensures.events config d i _ places s known held))
+    (c.in_ok-restart.ensures config (releasing i false d ++ d) i places now (released_there config c.args.key i false d ∙ known) (c.in_ok-release.ensures.holders config d i c.args.holders places s known held))
 
 pub returns-in_ok-refuse : goal.returns-in_ok-refuse
 returns-in_ok-refuse g c config c' input places i s known held =

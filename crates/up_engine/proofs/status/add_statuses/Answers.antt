@@ -1,28 +1,32 @@
-use Rattle.std.proofs.Common.{◌≡◌, ◌∙◌, ◌+◌, ◌++◌, ◌∷◌, [], Some, List, ℕ, map, drop, sym, ap, arith, length, refl, add-one, append_assoc, append-nil}
+use Rattle.std.proofs.Common.{◌≡◌, ◌∙◌, ◌+◌, ◌++◌, ◌∷◌, [], drop, sym, ap, arith, length, refl, add-one, append_assoc, append-nil}
 use Rattle.std.proofs.lemmas.List.{drop_all}
-use Rattle.up_engine.proofs.Slots.{slot_here, slots_length}
+use Rattle.up_engine.specs.declared.keys.InstanceKey.{InstanceKey}
+use Rattle.up_engine.proofs.KeyLemmas.{there}
 use Rattle.up_model.specs.Commands.{statuses}
+use Rattle.up_model.specs.Instances.{instances_of}
 use Rattle.up_model.specs.Replies.{status_of}
 use Rattle.up_engine.proofs.status.add_statuses.Goals as goal
 
-pub loop-slot-init : goal.loop-slot-init
-loop-slot-init g c mode config c' its s given = refl
+pub loop-at-init : goal.loop-at-init
+loop-at-init g c mode config c' its s named = refl
 
-pub loop-slot-preserved : goal.loop-slot-preserved
-loop-slot-preserved g c mode config c' its s given =
-    let places = g.B.Book.instance_place c.args.book.now c' in
-    let n = c.loop-slot.slot-index in
-    let there = slot_here places c.args.slots.now its n c.slot-item.result given c.loop-slot-test.true c.slot-item.is in
-    let left : statuses (drop n its) c' ≡ status_of there.place c' ∷ statuses (drop (n + 1) its) c' = rw add-one (ap (λ is. statuses is c') there.rest) in
-    ap (λ lines. lines ++ statuses (drop (n + 1) its) c') (c.in_ok-push_status.ensures mode config c' there.place s there.is)
-    ∙ append_assoc c.loop-slot.lines.items (status_of there.place c' ∷ []) (statuses (drop (n + 1) its) c')
-    ∙ ap (λ rest. c.loop-slot.lines.items ++ rest) (sym left)
-    ∙ c.loop-slot.invariant mode config c' its s given
+pub loop-at-preserved : goal.loop-at-preserved
+loop-at-preserved g c mode config c' its s named =
+    let n = c.loop-at.at in
+    let key : InstanceKey = record { job = c.args.job; at = n } in
+    let all = instances_of its c' in
+    let count = c.count-at-end.ensures mode config c' its s named in
+    let it = there config c' key its named (omega (arith, count)) in
+    let left : statuses (drop n all) c' ≡ status_of it.instance.place c' ∷ statuses (drop (n + 1) all) c' = rw add-one (ap (λ is. statuses is c') it.rest) in
+    ap (λ lines. lines ++ statuses (drop (n + 1) all) c') (c.in_ok-push_status.ensures mode config c' it.instance.place s it.place)
+    ∙ append_assoc c.loop-at.lines.items (status_of it.instance.place c' ∷ []) (statuses (drop (n + 1) all) c')
+    ∙ ap (λ rest. c.loop-at.lines.items ++ rest) (sym left)
+    ∙ c.loop-at.invariant mode config c' its s named
 
 pub returns : goal.returns
-returns g c mode config c' its s given =
-    let places = g.B.Book.instance_place c.args.book.now c' in
-    let n = c.loop-slot.slot-index in
-    let count = slots_length places c.args.slots.now its given in
-    let over : drop n its ≡ [] = drop_all n its (omega (arith, count)) in
-    sym (append-nil c.loop-slot.lines.items) ∙ ap (λ is. c.loop-slot.lines.items ++ statuses is c') (sym over) ∙ c.loop-slot.invariant mode config c' its s given
+returns g c mode config c' its s named =
+    let n = c.loop-at.at in
+    let all = instances_of its c' in
+    let count = c.count-at-end.ensures mode config c' its s named in
+    let over : drop n all ≡ [] = drop_all n all (omega (arith, count)) in
+    sym (append-nil c.loop-at.lines.items) ∙ ap (λ is. c.loop-at.lines.items ++ statuses is c') (sym over) ∙ c.loop-at.invariant mode config c' its s named

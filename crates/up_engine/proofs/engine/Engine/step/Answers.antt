@@ -4,12 +4,12 @@ use Rattle.up_engine.proofs.Entries.{is_some_map}
 use Rattle.up_engine.proofs.LeftLemmas.{left_after, sound_after}
 use Rattle.up_engine.proofs.engine.Engine.step.Goals as goal
 
-pub returns-then-not-is_expected-clause-meaning : goal.returns-then-not-is_expected-clause-meaning
-returns-then-not-is_expected-clause-meaning c config c' s = (sym (c.is_expected.ensures Resting config c' s.past) ∙ c.if-not-is_expected.true, s)
+pub returns-then-not-expects-clause-meaning : goal.returns-then-not-expects-clause-meaning
+returns-then-not-expects-clause-meaning c config c' s = (sym (c.expects.ensures config c' s) ∙ c.if-not-expects.true, s)
 
 pub returns-in-Err-clause-meaning : goal.returns-in-Err-clause-meaning
 returns-in-Err-clause-meaning c config c' s = (
-  sym (c.is_expected.ensures Resting config c' s.past) ∙ c.if-not-is_expected.false,
+  sym (c.expects.ensures config c' s) ∙ c.if-not-expects.false,
   record {
     down = refl;
     live = c.live_events-self.ensures Resting config c' s.past;
@@ -20,7 +20,7 @@ returns-in-Err-clause-meaning c config c' s = (
 pub returns-in-Ok-clause-meaning : goal.returns-in-Ok-clause-meaning
 returns-in-Ok-clause-meaning c config c' s =
     let past = rw (sym s.setup) at s.past in (
-      sym (c.is_expected.ensures Resting config c' s.past) ∙ c.if-not-is_expected.false,
+      sym (c.expects.ensures config c' s) ∙ c.if-not-expects.false,
       rw (sym s.setup) (c.in-Ok.ensures.outputs c' past),
       record { up = refl; setup = s.setup; past = rw (sym s.setup) (c.in-Ok.ensures.after c' past) },
     )

@@ -21,6 +21,8 @@ returns c c' s =
       held = (refl, ap (λ (q : QueueValue). q.held) c.in_ok-set_held.ensures ∙ c.as_slice-3.ensures.value ∙ held);
       spoilt = s.spoilt;
       groups = s.groups;
+      names = s.names;
+      known = s.known;
     }
 
 pub returns-then-self : goal.returns-then-self
@@ -30,4 +32,6 @@ returns-then-self c c' s = record {
   held = (c.if-self.true, s.held c.if-self.true);
   spoilt = s.spoilt;
   groups = s.groups;
+  names = s.names;
+  known = s.known;
 }

@@ -10,7 +10,7 @@ use Rattle.up_model.specs.Replies.{waiter, answering_waiter}
 use Rattle.up_engine.proofs.stored.StoringBookBook.finish.Goals as goal
 
 pub returns : goal.returns
-returns c config c' e s known =
+returns c config c' e s known free =
     let p = c.args.key.place in
     let waits : c.waiter-waiter.result ≡ waiter p c' = c.waiter-waiter.ensures ∙ ap (λ rs. waiter p (chronicle rs)) c.as_slice.ensures.value ∙ ap (waiter p) s.entries in
     let spoilt : c.is_spoilt-spoilt.result ≡ is_spoilt p c' = c.is_spoilt-spoilt.ensures ∙ ap (λ rs. is_spoilt p (chronicle rs)) c.as_slice-2.ensures.value ∙ ap (is_spoilt p) s.entries in

@@ -3,7 +3,7 @@ use Rattle.up_engine.proofs.Entries.{some_same}
 use Rattle.up_model.specs.Chronicle.{Fired, StartOn}
 use Rattle.std.proofs.Common.{Some, ℕ}
 use Rattle.up_engine.proofs.Entries.{same_start}
-use Rattle.up_engine.proofs.Slots.{keys_known}
+use Rattle.up_engine.proofs.EventKeys.{keys_known}
 use Rattle.up_model.specs.Seen.{seen, taken}
 use Rattle.up_engine.proofs.stored.StoringBookBook.fire_start.Goals as goal
 

@@ -1,0 +1,50 @@
+-- Who holds an instance, as entries are added.
+use Rattle.std.proofs.Common.{◌≡◌, ℕ, Bool, List, [], ◌∷◌, ◌++◌, Option, None, Some, map, option_map, refl, ◌∙◌, ap, append_assoc}
+use Rattle.up_engine.specs.declared.keys.EventKey.{EventKey}
+use Rattle.up_engine.specs.declared.keys.Holders.{Holders}
+use Rattle.up_engine.specs.Keys.{held_as, request_place}
+use Rattle.up_engine.specs.Records.{place_of, event_key}
+use Rattle.up_model.specs.declared.request.Answer.{Answer}
+use Rattle.up_model.specs.Chronicle.{Chronicle, Released, Replied}
+use Rattle.up_model.specs.Readings.{holders}
+use Rattle.up_model.specs.Replies.{answer_to, answering, answering_one, releasing, request_at, status_of}
+use Rattle.up_model.specs.Requests.{RequestValue}
+use Rattle.up_model.specs.Values.{Bytes}
+
+-- what passes over replies passes over the answers to clients
+past-answering : {X : Type 0} (f : Chronicle → X) → ((place : ℕ) (answer : Answer) (d : Chronicle) → f (Replied place answer ∷ d) ≡ f d)
+    → (places : List ℕ) (failed : Bool) (told : Bytes) (c d : Chronicle) → f (answering places failed told c ++ d) ≡ f d
+past-answering f past [] failed told c d = refl
+past-answering f past (place ∷ places) failed told c d =
+    ap f (append_assoc (answering places failed told c) (answering_one place (request_at place c) failed told) d)
+    ∙ past-answering f past places failed told c (answering_one place (request_at place c) failed told ++ d) ∙ by_case (request_at place c)
+  where
+    by_case : (request : Option RequestValue) → f (answering_one place request failed told ++ d) ≡ f d
+    by_case None = refl
+    by_case (Some request) = past place (answer_to request.command failed told) d
+
+-- and over what an instance does that lets its holders go
+pub past-releasing : {X : Type 0} (f : Chronicle → X) → ((place : ℕ) (answer : Answer) (d : Chronicle) → f (Replied place answer ∷ d) ≡ f d)
+    → ((instance : ℕ) (failed : Bool) (d : Chronicle) → f (Released instance failed ∷ d) ≡ f d)
+    → (instance : ℕ) (failed : Bool) (c : Chronicle) → f (releasing instance failed c ++ c) ≡ f c
+past-releasing f past released instance failed c =
+    ap f (append_assoc (answering (holders instance c) failed (status_of instance c) c) (Released instance failed ∷ []) c)
+    ∙ past-answering f past (holders instance c) failed (status_of instance c) c (Released instance failed ∷ c) ∙ released instance failed c
+
+-- the request of a step stays
+pub request_released : (instance : ℕ) (failed : Bool) (c : Chronicle) → request_place (releasing instance failed c ++ c) ≡ request_place c
+request_released instance failed c = past-releasing request_place (λ place answer d. refl) (λ i b d. refl) instance failed c
+
+-- a key that has its place
+pub key_place : (found : Option ℕ) → option_map place_of (option_map event_key found) ≡ found
+key_place None = refl
+key_place (Some place) = refl
+
+pub one_known : (place : ℕ) (places : List ℕ) → Some place ∷ [] ≡ map (λ (i : ℕ). Some i) places → place ∷ [] ≡ places
+one_known place [] h = absurd cc
+one_known place (first ∷ []) h = cc
+one_known place (first ∷ next ∷ places) h = absurd cc
+
+pub none_known : (places : List ℕ) → None ∷ [] ≡ map (λ (i : ℕ). Some i) places → [] ≡ places
+none_known [] h = absurd cc
+none_known (first ∷ places) h = absurd cc
