@@ -37,3 +37,4 @@ pub mod Respawning
 pub mod Finding
 pub mod Hearings
 pub mod Seeing
+pub mod Tables

@@ -28,7 +28,9 @@ ghost use Rattle.up_job.specs.Lists.{with_at};
 ghost use Rattle.up_book.specs.Holding.{AllLive};
 ghost use Rattle.up_job.specs.declared.instance_key.InstanceKey.{InstanceKey as InstanceKeyValue};
 ghost use Rattle.up_book.specs.Summaries.{holding_at};
-ghost use Rattle.up_book.specs.Views.{holding_of, kept_at};
+ghost use Rattle.up_book.specs.Remembering.{StartsRemember};
+ghost use Rattle.up_book.specs.Views.{Places, holding_of, kept_at};
+ghost use Rattle.up_model.specs.Values.{Bindings};
 ghost use Rattle.up_model.specs.declared.state.Goal.TheVariants as aim;
 ghost use Rattle.up_model.specs.declared.state.State.TheVariants as entered;
 ghost use Rattle.up_marks.specs.Triggers.{kept_by};
@@ -39,6 +41,7 @@ use crate::holding::{free_all_of, free_held, hold_all};
 use std::alloc::{AllocError, Global};
 use up_event::{Events, Finished, TurnKind};
 use up_conf::JobDef;
+use up_image::Table;
 use up_job::{Change, Holder, Instance, InstanceKey, Instances};
 use up_marks::Trigger;
 use up_model::{Event, EventId, Failure, Process, State};
@@ -105,8 +108,37 @@ fn take_out(events: &mut Events, id: EventId) -> Option<Finished>
     }
 }
 
+// What the `start on` of each job remembers before anything has happened.
+fn triggers_of(alloc: Global, jobs: &[JobDef]) -> Result<Vec<Trigger>, AllocError>
+    ensures { IfOk result (λ triggers. (places : Places) (config : Configuration)
+        → StartsRemember places config [] triggers.items jobs.now) }
+{
+    let mut triggers = Vec::new(alloc);
+    for job in jobs {
+        let trigger = Trigger::new(alloc, &job.start_on)?;
+        triggers.push(trigger)?;
+    }
+    Ok(triggers)
+}
+
 impl Past {
     ghost use Rattle.up_book.specs.Standing.{Forgets, event_place, instance_place};
+
+    /// Nothing has happened to the jobs of a table.
+    pub fn new(alloc: Global, table: &Table) -> Result<Self, AllocError>
+        ensures { IfOk result (λ past. (base : Bindings)
+            → Forgets past (record { base = base; jobs = table.now }) []) }
+    {
+        table.is_given();
+        let instances = Instances::of_jobs(alloc, table.as_slice())?;
+        let starts = triggers_of(alloc, table.as_slice())?;
+        Ok(Past {
+            instances,
+            starts,
+            events: Events::new(alloc),
+            reading: 0,
+        })
+    }
 
     /// What the clock reads.
     pub fn now(&self) -> u64
