@@ -1,0 +1,59 @@
+-- What a table says of its jobs' names, and what is kept before anything has happened.
+use Rattle.std.proofs.Common.{◌≡◌, ℕ, zero, suc, ◌+◌, ◌<◌, ◌&&◌, Bool, true, false, List, [], ◌∷◌, ◌++◌, length, map, take, get_or, bytes_eq, Option, refl, sym, ◌∙◌, ap, subst, arith}
+use Rattle.std.specs.List.{AllByRecursion}
+use Rattle.up_conf.specs.declared.job.JobDef.{JobDef}
+use Rattle.up_image.specs.Giving.{are_ascending, can_all_be_given, IsTable}
+use Rattle.up_job.specs.JobLists.{job_of, new_job}
+use Rattle.up_job.specs.Named.{AreInOrder, IsBelowAll}
+use Rattle.up_job.proofs.JobLemmas.{order-ascending}
+use Rattle.up_job.proofs.NamedLemmas.{below_not_same}
+use Rattle.up_marks.specs.Triggers.{Remembers, uses_by}
+use Rattle.up_marks.specs.declared.mark.Mark.{Mark}
+use Rattle.up_model.specs.Configuration.{Configuration}
+use Rattle.up_model.specs.Values.{Bytes}
+use Rattle.up_model.specs.declared.event_id.EventId.{EventId}
+use Rattle.up_book.specs.Counting.{start_uses}
+use Rattle.up_book.specs.Keeps.{AreDistinct}
+use Rattle.up_book.specs.Remembering.{StartsRemember}
+use Rattle.up_book.specs.Views.{Places}
+use Rattle.up_book.proofs.Beginning.{blank-unused}
+use Rattle.up_book.proofs.One.{apart-back}
+
+both-first : (a b : Bool) → (a && b) ≡ true → a ≡ true
+both-first true b h = refl
+both-first false b h = absurd cc
+
+-- the names rise
+pub names-rise : (jobs : List JobDef) → IsTable jobs → are_ascending (map (λ job. job.name) jobs) ≡ true
+unfolding can_all_be_given
+names-rise jobs table = both-first (are_ascending (map (λ (job : JobDef). job.name) jobs)) _ table.given
+
+below-apart : (name : Bytes) (jobs : List JobDef) → IsBelowAll job_of name (map new_job jobs) → AllByRecursion (λ other. bytes_eq other.name name ≡ false) jobs
+below-apart name [] below = tt
+below-apart name (job ∷ jobs) below = (apart-back name job.name (below_not_same name job.name below.0), below-apart name jobs below.1)
+
+order-distinct : (jobs : List JobDef) → AreInOrder job_of (map new_job jobs) → AreDistinct jobs
+order-distinct [] order = tt
+order-distinct (job ∷ jobs) order = (below-apart job.name jobs order.0, order-distinct jobs order.1)
+
+-- so no two jobs have one
+pub table-distinct : (jobs : List JobDef) → IsTable jobs → AreDistinct jobs
+table-distinct jobs table = order-distinct jobs (order-ascending jobs (names-rise jobs table))
+
+-- one trigger more
+pub starts-more : (places : Places) (config : Configuration) (ts : List (Option (List Mark))) (t : Option (List Mark)) (jobs : List JobDef) (i : ℕ) (d : JobDef) → i < length jobs → StartsRemember places config [] ts (take i jobs)
+    → Remembers places t (get_or jobs i d).start_on [] → StartsRemember places config [] (ts ++ t ∷ []) (take (i + 1) jobs)
+starts-more places config ts t [] i d within r new = absurd (omega arith)
+starts-more places config [] t (job ∷ jobs) zero d within r new = (new, tt)
+starts-more places config (u ∷ ts) t (job ∷ jobs) zero d within r new = absurd r
+starts-more places config [] t (job ∷ jobs) (suc i) d within r new = absurd r
+starts-more places config (u ∷ ts) t (job ∷ jobs) (suc i) d within r new =
+    let one : suc i + 1 ≡ suc (i + 1) = omega arith in
+    subst (λ n. StartsRemember places config [] (u ∷ ts ++ t ∷ []) (take n (job ∷ jobs))) (sym one) (r.0, starts-more places config ts t jobs i d (omega arith) r.1 new)
+
+pub starts-unused : (config : Configuration) (ts : List (Option (List Mark))) (jobs : List JobDef) (id : EventId) → ((places : Places) → StartsRemember places config [] ts jobs) → start_uses id ts ≡ 0
+starts-unused config [] [] id blank = refl
+starts-unused config [] (job ∷ jobs) id blank = absurd (blank (λ one. Rattle.std.proofs.Common.None))
+starts-unused config (t ∷ ts) [] id blank = absurd (blank (λ one. Rattle.std.proofs.Common.None))
+starts-unused config (t ∷ ts) (job ∷ jobs) id blank =
+    omega (arith, blank-unused t job.start_on (λ places. (blank places).0) id, starts-unused config ts jobs id (λ places. (blank places).1))
