@@ -1,25 +1,21 @@
 -- An instance emits an event on entering a state.
-use Rattle.std.proofs.Common.{◌≡◌, ℕ, ◌+◌, ◌<◌, ◌≤◌, ◌==◌, ◌&&◌, Bool, true, false, List, [], ◌∷◌, ◌++◌, length, map, Option, None, Some, if◌then◌else◌, refl, sym, ◌∙◌, ap, arith}
+use Rattle.std.proofs.Common.{◌≡◌, ℕ, ◌+◌, ◌==◌, ◌&&◌, Bool, true, false, [], ◌∷◌, ◌++◌, length, Option, None, Some, if◌then◌else◌, refl, sym, ◌∙◌, ap, arith}
 use Rattle.up_job.specs.Changes.{changed}
 use Rattle.up_job.specs.JobLists.{changed_at}
-use Rattle.up_conf.specs.declared.job.JobDef.{JobDef}
 use Rattle.up_event.specs.LiveEvents.{named, new_live}
 use Rattle.up_model.specs.declared.event.Event.{Event}
 use Rattle.up_model.specs.declared.event_id.EventId.{EventId}
 use Rattle.up_model.specs.declared.state.State.{State}
 use Rattle.up_model.specs.Chronicle.{Chronicle, Queued, Entering}
 use Rattle.up_model.specs.Configuration.{Configuration}
-use Rattle.up_model.specs.Instances.{Instance}
 use Rattle.up_model.specs.Queue.{live_at, queue}
 use Rattle.up_model.specs.Readings.{holders, is_blocking}
 use Rattle.up_job.specs.declared.change.Change.TheVariants as change
 use Rattle.up_job.specs.declared.instance_key.InstanceKey.{InstanceKey}
 use Rattle.up_book.specs.declared.past.Past.{Past}
-use Rattle.up_book.specs.Counting.{uses, start_uses}
+use Rattle.up_book.specs.Counting.{start_uses}
 use Rattle.up_book.specs.Eventing.{standing_of, standing_at, place_of}
-use Rattle.up_book.specs.Keeps.{HoldsOlder}
 use Rattle.up_book.specs.Standing.{Forgets, instance_place}
-use Rattle.up_book.specs.Summaries.{summary}
 use Rattle.up_book.proofs.Entering.{is-blocked, keeps-after}
 use Rattle.up_book.proofs.Frames.{holding-later}
 use Rattle.up_book.proofs.Placing.{place-new, used-queued}

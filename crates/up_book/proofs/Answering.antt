@@ -1,5 +1,5 @@
 -- What is kept after the answer for a process, or its end.
-use Rattle.std.proofs.Common.{◌≡◌, ℕ, zero, suc, ◌+◌, ◌<◌, ◌≤◌, ◌==◌, ◌&&◌, Bool, true, false, List, [], ◌∷◌, length, map, Option, None, Some, option_map, bytes_eq, if◌then◌else◌, refl, sym, ◌∙◌, ap, subst, arith, eqb-true, eq-eqb, ne_eqb}
+use Rattle.std.proofs.Common.{◌≡◌, ℕ, ◌≤◌, ◌==◌, ◌&&◌, Bool, true, false, List, [], ◌∷◌, length, map, None, Some, bytes_eq, refl, sym, ◌∙◌, ap, subst, arith, ne_eqb}
 use Rattle.up_job.specs.Changes.{changed}
 use Rattle.up_job.specs.JobLists.{changed_at}
 use Rattle.std.proofs.lemmas.Bool.{eqb-false}
@@ -9,9 +9,8 @@ use Rattle.up_stanza.specs.declared.process.Process.{Process}
 use Rattle.up_stanza.specs.declared.process.Process.TheVariants as process
 use Rattle.up_model.specs.declared.input.Input.{Input}
 use Rattle.up_model.specs.declared.input.Input.TheVariants as input
-use Rattle.up_model.specs.declared.process.How.{How}
 use Rattle.up_model.specs.declared.who.Who.{Who}
-use Rattle.up_model.specs.Chronicle.{Chronicle, Entry, Given, StartOn}
+use Rattle.up_model.specs.Chronicle.{Chronicle, Given}
 use Rattle.up_model.specs.Configuration.{Configuration}
 use Rattle.up_model.specs.Instances.{Instance, instances_of, place_named, instance_named}
 use Rattle.up_model.specs.Predicates.{same_who, same_process}
@@ -25,12 +24,12 @@ use Rattle.up_job.specs.declared.instance_key.InstanceKey.{InstanceKey}
 use Rattle.up_job.specs.declared.instances.JobInstances.{JobInstances}
 use Rattle.up_book.specs.Keeps.{Keeps, HoldsOlder, place_at}
 use Rattle.up_book.specs.Stepping.{stepped}
-use Rattle.up_book.specs.Summaries.{Summary, JobSummary, summary, job_summary, blank}
+use Rattle.up_book.specs.Summaries.{Summary, summary, job_summary}
 use Rattle.up_book.proofs.Lists.{cons_same}
 use Rattle.up_book.specs.Views.{Places}
 use Rattle.up_book.proofs.Entering.{older-after}
 use Rattle.up_book.proofs.Frames.{holding-later}
-use Rattle.up_book.proofs.One.{Touches, one, called, IsKnown, known-all, all-of}
+use Rattle.up_book.proofs.One.{Touches, one, called, IsKnown, known-all}
 use Rattle.up_book.proofs.Steps.{view-changed}
 
 -- another instance isn't the one that an input names

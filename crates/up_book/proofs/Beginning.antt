@@ -1,5 +1,5 @@
 -- The relation holds of a new book, and of an instance that was just made.
-use Rattle.std.proofs.Common.{◌≡◌, ℕ, zero, suc, ◌+◌, ◌<◌, ◌≤◌, Bool, true, false, List, [], ◌∷◌, ◌++◌, length, map, take, Option, None, Some, option_map, refl, sym, ◌∙◌, ap, arith}
+use Rattle.std.proofs.Common.{◌≡◌, ℕ, zero, suc, List, [], ◌∷◌, map, take, Option, None, Some, refl, ◌∙◌, ap, arith}
 use Rattle.up_job.specs.JobLists.{new_job}
 use Rattle.up_conf.specs.declared.job.JobDef.{JobDef}
 use Rattle.up_expr.specs.Trees.{Tree, One, Both, Either}
@@ -16,14 +16,13 @@ use Rattle.up_model.specs.Queue.{queue}
 use Rattle.up_model.specs.Values.{Bytes}
 use Rattle.up_book.specs.Eventing.{place_of}
 use Rattle.up_book.specs.declared.past.Past.{Past}
-use Rattle.up_job.specs.declared.instances.JobInstances.{JobInstances}
 use Rattle.up_job.specs.InstanceLists.{new_instance}
 use Rattle.up_job.specs.Moments.{room}
 use Rattle.up_book.specs.Counting.{uses, start_uses}
 use Rattle.up_book.specs.Remembering.{StopsRemember, StartsRemember}
-use Rattle.up_book.specs.Keeps.{AreDistinct, KeepsJobs}
+use Rattle.up_book.specs.Keeps.{AreDistinct}
 use Rattle.up_book.specs.Standing.{Forgets}
-use Rattle.up_book.specs.Summaries.{summary, blank, job_summary, JobSummary}
+use Rattle.up_book.specs.Summaries.{blank, job_summary}
 use Rattle.up_book.specs.Views.{Places, view, job_view}
 use Rattle.up_book.proofs.Lists.{cons_same}
 

@@ -1,17 +1,14 @@
 -- The whole book after an event has finished.
-use Rattle.std.proofs.Common.{◌≡◌, ℕ, zero, suc, ◌+◌, ◌<◌, ◌≤◌, ◌==◌, Bool, true, false, not, List, [], ◌∷◌, length, map, Option, None, Some, is_some, if◌then◌else◌, refl, sym, ◌∙◌, ap, subst, arith, eqb-true, eq-eqb, ne_eqb}
+use Rattle.std.proofs.Common.{◌≡◌, ℕ, zero, suc, ◌+◌, ◌<◌, ◌==◌, Bool, true, false, not, List, [], ◌∷◌, length, map, Some, if◌then◌else◌, refl, sym, ◌∙◌, ap, arith, eqb-true, eq-eqb, ne_eqb}
 use Rattle.up_job.specs.Unblocking.{unblocked, unblocked_in}
 use Rattle.std.proofs.lemmas.Bool.{eqb-false}
-use Rattle.std.specs.List.{AllByRecursion}
-use Rattle.up_conf.specs.declared.job.JobDef.{JobDef}
 use Rattle.up_event.specs.declared.live.LiveEvent.{LiveEvent}
 use Rattle.up_event.specs.LiveEvents.{named, is, without, with_change, as_handled, AreDistinct, MayFinish, IsLive}
 use Rattle.up_model.specs.declared.event.Event.{Event}
 use Rattle.up_model.specs.declared.event_id.EventId.{EventId}
-use Rattle.up_model.specs.Chronicle.{Chronicle, Entry, Origin, Queued, Finished}
+use Rattle.up_model.specs.Chronicle.{Chronicle, Origin, Queued, Finished}
 use Rattle.up_model.specs.Configuration.{Configuration}
 use Rattle.up_model.specs.Held.{is_held}
-use Rattle.up_model.specs.Instances.{Instance}
 use Rattle.up_model.specs.Laws.{AreByAge}
 use Rattle.up_model.specs.Queue.{Live, queue, without_event}
 use Rattle.up_model.specs.Readings.{entry_at, event_at}
@@ -22,9 +19,8 @@ use Rattle.up_job.specs.declared.instance.Instance.{Instance as Kept}
 use Rattle.up_book.specs.Counting.{kept_uses, uses, start_uses}
 use Rattle.up_book.proofs.Triggers.{remembered-agrees, remembered-later, remembered-unblocked}
 use Rattle.up_book.specs.Eventing.{Standing, standing_of, standing_at, place_of, holds_of, holds_in}
-use Rattle.up_book.specs.Keeps.{Keeps, HoldsOlder}
+use Rattle.up_book.specs.Keeps.{Keeps}
 use Rattle.up_book.specs.Standing.{Forgets, event_place}
-use Rattle.up_book.specs.Summaries.{summary, blank}
 use Rattle.up_book.specs.Unblocking.{unblocked_summary}
 use Rattle.up_book.proofs.Counting.{held}
 use Rattle.up_book.proofs.Regulars.{regular-next}

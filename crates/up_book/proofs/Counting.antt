@@ -1,11 +1,10 @@
 -- How often an event is held is the same by what is kept and by the chronicle.
-use Rattle.std.proofs.Common.{◌≡◌, ℕ, zero, suc, ◌+◌, ◌<◌, ◌==◌, ◌||◌, Bool, true, false, not, List, [], ◌∷◌, ◌++◌, map, Option, None, Some, option_map, if◌then◌else◌, refl, sym, ◌∙◌, ap, arith, eqb-true, eq-eqb, ne_eqb}
+use Rattle.std.proofs.Common.{◌≡◌, ℕ, zero, suc, ◌+◌, ◌==◌, ◌||◌, Bool, true, false, not, List, [], ◌∷◌, ◌++◌, map, Option, None, Some, option_map, if◌then◌else◌, refl, sym, ◌∙◌, ap, arith, eqb-true, eq-eqb, ne_eqb}
 use Rattle.up_job.specs.Unblocking.{is_event}
 use Rattle.std.proofs.lemmas.Bool.{eqb-false}
-use Rattle.std.specs.Option.{option_to_list}
 use Rattle.up_job.specs.Lists.{nth, with_at}
 use Rattle.up_conf.specs.declared.job.JobDef.{JobDef}
-use Rattle.up_expr.specs.Trees.{Tree, One, Both, Either}
+use Rattle.up_expr.specs.Trees.{Tree}
 use Rattle.up_expr.specs.Truth.{Sight, first}
 use Rattle.up_expr.specs.Truth as truth
 use Rattle.up_model.specs.declared.event.Event.{Event}
@@ -31,7 +30,7 @@ use Rattle.up_marks.specs.Triggers.{Remembers, uses_by}
 use Rattle.up_marks.proofs.Firsts.{kept_first}
 use Rattle.up_marks.proofs.Markings.{kept_in_tree}
 use Rattle.up_book.specs.Keeps.{KeepsJobs}
-use Rattle.up_book.specs.Summaries.{Holding, ByEvent, holding_in, holding_at, Summary, summary, JobSummary, job_summary}
+use Rattle.up_book.specs.Summaries.{ByEvent, holding_in, holding_at, Summary, summary, JobSummary, job_summary}
 use Rattle.up_book.specs.Views.{Places, view, job_view, holding_of}
 
 count-append : (p : ℕ) (xs ys : List ℕ) → count_in p (xs ++ ys) ≡ count_in p xs + count_in p ys
@@ -142,9 +141,16 @@ instances-used places config job c id p origin event (k ∷ its) (x ∷ xs) name
     let rest : map (view places) its ≡ map (summary config job c) xs = cc in
     let hold : map (holding_of places) k.holders ≡ map (holding_at c) (holders x.place c) = ap (λ (s : Summary). s.holders) first in
     let stops = kept job.stop_on (seen config (StopOn x.place) c) in
-    omega (arith, count-append p (held_by config job x.place c) (held_by_instances config job xs c), count-append p stops (holders x.place c),
-    trigger-used places id k.stop_on job.stop_on (seen config (StopOn x.place) c) p names remember.0, holders-count p c origin event (holders x.place c) queued, ap (holder_count p) hold,
-    holders-used places id k.holders p names, instances-used places config job c id p origin event its xs names queued rest remember.1)
+    omega (
+      arith,
+      count-append p (held_by config job x.place c) (held_by_instances config job xs c),
+      count-append p stops (holders x.place c),
+      trigger-used places id k.stop_on job.stop_on (seen config (StopOn x.place) c) p names remember.0,
+      holders-count p c origin event (holders x.place c) queued,
+      ap (holder_count p) hold,
+      holders-used places id k.holders p names,
+      instances-used places config job c id p origin event its xs names queued rest remember.1,
+    )
 
 -- and what jobs hold
 jobs-used : (places : Places) (config : Configuration) (c : Chronicle) (id : EventId) (p : ℕ) (origin : Origin) (event : Event) (its : List JobInstances) (triggers : List (Option (List Mark))) (jobs : List JobDef) → Names places id p
@@ -160,10 +166,14 @@ jobs-used places config c id p origin event (j ∷ its) (t ∷ ts) (job ∷ jobs
     let first : job_view places j ≡ job_summary config c job = cc in
     let rest : map (job_view places) its ≡ map (job_summary config c) jobs = cc in
     let keeps = kept job.start_on (seen config (StartOn job.name) c) in
-    omega (arith, count-append p (held_by_job config job c) (held_by_jobs config jobs c), count-append p keeps (held_by_instances config job (instances_of job.name c) c),
-    trigger-used places id t job.start_on (seen config (StartOn job.name) c) p names starts.0,
-    instances-used places config job c id p origin event j.instances (instances_of job.name c) names queued (ap (λ (s : JobSummary). s.instances) first) stops.0,
-    jobs-used places config c id p origin event its ts jobs names queued rest stops.1 starts.1)
+    omega (
+      arith,
+      count-append p (held_by_job config job c) (held_by_jobs config jobs c),
+      count-append p keeps (held_by_instances config job (instances_of job.name c) c),
+      trigger-used places id t job.start_on (seen config (StartOn job.name) c) p names starts.0,
+      instances-used places config job c id p origin event j.instances (instances_of job.name c) names queued (ap (λ (s : JobSummary). s.instances) first) stops.0,
+      jobs-used places config c id p origin event its ts jobs names queued rest stops.1 starts.1,
+    )
 
 -- whether it is among these
 pub has-count : (p : ℕ) (xs : List ℕ) → has p xs ≡ not (count_in p xs == 0)

@@ -1,9 +1,8 @@
 -- What each entry changes of its instance.
-use Rattle.std.proofs.Common.{◌≡◌, ℕ, ◌<◌, ◌≤◌, ◌==◌, ◌&&◌, Bool, true, false, List, [], ◌∷◌, length, map, Option, None, Some, option_map, if◌then◌else◌, refl, sym, ◌∙◌, ap, arith, eqb-true, eq-eqb, ne_eqb}
+use Rattle.std.proofs.Common.{◌≡◌, ℕ, ◌<◌, ◌≤◌, ◌==◌, Bool, true, false, List, [], ◌∷◌, length, map, Option, None, Some, if◌then◌else◌, refl, sym, ◌∙◌, ap, arith, eqb-true, eq-eqb, ne_eqb}
 use Rattle.up_job.specs.Changes.{changed}
 use Rattle.up_job.specs.JobLists.{changed_at}
 use Rattle.std.proofs.lemmas.Bool.{eqb-false}
-use Rattle.std.specs.List.{AllByRecursion}
 use Rattle.up_conf.specs.declared.job.JobDef.{JobDef}
 use Rattle.up_stanza.specs.declared.process.Process.{Process}
 use Rattle.up_stanza.specs.declared.process.Process.TheVariants as process
@@ -11,7 +10,7 @@ use Rattle.up_model.specs.declared.failure.Failure.{Failure}
 use Rattle.up_model.specs.declared.state.Goal.TheVariants.{Start, Stop}
 use Rattle.up_model.specs.declared.state.State.{State}
 use Rattle.up_model.specs.declared.state.State.TheVariants as state
-use Rattle.up_model.specs.Chronicle.{Chronicle, Entry, Given, Queued, Handled, Offered, Fired, Finished, Made, Aimed, Restarted, Released, Failed, Respawned, Entered, Ordered, Signalled, Replied, Expression, Entering}
+use Rattle.up_model.specs.Chronicle.{Chronicle, Entry, Queued, Aimed, Restarted, Released, Failed, Entered, Ordered, Signalled, Expression, Entering}
 use Rattle.up_model.specs.declared.event.Event.{Event}
 use Rattle.up_model.specs.Clock.{now}
 use Rattle.up_model.specs.Configuration.{Configuration}
@@ -19,7 +18,6 @@ use Rattle.up_model.specs.Instances.{Instance, instances_of}
 use Rattle.up_model.specs.Readings.{holders, is_blocking}
 use Rattle.up_model.specs.Seen.{seen}
 use Rattle.up_model.specs.Values.{Bytes, Bindings}
-use Rattle.up_model.proofs.Places.{older-other}
 use Rattle.up_job.specs.declared.change.Change.{Change}
 use Rattle.up_job.specs.declared.change.Change.TheVariants as change
 use Rattle.up_job.specs.declared.instance_key.InstanceKey.{InstanceKey}
@@ -28,7 +26,7 @@ use Rattle.up_job.specs.declared.instances.JobInstances.{JobInstances}
 use Rattle.up_model.specs.declared.event_id.EventId.{EventId}
 use Rattle.up_book.specs.Keeps.{Keeps, AreOlder, HoldsOlder, place_at, is_waiting}
 use Rattle.up_book.specs.Stepping.{stepped}
-use Rattle.up_book.specs.Summaries.{Summary, summary, holding_at, known, blank}
+use Rattle.up_book.specs.Summaries.{summary, holding_at, blank}
 use Rattle.up_book.specs.Views.{Places, holding_of, bindings_of}
 use Rattle.up_book.proofs.Frames.{concerns, spared, holding-later}
 use Rattle.up_book.proofs.One.{Touches, one, place_at-changed, there, nth-all, IsKnown, known-all, all-of}

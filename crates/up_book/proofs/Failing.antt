@@ -1,13 +1,11 @@
 -- An instance that fails spoils the events that it held.
-use Rattle.std.proofs.Common.{◌≡◌, ℕ, zero, suc, ◌+◌, ◌-◌, ◌<◌, ◌≤◌, ◌==◌, ◌||◌, Bool, true, false, not, List, [], ◌∷◌, length, map, Option, None, Some, option_map, if◌then◌else◌, refl, sym, ◌∙◌, ap, subst, arith, eqb-true, eq-eqb, ne_eqb}
-use Rattle.up_job.specs.Unblocking.{is_event}
+use Rattle.std.proofs.Common.{◌≡◌, ℕ, ◌+◌, ◌<◌, ◌≤◌, ◌==◌, ◌||◌, Bool, true, false, not, List, [], ◌∷◌, length, map, None, Some, if◌then◌else◌, refl, sym, ◌∙◌, ap, arith, eqb-true, eq-eqb, ne_eqb}
 use Rattle.std.proofs.lemmas.Bool.{eqb-false}
 use Rattle.std.specs.List.{AllByRecursion}
 use Rattle.up_event.specs.declared.live.LiveEvent.{LiveEvent}
-use Rattle.up_event.specs.LiveEvents.{AreDistinct, named, with_change, without_hold}
-use Rattle.up_model.specs.declared.event.Event.{Event}
+use Rattle.up_event.specs.LiveEvents.{AreDistinct, named, with_change}
 use Rattle.up_model.specs.declared.event_id.EventId.{EventId}
-use Rattle.up_model.specs.Chronicle.{Chronicle, Origin, Queued, Released}
+use Rattle.up_model.specs.Chronicle.{Chronicle, Released}
 use Rattle.up_model.specs.Held.{has, is_spoilt}
 use Rattle.up_model.specs.Queue.{Live, queue}
 use Rattle.up_model.specs.Readings.{entry_at, event_at, holders}
@@ -20,7 +18,7 @@ use Rattle.up_book.specs.Regular.{AreOlderOrigins}
 use Rattle.up_book.specs.Summaries.{holding_at}
 use Rattle.up_book.specs.Views.{Places, holding_of}
 use Rattle.up_book.proofs.Counting.{Names, has-count, holders-count, holders-used}
-use Rattle.up_book.proofs.Holds.{freed-id, holds-one, less-holds}
+use Rattle.up_book.proofs.Holds.{freed-id, less-holds}
 use Rattle.up_book.proofs.Lists.{cons_same}
 use Rattle.up_book.proofs.Placing.{names}
 use Rattle.up_book.proofs.Standing.{standing-but}

@@ -1,5 +1,5 @@
 -- Events by their ids, and instances by their names.
-use Rattle.std.proofs.Common.{◌≡◌, ℕ, zero, suc, ◌+◌, ◌==◌, Bool, true, false, List, [], ◌∷◌, length, map, Option, None, Some, option_map, bytes_eq, if◌then◌else◌, refl, sym, ◌∙◌, ap, arith}
+use Rattle.std.proofs.Common.{◌≡◌, ℕ, suc, ◌+◌, ◌==◌, Bool, true, false, List, [], ◌∷◌, length, map, Option, None, Some, option_map, bytes_eq, if◌then◌else◌, refl, sym, ◌∙◌, ap, arith}
 use Rattle.up_conf.specs.declared.job.JobDef.{JobDef}
 use Rattle.up_event.specs.LiveEvents.{named}
 use Rattle.up_event.specs.declared.live.LiveEvent.{LiveEvent}
@@ -17,7 +17,7 @@ use Rattle.up_model.specs.Queue.{Live, queue}
 use Rattle.up_model.specs.Values.{Bytes}
 use Rattle.up_model.specs.declared.event_id.EventId.{EventId}
 use Rattle.up_book.specs.declared.past.Past.{Past}
-use Rattle.up_book.specs.Eventing.{Standing, standing_of, standing_at, place_of}
+use Rattle.up_book.specs.Eventing.{standing_of, standing_at, place_of}
 use Rattle.up_book.specs.Keeps.{KeepsJobs, instance_in, place_at}
 use Rattle.up_book.specs.Regular.{called}
 use Rattle.up_book.specs.Standing.{Forgets, event_place, instance_place}

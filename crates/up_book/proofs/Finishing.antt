@@ -1,8 +1,7 @@
 -- What is kept of instances after an event has finished.
-use Rattle.std.proofs.Common.{◌≡◌, ℕ, ◌+◌, ◌<◌, ◌≤◌, ◌==◌, Bool, true, false, List, [], ◌∷◌, length, map, Option, None, Some, option_map, if◌then◌else◌, refl, sym, ◌∙◌, ap, arith, eqb-true, eq-eqb, ne_eqb}
+use Rattle.std.proofs.Common.{◌≡◌, ℕ, ◌<◌, ◌==◌, Bool, true, false, List, [], ◌∷◌, map, Option, None, Some, option_map, if◌then◌else◌, refl, sym, ◌∙◌, ap, arith, eqb-true, eq-eqb, ne_eqb}
 use Rattle.up_job.specs.Unblocking.{without_id, unblocked, unblocked_in}
 use Rattle.std.proofs.lemmas.Bool.{eqb-false}
-use Rattle.std.specs.List.{AllByRecursion}
 use Rattle.up_conf.specs.declared.job.JobDef.{JobDef}
 use Rattle.up_model.specs.declared.event_id.EventId.{EventId}
 use Rattle.up_model.specs.Chronicle.{Chronicle, Finished}
@@ -13,7 +12,7 @@ use Rattle.up_job.specs.declared.instances.JobInstances.{JobInstances}
 use Rattle.up_job.specs.declared.instance.Instance.{Instance as Kept}
 use Rattle.up_book.specs.Counting.{holder_uses, kept_uses, uses}
 use Rattle.up_book.specs.Keeps.{KeepsJobs, HoldsOlder}
-use Rattle.up_book.specs.Summaries.{Summary, JobSummary, summary, job_summary, known}
+use Rattle.up_book.specs.Summaries.{Summary, summary, job_summary, known}
 use Rattle.up_book.specs.Unblocking.{without_known, unblocked_summary, unblocked_job}
 use Rattle.up_book.specs.Views.{Places, view, job_view}
 use Rattle.up_book.proofs.Counting.{Names}

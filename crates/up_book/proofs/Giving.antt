@@ -1,5 +1,5 @@
 -- Inputs.
-use Rattle.std.proofs.Common.{◌≡◌, ℕ, ◌<◌, ◌≤◌, Bool, true, false, List, [], ◌∷◌, length, map, Option, None, Some, if◌then◌else◌, nat_lt, refl, sym, ◌∙◌, ap, arith}
+use Rattle.std.proofs.Common.{◌≡◌, ℕ, ◌∷◌, length, None, Some, if◌then◌else◌, nat_lt, refl, sym, ◌∙◌, ap}
 use Rattle.up_job.specs.Changes.{changed}
 use Rattle.up_job.specs.JobLists.{changed_at}
 use Rattle.up_model.specs.declared.input.Input.{Input}
@@ -12,12 +12,10 @@ use Rattle.up_model.specs.Instances.{instance_named}
 use Rattle.up_model.specs.Queue.{queue}
 use Rattle.up_book.proofs.Regulars.{regular-next}
 use Rattle.up_book.specs.declared.past.Past.{Past}
-use Rattle.up_job.specs.declared.change.Change.TheVariants as change
 use Rattle.up_job.specs.declared.instance_key.InstanceKey.{InstanceKey}
 use Rattle.up_job.specs.declared.instance.Instance.{Instance as Kept}
 use Rattle.up_book.specs.Counting.{uses}
-use Rattle.up_book.specs.Eventing.{standing_of, standing_at, place_of}
-use Rattle.up_book.specs.Keeps.{Keeps}
+use Rattle.up_book.specs.Eventing.{place_of}
 use Rattle.up_book.specs.Standing.{Forgets, instance_place}
 use Rattle.up_book.proofs.Answering.{Names, change_of, keeps-given, keeps-unnamed}
 use Rattle.up_book.proofs.Standing.{age-all, standings-later}

@@ -4,7 +4,7 @@ use Rattle.up_expr.specs.Trees.{Tree}
 use Rattle.up_expr.specs.Truth.{Sight}
 use Rattle.up_job.specs.JobLists.{changed_in, changed_at, instance_at, list_of}
 use Rattle.up_job.specs.Lending.{stop_on_of, with_stop_on}
-use Rattle.up_job.specs.Lists.{nth, with_at}
+use Rattle.up_job.specs.Lists.{nth}
 use Rattle.up_job.specs.declared.instance.Instance.{Instance as Kept}
 use Rattle.up_job.specs.declared.instance_key.InstanceKey.{InstanceKey}
 use Rattle.up_job.specs.declared.instances.JobInstances.{JobInstances}
@@ -19,7 +19,7 @@ use Rattle.up_model.specs.Values.{Bindings}
 use Rattle.up_model.specs.declared.event.Event.{Event}
 use Rattle.up_model.specs.declared.event_id.EventId.{EventId}
 use Rattle.up_book.specs.Hearing.{Hears, Fires, trigger_of, trigger_at, trigger_if, trigger_in}
-use Rattle.up_book.specs.Views.{Places, kept_at}
+use Rattle.up_book.specs.Views.{Places}
 use Rattle.up_book.proofs.Lists.{nth-with, nth-set, nth-get}
 
 -- a result that is none says nothing
@@ -29,11 +29,11 @@ on-ok (Err e) p = tt
 
 pub hears : {E : Type 0} (r : Result Offer E) (o n old new : Option (List Mark)) (condition : Option Tree) (nodes : List ℕ) (id : EventId) (event : Event) (env : Bindings) → o ≡ old → n ≡ new
     → OnOk r ((places : Places) (sights : List Sight) (e : ℕ) → Remembers places old condition sights → places id ≡ Some e → nodes ≡ naming_in condition event.name
-        → Remembers places new condition (sights ++ sight_of e event.name event.vars env ∷ []))
+    → Remembers places new condition (sights ++ sight_of e event.name event.vars env ∷ []))
     → IfOk r (λ offer. (places : Places) (sights : List Sight) (e : ℕ) → Remembers places old condition sights → places id ≡ Some e → nodes ≡ naming_in condition event.name
-        → offer.holds ≡ holds condition (sights ++ sight_of e event.name event.vars env ∷ []))
+    → offer.holds ≡ holds condition (sights ++ sight_of e event.name event.vars env ∷ []))
     → IfOk r (λ offer. (places : Places) (sights : List Sight) (other : EventId) → Remembers places old condition sights → nodes ≡ naming_in condition event.name
-        → uses_by other new ≡ uses_by other old + (if id.key == other.key then offer.kept else 0))
+    → uses_by other new ≡ uses_by other old + (if id.key == other.key then offer.kept else 0))
     → IfOk r (λ offer. Hears o n condition nodes id event env offer)
 hears (Ok offer) o n old new condition nodes id event env first last remembers truth used =
     subst (λ x. Hears x n condition nodes id event env offer) (sym first) (subst (λ x. Hears old x condition nodes id event env offer) (sym last) (record { remembers = remembers; holds = truth; uses = used }))

@@ -1,8 +1,6 @@
 -- What holds change.
-use Rattle.std.proofs.Common.{◌≡◌, ℕ, zero, suc, ◌+◌, ◌-◌, ◌<◌, ◌≤◌, ◌==◌, ◌||◌, Bool, true, false, not, IsSomeAnd, List, [], ◌∷◌, ◌++◌, length, map, drop, get_or, Option, None, Some, is_some, option_map, if◌then◌else◌, refl, sym, ◌∙◌, ap, subst, arith, add-one, drop-cons, eqb-true, eq-eqb, ne_eqb, replicate}
-use Rattle.up_job.specs.Unblocking.{is_event}
+use Rattle.std.proofs.Common.{◌≡◌, ℕ, zero, suc, ◌+◌, ◌-◌, ◌<◌, ◌≤◌, ◌==◌, ◌||◌, Bool, true, false, not, IsSomeAnd, List, [], ◌∷◌, length, map, drop, get_or, Option, None, Some, is_some, option_map, if◌then◌else◌, refl, sym, ◌∙◌, ap, arith, add-one, drop-cons, eqb-true, eq-eqb, replicate}
 use Rattle.std.proofs.lemmas.Bool.{eqb-false}
-use Rattle.std.specs.List.{AllByRecursion}
 use Rattle.up_event.specs.declared.live.LiveEvent.{LiveEvent}
 use Rattle.up_event.specs.LiveEvents.{named, is, IsHeld, with_change, with_hold, without_hold}
 use Rattle.up_model.specs.declared.event_id.EventId.{EventId}
@@ -10,7 +8,7 @@ use Rattle.up_model.specs.Queue.{Live}
 use Rattle.up_job.specs.declared.holder.Holder.{Holder}
 use Rattle.up_job.specs.declared.holder.Holder.TheVariants as holder
 use Rattle.up_book.specs.Counting.{one_if, event_of, holder_uses}
-use Rattle.up_book.specs.Eventing.{Standing, standing_of, place_of, holds_of, holds_in}
+use Rattle.up_book.specs.Eventing.{standing_of, place_of, holds_of, holds_in}
 use Rattle.up_book.specs.Holding.{freed, changed_by, all_changed, as_holders, AllLive}
 use Rattle.up_book.proofs.Lists.{cons_same}
 

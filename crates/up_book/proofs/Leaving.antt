@@ -1,9 +1,7 @@
 -- An instance comes to rest and is gone.
-use Rattle.std.proofs.Common.{◌≡◌, ℕ, zero, suc, ◌+◌, ◌<◌, ◌≤◌, ◌==◌, Bool, true, false, List, [], ◌∷◌, ◌++◌, length, map, Option, None, Some, if◌then◌else◌, refl, sym, ◌∙◌, ap, subst, arith, ne_eqb, append_assoc}
+use Rattle.std.proofs.Common.{◌≡◌, ℕ, zero, suc, ◌+◌, ◌<◌, ◌==◌, Bool, true, false, List, [], ◌∷◌, ◌++◌, length, map, Option, None, Some, if◌then◌else◌, refl, sym, ◌∙◌, ap, subst, arith, ne_eqb, append_assoc}
 use Rattle.up_job.specs.JobLists.{removed_in}
 use Rattle.up_job.specs.Lists.{with_at, nth, without_at}
-use Rattle.std.proofs.lemmas.Bool.{eqb-false}
-use Rattle.std.specs.List.{AllByRecursion}
 use Rattle.up_conf.specs.declared.job.JobDef.{JobDef}
 use Rattle.up_event.specs.declared.live.LiveEvent.{LiveEvent}
 use Rattle.up_marks.specs.Marking.{occurs}
@@ -12,23 +10,23 @@ use Rattle.up_marks.specs.declared.mark.Mark.{Mark}
 use Rattle.up_model.specs.declared.event_id.EventId.{EventId}
 use Rattle.up_model.specs.declared.request.Answer.{Answer}
 use Rattle.up_model.specs.declared.state.State.TheVariants as state
-use Rattle.up_model.specs.Chronicle.{Chronicle, Entry, Entered, Released, Replied}
+use Rattle.up_model.specs.Chronicle.{Chronicle, Entered, Released, Replied}
 use Rattle.up_model.specs.Configuration.{Configuration}
-use Rattle.up_model.specs.Instances.{Instance, instances_of, all_instances}
+use Rattle.up_model.specs.Instances.{instances_of, all_instances}
 use Rattle.up_model.specs.Queue.{queue}
 use Rattle.up_model.specs.Replies.{answering, answering_one, answer_to, request_at}
 use Rattle.up_model.specs.Requests.{RequestValue}
 use Rattle.up_model.specs.Values.{Bytes}
-use Rattle.up_model.proofs.Places.{count, one_if as one_more, instances-exist}
+use Rattle.up_model.proofs.Places.{count, instances-exist}
 use Rattle.up_model.proofs.QueueLaws.{queue_by_age}
 use Rattle.up_job.specs.declared.instance_key.InstanceKey.{InstanceKey}
 use Rattle.up_job.specs.declared.instances.JobInstances.{JobInstances}
 use Rattle.up_job.specs.declared.instance.Instance.{Instance as Kept}
 use Rattle.up_book.specs.declared.past.Past.{Past}
 use Rattle.up_book.specs.Counting.{one_if, holder_uses, kept_uses, uses, start_uses}
-use Rattle.up_book.specs.Eventing.{standing_of, standing_at, place_of, holds_of}
+use Rattle.up_book.specs.Eventing.{place_of, holds_of}
 use Rattle.up_book.specs.Holding.{freed, all_changed, as_holders}
-use Rattle.up_book.specs.Keeps.{Keeps, KeepsJobs, HoldsOlder}
+use Rattle.up_book.specs.Keeps.{Keeps, HoldsOlder}
 use Rattle.up_book.specs.Remembering.{Remembered}
 use Rattle.up_book.specs.Requesting.{IsGone}
 use Rattle.up_book.specs.Standing.{Forgets, instance_place}
@@ -95,8 +93,13 @@ forgets-left book after config c key i k f found kept does starts events reading
     counted : (id : EventId) → holds_of id (all_changed (freed false) (as_holders (kept_by k.stop_on)) middle) ≡ uses id (with_at key.job (removed_in key.at) book.instances) + start_uses id book.starts.items
     counted id =
         let first = frees-all false k.holders book.events id (λ one. omega (arith, f.counted one, uses-less one key.job key.at book.instances k kept)) in
-        let second = frees-all false (as_holders (kept_by k.stop_on)) middle id (λ one. omega (arith, trigger-listed one k.stop_on, f.counted one, uses-less one key.job key.at book.instances k kept,
-        frees-all false k.holders book.events one (λ two. omega (arith, f.counted two, uses-less two key.job key.at book.instances k kept)))) in
+        let second = frees-all false (as_holders (kept_by k.stop_on)) middle id (λ one. omega (
+          arith,
+          trigger-listed one k.stop_on,
+          f.counted one,
+          uses-less one key.job key.at book.instances k kept,
+          frees-all false k.holders book.events one (λ two. omega (arith, f.counted two, uses-less two key.job key.at book.instances k kept)),
+        )) in
         omega (arith, first, second, trigger-listed id k.stop_on, f.counted id, uses-less id key.job key.at book.instances k kept)
 
     at : (t : There places book.instances config c key i) → Forgets after config (Entered t.its.place state.Waiting ∷ c)

@@ -1,14 +1,13 @@
 -- The processes that may still be ordered are counted by what is kept.
-use Rattle.std.proofs.Common.{◌≡◌, ℕ, zero, suc, ◌+◌, ◌<◌, ◌≤◌, ◌==◌, Bool, true, false, List, [], ◌∷◌, length, map, Option, None, Some, is_some, option_map, bytes_eq, if◌then◌else◌, refl, sym, ◌∙◌, ap, subst, arith, eqb-true, eq-eqb}
+use Rattle.std.proofs.Common.{◌≡◌, ℕ, ◌+◌, ◌==◌, Bool, true, false, List, [], ◌∷◌, length, map, Option, None, Some, is_some, option_map, bytes_eq, if◌then◌else◌, refl, sym, ◌∙◌, ap, subst, arith}
 use Rattle.std.specs.List.{AllByRecursion}
 use Rattle.up_conf.specs.declared.job.JobDef.{JobDef}
-use Rattle.up_model.specs.declared.event_id.EventId.{EventId}
 use Rattle.up_model.specs.declared.state.State.TheVariants as state
-use Rattle.up_model.specs.Chronicle.{Chronicle, Entry, Made, Entered}
+use Rattle.up_model.specs.Chronicle.{Chronicle, Made, Entered}
 use Rattle.up_model.specs.Configuration.{Configuration, job_named}
 use Rattle.up_model.specs.Instances.{Instance, is_before, with_instance, without_instance, instances_of, all_instances}
 use Rattle.up_model.specs.Left.{left_in, left_at, left_among, left}
-use Rattle.up_model.specs.Readings.{goal, state_of, blocker}
+use Rattle.up_model.specs.Readings.{blocker}
 use Rattle.up_model.specs.Values.{Bytes}
 use Rattle.up_model.proofs.Places.{bytes_same, bytes_refl}
 use Rattle.up_job.specs.declared.instances.JobInstances.{JobInstances}
@@ -16,7 +15,7 @@ use Rattle.up_job.specs.declared.instance.Instance.{Instance as Kept}
 use Rattle.up_book.specs.Keeps.{AreDistinct, KeepsJobs}
 use Rattle.up_book.specs.Summaries.{Summary, JobSummary, summary, job_summary}
 use Rattle.up_book.specs.Views.{Places, view, job_view}
-use Rattle.up_book.specs.Lefts.{left_of_kept, left_of_all, left_of_jobs}
+use Rattle.up_book.specs.Lefts.{left_of_all, left_of_jobs}
 use Rattle.up_book.specs.Regular.{AreNamed}
 
 -- a sum over instances

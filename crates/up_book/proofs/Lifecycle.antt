@@ -1,30 +1,27 @@
 -- Instances come and go.
-use Rattle.std.proofs.Common.{◌≡◌, ℕ, zero, suc, ◌+◌, ◌<◌, ◌≤◌, ◌==◌, Bool, true, false, List, [], ◌∷◌, length, map, Option, None, Some, option_map, bytes_eq, if◌then◌else◌, refl, sym, ◌∙◌, ap, subst, arith, eqb-true, eq-eqb, ne_eqb}
+use Rattle.std.proofs.Common.{◌≡◌, ℕ, zero, suc, ◌+◌, ◌<◌, ◌≤◌, ◌==◌, Bool, true, false, List, [], ◌∷◌, length, map, Some, bytes_eq, if◌then◌else◌, refl, sym, ◌∙◌, ap, arith, eq-eqb, ne_eqb}
 use Rattle.up_job.specs.InstanceLists.{idle}
 use Rattle.up_job.specs.JobLists.{with_made, removed_in}
 use Rattle.up_job.specs.Lists.{with_at, nth, with_named, without_at}
 use Rattle.std.proofs.lemmas.Bool.{eqb-false}
 use Rattle.std.specs.List.{AllByRecursion}
 use Rattle.up_conf.specs.declared.job.JobDef.{JobDef}
-use Rattle.up_model.specs.declared.event.Event.{Event}
 use Rattle.up_model.specs.declared.state.State.TheVariants as state
-use Rattle.up_model.specs.Chronicle.{Chronicle, Entry, Made, Entered, Queued, Released, Replied, Entering, StartOn}
+use Rattle.up_model.specs.Chronicle.{Chronicle, Made, Entered}
 use Rattle.up_model.specs.Configuration.{Configuration}
-use Rattle.up_model.specs.Instances.{Instance, with_instance, without_instance, instances_of, all_instances}
+use Rattle.up_model.specs.Instances.{Instance, without_instance, instances_of}
 use Rattle.up_model.specs.Readings.{holders}
-use Rattle.up_model.specs.Seen.{seen}
 use Rattle.up_model.specs.Values.{Bytes}
 use Rattle.up_model.proofs.Places.{bytes_same, bytes_refl, older-other, count, one_if, all_instances-once, instances-exist}
-use Rattle.up_job.specs.declared.instance_key.InstanceKey.{InstanceKey}
 use Rattle.up_job.specs.declared.instances.JobInstances.{JobInstances}
 use Rattle.up_job.specs.declared.instance.Instance.{Instance as Kept}
 use Rattle.up_book.specs.Keeps.{AreDistinct, KeepsJobs, HoldsOlder}
 use Rattle.up_book.specs.Summaries.{Summary, JobSummary, summary, job_summary, blank}
 use Rattle.up_book.specs.Views.{Places, view, job_view}
-use Rattle.up_book.proofs.Frames.{concerns, spared, holding-later}
-use Rattle.up_book.proofs.Lists.{cons_same, with_at-map, Elsewhere, with_at-read}
+use Rattle.up_book.proofs.Frames.{spared, holding-later}
+use Rattle.up_book.proofs.Lists.{cons_same, with_at-map, with_at-read}
 use Rattle.up_book.proofs.Named.{with_named-map, without_at-map}
-use Rattle.up_book.proofs.One.{IsKnown, known-all, absent, called, jobs-elsewhere, none-of-others, nth-all}
+use Rattle.up_book.proofs.One.{IsKnown, known-all, called, jobs-elsewhere, none-of-others, nth-all}
 
 -- a job changes, and all others stay
 pub one-job : (places : Places) (f : JobInstances → JobInstances) (g : JobSummary → JobSummary) (jobs : List JobInstances) (config : Configuration) (c d : Chronicle) (place : ℕ) (job : JobDef)

@@ -1,5 +1,5 @@
 -- What expressions remember as instances come and go.
-use Rattle.std.proofs.Common.{◌≡◌, ℕ, zero, suc, ◌+◌, ◌<◌, ◌≤◌, ◌==◌, Bool, true, false, List, [], ◌∷◌, length, map, Option, None, Some, bytes_eq, if◌then◌else◌, refl, sym, ◌∙◌, ap, subst, arith}
+use Rattle.std.proofs.Common.{◌≡◌, ℕ, zero, suc, ◌≤◌, Bool, true, false, List, [], ◌∷◌, length, map, Option, Some, bytes_eq, if◌then◌else◌, refl, sym, ◌∙◌, ap, subst, arith}
 use Rattle.up_job.specs.JobLists.{with_made, removed_in}
 use Rattle.up_job.specs.Lists.{with_at, nth, without_at, with_named}
 use Rattle.std.specs.List.{AllByRecursion}
@@ -10,7 +10,7 @@ use Rattle.up_marks.specs.Triggers.{Remembers}
 use Rattle.up_model.specs.declared.state.State.TheVariants as state
 use Rattle.up_model.specs.Chronicle.{Chronicle, Made, Entered, StopOn}
 use Rattle.up_model.specs.Configuration.{Configuration}
-use Rattle.up_model.specs.Instances.{Instance, with_instance, without_instance, instances_of}
+use Rattle.up_model.specs.Instances.{Instance, with_instance, instances_of}
 use Rattle.up_model.specs.Seen.{seen}
 use Rattle.up_model.specs.Values.{Bytes}
 use Rattle.up_model.proofs.Places.{bytes_refl, count, all_instances-once, instances-exist}
@@ -81,14 +81,16 @@ stops-made places config c kept name zero job (j ∷ its) (d ∷ jobs) same dist
     let mine : InstancesRemember places config job c j.instances (instances_of job.name c) = subst (λ (x : JobDef). InstancesRemember places config x c j.instances (instances_of x.name c)) is r.0 in
     let more = instances-more places config job c kept made j.instances (instances_of job.name c) named names new mine in
     let later = instances-later places config job (Made job.name name) c (with_named (λ k. k.name) kept j.instances) (with_instance made (instances_of job.name c)) (λ x. refl) more in
-    let here : InstancesRemember places config job (Made job.name name ∷ c) (with_named (λ k. k.name) kept j.instances) (instances_of job.name (Made job.name name ∷ c)) = rw (bytes_refl job.name) later in
-    (subst (λ (x : JobDef). InstancesRemember places config x (Made job.name name ∷ c) (with_named (λ k. k.name) kept j.instances) (instances_of x.name (Made job.name name ∷ c))) (sym is) here,
-    others-made places config c job.name name its jobs (subst (λ (x : JobDef). AllByRecursion (λ other. bytes_eq other.name x.name ≡ false) jobs) is distinct.0) r.1)
+    let here : InstancesRemember places config job (Made job.name name ∷ c) (with_named (λ k. k.name) kept j.instances) (instances_of job.name (Made job.name name ∷ c)) = rw (bytes_refl job.name) later in (
+      subst (λ (x : JobDef). InstancesRemember places config x (Made job.name name ∷ c) (with_named (λ k. k.name) kept j.instances) (instances_of x.name (Made job.name name ∷ c))) (sym is) here,
+      others-made places config c job.name name its jobs (subst (λ (x : JobDef). AllByRecursion (λ other. bytes_eq other.name x.name ≡ false) jobs) is distinct.0) r.1,
+    )
 stops-made places config c kept name (suc place) job (j ∷ its) (d ∷ jobs) same distinct there named new r =
     let rest : map (job_view places) its ≡ map (job_summary config c) jobs = cc in
-    let apart : bytes_eq job.name d.name ≡ false = nth-apart place jobs job d there distinct.0 in
-    (rw apart (instances-later places config d (Made job.name name) c j.instances (instances_of d.name c) (λ x. refl) r.0),
-    stops-made places config c kept name place job its jobs rest distinct.1 there named new r.1)
+    let apart : bytes_eq job.name d.name ≡ false = nth-apart place jobs job d there distinct.0 in (
+      rw apart (instances-later places config d (Made job.name name) c j.instances (instances_of d.name c) (λ x. refl) r.0),
+      stops-made places config c kept name place job its jobs rest distinct.1 there named new r.1,
+    )
 
 pub remembered-made : (places : Places) (kept : Kept) (jobs : List JobInstances) (starts : List (Option (List Mark))) (config : Configuration) (c : Chronicle) (place : ℕ) (job : JobDef) (name : Bytes) → KeepsJobs places jobs config c
     → AreDistinct config.jobs → nth place config.jobs ≡ Some job → kept.name ≡ name → Remembers places kept.stop_on job.stop_on [] → Remembered places jobs starts config c
@@ -135,14 +137,16 @@ stops-left places config c zero at job x (j ∷ its) (d ∷ jobs) distinct there
     let mine : InstancesRemember places config job c j.instances (instances_of job.name c) = subst (λ (y : JobDef). InstancesRemember places config y c j.instances (instances_of y.name c)) is r.0 in
     let less = instances-less places config job c at j.instances (instances_of job.name c) mine in
     let later = instances-later places config job (Entered x.place state.Waiting) c (without_at at j.instances) (without_at at (instances_of job.name c)) (λ y. refl) less in
-    let here : InstancesRemember places config job (Entered x.place state.Waiting ∷ c) (without_at at j.instances) (instances_of job.name (Entered x.place state.Waiting ∷ c)) = rw (without-nth at (instances_of job.name c) x its_there once) later in
-    (subst (λ (y : JobDef). InstancesRemember places config y (Entered x.place state.Waiting ∷ c) (without_at at j.instances) (instances_of y.name (Entered x.place state.Waiting ∷ c))) (sym is) here,
-    others-left places config c job x its jobs known (subst (λ (y : JobDef). AllByRecursion (λ other. bytes_eq other.name y.name ≡ false) jobs) is distinct.0) r.1)
+    let here : InstancesRemember places config job (Entered x.place state.Waiting ∷ c) (without_at at j.instances) (instances_of job.name (Entered x.place state.Waiting ∷ c)) = rw (without-nth at (instances_of job.name c) x its_there once) later in (
+      subst (λ (y : JobDef). InstancesRemember places config y (Entered x.place state.Waiting ∷ c) (without_at at j.instances) (instances_of y.name (Entered x.place state.Waiting ∷ c))) (sym is) here,
+      others-left places config c job x its jobs known (subst (λ (y : JobDef). AllByRecursion (λ other. bytes_eq other.name y.name ≡ false) jobs) is distinct.0) r.1,
+    )
 stops-left places config c (suc place) at job x (j ∷ its) (d ∷ jobs) distinct there its_there r =
     let known = nth-all (IsKnown job.name c) at (instances_of job.name c) x its_there (known-all job.name c) in
-    let apart : bytes_eq d.name job.name ≡ false = apart-back job.name d.name (nth-apart place jobs job d there distinct.0) in
-    (stay-by places config d c x.place j (none-of-others d.name c x.place (called job.name x.name) (instances_of d.name c) (known-all d.name c) known.1 apart) r.0,
-    stops-left places config c place at job x its jobs distinct.1 there its_there r.1)
+    let apart : bytes_eq d.name job.name ≡ false = apart-back job.name d.name (nth-apart place jobs job d there distinct.0) in (
+      stay-by places config d c x.place j (none-of-others d.name c x.place (called job.name x.name) (instances_of d.name c) (known-all d.name c) known.1 apart) r.0,
+      stops-left places config c place at job x its jobs distinct.1 there its_there r.1,
+    )
 
 pub remembered-left : (places : Places) (jobs : List JobInstances) (starts : List (Option (List Mark))) (config : Configuration) (c : Chronicle) (place at : ℕ) (job : JobDef) (x : Instance) → AreDistinct config.jobs → nth place config.jobs ≡ Some job
     → nth at (instances_of job.name c) ≡ Some x → Remembered places jobs starts config c → Remembered places (with_at place (removed_in at) jobs) starts config (Entered x.place state.Waiting ∷ c)

@@ -1,5 +1,5 @@
 -- A job gets an instance.
-use Rattle.std.proofs.Common.{◌≡◌, ℕ, zero, suc, ◌+◌, ◌<◌, ◌≤◌, ◌==◌, Bool, true, false, List, [], ◌∷◌, length, map, Option, None, Some, is_some, option_map, if◌then◌else◌, bytes_eq, refl, sym, ◌∙◌, ap, arith, ne_eqb}
+use Rattle.std.proofs.Common.{◌≡◌, ℕ, zero, suc, ◌+◌, Bool, true, false, List, [], ◌∷◌, length, map, Option, None, Some, is_some, option_map, if◌then◌else◌, bytes_eq, refl, sym, ◌∙◌, ap, arith, ne_eqb}
 use Rattle.up_job.specs.JobLists.{with_made, position_at}
 use Rattle.up_job.specs.Lists.{with_at, nth, with_named, position_in}
 use Rattle.up_conf.specs.declared.job.JobDef.{JobDef}
@@ -27,10 +27,10 @@ use Rattle.up_book.specs.Remembering.{Remembered}
 use Rattle.up_book.proofs.MadeTriggers.{names-same, remembered-made}
 use Rattle.up_book.specs.Counting.{holder_uses, kept_uses, uses}
 use Rattle.up_book.specs.Eventing.{place_of}
-use Rattle.up_book.specs.Keeps.{Keeps, KeepsJobs, instance_in, place_at}
-use Rattle.up_book.specs.Standing.{Forgets, instance_place}
-use Rattle.up_book.specs.Summaries.{Summary, JobSummary, summary, job_summary}
-use Rattle.up_book.specs.Views.{Places, view, job_view}
+use Rattle.up_book.specs.Keeps.{Keeps, instance_in, place_at}
+use Rattle.up_book.specs.Standing.{Forgets}
+use Rattle.up_book.specs.Summaries.{JobSummary, job_summary}
+use Rattle.up_book.specs.Views.{Places, job_view}
 use Rattle.up_book.proofs.Beginning.{new-blank}
 use Rattle.up_book.proofs.Entering.{older-after}
 use Rattle.up_book.proofs.Lifecycle.{keeps-made, spared-made}

@@ -1,7 +1,7 @@
 -- Lists in byte order of names.
-use Rattle.std.proofs.Common.{◌≡◌, ℕ, zero, suc, ◌+◌, ◌<◌, ◌≤◌, Bool, true, false, cond, List, [], ◌∷◌, ◌++◌, map, Option, None, Some, length, take, drop, get_or, insert, remove, if◌then◌else◌, refl, sym, ◌∙◌, ap, arith, add-one, drop-cons}
+use Rattle.std.proofs.Common.{◌≡◌, ℕ, zero, suc, ◌+◌, ◌<◌, ◌≤◌, Bool, true, false, cond, List, [], ◌∷◌, map, Some, length, drop, get_or, insert, remove, if◌then◌else◌, refl, ap, arith, add-one, drop-cons}
 use Rattle.up_job.specs.Lists.{nth, with_named, without_at, position_in}
-use Rattle.up_conf.specs.Order.{is_below, put_by}
+use Rattle.up_conf.specs.Order.{is_below}
 use Rattle.up_model.specs.Values.{Bytes}
 use Rattle.up_job.specs.declared.instance.Instance.{Instance as Kept}
 use Rattle.up_book.proofs.Lists.{cons_same}

@@ -1,17 +1,15 @@
 -- One instance changes, and all others stay.
-use Rattle.std.proofs.Common.{◌≡◌, ℕ, zero, suc, ◌+◌, ◌<◌, ◌≤◌, ◌==◌, Bool, true, false, List, [], ◌∷◌, length, map, Option, None, Some, option_map, bytes_eq, if◌then◌else◌, refl, sym, ◌∙◌, ap, subst, arith, eqb-true, eq-eqb, ne_eqb}
+use Rattle.std.proofs.Common.{◌≡◌, ℕ, zero, suc, ◌+◌, ◌<◌, ◌≤◌, ◌==◌, Bool, true, false, List, [], ◌∷◌, length, map, Option, None, Some, option_map, bytes_eq, if◌then◌else◌, refl, sym, ◌∙◌, ap, subst, arith, eqb-true, eq-eqb}
 use Rattle.up_job.specs.JobLists.{changed_in, changed_at}
 use Rattle.up_job.specs.Lists.{with_at, nth}
-use Rattle.std.proofs.lemmas.Bool.{eqb-false}
 use Rattle.std.specs.List.{AllByRecursion}
 use Rattle.up_conf.specs.declared.job.JobDef.{JobDef}
 use Rattle.up_model.specs.declared.state.State.TheVariants as state
 use Rattle.up_model.specs.declared.who.Who.{Who}
-use Rattle.up_model.specs.Chronicle.{Chronicle, Entry, Made, Entered, StartOn}
+use Rattle.up_model.specs.Chronicle.{Chronicle, Entry, Made, Entered}
 use Rattle.up_model.specs.Configuration.{Configuration}
 use Rattle.up_model.specs.Instances.{Instance, is_before, with_instance, without_instance, instances_of}
 use Rattle.up_model.specs.Readings.{made_at}
-use Rattle.up_model.specs.Seen.{seen}
 use Rattle.up_model.specs.Values.{Bytes}
 use Rattle.up_model.proofs.Places.{bytes_same, bytes_refl, older-other, all-without, count, one_if, all_instances-once, instances-exist}
 use Rattle.up_job.specs.declared.instance_key.InstanceKey.{InstanceKey}

@@ -1,33 +1,30 @@
 -- What is put out at an entry, by what is kept.
-use Rattle.std.proofs.Common.{◌≡◌, ℕ, zero, suc, ◌+◌, ◌<◌, ◌≤◌, ◌==◌, Bool, true, false, List, [], ◌∷◌, ◌++◌, length, map, Option, None, Some, option_map, bytes_eq, if◌then◌else◌, refl, sym, ◌∙◌, ap, subst, arith, eqb-true, eq-eqb, append-nil}
+use Rattle.std.proofs.Common.{◌≡◌, ℕ, zero, suc, Bool, true, false, List, [], ◌∷◌, ◌++◌, Option, None, Some, bytes_eq, refl, sym, ◌∙◌, ap}
 use Rattle.up_job.specs.Lists.{nth}
 use Rattle.std.specs.List.{AllByRecursion}
 use Rattle.up_conf.specs.declared.job.JobDef.{JobDef}
 use Rattle.up_stanza.specs.declared.process.Process.{Process}
-use Rattle.up_stanza.specs.declared.process.Process.TheVariants as process
 use Rattle.up_model.specs.declared.event.Event.{Event}
 use Rattle.up_model.specs.declared.input.Input.{Input}
 use Rattle.up_model.specs.declared.life.JobEvent.{JobEvent}
-use Rattle.up_model.specs.declared.output.Output.{Output}
 use Rattle.up_model.specs.declared.output.Output.TheVariants as output
 use Rattle.up_model.specs.declared.request.Answer.{Answer}
 use Rattle.up_model.specs.declared.state.State.{State}
-use Rattle.up_model.specs.declared.who.Who.{Who}
-use Rattle.up_model.specs.Chronicle.{Chronicle, Entry, Given, Queued, Handled, Offered, Fired, Finished, Made, Aimed, Restarted, Released, Failed, Respawned, Entered, Ordered, Signalled, Replied, Outside, Entering, Spoilt}
+use Rattle.up_model.specs.Chronicle.{Chronicle, Entry, Given, Queued, Ordered, Signalled, Replied, Outside, Entering, Spoilt}
 use Rattle.up_model.specs.Configuration.{Configuration, job_named}
 use Rattle.up_model.specs.Instances.{Instance, instances_of}
 use Rattle.up_model.specs.Moves.{job_event, who_of}
-use Rattle.up_model.specs.Outputs.{outputs_of, order_of, order_by as order_by_job, signal_of, reply_of}
+use Rattle.up_model.specs.Outputs.{outputs_of}
 use Rattle.up_model.specs.Readings.{made_at, id_at, process_env, pid_of}
-use Rattle.up_model.specs.Replies.{status_of, status_as, own_process, pid_if}
+use Rattle.up_model.specs.Replies.{status_of, own_process, pid_if}
 use Rattle.up_model.specs.Values.{Bytes}
 use Rattle.up_model.proofs.Places.{bytes_same, bytes_refl}
 use Rattle.up_job.specs.declared.child.Child.{Child}
 use Rattle.up_book.specs.Keeps.{AreDistinct}
-use Rattle.up_book.specs.Summaries.{Summary, summary, works_at}
+use Rattle.up_book.specs.Summaries.{summary, works_at}
 use Rattle.up_book.proofs.Knowing.{work-known}
 use Rattle.up_book.proofs.One.{IsKnown, known-all, called, nth-all}
-use Rattle.up_book.specs.Sending.{who_by, env_by, order_by, signal_by, event_by, own_pid, status_by}
+use Rattle.up_book.specs.Sending.{order_by, signal_by, event_by, own_pid, status_by}
 
 -- the job of a place is found by its name
 back : (x y : Bytes) → bytes_eq x y ≡ false → bytes_eq y x ≡ false

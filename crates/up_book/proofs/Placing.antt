@@ -1,23 +1,19 @@
 -- Where keys stand as events come and go.
-use Rattle.std.proofs.Common.{◌≡◌, ℕ, zero, suc, ◌+◌, ◌<◌, ◌≤◌, ◌==◌, ◌||◌, Bool, true, false, not, List, [], ◌∷◌, ◌++◌, length, map, Option, None, Some, option_map, if◌then◌else◌, refl, sym, ◌∙◌, ap, subst, arith, eqb-true, eq-eqb, ne_eqb}
-use Rattle.up_job.specs.Unblocking.{is_event}
+use Rattle.std.proofs.Common.{◌≡◌, ℕ, ◌<◌, ◌==◌, Bool, true, false, List, [], ◌∷◌, ◌++◌, length, map, Option, None, Some, option_map, if◌then◌else◌, refl, sym, ◌∙◌, ap, arith, eqb-true, eq-eqb, ne_eqb}
 use Rattle.std.proofs.lemmas.Bool.{eqb-false}
 use Rattle.std.specs.List.{AllByRecursion}
-use Rattle.up_conf.specs.declared.job.JobDef.{JobDef}
 use Rattle.up_event.specs.declared.live.LiveEvent.{LiveEvent}
-use Rattle.up_event.specs.LiveEvents.{named, is, new_live, without, with_change, as_handled, AreDistinct}
-use Rattle.up_model.specs.declared.event.Event.{Event}
+use Rattle.up_event.specs.LiveEvents.{named, without}
 use Rattle.up_model.specs.declared.event_id.EventId.{EventId}
-use Rattle.up_model.specs.Chronicle.{Chronicle, Entry, Queued, Handled, Finished}
-use Rattle.up_model.specs.Configuration.{Configuration}
+use Rattle.up_model.specs.Chronicle.{Chronicle}
 use Rattle.up_model.specs.Laws.{AreByAge}
-use Rattle.up_model.specs.Queue.{Live, live_at, queue, without_event, with_handled}
+use Rattle.up_model.specs.Queue.{Live, live_at, queue, without_event}
 use Rattle.up_model.proofs.QueueLaws.{queue_by_age}
 use Rattle.up_job.specs.declared.holder.Holder.{Holder}
 use Rattle.up_job.specs.declared.holder.Holder.TheVariants as holder
 use Rattle.up_job.specs.declared.instances.JobInstances.{JobInstances}
 use Rattle.up_job.specs.declared.instance.Instance.{Instance as Kept}
-use Rattle.up_book.specs.Counting.{one_if, event_of, holder_uses, kept_uses, uses}
+use Rattle.up_book.specs.Counting.{one_if, holder_uses, kept_uses, uses}
 use Rattle.up_book.specs.Eventing.{Standing, standing_of, standing_at, place_of, holds_of, AreCounted}
 use Rattle.up_book.specs.Summaries.{Summary, JobSummary}
 use Rattle.up_book.specs.Views.{Places, view, job_view, holding_of}

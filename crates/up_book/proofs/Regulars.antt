@@ -1,11 +1,9 @@
 -- A chronicle stays one that a run brings about.
-use Rattle.std.proofs.Common.{◌≡◌, ℕ, ◌<◌, ◌≤◌, ◌==◌, ◌||◌, nat_lt, Bool, true, false, List, [], ◌∷◌, length, Option, None, Some, if◌then◌else◌, refl, sym, ◌∙◌, ap, subst, arith, ne_eqb}
+use Rattle.std.proofs.Common.{◌≡◌, ℕ, ◌<◌, ◌≤◌, ◌==◌, nat_lt, Bool, true, false, List, [], ◌∷◌, length, if◌then◌else◌, refl, sym, subst, arith, ne_eqb}
 use Rattle.std.proofs.lemmas.Bool.{ltb-true}
 use Rattle.std.specs.List.{AllByRecursion}
 use Rattle.up_model.specs.declared.input.Input.TheVariants as input
-use Rattle.up_model.specs.declared.state.State.{State}
-use Rattle.up_model.specs.declared.state.State.TheVariants as state
-use Rattle.up_model.specs.Chronicle.{Chronicle, Entry, Given, Queued, Handled, Offered, Fired, Finished, Made, Aimed, Restarted, Released, Failed, Respawned, Entered, Ordered, Signalled, Replied, Outside, Entering, Spoilt}
+use Rattle.up_model.specs.Chronicle.{Chronicle, Entry, Given, Queued, Made, Released, Respawned, Entered, Outside}
 use Rattle.up_model.specs.Clock.{now}
 use Rattle.up_model.specs.Configuration.{Configuration}
 use Rattle.up_model.specs.Held.{has, is_spoilt}

@@ -1,9 +1,7 @@
 -- The replies of a release are those to the clients that are kept as holders.
-use Rattle.std.proofs.Common.{◌≡◌, ℕ, zero, suc, ◌+◌, ◌<◌, ◌≤◌, ◌==◌, Bool, true, false, List, [], ◌∷◌, ◌++◌, length, map, Option, None, Some, option_map, refl, sym, ◌∙◌, ap, subst, arith, append_assoc, append-nil}
-use Rattle.std.specs.List.{AllByRecursion}
+use Rattle.std.proofs.Common.{◌≡◌, ℕ, ◌<◌, ◌≤◌, Bool, List, [], ◌∷◌, ◌++◌, length, map, Option, None, Some, option_map, refl, sym, ◌∙◌, ap, arith, append_assoc, append-nil}
 use Rattle.up_model.specs.declared.input.Input.TheVariants as input
 use Rattle.up_model.specs.declared.output.Output.{Output}
-use Rattle.up_model.specs.declared.request.Command.{Command}
 use Rattle.up_model.specs.Chronicle.{Chronicle, Entry, Given, Queued, Replied}
 use Rattle.up_model.specs.Configuration.{Configuration}
 use Rattle.up_model.specs.Outputs.{outputs_of, reply_of}
@@ -16,7 +14,7 @@ use Rattle.up_job.specs.declared.holder.Holder.{Holder}
 use Rattle.up_job.specs.declared.holder.Holder.TheVariants as holder
 use Rattle.up_book.specs.Keeps.{AreOlder}
 use Rattle.up_book.specs.Replying.{reply_to, replies_to}
-use Rattle.up_book.specs.Summaries.{Holding, ByEvent, ByClient, holding_in, holding_at}
+use Rattle.up_book.specs.Summaries.{ByEvent, ByClient, holding_in, holding_at}
 use Rattle.up_book.specs.Views.{Places, holding_of}
 
 -- a chronicle with more entries in front

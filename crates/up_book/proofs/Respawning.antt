@@ -1,6 +1,5 @@
 -- The moments of respawns.
-use Rattle.std.proofs.Common.{◌≡◌, ℕ, ◌<◌, ◌==◌, Bool, true, false, List, [], ◌∷◌, length, take, Option, Some, refl, sym, ◌∙◌, ap, subst}
-use Rattle.circular_buffer.specs.Buffer.{Buffer}
+use Rattle.std.proofs.Common.{◌≡◌, ℕ, take, Some, refl, sym, ◌∙◌, ap, subst}
 use Rattle.up_conf.specs.declared.job.JobDef.{JobDef}
 use Rattle.up_stanza.specs.declared.limit.Limit.{Limit}
 use Rattle.up_job.specs.Lists.{nth}
@@ -12,7 +11,6 @@ use Rattle.up_job.proofs.MomentLemmas.{noted-take}
 use Rattle.up_model.specs.Chronicle.{Chronicle, Respawned}
 use Rattle.up_model.specs.Clock.{now}
 use Rattle.up_model.specs.Configuration.{Configuration}
-use Rattle.up_model.specs.Instances.{Instance}
 use Rattle.up_model.specs.Queue.{queue}
 use Rattle.up_model.specs.Readings.{holders}
 use Rattle.up_book.specs.declared.past.Past.{Past}
@@ -35,10 +33,11 @@ moments-known book config c key i k job limit f found in_jobs same kept =
     let t = there (place_of book.events (queue c)) book.instances config c key i f.lives.jobs found in
     let mine : t.kept ≡ k = some_same (sym t.found ∙ kept) in
     let its : t.job ≡ job = some_same (sym t.in_jobs ∙ in_jobs) in
-    let all : t.kept.moments.items ≡ take (room t.job.limit) (moments_of t.its.place c) = ap (λ (s : Summary). s.moments.items) t.same in
-    (ap (λ (x : Kept). x.moments.items) (sym mine) ∙ all ∙ ap (λ (j : JobDef). take (room j.limit) (moments_of t.its.place c)) its ∙ ap (λ l. take (room l) (moments_of t.its.place c)) same
-    ∙ ap (λ p. take (room limit) (moments_of p c)) t.place,
-    subst (λ n. Falls n (moments_of i c)) (sym f.reading) (f.regular.falling i))
+    let all : t.kept.moments.items ≡ take (room t.job.limit) (moments_of t.its.place c) = ap (λ (s : Summary). s.moments.items) t.same in (
+      ap (λ (x : Kept). x.moments.items) (sym mine) ∙ all ∙ ap (λ (j : JobDef). take (room j.limit) (moments_of t.its.place c)) its ∙ ap (λ l. take (room l) (moments_of t.its.place c)) same
+          ∙ ap (λ p. take (room limit) (moments_of p c)) t.place,
+      subst (λ n. Falls n (moments_of i c)) (sym f.reading) (f.regular.falling i),
+    )
 
 -- a respawn
 pub is-respawned : (places : Places) (config : Configuration) (c : Chronicle) (i moment : ℕ) → ((p : ℕ) → HoldsOlder p c) → Is places config c i (Respawned i moment) (change.Respawns moment)

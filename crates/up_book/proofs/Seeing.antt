@@ -1,13 +1,11 @@
 -- What is kept after an offer, and after an expression has fired.
-use Rattle.std.proofs.Common.{◌≡◌, ℕ, zero, suc, ◌+◌, ◌-◌, ◌<◌, ◌≤◌, ◌==◌, Bool, true, false, List, [], ◌∷◌, ◌++◌, length, map, replicate, Option, None, Some, is_some, option_map, if◌then◌else◌, refl, sym, ◌∙◌, ap, subst, arith, eq-eqb}
-use Rattle.std.specs.List.{AllByRecursion}
+use Rattle.std.proofs.Common.{◌≡◌, ℕ, zero, suc, ◌+◌, ◌≤◌, ◌==◌, Bool, true, false, List, [], ◌∷◌, ◌++◌, length, map, replicate, Option, None, Some, is_some, if◌then◌else◌, refl, sym, ◌∙◌, ap, subst, arith, eq-eqb}
 use Rattle.up_conf.specs.declared.job.JobDef.{JobDef}
-use Rattle.up_event.specs.LiveEvents.{named, with_change, with_hold}
+use Rattle.up_event.specs.LiveEvents.{named, with_hold}
 use Rattle.up_event.specs.declared.live.LiveEvent.{LiveEvent}
 use Rattle.up_job.specs.JobLists.{changed_in, changed_at}
 use Rattle.up_job.specs.Lending.{with_stop_on}
 use Rattle.up_job.specs.Lists.{nth, with_at}
-use Rattle.up_job.specs.declared.holder.Holder.TheVariants as holder
 use Rattle.up_job.specs.declared.instance.Instance.{Instance as Kept}
 use Rattle.up_job.specs.declared.instance_key.InstanceKey.{InstanceKey}
 use Rattle.up_job.specs.declared.instances.JobInstances.{JobInstances}
@@ -22,21 +20,20 @@ use Rattle.up_model.specs.Instances.{Instance, instances_of}
 use Rattle.up_model.specs.Queue.{queue}
 use Rattle.up_model.specs.Readings.{event_at, env}
 use Rattle.up_model.specs.Seen as seen
-use Rattle.up_model.specs.declared.event.Event.{Event}
 use Rattle.up_model.specs.declared.event_id.EventId.{EventId}
 use Rattle.up_model.specs.Environments.{env_of_job}
 use Rattle.up_model.proofs.Places.{bytes_refl}
 use Rattle.up_model.proofs.QueueLaws.{queue_by_age}
 use Rattle.up_book.specs.declared.past.Past.{Past}
 use Rattle.up_book.specs.Counting.{one_if, holder_uses, uses, start_uses}
-use Rattle.up_book.specs.Eventing.{Standing, standing_of, standing_at, place_of, holds_of}
+use Rattle.up_book.specs.Eventing.{Standing, standing_of, place_of, holds_of}
 use Rattle.up_book.specs.Hearing.{Hears, Fires, trigger_in, trigger_at, trigger_of}
 use Rattle.up_book.specs.Holding.{freed, all_changed, as_holders, AllLive}
-use Rattle.up_book.specs.Keeps.{Keeps, KeepsJobs, AreOlder}
+use Rattle.up_book.specs.Keeps.{Keeps, AreOlder}
 use Rattle.up_book.specs.Regular.{MayFollow}
 use Rattle.up_book.specs.Remembering.{InstancesRemember, StopsRemember, StartsRemember, Remembered}
 use Rattle.up_book.specs.Standing.{Forgets, event_place, instance_place}
-use Rattle.up_book.specs.Views.{Places, view, job_view, kept_in, kept_at}
+use Rattle.up_book.specs.Views.{Places, view, job_view}
 use Rattle.up_book.proofs.Entering.{brought}
 use Rattle.up_book.proofs.Holds.{holds-all, frees-all, all-standings, all-places, mild-hold, mild-free}
 use Rattle.up_book.proofs.Leaving.{trigger-listed}

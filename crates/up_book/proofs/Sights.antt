@@ -1,5 +1,5 @@
 -- What expressions remember after one of them saw something.
-use Rattle.std.proofs.Common.{◌≡◌, ℕ, zero, suc, ◌+◌, ◌<◌, ◌≤◌, ◌==◌, Bool, true, false, List, [], ◌∷◌, length, map, Option, None, Some, bytes_eq, if◌then◌else◌, refl, sym, ◌∙◌, ap, subst, arith, eqb-true, eq-eqb, ne_eqb}
+use Rattle.std.proofs.Common.{◌≡◌, ℕ, zero, suc, ◌+◌, ◌<◌, ◌≤◌, ◌==◌, Bool, true, false, List, [], ◌∷◌, length, Option, Some, bytes_eq, refl, sym, ◌∙◌, ap, subst, arith, eq-eqb, ne_eqb}
 use Rattle.std.proofs.lemmas.Bool.{eqb-false}
 use Rattle.std.specs.List.{AllByRecursion}
 use Rattle.up_conf.specs.declared.job.JobDef.{JobDef}
@@ -15,7 +15,7 @@ use Rattle.up_model.specs.Configuration.{Configuration}
 use Rattle.up_model.specs.Instances.{Instance, instances_of}
 use Rattle.up_model.specs.Seen.{same_expression, seen}
 use Rattle.up_model.specs.Values.{Bytes}
-use Rattle.up_model.proofs.Places.{bytes_refl, count, one_if, all_instances-once, instances-exist}
+use Rattle.up_model.proofs.Places.{count, one_if, all_instances-once, instances-exist}
 use Rattle.up_book.specs.Keeps.{AreDistinct}
 use Rattle.up_book.specs.Remembering.{InstancesRemember, StopsRemember, StartsRemember, Remembered}
 use Rattle.up_book.specs.Views.{Places}
@@ -47,9 +47,10 @@ instances-one places config job c e trigger at x [] (y ∷ xs) s there once new 
 instances-one places config job c e trigger at x (k ∷ its) [] s there once new r = absurd r
 instances-one places config job c e trigger zero x (k ∷ its) (y ∷ xs) s there once new r =
     let same : y ≡ x = cc in
-    let one : one_if (y.place == x.place) ≡ 1 = ap one_if (eq-eqb y.place x.place (ap (λ (z : Instance). z.place) same)) in
-    (subst (λ (z : Instance). Remembers places trigger job.stop_on (seen config (StopOn z.place) (e ∷ c))) (sym same) new,
-    instances-apart places config job c e x.place its xs s (all-apart x.place xs (omega (arith, one, once))) r.1)
+    let one : one_if (y.place == x.place) ≡ 1 = ap one_if (eq-eqb y.place x.place (ap (λ (z : Instance). z.place) same)) in (
+      subst (λ (z : Instance). Remembers places trigger job.stop_on (seen config (StopOn z.place) (e ∷ c))) (sym same) new,
+      instances-apart places config job c e x.place its xs s (all-apart x.place xs (omega (arith, one, once))) r.1,
+    )
 instances-one places config job c e trigger (suc at) x (k ∷ its) (y ∷ xs) s there once new r = by_case (y.place == x.place) refl once (λ once. instances-one places config job c e trigger at x its xs s there once new r.1)
   where
     by_case : (b : Bool) → (y.place == x.place) ≡ b → one_if b + count x.place xs ≤ 1
@@ -86,14 +87,16 @@ stops-one places config c e trigger zero at job x (j ∷ its) (d ∷ jobs) s dis
     let once : count x.place (instances_of job.name c) ≤ 1 = omega (arith, instances-exist x.place job.name c, all_instances-once x.place c) in
     let mine : InstancesRemember places config job c j.instances (instances_of job.name c) = subst (λ (y : JobDef). InstancesRemember places config y c j.instances (instances_of y.name c)) is r.0 in
     let one = instances-one places config job c e trigger at x j.instances (instances_of job.name c) s here once new mine in
-    let later : InstancesRemember places config job (e ∷ c) (with_at at (with_trigger trigger) j.instances) (instances_of job.name (e ∷ c)) = rw (s.instances job.name) one in
-    (subst (λ (y : JobDef). InstancesRemember places config y (e ∷ c) (with_at at (with_trigger trigger) j.instances) (instances_of y.name (e ∷ c))) (sym is) later,
-    others-saw places config c e job x its jobs s known (subst (λ (y : JobDef). AllByRecursion (λ other. bytes_eq other.name y.name ≡ false) jobs) is distinct.0) r.1)
+    let later : InstancesRemember places config job (e ∷ c) (with_at at (with_trigger trigger) j.instances) (instances_of job.name (e ∷ c)) = rw (s.instances job.name) one in (
+      subst (λ (y : JobDef). InstancesRemember places config y (e ∷ c) (with_at at (with_trigger trigger) j.instances) (instances_of y.name (e ∷ c))) (sym is) later,
+      others-saw places config c e job x its jobs s known (subst (λ (y : JobDef). AllByRecursion (λ other. bytes_eq other.name y.name ≡ false) jobs) is distinct.0) r.1,
+    )
 stops-one places config c e trigger (suc place) at job x (j ∷ its) (d ∷ jobs) s distinct there here new r =
     let known = nth-all (IsKnown job.name c) at (instances_of job.name c) x here (known-all job.name c) in
-    let apart : bytes_eq d.name job.name ≡ false = apart-back job.name d.name (nth-apart place jobs job d there distinct.0) in
-    (rw (s.instances d.name) (instances-apart places config d c e x.place j.instances (instances_of d.name c) s (elsewhere config c job d x known apart) r.0),
-    stops-one places config c e trigger place at job x its jobs s distinct.1 there here new r.1)
+    let apart : bytes_eq d.name job.name ≡ false = apart-back job.name d.name (nth-apart place jobs job d there distinct.0) in (
+      rw (s.instances d.name) (instances-apart places config d c e x.place j.instances (instances_of d.name c) s (elsewhere config c job d x known apart) r.0),
+      stops-one places config c e trigger place at job x its jobs s distinct.1 there here new r.1,
+    )
 
 starts-apart : (places : Places) (config : Configuration) (c : Chronicle) (e : Entry) (i : ℕ) (ts : List (Option (List Mark))) (jobs : List JobDef) → SeenBy config c e (StopOn i) → StartsRemember places config c ts jobs → StartsRemember places config (e ∷ c) ts jobs
 starts-apart places config c e i [] [] s r = tt
@@ -141,9 +144,10 @@ starts-one places config c e trigger place job [] [] s distinct there new r = tt
 starts-one places config c e trigger place job [] (d ∷ jobs) s distinct there new r = absurd r
 starts-one places config c e trigger place job (t ∷ ts) [] s distinct there new r = absurd r
 starts-one places config c e trigger zero job (t ∷ ts) (d ∷ jobs) s distinct there new r =
-    let is : d ≡ job = cc in
-    (subst (λ (y : JobDef). Remembers places trigger y.start_on (seen config (StartOn y.name) (e ∷ c))) (sym is) new,
-    starts-past places config c e job.name ts jobs s (subst (λ (y : JobDef). AllByRecursion (λ other. bytes_eq other.name y.name ≡ false) jobs) is distinct.0) r.1)
+    let is : d ≡ job = cc in (
+      subst (λ (y : JobDef). Remembers places trigger y.start_on (seen config (StartOn y.name) (e ∷ c))) (sym is) new,
+      starts-past places config c e job.name ts jobs s (subst (λ (y : JobDef). AllByRecursion (λ other. bytes_eq other.name y.name ≡ false) jobs) is distinct.0) r.1,
+    )
 starts-one places config c e trigger (suc place) job (t ∷ ts) (d ∷ jobs) s distinct there new r =
     let apart : bytes_eq job.name d.name ≡ false = nth-apart place jobs job d there distinct.0 in
     (subst (Remembers places t d.start_on) (sym (s.others (StartOn d.name) apart)) r.0, starts-one places config c e trigger place job ts jobs s distinct.1 there new r.1)

@@ -1,22 +1,21 @@
 -- What is to be known of live events, one entry later.
-use Rattle.std.proofs.Common.{◌≡◌, ℕ, zero, suc, ◌+◌, ◌<◌, ◌≤◌, ◌==◌, ◌||◌, Bool, true, false, List, [], ◌∷◌, ◌++◌, length, map, Option, None, Some, option_map, if◌then◌else◌, refl, sym, ◌∙◌, ap, subst, arith, eqb-true, eq-eqb, ne_eqb}
+use Rattle.std.proofs.Common.{◌≡◌, ℕ, ◌<◌, ◌==◌, Bool, true, false, List, [], ◌∷◌, ◌++◌, length, map, Option, None, Some, if◌then◌else◌, refl, sym, ◌∙◌, ap, arith, eq-eqb, ne_eqb}
 use Rattle.std.specs.List.{AllByRecursion}
 use Rattle.up_event.specs.declared.live.LiveEvent.{LiveEvent}
-use Rattle.up_event.specs.LiveEvents.{new_live, with_change, as_handled, is}
+use Rattle.up_event.specs.LiveEvents.{new_live, with_change, as_handled}
 use Rattle.up_model.specs.declared.event.Event.{Event}
 use Rattle.up_model.specs.declared.event_id.EventId.{EventId}
-use Rattle.up_model.specs.declared.input.Input.TheVariants as input
-use Rattle.up_model.specs.Chronicle.{Chronicle, Entry, Origin, Given, Queued, Handled, Finished, Released, Outside, Entering, Spoilt}
+use Rattle.up_model.specs.Chronicle.{Chronicle, Entry, Origin, Queued, Outside, Entering, Spoilt}
 use Rattle.up_model.specs.Held.{is_spoilt}
 use Rattle.up_model.specs.Laws.{AreByAge}
 use Rattle.up_model.specs.Queue.{Live, live_at, queue, with_handled}
-use Rattle.up_model.specs.Readings.{entry_at, event_at, event_of, id_of, id_at}
-use Rattle.up_model.specs.Replies.{waiter, waiter_in, if_waits, request_in, request_at}
+use Rattle.up_model.specs.Readings.{entry_at, id_of}
+use Rattle.up_model.specs.Replies.{waiter_in, if_waits, request_in}
 use Rattle.up_model.specs.Requests.{RequestValue}
 use Rattle.up_model.proofs.Places.{older-other}
 use Rattle.up_model.proofs.QueueLaws.{queue_by_age}
 use Rattle.up_book.specs.Eventing.{Standing, standing_of, standing_at, number_of, place_of}
-use Rattle.up_book.specs.Regular.{AreOlderOrigins, IsRegular, MayFollow}
+use Rattle.up_book.specs.Regular.{AreOlderOrigins}
 use Rattle.up_book.proofs.Lists.{cons_same}
 use Rattle.up_book.proofs.Placing.{older-than}
 

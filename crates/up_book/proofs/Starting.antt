@@ -1,9 +1,8 @@
 -- The goal of an instance changes, with what it holds.
-use Rattle.std.proofs.Common.{◌≡◌, ℕ, zero, suc, ◌+◌, ◌<◌, ◌≤◌, Bool, true, false, List, [], ◌∷◌, length, map, Option, None, Some, if◌then◌else◌, refl, sym, ◌∙◌, ap, subst, arith}
+use Rattle.std.proofs.Common.{◌≡◌, ℕ, zero, suc, ◌+◌, ◌≤◌, Bool, true, false, List, [], ◌∷◌, length, map, Option, None, Some, if◌then◌else◌, refl, sym, ◌∙◌, ap, arith}
 use Rattle.up_job.specs.Changes.{changed, begun, is_starting}
 use Rattle.up_job.specs.JobLists.{changed_in, changed_at}
 use Rattle.up_job.specs.Lists.{with_at, nth}
-use Rattle.up_event.specs.declared.live.LiveEvent.{LiveEvent}
 use Rattle.up_event.specs.LiveEvents.{with_hold}
 use Rattle.up_model.specs.declared.event_id.EventId.{EventId}
 use Rattle.up_model.specs.Chronicle.{Chronicle, Entry}
@@ -18,7 +17,7 @@ use Rattle.up_job.specs.declared.instance_key.InstanceKey.{InstanceKey}
 use Rattle.up_job.specs.declared.holder.Holder.{Holder}
 use Rattle.up_job.specs.declared.instances.JobInstances.{JobInstances}
 use Rattle.up_job.specs.declared.instance.Instance.{Instance as Kept}
-use Rattle.up_book.specs.Counting.{holder_uses, kept_uses, uses, start_uses}
+use Rattle.up_book.specs.Counting.{holder_uses, uses, start_uses}
 use Rattle.up_book.specs.Remembering.{Remembered}
 use Rattle.up_event.specs.LiveEvents.{AreDistinct}
 use Rattle.up_model.specs.Chronicle.{Released}
@@ -34,10 +33,10 @@ use Rattle.up_marks.specs.declared.mark.Mark.{Mark}
 use Rattle.up_marks.specs.Triggers.{uses_by}
 use Rattle.up_model.specs.declared.state.State.{State}
 use Rattle.up_job.specs.declared.change.Change.{Change}
-use Rattle.up_book.specs.Eventing.{standing_of, standing_at, place_of, holds_of}
+use Rattle.up_book.specs.Eventing.{place_of, holds_of}
 use Rattle.up_book.specs.Holding.{freed, all_changed, AllLive}
-use Rattle.up_book.specs.Keeps.{Keeps, AreOlder}
-use Rattle.up_book.specs.Regular.{AreOlderOrigins, IsRegular, MayFollow}
+use Rattle.up_book.specs.Keeps.{AreOlder}
+use Rattle.up_book.specs.Regular.{MayFollow}
 use Rattle.up_book.specs.Standing.{Forgets, instance_place}
 use Rattle.up_book.specs.Views.{Places, kept_in, kept_at}
 use Rattle.up_book.proofs.Counting.{uses-changed}

@@ -1,18 +1,15 @@
 -- What a step has asked for, one entry later.
-use Rattle.std.proofs.Common.{◌≡◌, ℕ, ◌+◌, ◌<◌, ◌≤◌, ◌==◌, Bool, true, false, List, [], ◌∷◌, ◌++◌, length, map, Option, None, Some, if◌then◌else◌, refl, sym, ◌∙◌, ap, subst, arith, eq-eqb}
+use Rattle.std.proofs.Common.{◌≡◌, ℕ, ◌<◌, Bool, true, false, List, [], ◌∷◌, ◌++◌, length, Option, None, Some, if◌then◌else◌, refl, sym, ◌∙◌, ap, subst, arith, eq-eqb}
 use Rattle.up_model.specs.declared.input.Input.{Input}
 use Rattle.up_model.specs.declared.input.Input.TheVariants as input
 use Rattle.up_model.specs.declared.output.Output.{Output}
-use Rattle.up_model.specs.declared.request.Answer.{Answer}
-use Rattle.up_model.specs.Chronicle.{Chronicle, Entry, Given, Queued, Handled, Offered, Fired, Finished, Made, Aimed, Restarted, Released, Failed, Respawned, Entered, Ordered, Signalled, Replied}
+use Rattle.up_model.specs.Chronicle.{Chronicle, Entry, Given, Replied}
 use Rattle.up_model.specs.Configuration.{Configuration}
-use Rattle.up_model.specs.Instances.{Instance, all_instances, instances_of}
+use Rattle.up_model.specs.Instances.{all_instances, instances_of}
 use Rattle.up_model.specs.Outputs.{outputs_of}
-use Rattle.up_model.specs.Readings.{entry_at, id_at}
+use Rattle.up_model.specs.Readings.{entry_at}
 use Rattle.up_model.specs.Replies.{asked, was_answered, unanswered, unless_answered, if_hurried}
-use Rattle.up_model.specs.Requests.{RequestValue}
 use Rattle.up_model.proofs.Places.{older-other, count, instances-exist}
-use Rattle.up_job.specs.Lists.{nth}
 use Rattle.up_job.specs.declared.instance_key.InstanceKey.{InstanceKey}
 use Rattle.up_job.specs.declared.instances.JobInstances.{JobInstances}
 use Rattle.up_book.specs.declared.step.ActedOn.{ActedOn}
@@ -26,7 +23,7 @@ use Rattle.up_book.specs.Steps.{IsStep}
 use Rattle.up_book.specs.Views.{Places}
 use Rattle.up_book.proofs.One.{There, nth-counted}
 use Rattle.up_book.proofs.Outgoing.{IsSilent, silent-out}
-use Rattle.up_book.proofs.Requested.{IsPlain, Mentions, request-plain, status-apart, gone-later, other-gone}
+use Rattle.up_book.proofs.Requested.{IsPlain, Mentions, request-plain, status-apart, gone-later}
 
 -- an entry that neither begins a step nor answers
 abbrev pub IsUnasked : Entry → Type 0

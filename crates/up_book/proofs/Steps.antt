@@ -1,5 +1,5 @@
 -- What is kept of an instance, seen as a summary, changes as the summary does.
-use Rattle.std.proofs.Common.{◌≡◌, ℕ, Bool, true, false, List, [], ◌∷◌, map, Option, None, Some, refl, sym, ◌∙◌, ap, if◌then◌else◌}
+use Rattle.std.proofs.Common.{◌≡◌, Bool, true, false, Option, None, Some, refl, if◌then◌else◌}
 use Rattle.up_job.specs.Changes.{changed, begun, env_after, is_starting}
 use Rattle.up_model.specs.declared.state.State.{State}
 use Rattle.up_model.specs.Values.{Bindings}

@@ -7,7 +7,7 @@ use Rattle.up_job.specs.JobLists.{job_of, new_job}
 use Rattle.up_job.specs.Named.{AreInOrder, IsBelowAll}
 use Rattle.up_job.proofs.JobLemmas.{order-ascending}
 use Rattle.up_job.proofs.NamedLemmas.{below_not_same}
-use Rattle.up_marks.specs.Triggers.{Remembers, uses_by}
+use Rattle.up_marks.specs.Triggers.{Remembers}
 use Rattle.up_marks.specs.declared.mark.Mark.{Mark}
 use Rattle.up_model.specs.Configuration.{Configuration}
 use Rattle.up_model.specs.Values.{Bytes}

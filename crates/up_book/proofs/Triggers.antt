@@ -1,10 +1,9 @@
 -- What each expression remembers, from one moment to the next.
-use Rattle.std.proofs.Common.{◌≡◌, ℕ, zero, suc, ◌+◌, ◌<◌, ◌≤◌, ◌==◌, Bool, true, false, List, [], ◌∷◌, ◌++◌, length, map, Option, None, Some, if◌then◌else◌, refl, sym, ◌∙◌, ap, subst, arith, ne_eqb}
+use Rattle.std.proofs.Common.{◌≡◌, ℕ, zero, suc, ◌+◌, ◌<◌, List, [], ◌∷◌, map, Option, None, Some, sym, ◌∙◌, subst, arith}
 use Rattle.up_job.specs.JobLists.{changed_in, changed_at}
 use Rattle.up_job.specs.Lists.{with_at}
 use Rattle.up_job.specs.Unblocking.{unblocked, unblocked_in}
 use Rattle.up_conf.specs.declared.job.JobDef.{JobDef}
-use Rattle.up_conf.specs.Order.{is_below}
 use Rattle.up_expr.specs.Trees.{Tree}
 use Rattle.up_expr.specs.Truth.{Sight}
 use Rattle.up_marks.specs.declared.mark.Mark.{Mark}
@@ -20,7 +19,7 @@ use Rattle.up_job.specs.declared.instance_key.InstanceKey.{InstanceKey}
 use Rattle.up_job.specs.declared.instances.JobInstances.{JobInstances}
 use Rattle.up_job.specs.declared.instance.Instance.{Instance as Kept}
 use Rattle.up_book.specs.Counting.{kept_uses, uses, start_uses}
-use Rattle.up_book.specs.Remembering.{InstancesRemember, StopsRemember, StartsRemember, AreUnborn, Remembered}
+use Rattle.up_book.specs.Remembering.{InstancesRemember, StopsRemember, StartsRemember, Remembered}
 use Rattle.up_book.specs.Views.{Places}
 use Rattle.up_book.proofs.Placing.{Agree}
 

@@ -1,11 +1,8 @@
 -- The event of a turn.
-use Rattle.std.proofs.Common.{◌≡◌, ℕ, zero, suc, ◌+◌, ◌<◌, ◌≤◌, ◌==◌, ◌||◌, Bool, true, false, not, List, [], ◌∷◌, ◌++◌, length, map, Option, None, Some, is_some, option_map, if◌then◌else◌, refl, sym, ◌∙◌, ap, subst, arith, eqb-true, eq-eqb, ne_eqb}
-use Rattle.std.proofs.lemmas.Bool.{eqb-false}
-use Rattle.std.specs.List.{AllByRecursion}
+use Rattle.std.proofs.Common.{◌≡◌, ℕ, ◌+◌, ◌==◌, ◌||◌, Bool, true, false, not, List, [], ◌∷◌, map, Option, None, Some, is_some, option_map, if◌then◌else◌, refl, sym, ◌∙◌, ap, eqb-true, eq-eqb}
 use Rattle.up_event.specs.declared.live.LiveEvent.{LiveEvent}
-use Rattle.up_event.specs.declared.live.TurnKind.{TurnKind}
 use Rattle.up_event.specs.declared.live.TurnKind.TheVariants.{Handle, Finish}
-use Rattle.up_event.specs.LiveEvents.{named, is, AreDistinct, turn_of, or_later, next_turn}
+use Rattle.up_event.specs.LiveEvents.{named, is, AreDistinct, or_later, next_turn}
 use Rattle.up_model.specs.declared.event.Event.{Event}
 use Rattle.up_model.specs.declared.event_id.EventId.{EventId}
 use Rattle.up_model.specs.Chronicle.{Chronicle, Entry, Origin, Queued}
@@ -19,12 +16,12 @@ use Rattle.up_job.specs.declared.instances.JobInstances.{JobInstances}
 use Rattle.up_book.specs.Counting.{uses, start_uses}
 use Rattle.up_book.specs.Remembering.{Remembered}
 use Rattle.up_marks.specs.declared.mark.Mark.{Mark}
-use Rattle.up_book.specs.Eventing.{Standing, standing_of, standing_at, place_of, holds_of, holds_in, AreCounted}
+use Rattle.up_book.specs.Eventing.{Standing, standing_of, standing_at, place_of, holds_in, AreCounted}
 use Rattle.up_book.specs.Keeps.{KeepsJobs}
 use Rattle.up_book.specs.Standing.{Forgets}
-use Rattle.up_book.specs.Turning.{is_finish, turn_at}
+use Rattle.up_book.specs.Turning.{turn_at}
 use Rattle.up_book.specs.Views.{Places}
-use Rattle.up_book.proofs.Counting.{Names, held}
+use Rattle.up_book.proofs.Counting.{held}
 use Rattle.up_book.proofs.Placing.{names}
 
 -- a live event and what the queue says of it

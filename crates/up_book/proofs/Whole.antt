@@ -1,6 +1,6 @@
 -- The whole book, one entry later.
-use Rattle.std.proofs.Common.{◌≡◌, ℕ, zero, suc, ◌+◌, ◌<◌, ◌≤◌, ◌==◌, ◌||◌, Bool, true, false, List, [], ◌∷◌, ◌++◌, length, map, Option, None, Some, is_some, option_map, if◌then◌else◌, refl, sym, ◌∙◌, ap, subst, arith, eqb-true, eq-eqb, ne_eqb}
-use Rattle.up_job.specs.Changes.{changed, begun, is_starting}
+use Rattle.std.proofs.Common.{◌≡◌, ℕ, zero, suc, ◌+◌, ◌<◌, ◌==◌, Bool, true, false, List, [], ◌∷◌, ◌++◌, length, map, Option, None, Some, option_map, if◌then◌else◌, refl, sym, ◌∙◌, ap, arith, eqb-true}
+use Rattle.up_job.specs.Changes.{begun}
 use Rattle.up_job.specs.JobLists.{changed_in, changed_at}
 use Rattle.up_job.specs.Lists.{with_at}
 use Rattle.std.specs.List.{AllByRecursion}
@@ -10,8 +10,7 @@ use Rattle.up_event.specs.LiveEvents.{IsLive, named, with_change, as_handled, is
 use Rattle.up_model.specs.declared.event.Event.{Event}
 use Rattle.up_model.specs.declared.event_id.EventId.{EventId}
 use Rattle.up_model.specs.declared.state.State.{State}
-use Rattle.up_model.specs.declared.state.State.TheVariants as state
-use Rattle.up_model.specs.Chronicle.{Chronicle, Entry, Origin, Handled, Entered, Queued, Expression}
+use Rattle.up_model.specs.Chronicle.{Chronicle, Entry, Origin, Handled, Queued, Expression}
 use Rattle.up_model.specs.Clock as clock
 use Rattle.up_model.specs.Configuration.{Configuration}
 use Rattle.up_model.specs.Instances.{Instance, instances_of}
@@ -23,27 +22,23 @@ use Rattle.up_model.proofs.QueueLaws.{queue_by_age}
 use Rattle.up_book.specs.declared.past.Past.{Past}
 use Rattle.up_job.specs.declared.instances.JobInstances.{JobInstances}
 use Rattle.up_job.specs.declared.instance.Instance.{Instance as Kept}
-use Rattle.up_model.specs.Chronicle.{Outside}
 use Rattle.up_model.specs.Readings.{blocker}
 use Rattle.up_model.specs.Replies.{waiter_in}
-use Rattle.up_job.specs.declared.change.Change.TheVariants as change
 use Rattle.up_job.specs.declared.instance_key.InstanceKey.{InstanceKey}
 use Rattle.up_book.specs.Counting.{kept_uses, uses, start_uses}
 use Rattle.up_book.specs.Remembering.{Remembered}
-use Rattle.up_book.proofs.Triggers.{Unseen, remembered-agrees, remembered-later, remembered-changed}
-use Rattle.up_book.specs.Keeps.{is_waiting}
-use Rattle.up_book.proofs.Entering.{is-entered-moved}
-use Rattle.up_book.specs.Eventing.{Standing, number_of, standing_of, standing_at, place_of, holds_of, holds_in}
-use Rattle.up_book.specs.Keeps.{Keeps, KeepsJobs, AreOlder, HoldsOlder}
-use Rattle.up_book.specs.Regular.{AreOlderOrigins, IsRegular, MayFollow}
+use Rattle.up_book.proofs.Triggers.{Unseen, remembered-agrees, remembered-later}
+use Rattle.up_book.specs.Eventing.{number_of, standing_of, standing_at, place_of, holds_of, holds_in}
+use Rattle.up_book.specs.Keeps.{Keeps, AreOlder, HoldsOlder}
+use Rattle.up_book.specs.Regular.{MayFollow}
 use Rattle.up_book.specs.Standing.{Forgets, event_place}
-use Rattle.up_book.specs.Summaries.{Summary, JobSummary, summary, job_summary, blank, known}
+use Rattle.up_book.specs.Summaries.{Summary, JobSummary, summary, job_summary, known}
 use Rattle.up_book.specs.Views.{Places, view, job_view}
 use Rattle.up_book.proofs.Regulars.{regular-next}
 use Rattle.up_book.proofs.Entering.{brought, older-after}
 use Rattle.up_book.proofs.Frames.{concerns, spared}
 use Rattle.up_book.proofs.Lists.{cons_same}
-use Rattle.up_book.proofs.Placing.{Agree, BlockersAgree, jobs-agree, place-queued, place-new, used-queued}
+use Rattle.up_book.proofs.Placing.{Agree, BlockersAgree, jobs-agree, place-queued, used-queued}
 use Rattle.up_book.proofs.Standing.{age-all, standings-later, standings-queued, standings-handled, place-handled}
 
 -- an entry that leaves all that is known of instances

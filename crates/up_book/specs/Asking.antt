@@ -1,5 +1,5 @@
 -- The request of a step.
-use Rattle.std.specs.Prelude.{ℕ, Bool, List, [], ◌∷◌, Option, None, Some, length}
+use Rattle.std.specs.Prelude.{ℕ, Bool, [], ◌∷◌, Option, None, Some, length}
 use Rattle.up_model.specs.declared.input.Input.{Input}
 use Rattle.up_model.specs.declared.input.Input.TheVariants as input
 use Rattle.up_model.specs.Chronicle.{Chronicle, Given}

@@ -1,5 +1,5 @@
 -- How often an event is held: by what is kept, and by what the chronicle says.
-use Rattle.std.specs.Prelude.{ℕ, ◌+◌, ◌==◌, Bool, true, false, List, [], ◌∷◌, Option, None, Some, if◌then◌else◌}
+use Rattle.std.specs.Prelude.{ℕ, ◌+◌, ◌==◌, Bool, true, false, List, [], ◌∷◌, Option, None, Some}
 use Rattle.up_job.specs.Unblocking.{is_event}
 use Rattle.up_marks.specs.declared.mark.Mark.{Mark}
 use Rattle.up_marks.specs.Triggers.{uses_by}

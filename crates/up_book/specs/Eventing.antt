@@ -1,12 +1,12 @@
 -- The live events, and where they were queued.
-use Rattle.std.specs.Prelude.{◌≡◌, ◌+◌, ℕ, ◌==◌, Bool, true, false, List, [], ◌∷◌, map, Option, None, Some, if◌then◌else◌}
+use Rattle.std.specs.Prelude.{◌≡◌, ◌+◌, ℕ, ◌==◌, Bool, List, [], ◌∷◌, Option, None, Some, if◌then◌else◌}
 use Rattle.up_event.specs.declared.live.LiveEvent.{LiveEvent}
 use Rattle.up_event.specs.LiveEvents.{named}
 use Rattle.up_model.specs.declared.event.Event.{Event}
 use Rattle.up_model.specs.declared.event_id.EventId.{EventId}
 use Rattle.up_model.specs.Chronicle.{Chronicle}
 use Rattle.up_model.specs.Held.{is_spoilt}
-use Rattle.up_model.specs.Queue.{Live, queue}
+use Rattle.up_model.specs.Queue.{Live}
 use Rattle.up_model.specs.Readings.{event_at, id_at}
 use Rattle.up_model.specs.Replies.{waiter}
 use Rattle.up_job.specs.declared.instances.JobInstances.{JobInstances}

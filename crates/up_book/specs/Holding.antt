@@ -1,8 +1,8 @@
 -- Events that are held once more, or once less.
 use Rattle.std.specs.List.{AllByRecursion}
-use Rattle.std.specs.Prelude.{◌≡◌, ◌==◌, ◌||◌, Bool, true, is_some, List, [], ◌∷◌, map, Option, None, Some, if◌then◌else◌}
+use Rattle.std.specs.Prelude.{◌≡◌, ◌==◌, Bool, true, is_some, List, [], ◌∷◌, map, Option, None, Some, if◌then◌else◌}
 use Rattle.up_event.specs.declared.live.LiveEvent.{LiveEvent}
-use Rattle.up_event.specs.LiveEvents.{named, with_change, with_hold, without_hold}
+use Rattle.up_event.specs.LiveEvents.{named, with_change, without_hold}
 use Rattle.up_model.specs.declared.event_id.EventId.{EventId}
 use Rattle.up_job.specs.declared.holder.Holder.{Holder}
 use Rattle.up_job.specs.declared.holder.Holder.TheVariants as holder

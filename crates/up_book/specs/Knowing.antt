@@ -1,5 +1,5 @@
 -- What is known of an instance by what is kept of it.
-use Rattle.std.specs.Prelude.{◌≡◌, ℕ, List, Option, map, option_map, take, true}
+use Rattle.std.specs.Prelude.{◌≡◌, ℕ, map, option_map}
 use Rattle.up_model.specs.Chronicle.{Chronicle}
 use Rattle.up_model.specs.Clock.{kill_moment}
 use Rattle.up_model.specs.Readings.{goal, state_of, was_restarted, pending_env, env, stop_env, failure, holders, blocker}

@@ -1,9 +1,9 @@
 -- What the request of a step acted on.
-use Rattle.std.specs.Prelude.{◌≡◌, ◌<◌, ◌==◌, if◌then◌else◌, ℕ, zero, suc, List, [], ◌∷◌, Option, None, Some, length}
+use Rattle.std.specs.Prelude.{◌≡◌, ◌<◌, ◌==◌, if◌then◌else◌, ℕ, zero, suc, List, [], Option, None, Some, length}
 use Rattle.up_job.specs.Lists.{nth}
 use Rattle.up_conf.specs.declared.job.JobDef.{JobDef}
 use Rattle.up_model.specs.Chronicle.{Chronicle}
-use Rattle.up_model.specs.Instances.{Instance, all_instances}
+use Rattle.up_model.specs.Instances.{all_instances}
 use Rattle.up_model.specs.Replies.{status_of, request_instance}
 use Rattle.up_model.specs.Values.{Bytes}
 use Rattle.up_model.proofs.Places.{count}

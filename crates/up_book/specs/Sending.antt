@@ -1,5 +1,5 @@
 -- What a step asks for, by the summary of an instance.
-use Rattle.std.specs.Prelude.{ℕ, Bool, List, [], ◌∷◌, Option, None, Some, if◌then◌else◌}
+use Rattle.std.specs.Prelude.{ℕ, List, Option, None, Some, if◌then◌else◌}
 use Rattle.up_job.specs.Changes.{child_of}
 use Rattle.up_conf.specs.declared.job.JobDef.{JobDef}
 use Rattle.up_stanza.specs.declared.process.Process.{Process}
@@ -7,7 +7,6 @@ use Rattle.up_text.specs.Bindings.{set_all}
 use Rattle.up_model.specs.declared.event.Event.{Event}
 use Rattle.up_model.specs.declared.life.JobEvent.{JobEvent}
 use Rattle.up_model.specs.declared.output.Output.{Output}
-use Rattle.up_model.specs.declared.state.State.{State}
 use Rattle.up_model.specs.declared.who.Who.{Who}
 use Rattle.up_model.specs.Events.{life_event, exporting}
 use Rattle.up_model.specs.Moves.{action_of}

@@ -1,5 +1,5 @@
 -- What the whole book stands for.
-use Rattle.std.specs.Prelude.{◌≡◌, ◌≤◌, ℕ, Bool, false, List, map, Option, length}
+use Rattle.std.specs.Prelude.{◌≡◌, ℕ, map, Option}
 use Rattle.up_model.specs.declared.event_id.EventId.{EventId}
 use Rattle.up_model.specs.Chronicle.{Chronicle}
 use Rattle.up_model.specs.Clock as clock

@@ -1,9 +1,8 @@
 -- What a change makes of a summary.
-use Rattle.std.specs.Prelude.{ℕ, Bool, true, false, List, [], Option, None, Some, map, option_map, if◌then◌else◌}
+use Rattle.std.specs.Prelude.{Bool, true, false, [], None, Some, map, option_map}
 use Rattle.up_job.specs.Moments.{noted}
 use Rattle.up_job.specs.Changes.{is_starting, ordered, answered, lost}
 use Rattle.up_model.specs.declared.state.Goal.TheVariants.{Start, Stop}
-use Rattle.up_model.specs.declared.state.State.{State}
 use Rattle.up_job.specs.declared.change.Change.{Change}
 use Rattle.up_job.specs.declared.change.Change.TheVariants as change
 use Rattle.up_book.specs.Summaries.{Summary}

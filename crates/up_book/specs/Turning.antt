@@ -1,5 +1,5 @@
 -- The event of a turn.
-use Rattle.std.specs.Prelude.{ℕ, Bool, true, false, Option, None, Some, option_map}
+use Rattle.std.specs.Prelude.{Bool, true, false, Option, None, Some, option_map}
 use Rattle.up_event.specs.declared.live.TurnKind.{TurnKind}
 use Rattle.up_event.specs.declared.live.TurnKind.TheVariants.{Handle, Finish}
 use Rattle.up_model.specs.declared.event_id.EventId.{EventId}

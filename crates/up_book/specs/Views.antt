@@ -1,5 +1,5 @@
 -- What is kept of instances, seen as summaries.
-use Rattle.std.specs.Prelude.{ℕ, Bool, List, [], Option, None, Some, map, option_map}
+use Rattle.std.specs.Prelude.{ℕ, List, [], Option, None, Some, map, option_map}
 use Rattle.up_job.specs.JobLists.{list_of}
 use Rattle.up_job.specs.Lists.{nth}
 use Rattle.up_model.specs.declared.event_id.EventId.{EventId}

@@ -63,7 +63,8 @@ impl Past {
         env: &Env,
     ) -> Result<Offer, AllocError>
         ensures only { OnOk result (self.new ≡ record self.old {
-            instances = changed_at key (with_stop_on (trigger_at key self.new.instances)) self.old.instances }) }
+          instances = changed_at key (with_stop_on (trigger_at key self.new.instances)) self.old.instances;
+        }) }
         ensures hears { IfOk result (λ offer. (live : LiveEventValue) → named_event id self.old.events ≡ Some live
             → Hears (trigger_at key self.old.instances) (trigger_at key self.new.instances) job.now.stop_on
             (map (λ place. place.node) (of_expression key.job false (named live.event.name index.now)))
@@ -188,7 +189,8 @@ impl Past {
         job: &JobDef,
     ) -> Result<Firing, AllocError>
         ensures only { OnOk result (self.new ≡ record self.old {
-            instances = changed_at key (with_stop_on (trigger_at key self.new.instances)) self.old.instances }) }
+          instances = changed_at key (with_stop_on (trigger_at key self.new.instances)) self.old.instances;
+        }) }
         ensures fires { IfOk result (λ firing. Fires (trigger_at key self.old.instances)
             (trigger_at key self.new.instances) job.now.stop_on firing) }
     {

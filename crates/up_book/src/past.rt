@@ -39,13 +39,12 @@ ghost use Rattle.up_model.specs.Replies.{waiter_in};
 
 use crate::holding::{free_all_of, free_held, hold_all};
 use std::alloc::{AllocError, Global};
+use up_conf::{JobDef, Limit};
 use up_event::{Events, Finished, TurnKind};
-use up_conf::JobDef;
 use up_image::Table;
 use up_job::{Change, Holder, Instance, InstanceKey, Instances};
 use up_marks::Trigger;
 use up_model::{Event, EventId, Failure, Process, State};
-use up_conf::Limit;
 use up_text::{Env, Items};
 
 /// What can still matter of the past.
@@ -375,7 +374,8 @@ impl Past {
         ensures instances { (c : Chronicle) (i : ℕ) (k : InstanceKeyValue) → instance_place self.old c k ≡ Some i
             → instance_place self.new (entry.Signalled i signal false ∷ c) k ≡ Some i }
     {
-        self.instances.change_at(key, Change::Signals(Some(self.reading)));
+        self.instances
+            .change_at(key, Change::Signals(Some(self.reading)));
     }
 
     /// Main of an instance is killed by the timer. Takes no memory.
@@ -400,7 +400,12 @@ impl Past {
     }
 
     /// An instance emits an event on entering a state, and waits for it if the state is one that does.
-    pub fn announce(&mut self, key: InstanceKey, state: State, event: Event) -> Result<(), AllocError>
+    pub fn announce(
+        &mut self,
+        key: InstanceKey,
+        state: State,
+        event: Event,
+    ) -> Result<(), AllocError>
         ensures after { OnOk result ((config : Configuration) (c : Chronicle) (i : ℕ)
             → Forgets self.old config c → instance_place self.old c key ≡ Some i
             → Forgets self.new config (entry.Queued (entry.Entering i state) event ∷ c)) }
@@ -431,9 +436,9 @@ impl Past {
     fn bury(&mut self, alloc: Global, key: InstanceKey) -> Result<(), AllocError>
         ensures { OnOk result ((gone : InstanceValue) → kept_at key self.old.instances ≡ Some gone
             → self.new ≡ record self.old {
-                instances = removed_at key self.old.instances;
-                events = all_changed (freed false) (as_holders (kept_by gone.stop_on))
-                    (all_changed (freed false) gone.holders self.old.events);
+              instances = removed_at key self.old.instances;
+              events = all_changed (freed false) (as_holders (kept_by gone.stop_on))
+                  (all_changed (freed false) gone.holders self.old.events);
             }) }
     {
         match self.instances.remove_at(key) {
@@ -473,8 +478,10 @@ impl Past {
         limit: Limit,
         stop_on: Trigger,
     ) -> Result<usize, AllocError>
-        ensures added { OnOk result (self.new ≡ record self.old { instances
-            = with_at job (with_made (new_instance name.now limit stop_on)) self.old.instances }) }
+        ensures added { OnOk result (self.new ≡ record self.old {
+          instances
+              = with_at job (with_made (new_instance name.now limit stop_on)) self.old.instances;
+        }) }
         ensures position { IfOk result (λ at. at ≡ position_at name.now job self.old.instances) }
     {
         if self.instances.position(job, name).is_some() {

@@ -3,7 +3,7 @@ use crate::many::turn;
 use std::alloc::Global;
 use std::test::Fail;
 use up_event::{Events, Finished, TurnKind};
-use up_model::Event;
+use up_model::{Event, EventId};
 use up_text::{Env, Name};
 
 /// An event of this name, without variables.
@@ -23,6 +23,20 @@ fn leaves(finished: Finished, name: &str, spoilt: bool, waiter: Option<u64>) -> 
 fn no_event_has_no_turn(rt: HostRuntime) {
     let events = Events::new(rt.alloc());
     assert_eq!(rt; (events.len(), events.next_turn()), (0, None));
+}
+
+#[test]
+fn a_live_event_is_found(rt: HostRuntime) -> Result<(), Fail> {
+    let mut events = Events::new(rt.alloc());
+    let a = events.push(event(rt.alloc(), "a")?, None)?;
+    let found = events
+        .find(a)
+        .is_some_and(|live| live.event.name.as_str() == "a");
+    let none = EventId {
+        key: a.key.wrapping_add(1),
+    };
+    assert_eq!(rt; (found, events.find(none).is_none()), (true, true));
+    Ok(())
 }
 
 #[test]

@@ -1,4 +1,4 @@
-use Rattle.std.proofs.Common.{◌≡◌, ◌∙◌, ℕ, Option, ap, sym, is_some}
+use Rattle.std.proofs.Common.{◌∙◌, ℕ, Option, ap, sym, is_some}
 use Rattle.up_job.specs.declared.instance_key.InstanceKey.{InstanceKey}
 use Rattle.up_job.specs.JobLists.{instances_at}
 use Rattle.up_book.proofs.Making.{unplaced}

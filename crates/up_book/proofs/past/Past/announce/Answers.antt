@@ -1,4 +1,4 @@
-use Rattle.std.proofs.Common.{◌≡◌, ◌∙◌, ◌∷◌, Some, refl, sym}
+use Rattle.std.proofs.Common.{◌∙◌, ◌∷◌, Some, refl, sym}
 use Rattle.up_job.specs.declared.change.Change.TheVariants as change
 use Rattle.up_model.specs.Chronicle.{Queued, Entering}
 use Rattle.up_book.proofs.Announcing.{forgets-emitted, forgets-blocked}

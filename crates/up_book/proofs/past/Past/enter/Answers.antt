@@ -1,17 +1,12 @@
-use Rattle.std.proofs.Common.{◌≡◌, ◌∙◌, ◌∷◌, [], Some, None, true, false, ap, refl, sym}
+use Rattle.std.proofs.Common.{◌∷◌, refl}
 use Rattle.up_job.specs.Changes.{is_starting}
-use Rattle.up_event.specs.LiveEvents.{with_hold}
-use Rattle.up_model.specs.Chronicle.{Aimed, Restarted, Released, Failed, Ordered, Signalled, Entered}
-use Rattle.up_model.specs.declared.state.Goal.TheVariants.{Start, Stop}
+use Rattle.up_model.specs.Chronicle.{Entered}
 use Rattle.up_model.specs.Queue.{queue}
-use Rattle.up_model.specs.Readings.{holders}
 use Rattle.up_job.specs.declared.change.Change.TheVariants as change
 use Rattle.up_book.specs.Eventing.{place_of}
-use Rattle.up_book.specs.Holding.{freed, all_changed, held_by_kept}
 use Rattle.up_book.proofs.Entering as entry
 use Rattle.up_book.proofs.Whole.{entered-holders}
-use Rattle.up_book.proofs.One.{there}
-use Rattle.up_book.proofs.Starting.{forgets-change, forgets-holders, forgets-failed}
+use Rattle.up_book.proofs.Starting.{forgets-change}
 use Rattle.up_book.proofs.past.Past.enter.Goals as goal
 
 pub returns-clause-after : goal.returns-clause-after

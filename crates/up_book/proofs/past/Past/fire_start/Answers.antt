@@ -1,4 +1,4 @@
-use Rattle.std.proofs.Common.{◌≡◌, ◌∙◌, List, false, ap}
+use Rattle.std.proofs.Common.{◌∙◌, List, false, ap}
 use Rattle.up_event.specs.declared.live.LiveEvent.{LiveEvent}
 use Rattle.up_book.specs.Hearing.{trigger_in}
 use Rattle.up_book.specs.Holding.{freed, all_changed, as_holders}

@@ -1,5 +1,4 @@
-use Rattle.std.proofs.Common.{◌≡◌, ◌∙◌, List, false, ap}
-use Rattle.up_event.specs.declared.live.LiveEvent.{LiveEvent}
+use Rattle.std.proofs.Common.{◌∙◌, false, ap}
 use Rattle.up_book.specs.declared.past.Past.{Past}
 use Rattle.up_book.specs.Hearing.{trigger_at}
 use Rattle.up_book.specs.Holding.{freed, all_changed, as_holders}

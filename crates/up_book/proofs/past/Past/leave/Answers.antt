@@ -1,4 +1,4 @@
-use Rattle.std.proofs.Common.{◌≡◌, ◌∷◌, Some, ap, refl}
+use Rattle.std.proofs.Common.{◌∷◌, ap, refl}
 use Rattle.up_model.specs.declared.state.State.TheVariants.{Waiting}
 use Rattle.up_model.specs.Chronicle.{Entered}
 use Rattle.up_model.specs.Queue.{queue}

@@ -1,5 +1,4 @@
-use Rattle.std.proofs.Common.{◌≡◌, ◌∙◌, ◌∷◌, [], Some, length, ap, sym, refl}
-use Rattle.up_job.specs.declared.instances.JobInstances.{JobInstances}
+use Rattle.std.proofs.Common.{ap, refl}
 use Rattle.up_book.specs.declared.past.Past.{Past}
 use Rattle.up_book.proofs.Beginning.{blank-unused}
 use Rattle.up_book.proofs.Making.{forgets-made, made-key}

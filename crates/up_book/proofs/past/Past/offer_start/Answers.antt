@@ -1,4 +1,4 @@
-use Rattle.std.proofs.Common.{◌≡◌, ◌∙◌, ℕ, List, map, true, replicate, ap}
+use Rattle.std.proofs.Common.{◌∙◌, ℕ, List, map, true, replicate, ap}
 use Rattle.up_event.specs.LiveEvents.{with_hold}
 use Rattle.up_event.specs.declared.live.LiveEvent.{LiveEvent}
 use Rattle.up_image.specs.Index.{named}

@@ -1,4 +1,4 @@
-use Rattle.std.proofs.Common.{◌≡◌, ◌∙◌, ℕ, List, map, false, replicate, ap}
+use Rattle.std.proofs.Common.{◌∙◌, ℕ, List, map, false, replicate, ap}
 use Rattle.up_event.specs.LiveEvents.{with_hold}
 use Rattle.up_image.specs.Index.{named}
 use Rattle.up_image.specs.declared.index.Place.{Place}
