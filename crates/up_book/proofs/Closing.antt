@@ -1,9 +1,9 @@
 -- The whole book after an event has finished.
-use Rattle.std.proofs.Common.{◌≡◌, ℕ, zero, suc, ◌+◌, ◌<◌, ◌==◌, Bool, true, false, not, List, [], ◌∷◌, length, map, Some, if◌then◌else◌, refl, sym, ◌∙◌, ap, arith, eqb-true, eq-eqb, ne_eqb}
+use Rattle.std.proofs.Common.{◌≡◌, ℕ, zero, suc, ◌+◌, ◌<◌, ◌==◌, Bool, true, false, not, List, [], ◌∷◌, length, map, Some, option_map, if◌then◌else◌, refl, sym, ◌∙◌, ap, arith, eqb-true, eq-eqb, ne_eqb}
 use Rattle.up_job.specs.Unblocking.{unblocked, unblocked_in}
 use Rattle.std.proofs.lemmas.Bool.{eqb-false}
 use Rattle.up_event.specs.declared.live.LiveEvent.{LiveEvent}
-use Rattle.up_event.specs.LiveEvents.{named, is, without, with_change, as_handled, AreDistinct, MayFinish, IsLive}
+use Rattle.up_event.specs.LiveEvents.{named, is, without, with_change, as_handled, outcome_of, AreDistinct, MayFinish, IsLive}
 use Rattle.up_model.specs.declared.event.Event.{Event}
 use Rattle.up_model.specs.declared.event_id.EventId.{EventId}
 use Rattle.up_model.specs.Chronicle.{Chronicle, Origin, Queued, Finished}
@@ -192,3 +192,12 @@ finishes book after config c id e f distinct found free does jobs starts reading
     let there = event-placed book.events (queue c) c id e f.standings found in
     let its = queued-there (entry_at e c) there.0 there.1 in
     forgets-finished book after config c id e its.0 there.0 f distinct found its.1 free does jobs starts reading
+
+pub outcome_handled : (id : EventId) (events : List LiveEvent) → option_map outcome_of (named id (with_change id as_handled events)) ≡ option_map outcome_of (named id events)
+outcome_handled id [] = refl
+outcome_handled id (e ∷ events) = by_case (e.id.key == id.key) refl (outcome_handled id events)
+  where
+    by_case : (b : Bool) → (e.id.key == id.key) ≡ b → option_map outcome_of (named id (with_change id as_handled events)) ≡ option_map outcome_of (named id events)
+        → option_map outcome_of (named id (if b then as_handled e ∷ events else e ∷ with_change id as_handled events)) ≡ option_map outcome_of (if b then Some e else named id events)
+    by_case true same ih = rw same refl
+    by_case false differs ih = rw differs ih

@@ -1,7 +1,8 @@
 -- Events by their ids, and instances by their names.
 use Rattle.std.proofs.Common.{◌≡◌, ℕ, suc, ◌+◌, ◌==◌, Bool, true, false, List, [], ◌∷◌, length, map, Option, None, Some, option_map, bytes_eq, if◌then◌else◌, refl, sym, ◌∙◌, ap, arith}
 use Rattle.up_conf.specs.declared.job.JobDef.{JobDef}
-use Rattle.up_event.specs.LiveEvents.{named}
+use Rattle.up_event.specs.LiveEvents.{named, outcome_of}
+use Rattle.up_event.specs.declared.live.Finished.{Finished}
 use Rattle.up_event.specs.declared.live.LiveEvent.{LiveEvent}
 use Rattle.up_job.specs.InstanceLists.{name_of}
 use Rattle.up_job.specs.JobLists.{instances_at, key_of, list_of}
@@ -13,11 +14,15 @@ use Rattle.up_job.specs.declared.instances.JobInstances.{JobInstances}
 use Rattle.up_model.specs.Chronicle.{Chronicle}
 use Rattle.up_model.specs.Configuration.{Configuration}
 use Rattle.up_model.specs.Instances.{Instance, instances_of, instance_named, place_named}
+use Rattle.up_model.specs.Held.{is_spoilt}
 use Rattle.up_model.specs.Queue.{Live, queue}
+use Rattle.up_model.specs.Readings.{event_at}
+use Rattle.up_model.specs.Replies.{waiter}
 use Rattle.up_model.specs.Values.{Bytes}
+use Rattle.up_model.specs.declared.event.Event.{Event}
 use Rattle.up_model.specs.declared.event_id.EventId.{EventId}
 use Rattle.up_book.specs.declared.past.Past.{Past}
-use Rattle.up_book.specs.Eventing.{standing_of, standing_at, place_of}
+use Rattle.up_book.specs.Eventing.{Standing, standing_of, standing_at, number_of, finished_at, place_of}
 use Rattle.up_book.specs.Keeps.{KeepsJobs, instance_in, place_at}
 use Rattle.up_book.specs.Regular.{called}
 use Rattle.up_book.specs.Standing.{Forgets, event_place, instance_place}
@@ -47,6 +52,23 @@ pub standing-known : (book : Past) (config : Configuration) (c : Chronicle) (id 
     → (l : Live) × (l.place ≡ p) × (standing_of live ≡ standing_at c l)
 standing-known book config c id p live f placed there = standing-in book.events (queue c) c id p live f.standings placed there
 
+abbrev left_of : Event → Bool → Option ℕ → Finished
+left_of event spoilt waits = record { event = event; spoilt = spoilt; waiter = waits }
+
+left-same : (event : Event) (known : Option Event) (spoilt said : Bool) (waits asks : Option ℕ) → Some event ≡ known → spoilt ≡ said → waits ≡ asks
+    → Some (left_of event spoilt waits) ≡ option_map (λ its. left_of its said asks) known
+left-same event known spoilt said waits asks same its who = rw (sym same, its, who) refl
+
+-- what is left of it when it finishes
+finished-known : (book : Past) (config : Configuration) (c : Chronicle) (id : EventId) (p : ℕ) (live : LiveEvent) → Forgets book config c → event_place book c id ≡ Some p → named id book.events ≡ Some live
+    → option_map outcome_of (named id book.events) ≡ finished_at p c
+finished-known book config c id p live f placed there =
+    let its = standing-known book config c id p live f placed there in
+    let event : Some live.event ≡ event_at its.0.place c = ap (λ (s : Standing). s.event) its.2 in
+    let spoilt : live.spoilt ≡ is_spoilt its.0.place c = ap (λ (s : Standing). s.spoilt) its.2 in
+    let waits : live.waiter ≡ number_of (waiter its.0.place c) c = ap (λ (s : Standing). s.waiter) its.2 in
+    ap (option_map outcome_of) there ∙ left-same live.event (event_at its.0.place c) live.spoilt (is_spoilt its.0.place c) live.waiter (number_of (waiter its.0.place c) c) event spoilt waits ∙ ap (λ n. finished_at n c) its.1
+
 none-placed : (events : List LiveEvent) (lives : List Live) (id : EventId) (p : ℕ) → place_of events lives id ≡ Some p → named id events ≡ None → ⊥
 none-placed [] lives id p placed none = absurd cc
 none-placed (e ∷ events) [] id p placed none = absurd cc
@@ -58,6 +80,13 @@ none-placed (e ∷ events) (l ∷ lives) id p placed none = by_case (e.id.key ==
 
 pub event-lives : {X : Type 0} (book : Past) (c : Chronicle) (id : EventId) (p : ℕ) → event_place book c id ≡ Some p → named id book.events ≡ None → X
 event-lives book c id p placed none = absurd (none-placed book.events (queue c) id p placed none)
+
+pub finished-told : (book : Past) (config : Configuration) (c : Chronicle) (id : EventId) (p : ℕ) → Forgets book config c → event_place book c id ≡ Some p → option_map outcome_of (named id book.events) ≡ finished_at p c
+finished-told book config c id p f placed = by_case (named id book.events) refl
+  where
+    by_case : (its : Option LiveEvent) → named id book.events ≡ its → option_map outcome_of (named id book.events) ≡ finished_at p c
+    by_case None none = event-lives book c id p placed none
+    by_case (Some live) there = finished-known book config c id p live f placed there
 
 -- the job of a place, by what is kept and by the chronicle
 pub record Job (places : Places) (jobs : List JobInstances) (config : Configuration) (c : Chronicle) (place : ℕ) (job : JobDef) : Type 0 where

@@ -38,3 +38,4 @@ pub mod Finding
 pub mod Hearings
 pub mod Seeing
 pub mod Tables
+pub mod Keyed

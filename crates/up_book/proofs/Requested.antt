@@ -23,7 +23,7 @@ use Rattle.up_job.specs.declared.instances.JobInstances.{JobInstances}
 use Rattle.up_job.specs.declared.instance.Instance.{Instance as Kept}
 use Rattle.up_book.specs.Keeps.{KeepsJobs, place_at}
 use Rattle.up_book.specs.Summaries.{summary}
-use Rattle.up_book.specs.Views.{Places, kept_at}
+use Rattle.up_book.specs.Views.{Places, view, kept_at}
 use Rattle.up_book.proofs.One.{There, there}
 use Rattle.up_book.specs.declared.step.ActedOn.{ActedOn}
 use Rattle.up_book.specs.declared.step.ActedOn.TheVariants.{Exists, Gone}
@@ -38,6 +38,13 @@ told-there places jobs config c key i t =
     let text : status_of t.its.place c ≡ status_by t.job (summary config t.job c t.its) = status-known config c key.at t.job t.its t.in_instances in
     ap (λ p. status_of p c) (sym t.place) ∙ text ∙ ap (status_by t.job) (sym t.same)
     ∙ ap (λ (k : Option Kept). status_kept places (Some t.job) k) (sym t.found) ∙ ap (λ (j : Option JobDef). status_kept places j (kept_at key jobs)) (sym t.in_jobs)
+
+-- the status text of the instance of a key, by what is kept of it
+pub status-kept : (places : Places) (jobs : List JobInstances) (config : Configuration) (c : Chronicle) (key : InstanceKey) (i : ℕ) (job : JobDef) (kept : Kept) → KeepsJobs places jobs config c
+    → place_at jobs c key ≡ Some i → nth key.job config.jobs ≡ Some job → kept_at key jobs ≡ Some kept → status_of i c ≡ status_by job (view places kept)
+status-kept places jobs config c key i job kept keeps place in_jobs found =
+    told-there places jobs config c key i (there places jobs config c key i keeps place)
+    ∙ ap (λ (j : Option JobDef). status_kept places j (kept_at key jobs)) in_jobs ∙ ap (λ (k : Option Kept). status_kept places (Some job) k) found
 
 pub told-so : (places : Places) (jobs : List JobInstances) (config : Configuration) (c : Chronicle) (on : Option ActedOn) → KeepsJobs places jobs config c → OnMeans jobs c on
     → status_if (request_instance c) c ≡ told_of places config.jobs jobs on

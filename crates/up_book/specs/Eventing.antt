@@ -1,5 +1,6 @@
 -- The live events, and where they were queued.
-use Rattle.std.specs.Prelude.{◌≡◌, ◌+◌, ℕ, ◌==◌, Bool, List, [], ◌∷◌, Option, None, Some, if◌then◌else◌}
+use Rattle.std.specs.Prelude.{◌≡◌, ◌+◌, ℕ, ◌==◌, Bool, List, [], ◌∷◌, Option, None, Some, option_map, if◌then◌else◌}
+use Rattle.up_event.specs.declared.live.Finished.{Finished}
 use Rattle.up_event.specs.declared.live.LiveEvent.{LiveEvent}
 use Rattle.up_event.specs.LiveEvents.{named}
 use Rattle.up_model.specs.declared.event.Event.{Event}
@@ -35,6 +36,14 @@ standing_at c live = record {
   spoilt = is_spoilt live.place c;
   waiter = number_of (waiter live.place c) c;
 }
+
+-- what is left of one that finishes
+abbrev pub finished_at : ℕ → Chronicle → Option Finished
+finished_at place c = option_map (λ event. record {
+  event = event;
+  spoilt = is_spoilt place c;
+  waiter = number_of (waiter place c) c;
+}) (event_at place c)
 
 -- where the event of an id was queued: both lists are by age
 abbrev pub place_of : List LiveEvent → List Live → EventId → Option ℕ

@@ -38,3 +38,5 @@ pub mod Asking
 pub mod Steps
 -- What an offer and a firing make of a trigger.
 pub mod Hearing
+-- Which instance a key stands for, by the table.
+pub mod Keyed

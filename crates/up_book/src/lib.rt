@@ -7,6 +7,7 @@ mod offers;
 mod past;
 mod readings;
 mod step;
+mod telling;
 
 pub use past::Past;
 pub use step::{ActedOn, Asked, Step};

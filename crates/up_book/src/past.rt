@@ -16,10 +16,10 @@ ghost use Rattle.up_model.specs.Clock as clock;
 ghost use Rattle.up_model.specs.Configuration.{Configuration};
 ghost use Rattle.up_model.specs.Queue.{queue};
 ghost use Rattle.up_model.specs.Readings as read;
-ghost use Rattle.up_event.specs.LiveEvents.{with_change, as_handled, named, without, AreDistinct};
+ghost use Rattle.up_event.specs.LiveEvents.{with_change, as_handled, named, without, outcome_of, AreDistinct};
 ghost use Rattle.up_event.specs.declared.live.LiveEvent.{LiveEvent as LiveEventValue};
 ghost use Rattle.up_model.specs.Held.{is_held};
-ghost use Rattle.up_book.specs.Eventing.{number_of};
+ghost use Rattle.up_book.specs.Eventing.{finished_at, number_of};
 ghost use Rattle.up_book.specs.Keeps.{is_waiting, AreOlder};
 ghost use Rattle.up_job.specs.InstanceLists.{new_instance};
 ghost use Rattle.up_job.specs.JobLists.{with_made, removed_at, position_at};
@@ -91,9 +91,10 @@ fn later_of(now: u64, reading: u64) -> u64
 }
 
 // Takes an event out, if it lives and isn't held.
-#[tactic(auto, using(crate::proofs::Closing::is_there, crate::proofs::Closing::handled_free, crate::proofs::Closing::without_handled))]
+#[tactic(auto, using(crate::proofs::Closing::is_there, crate::proofs::Closing::handled_free, crate::proofs::Closing::without_handled, crate::proofs::Closing::outcome_handled))]
 fn take_out(events: &mut Events, id: EventId) -> Option<Finished>
     ensures out { OnSome result (events.new ≡ without id events.old) }
+    ensures told { OnSome result (result ≡ option_map outcome_of (named id events.old)) }
     ensures held { IfNone result ((live : LiveEventValue) → named id events.old ≡ Some live → live.holds ≡ 0 → ⊥) }
     ensures distinct { AreDistinct events.old }
 {
@@ -174,9 +175,12 @@ impl Past {
 
     /// An event that nobody holds leaves the queue. Takes no memory.
     pub fn finish(&mut self, id: EventId) -> Option<Finished>
-        ensures { (config : Configuration) (c : Chronicle) (e : ℕ) → Forgets self.old config c
+        ensures after { (config : Configuration) (c : Chronicle) (e : ℕ) → Forgets self.old config c
             → event_place self.old c id ≡ Some e → is_held config e c ≡ false
             → Forgets self.new config (entry.Finished e ∷ c) }
+        ensures told { (config : Configuration) (c : Chronicle) (e : ℕ) → Forgets self.old config c
+            → event_place self.old c id ≡ Some e → is_held config e c ≡ false
+            → result ≡ finished_at e c }
     {
         let finished = take_out(&mut self.events, id)?;
         self.instances.unblock(id);

@@ -3,7 +3,8 @@ ghost use Rattle.std.specs.Prelude.{◌≡◌, ℕ, [], Some, is_some, length, o
 ghost use Rattle.std.specs.Option.{option_copied, option_map_or};
 ghost use Rattle.up_book.specs.Regular.{called};
 ghost use Rattle.up_model.specs.Held as held;
-ghost use Rattle.up_model.specs.Instances.{instances_of, instance_named};
+ghost use Rattle.up_model.specs.Instances.{Instance as InstanceValue, instances_of, instance_named};
+ghost use Rattle.up_book.specs.Keyed.{instance_at};
 ghost use Rattle.up_book.specs.Views.{bindings_of};
 ghost use Rattle.up_conf.specs.declared.job.JobDef.{JobDef as JobValue};
 ghost use Rattle.up_job.specs.Changes as spec;
@@ -23,6 +24,12 @@ fn env_of(kept: &Instance) -> Option<&Env>
     ensures { option_map_or (λ env. env.now) result [] ≡ bindings_of kept.now.env }
 {
     kept.env.as_ref()
+}
+
+fn name_of(kept: &Instance) -> &str
+    ensures { result.now ≡ kept.now.name }
+{
+    kept.name.as_str()
 }
 
 fn is_blocked(kept: &Instance) -> bool
@@ -173,6 +180,17 @@ impl Past {
             → option_map (instance_place self.now c) result ≡ option_map Some (instance_named (called its.name name.now) c) }
     {
         self.instances.position(job, name)
+    }
+
+    /// The name of an instance.
+    pub fn name(&self, key: InstanceKey) -> &str
+        ensures { (config : Configuration) (c : Chronicle) (its : InstanceValue) → Forgets self.now config c
+            → instance_at config c key ≡ Some its → result.now ≡ its.name }
+    {
+        match self.instances.at(key) {
+            Some(kept) => name_of(kept),
+            None => "",
+        }
     }
 
     /// The event that an id names, if it lives.

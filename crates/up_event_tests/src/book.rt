@@ -119,9 +119,19 @@ fn an_instance_waits_for_its_first_event(rt: HostRuntime) -> Result<(), Fail> {
     let waiting = (past.state_of(key), past.is_blocked(key), past.live_events());
     let finished = finish_next(&mut past);
     assert_eq!(rt; waiting, (State::Starting, true, 2));
-    assert_eq!(rt; (finished, past.is_blocked(key), past.turn()), (true, false, None));
-    assert_eq!(rt; (past.count(0), is_found(&past, key), past.goal(key)), (1, true, Goal::Start));
-    assert!(rt; past.event_at(go).is_some_and(|event| event.name.as_str() == "go"));
+    assert_eq!(rt;
+        (finished, past.is_blocked(key), past.turn()),
+        (true, false, None)
+    );
+    assert_eq!(rt;
+        (past.count(0), is_found(&past, key), past.goal(key)),
+        (1, true, Goal::Start)
+    );
+    assert!(rt; past.name(key).is_empty());
+    assert!(rt;
+        past.event_at(go)
+            .is_some_and(|event| event.name.as_str() == "go")
+    );
     Ok(())
 }
 
@@ -129,14 +139,26 @@ fn an_instance_waits_for_its_first_event(rt: HostRuntime) -> Result<(), Fail> {
 fn a_process_is_awaited_until_it_is_answered(rt: HostRuntime) -> Result<(), Fail> {
     let (mut past, _go, key) = started(rt.alloc())?;
     past.order(key, Process::PreStart);
-    let ordered = (past.awaits(key, Process::PreStart), past.lives(key, Process::PreStart));
+    let ordered = (
+        past.awaits(key, Process::PreStart),
+        past.lives(key, Process::PreStart),
+    );
     past.spawned(key, Process::PreStart, 100);
-    let spawned = (past.awaits(key, Process::PreStart), past.lives(key, Process::PreStart));
+    let spawned = (
+        past.awaits(key, Process::PreStart),
+        past.lives(key, Process::PreStart),
+    );
     past.ended(key, Process::PreStart);
     past.order(key, Process::Main);
     past.refused(key, Process::Main);
-    let refused = (past.awaits(key, Process::Main), past.lives(key, Process::PreStart));
-    assert_eq!(rt; (ordered, spawned, refused), ((true, false), (false, true), (false, false)));
+    let refused = (
+        past.awaits(key, Process::Main),
+        past.lives(key, Process::PreStart),
+    );
+    assert_eq!(rt;
+        (ordered, spawned, refused),
+        ((true, false), (false, true), (false, false))
+    );
     Ok(())
 }
 
@@ -150,7 +172,10 @@ fn the_clock_never_goes_back(rt: HostRuntime) -> Result<(), Fail> {
     past.signal(key, 15);
     let signalled = (past.now(), past.kill_moment(key));
     past.kill(key, 9);
-    assert_eq!(rt; (signalled, past.kill_moment(key)), ((5000, Some(5000)), None));
+    assert_eq!(rt;
+        (signalled, past.kill_moment(key)),
+        ((5000, Some(5000)), None)
+    );
     Ok(())
 }
 
@@ -165,7 +190,10 @@ fn a_limit_counts_the_respawns_of_its_interval(rt: HostRuntime) -> Result<(), Fa
     past.respawn(key);
     let once = past.may_respawn(key, limit);
     past.give_reading(5001);
-    assert_eq!(rt; (fresh, once, past.may_respawn(key, limit)), (true, false, true));
+    assert_eq!(rt;
+        (fresh, once, past.may_respawn(key, limit)),
+        (true, false, true)
+    );
     Ok(())
 }
 
@@ -178,12 +206,25 @@ fn a_stopped_instance_lets_its_events_finish(rt: HostRuntime) -> Result<(), Fail
     let (_go, key) = start(alloc, &mut past, &index, job_of(&table)?)?;
     let begun = finish_next(&mut past);
     stop(alloc, &mut past, &index, job_of(&table)?, key)?;
-    let stopping = (past.goal(key), finish_next(&mut past), finish_next(&mut past));
+    let status = past.status_of(alloc, job_of(&table)?, key)?;
+    let stopping = (
+        past.goal(key),
+        finish_next(&mut past),
+        finish_next(&mut past),
+    );
     past.let_go(key, Items::new(Vec::new(alloc)));
     past.leave(alloc, key, event(alloc, "stopped")?)?;
     assert_eq!(rt; (begun, stopping), (true, (Goal::Stop, true, false)));
+    assert!(rt; status.is("a stop/starting"));
     assert_eq!(rt; (past.count(0), is_found(&past, key)), (0, false));
-    assert_eq!(rt; (finish_next(&mut past), finish_next(&mut past), past.live_events()), (true, true, 0));
+    assert_eq!(rt;
+        (
+            finish_next(&mut past),
+            finish_next(&mut past),
+            past.live_events()
+        ),
+        (true, true, 0)
+    );
     Ok(())
 }
 
@@ -198,7 +239,10 @@ fn a_failed_instance_spoils_what_started_it(rt: HostRuntime) -> Result<(), Fail>
     past.end_itself(key);
     let held = past.is_spoilt(go);
     past.let_go_failed(key, Items::new(Vec::new(rt.alloc())));
-    assert_eq!(rt; (held, past.is_spoilt(go), past.goal(key)), (false, true, Goal::Stop));
+    assert_eq!(rt;
+        (held, past.is_spoilt(go), past.goal(key)),
+        (false, true, Goal::Stop)
+    );
     assert!(rt; past.failure(key).is_some());
     Ok(())
 }
