@@ -1,8 +1,6 @@
-//! The tests of `up_event`, `up_marks`, `up_book` and the instances of `up_job`, over their public interfaces.
+//! The tests of `up_event`, `up_marks` and the instances of `up_job`, over their public interfaces.
 #![tactic(auto)]
 
-#[cfg(test)]
-mod book;
 #[cfg(test)]
 mod instances;
 #[cfg(test)]

@@ -4,7 +4,7 @@ use std::test::Fail;
 use up_conf::Folder;
 use up_expr::Condition;
 use up_image::{Table, compile};
-use up_marks::{Index, Marks, Offer, Trigger};
+use up_marks::{Index, Marks, Offer};
 use up_model::{Event, EventId};
 use up_text::{Env, Items, Name, Text};
 
@@ -189,23 +189,5 @@ fn half_an_and_does_not_hold(rt: HostRuntime) -> Result<(), Fail> {
             &[2, 1]
         )?
     );
-    Ok(())
-}
-
-#[test]
-fn a_trigger_keeps_what_its_leaves_saw(rt: HostRuntime) -> Result<(), Fail> {
-    let alloc = rt.alloc();
-    let table = table_of(alloc, "A and B")?;
-    let Some(job) = table.as_slice().first() else {
-        return Err(Fail::from("there is no job"));
-    };
-    let index = Index::of(alloc, &table)?;
-    let event = event(alloc, "B")?;
-    let mut trigger = Trigger::new(alloc, &job.start_on)?;
-    let leaves = index.leaves(&event.name, 0, true);
-    let id = EventId { key: 7 };
-    let offer = trigger.offer(alloc, &job.start_on, leaves, id, &event, &event.vars)?;
-    let kept = numbers(alloc, &trigger.kept(alloc)?)?;
-    assert_eq!(rt; (offer.holds, kept.as_slice()), (false, &[7][..]));
     Ok(())
 }
