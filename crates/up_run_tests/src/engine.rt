@@ -260,24 +260,13 @@ fn push(inputs: &mut Vec<Input>, input: Input) -> Result<(), AllocError> {
     Ok(())
 }
 
-fn push_inputs(alloc: Global, inputs: &mut Vec<Input>, rows: &[Row]) -> Result<(), Untried> {
+fn inputs(alloc: Global, rows: &[Row]) -> Result<Vec<Input>, Untried> {
+    let mut inputs = Vec::with_capacity(alloc, rows.len())?;
     for (given, _, _, _) in rows {
         let input = input(alloc, *given)?;
-        push(inputs, input)?;
+        push(&mut inputs, input)?;
     }
-    Ok(())
-}
-
-// Large values are dropped by a call, here and below: the prover would go through each field of what a scope drops.
-fn inputs(alloc: Global, rows: &[Row]) -> Result<Vec<Input>, Untried> {
-    let mut inputs: Vec<Input> = Vec::new(alloc);
-    match push_inputs(alloc, &mut inputs, rows) {
-        Ok(()) => Ok(inputs),
-        Err(untried) => {
-            drop(inputs);
-            Err(untried)
-        }
-    }
+    Ok(inputs)
 }
 
 fn show_env(text: &mut String, env: &Env) -> Result<(), AllocError> {
@@ -342,11 +331,7 @@ fn shown(alloc: Global, outputs: &[Output]) -> Result<String, Untried> {
 // What a step answers, as a row writes it.
 fn answer_shown(alloc: Global, answer: Result<Vec<Output>, StepError>) -> Result<String, Untried> {
     match answer {
-        Ok(outputs) => {
-            let text = shown(alloc, outputs.as_slice());
-            drop(outputs);
-            text
-        }
+        Ok(outputs) => shown(alloc, outputs.as_slice()),
         Err(fault) => {
             let printed = format!(in alloc; "{} {fault}", fault.number())?;
             Ok(printed)
@@ -366,27 +351,18 @@ pub(crate) fn add_file(
     folder.add(path, Items::new(bytes))
 }
 
-fn add_files(alloc: Global, folder: &mut Folder, files: &[(&str, &str)]) -> Result<(), AllocError> {
+fn folder(alloc: Global, files: &[(&str, &str)]) -> Result<Folder, AllocError> {
+    let mut folder = Folder::new(alloc);
     for (path, text) in files {
-        add_file(alloc, folder, path, text.as_bytes())?;
+        add_file(alloc, &mut folder, path, text.as_bytes())?;
     }
-    Ok(())
-}
-
-fn compiled(alloc: Global, folder: &Folder) -> Result<Table, Untried> {
-    let (table, report) = compile(alloc, folder)?;
-    drop(report);
-    Ok(table)
+    Ok(folder)
 }
 
 fn table(alloc: Global, files: &[(&str, &str)]) -> Result<Table, Untried> {
-    let mut folder = Folder::new(alloc);
-    let table = match add_files(alloc, &mut folder, files) {
-        Ok(()) => compiled(alloc, &folder),
-        Err(_) => Err(Untried),
-    };
-    drop(folder);
-    table
+    let folder = folder(alloc, files)?;
+    let (table, _) = compile(alloc, &folder)?;
+    Ok(table)
 }
 
 fn environment(alloc: Global, pairs: &[(&str, &str)]) -> Result<Env, Untried> {
@@ -403,14 +379,10 @@ pub(crate) fn engine(
     files: &[(&str, &str)],
     pairs: &[(&str, &str)],
 ) -> Result<Engine, Untried> {
+    let table = table(alloc, files)?;
     let base = environment(alloc, pairs)?;
-    match table(alloc, files) {
-        Ok(table) => Ok(Engine::new(alloc, table, base)?),
-        Err(untried) => {
-            drop(base);
-            Err(untried)
-        }
-    }
+    let engine = Engine::new(alloc, table, base)?;
+    Ok(engine)
 }
 
 /// A step gives what its row says.
@@ -444,9 +416,16 @@ fn check_rows(
 
 fn check_case(rt: &impl Abort, alloc: Global, case: &Case) -> Result<(), Untried> {
     let mut engine = engine(alloc, case.files, case.base)?;
-    let checked = check_rows(rt, alloc, &mut engine, case.name, case.rows);
-    drop(engine);
-    checked
+    check_rows(rt, alloc, &mut engine, case.name, case.rows)
+}
+
+// The engine of a folder with this job file alone.
+fn engine_of(alloc: Global, file: &str) -> Result<Engine, Untried> {
+    let mut folder = Folder::new(alloc);
+    add_file(alloc, &mut folder, "a.conf", file.as_bytes())?;
+    let (table, _) = compile(alloc, &folder)?;
+    let engine = Engine::new(alloc, table, Env::new(alloc))?;
+    Ok(engine)
 }
 
 /// The rows of a folder with this job file alone.
@@ -457,10 +436,8 @@ pub(crate) fn check_file(
     file: &str,
     rows: &[Row],
 ) -> Result<(), Untried> {
-    let mut engine = engine(alloc, &[("a.conf", file)], &[])?;
-    let checked = check_rows(rt, alloc, &mut engine, name, rows);
-    drop(engine);
-    checked
+    let mut engine = engine_of(alloc, file)?;
+    check_rows(rt, alloc, &mut engine, name, rows)
 }
 
 pub(crate) fn check_cases(rt: &impl Abort, alloc: Global, cases: &[Case]) -> Result<(), Untried> {
@@ -540,11 +517,7 @@ fn came_of(
 fn run_with(alloc: Global, engine: &mut Engine, rows: &[Row]) -> Result<Outcome, Untried> {
     let inputs = inputs(alloc, rows)?;
     match engine.run(inputs) {
-        Ok(run) => {
-            let outcome = came_of(alloc, engine, &run, rows);
-            drop(run);
-            outcome
-        }
+        Ok(run) => came_of(alloc, engine, &run, rows),
         Err(StepError::Memory) if is_left(engine, &[]) => Ok(Outcome::Refused),
         Err(_) => Ok(Outcome::Otherwise),
     }
@@ -559,9 +532,7 @@ static RUN: Case = Case {
 
 fn run_case(alloc: Global, case: &Case) -> Result<Outcome, Untried> {
     let mut engine = engine(alloc, case.files, case.base)?;
-    let outcome = run_with(alloc, &mut engine, case.rows);
-    drop(engine);
-    outcome
+    run_with(alloc, &mut engine, case.rows)
 }
 
 #[test]

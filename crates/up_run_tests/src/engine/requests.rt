@@ -15,50 +15,32 @@ fn hurried(alloc: Global, id: u64, command: Command) -> Result<Input, Untried> {
     }
 }
 
-fn step(alloc: Global, engine: &mut Engine, id: u64, command: Command) -> Result<(), Untried> {
-    match engine.step(hurried(alloc, id, command)?) {
-        Ok(outputs) => {
-            drop(outputs);
-            Ok(())
+// An engine whose job `a` was started and stopped, and is starting.
+fn stopped(alloc: Global) -> Result<Engine, Untried> {
+    let mut engine = engine(alloc, &[("a.conf", "start on go\nexec /bin/d\n")], &[])?;
+    for (id, command) in [(4, Command::Start), (7, Command::Stop)] {
+        let outputs = engine.step(hurried(alloc, id, command)?);
+        if outputs.is_err() {
+            return Err(Untried);
         }
-        Err(_) => Err(Untried),
     }
+    Ok(engine)
 }
 
-fn check_status(rt: &impl Abort, alloc: Global, engine: &Engine) -> Result<(), Untried> {
+fn check(rt: &impl Abort, alloc: Global) -> Result<(), Untried> {
+    let engine = stopped(alloc)?;
     match engine.status("a", &Env::new(alloc)) {
         Ok(answer) => {
             let told = (answer.ok, answer.text.as_str());
             assert_eq!(rt; told, (true, "a stop/starting"), "of `status`");
-            Ok(())
         }
-        Err(_) => Err(Untried),
+        Err(_) => return Err(Untried),
     }
-}
-
-fn check_list(rt: &impl Abort, engine: &Engine) -> Result<(), Untried> {
     match engine.list() {
-        Ok(text) => {
-            assert_eq!(rt; text.as_str(), "a stop/starting", "of `list`");
-            Ok(())
-        }
-        Err(_) => Err(Untried),
+        Ok(text) => assert_eq!(rt; text.as_str(), "a stop/starting", "of `list`"),
+        Err(_) => return Err(Untried),
     }
-}
-
-// The job `a` is started and stopped, and then it is starting.
-fn check_engine(rt: &impl Abort, alloc: Global, engine: &mut Engine) -> Result<(), Untried> {
-    step(alloc, engine, 4, Command::Start)?;
-    step(alloc, engine, 7, Command::Stop)?;
-    check_status(rt, alloc, engine)?;
-    check_list(rt, engine)
-}
-
-fn check(rt: &impl Abort, alloc: Global) -> Result<(), Untried> {
-    let mut engine = engine(alloc, &[("a.conf", "start on go\nexec /bin/d\n")], &[])?;
-    let checked = check_engine(rt, alloc, &mut engine);
-    drop(engine);
-    checked
+    Ok(())
 }
 
 #[test]
