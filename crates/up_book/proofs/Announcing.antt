@@ -1,14 +1,15 @@
 -- An instance emits an event on entering a state.
-use Rattle.std.proofs.Common.{◌≡◌, ℕ, ◌+◌, ◌==◌, ◌&&◌, Bool, true, false, [], ◌∷◌, ◌++◌, length, Option, None, Some, if◌then◌else◌, refl, sym, ◌∙◌, ap, arith}
+use Rattle.std.proofs.Common.{◌≡◌, ℕ, ◌+◌, ◌==◌, ◌&&◌, Bool, true, false, [], ◌∷◌, ◌++◌, length, Option, None, Some, if◌then◌else◌, List, refl, sym, ◌∙◌, ap, arith, eqb-true}
 use Rattle.up_job.specs.Changes.{changed}
 use Rattle.up_job.specs.JobLists.{changed_at}
 use Rattle.up_event.specs.LiveEvents.{named, new_live}
+use Rattle.up_event.specs.declared.live.LiveEvent.{LiveEvent}
 use Rattle.up_model.specs.declared.event.Event.{Event}
 use Rattle.up_model.specs.declared.event_id.EventId.{EventId}
 use Rattle.up_model.specs.declared.state.State.{State}
 use Rattle.up_model.specs.Chronicle.{Chronicle, Queued, Entering}
 use Rattle.up_model.specs.Configuration.{Configuration}
-use Rattle.up_model.specs.Queue.{live_at, queue}
+use Rattle.up_model.specs.Queue.{Live, live_at, queue}
 use Rattle.up_model.specs.Readings.{holders, is_blocking}
 use Rattle.up_job.specs.declared.change.Change.TheVariants as change
 use Rattle.up_job.specs.declared.instance_key.InstanceKey.{InstanceKey}
@@ -18,7 +19,8 @@ use Rattle.up_book.specs.Eventing.{standing_of, standing_at, place_of}
 use Rattle.up_book.specs.Standing.{Forgets, instance_place}
 use Rattle.up_book.proofs.Entering.{is-blocked, keeps-after}
 use Rattle.up_book.proofs.Frames.{holding-later}
-use Rattle.up_book.proofs.Placing.{place-new, used-queued}
+use Rattle.up_book.proofs.Closing.{named-there}
+use Rattle.up_book.proofs.Placing.{place-new, place-queued, used-queued}
 use Rattle.up_book.proofs.Regulars.{regular-next}
 use Rattle.up_book.proofs.Standing.{standings-queued}
 use Rattle.up_book.proofs.Starting.{remembered-so, same-trigger}
@@ -65,3 +67,25 @@ forgets-blocked book after config c key i to event id f found blocking fresh eve
       regular = regular-next config c e f.regular tt;
       reading = reading ∙ f.reading;
     }
+
+-- where other events were queued stays
+pub pushed-place : (events : List LiveEvent) (lives : List Live) (live : LiveEvent) (place : ℕ) (k : EventId) (j : ℕ) → length events ≡ length lives → named live.id events ≡ None → place_of events lives k ≡ Some j
+    → place_of (events ++ live ∷ []) (lives ++ live_at place false ∷ []) k ≡ Some j
+pushed-place events lives live place k j same fresh found = place-queued events lives live place k same (apart (live.id.key == k.key) refl) ∙ found
+  where
+    with_key : ℕ → EventId
+    with_key key = record { key = key }
+
+    apart : (b : Bool) → (live.id.key == k.key) ≡ b → b ≡ false
+    apart true keys =
+        let none : named k events ≡ None = ap (λ key. named (with_key key) events) (sym (eqb-true live.id.key k.key keys)) ∙ fresh in
+        let there = named-there events lives k j found in
+        let both : None ≡ Some there.0 = sym none ∙ there.1 in
+        absurd cc
+    apart false differs = refl
+
+pub pushed-so : (past : Past) (config : Configuration) (c : Chronicle) (id : EventId) (event : Event) (waits : Option ℕ) (news : List LiveEvent) (k : EventId) (j : ℕ) → Forgets past config c → named id past.events ≡ None
+    → news ≡ past.events ++ new_live id event waits ∷ [] → place_of past.events (queue c) k ≡ Some j → place_of news (queue c ++ live_at (length c) false ∷ []) k ≡ Some j
+pushed-so past config c id event waits news k j f fresh does found =
+    ap (λ events. place_of events (queue c ++ live_at (length c) false ∷ []) k) does
+    ∙ pushed-place past.events (queue c) (new_live id event waits) (length c) k j (map-length standing_of (standing_at c) past.events (queue c) f.standings) fresh found

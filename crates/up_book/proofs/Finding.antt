@@ -1,5 +1,5 @@
 -- Events by their ids, and instances by their names.
-use Rattle.std.proofs.Common.{◌≡◌, ℕ, suc, ◌+◌, ◌==◌, Bool, true, false, List, [], ◌∷◌, length, map, Option, None, Some, option_map, bytes_eq, if◌then◌else◌, refl, sym, ◌∙◌, ap, arith}
+use Rattle.std.proofs.Common.{◌≡◌, ℕ, suc, ◌+◌, ◌==◌, Bool, true, false, List, [], ◌∷◌, length, map, Option, None, Some, option_map, IfSome, bytes_eq, if◌then◌else◌, refl, sym, ◌∙◌, ap, arith}
 use Rattle.up_conf.specs.declared.job.JobDef.{JobDef}
 use Rattle.up_event.specs.LiveEvents.{named, outcome_of}
 use Rattle.up_event.specs.declared.live.Finished.{Finished}
@@ -152,3 +152,11 @@ finds book config c place job name f there =
     once : (o : Option ℕ) → (let key_at : ℕ → InstanceKey = λ at. record { job = place; at = at } in option_map (instance_place book c) (option_map key_at o)) ≡ option_map (λ at. place_at book.instances c (record { job = place; at = at })) o
     once None = refl
     once (Some at) = refl
+
+-- a key is of the job that was asked for
+pub key-of-job : (job : ℕ) (name : Bytes) (jobs : List JobInstances) → IfSome (key_of job name jobs) (λ key. key.job ≡ job)
+key-of-job job name jobs = by_place (placed_by name_of name (instances_at job jobs))
+  where
+    by_place : (o : Option ℕ) → IfSome (option_map (λ at. record { job = job; at = at }) o) (λ (key : InstanceKey). key.job ≡ job)
+    by_place None = tt
+    by_place (Some at) = refl

@@ -1,5 +1,5 @@
 -- Inputs.
-use Rattle.std.proofs.Common.{◌≡◌, ℕ, ◌∷◌, length, None, Some, if◌then◌else◌, nat_lt, refl, sym, ◌∙◌, ap}
+use Rattle.std.proofs.Common.{◌≡◌, ℕ, ◌∷◌, length, Option, None, Some, option_map, if◌then◌else◌, nat_lt, refl, sym, ◌∙◌, ap}
 use Rattle.up_job.specs.Changes.{changed}
 use Rattle.up_job.specs.JobLists.{changed_at}
 use Rattle.up_model.specs.declared.input.Input.{Input}
@@ -15,6 +15,9 @@ use Rattle.up_book.specs.declared.past.Past.{Past}
 use Rattle.up_job.specs.declared.instance_key.InstanceKey.{InstanceKey}
 use Rattle.up_job.specs.declared.instance.Instance.{Instance as Kept}
 use Rattle.up_book.specs.Counting.{uses}
+use Rattle.up_book.specs.Keys as keys
+use Rattle.up_model.specs.Requests.{RequestValue}
+use Rattle.up_model.specs.declared.event.Event.{Event}
 use Rattle.up_book.specs.Eventing.{place_of}
 use Rattle.up_book.specs.Standing.{Forgets, instance_place}
 use Rattle.up_book.proofs.Answering.{Names, change_of, keeps-given, keeps-unnamed}
@@ -26,6 +29,13 @@ use Rattle.up_model.proofs.QueueLaws.{queue_by_age}
 
 pub forgets-turn : (book : Past) (config : Configuration) (c : Chronicle) → Forgets book config c → Forgets book config (Given input.Turn ∷ c)
 forgets-turn book config c f = forgets-passing book config c (Given input.Turn) f (passing config c (Given input.Turn) (λ i. refl) (λ job. refl) (λ x. refl)) tt refl tt (λ p. refl) refl
+
+pub forgets-emit : (book : Past) (config : Configuration) (c : Chronicle) (event : Event) → Forgets book config c → Forgets book config (Given (input.Emit event) ∷ c)
+forgets-emit book config c event f = forgets-passing book config c (Given (input.Emit event)) f (passing config c (Given (input.Emit event)) (λ i. refl) (λ job. refl) (λ x. refl)) tt refl tt (λ p. refl) refl
+
+pub forgets-request : (book : Past) (config : Configuration) (c : Chronicle) (id : ℕ) (request : RequestValue) → Forgets book config c → Forgets book config (Given (input.Request id request) ∷ c)
+forgets-request book config c id request f =
+    forgets-passing book config c (Given (input.Request id request)) f (passing config c (Given (input.Request id request)) (λ i. refl) (λ job. refl) (λ x. refl)) tt refl tt (λ p. refl) refl
 
 pub forgets-clock : (book after : Past) (config : Configuration) (c : Chronicle) (reading : ℕ) → Forgets book config c → after.instances ≡ book.instances → after.starts ≡ book.starts → after.events ≡ book.events
     → after.reading ≡ (if nat_lt book.reading reading then reading else book.reading) → Forgets after config (Given (input.Clock reading) ∷ c)
@@ -62,3 +72,19 @@ forgets-unnamed book config c given who f says none clock_same =
     let places = place_of book.events (queue c) in
     forgets-lives book book config c (Given given) f (keeps-unnamed places book.instances config c given who f.lives f.regular.singles says none)
     (remembered-later places book.instances book.starts.items config c (Given given) (record { instances = λ job. refl; seen = λ x. refl }) f.remembered) refl tt (λ p. refl) clock_same (λ id. refl) refl refl refl
+
+-- whom an input speaks of by a key, or by none
+pub speaks-some : (config : Configuration) (c : Chronicle) (key : InstanceKey) (who : Who) → option_map (keys.instance_place config c) (Some key) ≡ option_map Some (instance_named who c)
+    → (i : ℕ) × (keys.instance_place config c key ≡ Some i) × (instance_named who c ≡ Some i)
+speaks-some config c key who speaks = by_case (instance_named who c) refl speaks
+  where
+    by_case : (its : Option ℕ) → instance_named who c ≡ its → Some (keys.instance_place config c key) ≡ option_map Some its → (i : ℕ) × (keys.instance_place config c key ≡ Some i) × (instance_named who c ≡ Some i)
+    by_case None is speaks = absurd cc
+    by_case (Some i) is speaks = (i, cc, is)
+
+pub speaks-none : (config : Configuration) (c : Chronicle) (who : Who) → option_map (keys.instance_place config c) None ≡ option_map Some (instance_named who c) → instance_named who c ≡ None
+speaks-none config c who speaks = by_case (instance_named who c) speaks
+  where
+    by_case : (its : Option ℕ) → option_map (keys.instance_place config c) None ≡ option_map Some its → its ≡ None
+    by_case None speaks = refl
+    by_case (Some i) speaks = absurd cc

@@ -9,12 +9,13 @@ use Rattle.up_marks.specs.Triggers.{kept_by, uses_by}
 use Rattle.up_marks.specs.declared.mark.Mark.{Mark}
 use Rattle.up_model.specs.declared.event_id.EventId.{EventId}
 use Rattle.up_model.specs.declared.request.Answer.{Answer}
+use Rattle.up_model.specs.declared.request.Command.TheVariants.{Emit}
 use Rattle.up_model.specs.declared.state.State.TheVariants as state
 use Rattle.up_model.specs.Chronicle.{Chronicle, Entered, Released, Replied}
 use Rattle.up_model.specs.Configuration.{Configuration}
 use Rattle.up_model.specs.Instances.{instances_of, all_instances}
 use Rattle.up_model.specs.Queue.{queue}
-use Rattle.up_model.specs.Replies.{answering, answering_one, answer_to, request_at}
+use Rattle.up_model.specs.Replies.{answering, answering_one, answering_waiter, answer_to, request_at}
 use Rattle.up_model.specs.Requests.{RequestValue}
 use Rattle.up_model.specs.Values.{Bytes}
 use Rattle.up_model.proofs.Places.{count, instances-exist}
@@ -167,3 +168,8 @@ forgets-answered book config (p ∷ hs) failed told before c f =
     one : (request : Option RequestValue) → Forgets book config (answering_one p request failed told ++ c)
     one None = f
     one (Some request) = forgets-replied book config c p (answer_to request.command failed told) f
+
+-- nor does the answer to the client that waits for an event
+pub forgets-waiter : (book : Past) (config : Configuration) (c : Chronicle) (o : Option ℕ) (spoilt : Bool) → Forgets book config c → Forgets book config (answering_waiter o spoilt ++ c)
+forgets-waiter book config c None spoilt f = f
+forgets-waiter book config c (Some request) spoilt f = forgets-replied book config c request (answer_to Emit spoilt []) f

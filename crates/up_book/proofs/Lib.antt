@@ -39,3 +39,8 @@ pub mod Hearings
 pub mod Seeing
 pub mod Tables
 pub mod Keyed
+pub mod Moved
+pub mod Holdings
+pub mod Runs
+pub mod Ledgers
+pub mod Acting

@@ -71,6 +71,18 @@ forgets-made book after config c place job name trigger f there none blank unuse
     forgets-lives book after config c (Made job.name name) f lives remembered refl follow (λ p. refl) refl
     (λ id. ap (uses id) does ∙ uses-more id kept place book.instances (omega (arith, unused id))) starts events reading
 
+-- where its name belongs
+pub position-so : (book : Past) (config : Configuration) (c : Chronicle) (place : ℕ) (job : JobDef) (name : Bytes) → Forgets book config c → nth place config.jobs ≡ Some job
+    → position_at name place book.instances ≡ position_in name (map (λ (x : Instance). x.name) (instances_of job.name c))
+position-so book config c place job name f there =
+    let places = place_of book.events (queue c) in
+    let summed = map-nth (job_summary config c) place config.jobs job there in
+    let viewed : nth place (map (job_view places) book.instances) ≡ Some (job_summary config c job) = ap (nth place) f.lives.jobs ∙ summed in
+    let its = nth-map (job_view places) place book.instances (job_summary config c job) viewed in
+    let names : map (λ (k : Kept). k.name) its.0.instances ≡ map (λ (x : Instance). x.name) (instances_of job.name c) =
+    names-same places config job c its.0.instances (instances_of job.name c) (ap (λ (s : JobSummary). s.instances) its.2) in
+    ap (λ o. position_in name (map (λ (k : Kept). k.name) (list_of o))) its.1 ∙ ap (position_in name) names
+
 -- the key of the new one
 pub made-key : (book : Past) (after : List JobInstances) (config : Configuration) (c : Chronicle) (place position : ℕ) (job : JobDef) (kept : Kept) (name : Bytes) → Forgets book config c → nth place config.jobs ≡ Some job
     → after ≡ with_at place (with_made kept) book.instances → position ≡ position_at kept.name place book.instances → kept.name ≡ name

@@ -22,6 +22,9 @@ use Rattle.up_model.proofs.Places.{bytes_same, bytes_refl}
 use Rattle.up_job.specs.declared.child.Child.{Child}
 use Rattle.up_book.specs.Keeps.{AreDistinct}
 use Rattle.up_book.specs.Summaries.{summary, works_at}
+use Rattle.up_job.specs.declared.instance.Instance.{Instance as Kept}
+use Rattle.up_model.specs.declared.who.Who.{Who}
+use Rattle.up_book.specs.Views.{Places, view}
 use Rattle.up_book.proofs.Knowing.{work-known}
 use Rattle.up_book.proofs.One.{IsKnown, known-all, called, nth-all}
 use Rattle.up_book.specs.Sending.{order_by, signal_by, event_by, own_pid, status_by}
@@ -120,3 +123,11 @@ pid-own (Some its) i c = sym (ap (λ (w : Child). w.pid) (work-known its i c))
 
 pub status-known : (config : Configuration) (c : Chronicle) (at : ℕ) (job : JobDef) (x : Instance) → nth at (instances_of job.name c) ≡ Some x → status_of x.place c ≡ status_by job (summary config job c x)
 status-known config c at job x here = rw (made-there at job x c here, pid-own (own_process (Rattle.up_model.specs.Readings.state_of x.place c)) x.place c) refl
+
+-- a signal by what is kept
+pub signal-by : (its : JobDef) (job : Bytes) (kept : Kept) (places : Places) (signal pid : ℕ) (who : Who) → its.name ≡ job → who ≡ record { job = job; instance = kept.name } → kept.children.main.pid ≡ Some pid
+    → output.Signal who pid signal ∷ [] ≡ signal_by its (view places kept) signal
+signal-by its job kept places signal pid who named same found = rw (named, found) (ap (λ w. output.Signal w pid signal ∷ []) same)
+
+pub signal-none : (its : JobDef) (kept : Kept) (places : Places) (signal : ℕ) → kept.children.main.pid ≡ None → [] ≡ signal_by its (view places kept) signal
+signal-none its kept places signal none = rw none refl

@@ -1,5 +1,5 @@
 -- The replies of a release are those to the clients that are kept as holders.
-use Rattle.std.proofs.Common.{◌≡◌, ℕ, ◌<◌, ◌≤◌, Bool, List, [], ◌∷◌, ◌++◌, length, map, Option, None, Some, option_map, refl, sym, ◌∙◌, ap, arith, append_assoc, append-nil}
+use Rattle.std.proofs.Common.{◌≡◌, ℕ, ◌+◌, ◌<◌, ◌≤◌, Bool, List, [], ◌∷◌, ◌++◌, length, map, Option, None, Some, option_map, refl, sym, ◌∙◌, ap, arith, add-one, append_assoc, append-nil, drop, drop-cons, get_or}
 use Rattle.up_model.specs.declared.input.Input.TheVariants as input
 use Rattle.up_model.specs.declared.output.Output.{Output}
 use Rattle.up_model.specs.Chronicle.{Chronicle, Entry, Given, Queued, Replied}
@@ -74,3 +74,10 @@ replies-out places config c (p ∷ hs) (h ∷ its) failed told d older same x =
     ∙ replies-out places config c hs its failed told next older.1 rest (extends-one p (request_at p c) failed told c d x)
     ∙ ap (λ outs. outs ++ replies_to its failed told) (one ∙ ap (λ outs. outputs_of config d ++ outs) reply)
     ∙ append_assoc (outputs_of config d) (reply_to h failed told) (replies_to its failed told)
+
+-- the replies from one holder on
+pub replies_left : (its : List Holder) (i : ℕ) (d : Holder) (failed : Bool) (told : Bytes) (outs : List Output) → i < length its
+    → outs ++ replies_to (drop i its) failed told ≡ (outs ++ reply_to (get_or its i d) failed told) ++ replies_to (drop (i + 1) its) failed told
+replies_left its i d failed told outs within =
+    let one : drop i its ≡ get_or its i d ∷ drop (i + 1) its = rw add-one (drop-cons its i d within) in
+    ap (λ hs. outs ++ replies_to hs failed told) one ∙ sym (append_assoc outs (reply_to (get_or its i d) failed told) (replies_to (drop (i + 1) its) failed told))

@@ -22,8 +22,10 @@ use Rattle.up_job.specs.declared.instance_key.InstanceKey.{InstanceKey}
 use Rattle.up_job.specs.declared.instances.JobInstances.{JobInstances}
 use Rattle.up_job.specs.declared.instance.Instance.{Instance as Kept}
 use Rattle.up_book.specs.Keeps.{KeepsJobs, place_at}
+use Rattle.up_book.specs.Keys.{instance_place}
 use Rattle.up_book.specs.Summaries.{summary}
 use Rattle.up_book.specs.Views.{Places, view, kept_at}
+use Rattle.up_book.proofs.Keyed.{place-keyed}
 use Rattle.up_book.proofs.One.{There, there}
 use Rattle.up_book.specs.declared.step.ActedOn.{ActedOn}
 use Rattle.up_book.specs.declared.step.ActedOn.TheVariants.{Exists, Gone}
@@ -46,15 +48,15 @@ status-kept places jobs config c key i job kept keeps place in_jobs found =
     told-there places jobs config c key i (there places jobs config c key i keeps place)
     ∙ ap (λ (j : Option JobDef). status_kept places j (kept_at key jobs)) in_jobs ∙ ap (λ (k : Option Kept). status_kept places (Some job) k) found
 
-pub told-so : (places : Places) (jobs : List JobInstances) (config : Configuration) (c : Chronicle) (on : Option ActedOn) → KeepsJobs places jobs config c → OnMeans jobs c on
+pub told-so : (places : Places) (jobs : List JobInstances) (config : Configuration) (c : Chronicle) (on : Option ActedOn) → KeepsJobs places jobs config c → OnMeans config c on
     → status_if (request_instance c) c ≡ told_of places config.jobs jobs on
 told-so places jobs config c None keeps means = rw means refl
 told-so places jobs config c (Some (Exists key)) keeps means =
-    ap (λ o. status_if o c) means.1 ∙ told-there places jobs config c key means.0 (there places jobs config c key means.0 keeps means.2)
+    ap (λ o. status_if o c) means.1 ∙ told-there places jobs config c key means.0 (there places jobs config c key means.0 keeps (place-keyed places jobs config c key keeps ∙ means.2))
 told-so places jobs config c (Some (Gone text)) keeps means = ap (λ o. status_if o c) means.1 ∙ means.2
 
 -- the answer that ends a step
-pub last-out : (places : Places) (jobs : List JobInstances) (config : Configuration) (c : Chronicle) (on : Option ActedOn) (request id : ℕ) → KeepsJobs places jobs config c → OnMeans jobs c on
+pub last-out : (places : Places) (jobs : List JobInstances) (config : Configuration) (c : Chronicle) (on : Option ActedOn) (request id : ℕ) → KeepsJobs places jobs config c → OnMeans config c on
     → unanswered c ≡ Some request → id_at request c ≡ Some id
     → outputs_of config (answering_last c ++ c) ≡ outputs_of config c ++ output.Reply id (record { ok = true; text = told_of places config.jobs jobs on }) ∷ []
 unfolding outputs_of
@@ -143,17 +145,17 @@ other-gone i j c gone exists = by_case (j == i) refl
 
 -- What the request acted on, as entries are added.
 -- an input: nothing yet
-pub on-given : (jobs : List JobInstances) (c : Chronicle) (input : Rattle.up_model.specs.declared.input.Input.Input) → OnMeans jobs (Given input ∷ c) None
-on-given jobs c input = refl
+pub on-given : (config : Configuration) (c : Chronicle) (input : Rattle.up_model.specs.declared.input.Input.Input) → OnMeans config (Given input ∷ c) None
+on-given config c input = refl
 
 -- a goal that changes, and a restart: the instance of this key
-pub on-aimed : (jobs : List JobInstances) (c : Chronicle) (key : InstanceKey) (i : ℕ) (aim : Goal) (environment : Bindings) (its : List ℕ) → place_at jobs (Aimed i aim environment its ∷ c) key ≡ Some i
-    → OnMeans jobs (Aimed i aim environment its ∷ c) (Some (Exists key))
-on-aimed jobs c key i aim environment its there = (i, refl, there)
+pub on-aimed : (config : Configuration) (c : Chronicle) (key : InstanceKey) (i : ℕ) (aim : Goal) (environment : Bindings) (its : List ℕ) → instance_place config c key ≡ Some i
+    → OnMeans config (Aimed i aim environment its ∷ c) (Some (Exists key))
+on-aimed config c key i aim environment its there = (i, refl, there)
 
-pub on-restarted : (jobs : List JobInstances) (c : Chronicle) (key : InstanceKey) (i : ℕ) (its : List ℕ) → place_at jobs (Restarted i its ∷ c) key ≡ Some i
-    → OnMeans jobs (Restarted i its ∷ c) (Some (Exists key))
-on-restarted jobs c key i its there = (i, refl, there)
+pub on-restarted : (config : Configuration) (c : Chronicle) (key : InstanceKey) (i : ℕ) (its : List ℕ) → instance_place config c key ≡ Some i
+    → OnMeans config (Restarted i its ∷ c) (Some (Exists key))
+on-restarted config c key i its there = (i, refl, there)
 
 -- an entry that changes no key's place, about an instance that exists
 abbrev pub IsPlain : Entry → Type 0
@@ -169,22 +171,22 @@ request-plain (Restarted i its) c is = absurd is
 request-plain e c is = refl
 
 -- where the instance of each key stands afterwards is the only thing to be shown, and that one that is gone isn't entered upon
-pub on-later : (old new : List JobInstances) (e : Entry) (c : Chronicle) (on : Option ActedOn) (move : InstanceKey → InstanceKey) → IsPlain e
-    → ((key : InstanceKey) (i : ℕ) → on ≡ Some (Exists key) → place_at old c key ≡ Some i → place_at new (e ∷ c) (move key) ≡ Some i)
+pub on-later : (config : Configuration) (e : Entry) (c : Chronicle) (on : Option ActedOn) (move : InstanceKey → InstanceKey) → IsPlain e
+    → ((key : InstanceKey) (i : ℕ) → on ≡ Some (Exists key) → request_instance c ≡ Some i → instance_place config c key ≡ Some i → instance_place config (e ∷ c) (move key) ≡ Some i)
     → ((i : ℕ) → IsGone i c → Mentions i e ≡ false)
-    → OnMeans old c on → OnMeans new (e ∷ c) (Rattle.up_book.specs.Requesting.moved_on move on)
-on-later old new e c None move is places apart means = request-plain e c is ∙ means
-on-later old new e c (Some (Exists key)) move is places apart means =
-    (means.0, request-plain e c is ∙ means.1, places key means.0 refl means.2)
-on-later old new e c (Some (Gone text)) move is places apart means =
+    → OnMeans config c on → OnMeans config (e ∷ c) (Rattle.up_book.specs.Requesting.moved_on move on)
+on-later config e c None move is places apart means = request-plain e c is ∙ means
+on-later config e c (Some (Exists key)) move is places apart means =
+    (means.0, request-plain e c is ∙ means.1, places key means.0 refl means.1 means.2)
+on-later config e c (Some (Gone text)) move is places apart means =
     let gone : IsGone means.0 c = means.3 in
     (means.0, request-plain e c is ∙ means.1, status-apart means.0 e c (apart means.0 gone) gone.0 ∙ means.2, gone-later means.0 e c gone)
 
 -- the instance of the request leaves: its text is kept
-pub on-left : (jobs new : List JobInstances) (config : Configuration) (c : Chronicle) (at : ℕ) (job : JobDef) (x : Instance) → nth at (instances_of job.name c) ≡ Some x → x.place < length c
+pub on-left : (config : Configuration) (c : Chronicle) (at : ℕ) (job : JobDef) (x : Instance) → nth at (instances_of job.name c) ≡ Some x → x.place < length c
     → request_instance c ≡ Some x.place
-    → OnMeans new (Entered x.place state.Waiting ∷ c) (Some (Gone (status_by job (record (summary config job c x) { state = state.Waiting }))))
-on-left jobs new config c at job x here older asked = (x.place, asked, status-left config c at job x here older, left-gone x.place c older)
+    → OnMeans config (Entered x.place state.Waiting ∷ c) (Some (Gone (status_by job (record (summary config job c x) { state = state.Waiting }))))
+on-left config c at job x here older asked = (x.place, asked, status-left config c at job x here older, left-gone x.place c older)
 
 -- keys of a job's other instances, when one comes or goes
 add-one : {n : ℕ} → n + 1 ≡ suc n

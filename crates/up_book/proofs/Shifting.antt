@@ -64,7 +64,7 @@ nth-other f (suc m) zero (x ∷ xs) apart = refl
 nth-other f (suc m) (suc n) (x ∷ xs) apart = nth-other f m n xs (λ same. apart (ap suc same))
 
 -- the job that is kept at a place is the table's
-kept-name : (places : Places) (jobs : List JobInstances) (config : Configuration) (c : Chronicle) (n : ℕ) (kept : JobInstances) → KeepsJobs places jobs config c → nth n jobs ≡ Some kept
+pub kept-name : (places : Places) (jobs : List JobInstances) (config : Configuration) (c : Chronicle) (n : ℕ) (kept : JobInstances) → KeepsJobs places jobs config c → nth n jobs ≡ Some kept
     → (job : JobDef) × (nth n config.jobs ≡ Some job) × (kept.name ≡ job.name)
 kept-name places jobs config c n kept keeps there =
     let viewed : nth n (map (job_summary config c) config.jobs) ≡ Some (job_view places kept) = ap (nth n) (sym keeps) ∙ map-nth (job_view places) n jobs kept there in

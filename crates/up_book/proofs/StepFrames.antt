@@ -1,13 +1,15 @@
 -- What a step has asked for, one entry later.
-use Rattle.std.proofs.Common.{◌≡◌, ℕ, ◌<◌, Bool, true, false, List, [], ◌∷◌, ◌++◌, length, Option, None, Some, if◌then◌else◌, refl, sym, ◌∙◌, ap, subst, arith, eq-eqb}
+use Rattle.std.proofs.Common.{◌≡◌, ℕ, ◌<◌, ◌==◌, ◌&&◌, not, Bool, true, false, List, [], ◌∷◌, ◌++◌, length, Option, None, Some, slice_get, option_map, option_and_then, if◌then◌else◌, refl, sym, ◌∙◌, ap, subst, arith, eq-eqb}
 use Rattle.up_model.specs.declared.input.Input.{Input}
 use Rattle.up_model.specs.declared.input.Input.TheVariants as input
 use Rattle.up_model.specs.declared.output.Output.{Output}
 use Rattle.up_model.specs.Chronicle.{Chronicle, Entry, Given, Replied}
 use Rattle.up_model.specs.Configuration.{Configuration}
-use Rattle.up_model.specs.Instances.{all_instances, instances_of}
+use Rattle.up_model.specs.Instances.{Instance, all_instances, instances_of}
+use Rattle.up_model.specs.Values.{Bytes}
 use Rattle.up_model.specs.Outputs.{outputs_of}
-use Rattle.up_model.specs.Readings.{entry_at}
+use Rattle.up_model.specs.Readings.{entry_at, holders, id_of, id_at}
+use Rattle.up_model.specs.Requests.{RequestValue}
 use Rattle.up_model.specs.Replies.{asked, was_answered, unanswered, unless_answered, if_hurried}
 use Rattle.up_model.proofs.Places.{older-other, count, instances-exist}
 use Rattle.up_job.specs.declared.instance_key.InstanceKey.{InstanceKey}
@@ -15,11 +17,11 @@ use Rattle.up_job.specs.declared.instances.JobInstances.{JobInstances}
 use Rattle.up_book.specs.declared.step.ActedOn.{ActedOn}
 use Rattle.up_book.specs.declared.step.ActedOn.TheVariants.{Exists, Gone}
 use Rattle.up_book.specs.declared.step.Asked.{Asked}
-use Rattle.up_book.specs.declared.step.Step.{Step}
-use Rattle.up_book.specs.Asking.{given_input, given_place, asked_in, asked_of}
-use Rattle.up_book.specs.Keeps.{place_at}
+use Rattle.std.specs.List.{AllByRecursion}
+use Rattle.up_book.specs.Asking.{given_input, given_place, asked_in, asked_of, due_of, is_hurried, IsUnheld}
+use Rattle.up_book.specs.Keys.{name_at, instance_place}
 use Rattle.up_book.specs.Requesting.{IsGone, OnMeans}
-use Rattle.up_book.specs.Steps.{IsStep}
+use Rattle.up_book.specs.Steps.{Asks}
 use Rattle.up_book.specs.Views.{Places}
 use Rattle.up_book.proofs.One.{There, nth-counted}
 use Rattle.up_book.proofs.Outgoing.{IsSilent, silent-out}
@@ -31,6 +33,22 @@ IsUnasked (Given its) = ⊥
 IsUnasked (Replied request answer) = ⊥
 IsUnasked entry = Unit {0}
 
+pub input-later : (e : Entry) (c : Chronicle) → IsUnasked e → given_input (e ∷ c) ≡ given_input c
+input-later (Given its) c is = absurd is
+input-later e c is = refl
+
+pub place-later : (e : Entry) (c : Chronicle) → IsUnasked e → given_place (e ∷ c) ≡ given_place c
+place-later (Given its) c is = absurd is
+place-later e c is = refl
+
+pub unheld-by : (c d : Chronicle) → given_input d ≡ given_input c → given_place d ≡ given_place c → ((i : ℕ) → AllByRecursion (λ p. (p == given_place c) ≡ false) (holders i c) → AllByRecursion (λ p. (p == given_place c) ≡ false) (holders i d)) → IsUnheld c → IsUnheld d
+unheld-by c d input place fewer unheld hurried i =
+    subst (λ g. AllByRecursion (λ p. (p == g) ≡ false) (holders i d)) (sym place) (fewer i (unheld (ap is_hurried (sym input) ∙ hurried) i))
+
+pub unheld-later : (e : Entry) (c : Chronicle) → IsUnasked e → ((i : ℕ) → holders i (e ∷ c) ≡ holders i c) → IsUnheld c → IsUnheld (e ∷ c)
+unheld-later e c is same unheld =
+    unheld-by c (e ∷ c) (input-later e c is) (place-later e c is) (λ i all. subst (λ hs. AllByRecursion (λ p. (p == given_place c) ≡ false) hs) (sym (same i)) all) unheld
+
 pub asked-later : (e : Entry) (c : Chronicle) → IsUnasked e → asked_of (e ∷ c) ≡ asked_of c
 asked-later (Given its) c is = absurd is
 asked-later (Replied request answer) c is = absurd is
@@ -41,32 +59,58 @@ silent-unasked (Given its) is = absurd is
 silent-unasked (Replied request answer) is = absurd is
 silent-unasked e is = tt
 
--- the instance of the request stays what it is, where keys stand and nothing is said of one that is gone
-pub on-stays : (old new : List JobInstances) (e : Entry) (c : Chronicle) (on : Option ActedOn) → IsPlain e → ((key : InstanceKey) (i : ℕ) → place_at old c key ≡ Some i → place_at new (e ∷ c) key ≡ Some i)
-    → ((i : ℕ) → IsGone i c → Mentions i e ≡ false) → OnMeans old c on → OnMeans new (e ∷ c) on
-on-stays old new e c None is places apart means = request-plain e c is ∙ means
-on-stays old new e c (Some (Exists key)) is places apart means = (means.0, request-plain e c is ∙ means.1, places key means.0 means.2)
-on-stays old new e c (Some (Gone text)) is places apart means =
+-- an entry by which keys stand where they stood, and that speaks of no instance that is gone
+pub record Spares (config : Configuration) (c : Chronicle) (e : Entry) : Type 0 where
+  pub instances : (job : Bytes) → instances_of job (e ∷ c) ≡ instances_of job c
+  pub holders : (i : ℕ) → holders i (e ∷ c) ≡ holders i c
+  pub apart : (i : ℕ) → IsGone i c → Mentions i e ≡ false
+
+key-stays : (config : Configuration) (c d : Chronicle) (key : InstanceKey) → ((job : Bytes) → instances_of job d ≡ instances_of job c) → instance_place config d key ≡ instance_place config c key
+key-stays config c d key same = ap (option_map {T = Instance} (λ its. its.place)) (by_name (name_at config key.job))
+  where
+    by_name : (name : Option Bytes) → option_and_then (λ (job : Bytes). slice_get (instances_of job d) key.at) name ≡ option_and_then (λ (job : Bytes). slice_get (instances_of job c) key.at) name
+    by_name None = refl
+    by_name (Some job) = ap (λ (its : List Instance). slice_get its key.at) (same job)
+
+-- the instance of the request stays what it is
+pub on-stays-by : (config : Configuration) (e : Entry) (c : Chronicle) (on : Option ActedOn) → IsPlain e → ((job : Bytes) → instances_of job (e ∷ c) ≡ instances_of job c) → ((i : ℕ) → IsGone i c → Mentions i e ≡ false) → OnMeans config c on
+    → OnMeans config (e ∷ c) on
+on-stays-by config e c None is instances apart means = request-plain e c is ∙ means
+on-stays-by config e c (Some (Exists key)) is instances apart means = (means.0, request-plain e c is ∙ means.1, key-stays config c (e ∷ c) key instances ∙ means.2)
+on-stays-by config e c (Some (Gone text)) is instances apart means =
     let gone : IsGone means.0 c = means.3 in
     (means.0, request-plain e c is ∙ means.1, status-apart means.0 e c (apart means.0 gone) gone.0 ∙ means.2, gone-later means.0 e c gone)
 
+pub on-stays : (config : Configuration) (e : Entry) (c : Chronicle) (on : Option ActedOn) → IsPlain e → Spares config c e → OnMeans config c on → OnMeans config (e ∷ c) on
+on-stays config e c on is spares means = on-stays-by config e c on is spares.instances spares.apart means
+
+-- the same by other words
+pub asks-same : (outputs others : List Output) (asked also : Option Asked) (on too : Option ActedOn) (config : Configuration) (c : Chronicle) → others ≡ outputs → also ≡ asked → too ≡ on → Asks outputs asked on config c → Asks others also too config c
+asks-same outputs others asked also on too config c out same acted s = record {
+  outputs = out ∙ s.outputs;
+  asked = same ∙ s.asked;
+  on = subst (OnMeans config c) (sym acted) s.on;
+  unheld = s.unheld;
+}
+
 -- an entry that asks for nothing
-pub step-silent : (step : Step) (old new : List JobInstances) (config : Configuration) (c : Chronicle) (e : Entry) → IsSilent e → IsPlain e → ((key : InstanceKey) (i : ℕ) → place_at old c key ≡ Some i → place_at new (e ∷ c) key ≡ Some i)
-    → ((i : ℕ) → IsGone i c → Mentions i e ≡ false) → IsStep step old config c → IsStep step new config (e ∷ c)
-step-silent step old new config c e silent plain places apart s = record {
+pub step-silent : (outputs : List Output) (asked : Option Asked) (on : Option ActedOn) (config : Configuration) (c : Chronicle) (e : Entry) → IsSilent e → IsPlain e → Spares config c e → Asks outputs asked on config c
+    → Asks outputs asked on config (e ∷ c)
+step-silent outputs asked on config c e silent plain spares s = record {
   outputs = s.outputs ∙ sym (silent-out config c e silent);
   asked = s.asked ∙ sym (asked-later e c (silent-unasked e silent));
-  on = on-stays old new e c step.on plain places apart s.on;
+  on = on-stays config e c on plain spares s.on;
+  unheld = unheld-later e c (silent-unasked e silent) spares.holders s.unheld;
 }
 
 -- one that asks for something more
-pub step-more : (step after : Step) (old new : List JobInstances) (config : Configuration) (c : Chronicle) (e : Entry) (more : List Output) → IsUnasked e → IsPlain e → outputs_of config (e ∷ c) ≡ outputs_of config c ++ more
-    → ((key : InstanceKey) (i : ℕ) → place_at old c key ≡ Some i → place_at new (e ∷ c) key ≡ Some i) → ((i : ℕ) → IsGone i c → Mentions i e ≡ false)
-    → after.outputs.items ≡ step.outputs.items ++ more → after.asked ≡ step.asked → after.on ≡ step.on → IsStep step old config c → IsStep after new config (e ∷ c)
-step-more step after old new config c e more unasked plain out places apart outputs same on s = record {
-  outputs = outputs ∙ ap (λ its. its ++ more) s.outputs ∙ sym out;
-  asked = same ∙ s.asked ∙ sym (asked-later e c unasked);
-  on = subst (OnMeans new (e ∷ c)) (sym on) (on-stays old new e c step.on plain places apart s.on);
+pub step-more : (outputs more : List Output) (asked : Option Asked) (on : Option ActedOn) (config : Configuration) (c : Chronicle) (e : Entry) → IsUnasked e → IsPlain e → Spares config c e → outputs_of config (e ∷ c) ≡ outputs_of config c ++ more
+    → Asks outputs asked on config c → Asks (outputs ++ more) asked on config (e ∷ c)
+step-more outputs more asked on config c e unasked plain spares out s = record {
+  outputs = ap (λ its. its ++ more) s.outputs ∙ sym out;
+  asked = s.asked ∙ sym (asked-later e c unasked);
+  on = on-stays config e c on plain spares s.on;
+  unheld = unheld-later e c unasked spares.holders s.unheld;
 }
 
 -- an instance of a key exists, so it isn't one that is gone
@@ -94,29 +138,65 @@ asked-known [] = refl
 asked-known (Given its ∷ c) = refl
 asked-known (e ∷ c) = asked-known c
 
--- which is due if it doesn't wait and wasn't answered
-abbrev pub is_due : Option Asked → Bool
-is_due None = false
-is_due (Some a) = if a.waits then false else (if a.answered then false else true)
+due-value : (n : ℕ) (request : RequestValue) (w a : Bool) → request.wait ≡ w → due_of (asked_in (Some (input.Request n request)) a) ≡ (if w then None else (if a then None else Some n))
+due-value n request true a waits = rw waits refl
+due-value n request false true waits = rw waits refl
+due-value n request false false waits = rw waits refl
 
-abbrev pub place_if : Bool → ℕ → Option ℕ
-place_if true place = Some place
-place_if false place = None
+unanswered-by : (c : Chronicle) → unanswered c ≡ unless_answered (hurried_in (given_place c) (given_input c)) c
+unanswered-by c = ap (λ o. unless_answered o c) (asked-known c)
 
-pub unanswered-known : (c : Chronicle) → unanswered c ≡ place_if (is_due (asked_of c)) (given_place c)
-unanswered-known c = ap (λ o. unless_answered o c) (asked-known c) ∙ by_input (given_input c)
+-- the client that is still to be answered
+pub due-some : (c : Chronicle) (id : ℕ) → due_of (asked_of c) ≡ Some id → (unanswered c ≡ Some (given_place c)) × (id_at (given_place c) c ≡ Some id)
+due-some c id due =
+    let both = by_input (given_input c) refl due in
+    (unanswered-by c ∙ both.0, both.1)
   where
-    by_input : (its : Option Input) → unless_answered (hurried_in (given_place c) its) c ≡ place_if (is_due (asked_in its (was_answered (given_place c) c))) (given_place c)
-    by_input None = refl
-    by_input (Some (input.Request id request)) = by_wait request.wait (was_answered (given_place c) c) refl
+    g : ℕ
+    g = given_place c
+
+    by_input : (its : Option Input) → given_input c ≡ its → due_of (asked_in its (was_answered g c)) ≡ Some id → (unless_answered (hurried_in g (given_input c)) c ≡ Some g) × (id_at g c ≡ Some id)
+    by_input None is due = absurd cc
+    by_input (Some (input.Request n request)) is due = by_wait request.wait (was_answered g c) refl refl
       where
-        by_wait : (w a : Bool) → was_answered (given_place c) c ≡ a → unless_answered (if w then None else Some (given_place c)) c ≡ place_if (if w then false else (if a then false else true)) (given_place c)
-        by_wait true a is = refl
-        by_wait false true is = rw is refl
-        by_wait false false is = rw is refl
-    by_input (Some (input.Emit event)) = refl
-    by_input (Some (input.Spawned who its pid)) = refl
-    by_input (Some (input.Refused who its)) = refl
-    by_input (Some (input.Ended who its how)) = refl
-    by_input (Some (input.Clock reading)) = refl
-    by_input (Some input.Turn) = refl
+        by_wait : (w a : Bool) → request.wait ≡ w → was_answered g c ≡ a → (unless_answered (hurried_in g (given_input c)) c ≡ Some g) × (id_at g c ≡ Some id)
+        by_wait true a waits answered =
+            let none : None ≡ Some id = sym (due-value n request true (was_answered g c) waits) ∙ due in
+            absurd cc
+        by_wait false true waits answered =
+            let none : None ≡ Some id = sym (ap (λ b. due_of (asked_in (Some (input.Request n request)) b)) answered ∙ due-value n request false true waits) ∙ due in
+            absurd cc
+        by_wait false false waits answered =
+            let number : Some n ≡ Some id = sym (ap (λ b. due_of (asked_in (Some (input.Request n request)) b)) answered ∙ due-value n request false false waits) ∙ due in
+            let there = given-there c (input.Request n request) is in
+            (ap (λ its. unless_answered (hurried_in g its) c) is ∙ ap (λ w. unless_answered (if w then None else Some g) c) waits ∙ ap (λ b. if b then None else Some g) answered, ap id_of there.1 ∙ number)
+    by_input (Some (input.Emit event)) is due = absurd cc
+    by_input (Some (input.Spawned who its pid)) is due = absurd cc
+    by_input (Some (input.Refused who its)) is due = absurd cc
+    by_input (Some (input.Ended who its how)) is due = absurd cc
+    by_input (Some (input.Clock reading)) is due = absurd cc
+    by_input (Some input.Turn) is due = absurd cc
+
+pub due-none : (c : Chronicle) → due_of (asked_of c) ≡ None → unanswered c ≡ None
+due-none c due = unanswered-by c ∙ by_input (given_input c) refl due
+  where
+    g : ℕ
+    g = given_place c
+
+    by_input : (its : Option Input) → given_input c ≡ its → due_of (asked_in its (was_answered g c)) ≡ None → unless_answered (hurried_in g (given_input c)) c ≡ None
+    by_input None is due = ap (λ its. unless_answered (hurried_in g its) c) is
+    by_input (Some (input.Request n request)) is due = by_wait request.wait (was_answered g c) refl refl
+      where
+        by_wait : (w a : Bool) → request.wait ≡ w → was_answered g c ≡ a → unless_answered (hurried_in g (given_input c)) c ≡ None
+        by_wait true a waits answered = ap (λ its. unless_answered (hurried_in g its) c) is ∙ ap (λ w. unless_answered (if w then None else Some g) c) waits
+        by_wait false true waits answered =
+            ap (λ its. unless_answered (hurried_in g its) c) is ∙ ap (λ w. unless_answered (if w then None else Some g) c) waits ∙ ap (λ b. if b then None else Some g) answered
+        by_wait false false waits answered =
+            let some : Some n ≡ None = sym (ap (λ b. due_of (asked_in (Some (input.Request n request)) b)) answered ∙ due-value n request false false waits) ∙ due in
+            absurd cc
+    by_input (Some (input.Emit event)) is due = ap (λ its. unless_answered (hurried_in g its) c) is
+    by_input (Some (input.Spawned who its pid)) is due = ap (λ its. unless_answered (hurried_in g its) c) is
+    by_input (Some (input.Refused who its)) is due = ap (λ its. unless_answered (hurried_in g its) c) is
+    by_input (Some (input.Ended who its how)) is due = ap (λ its. unless_answered (hurried_in g its) c) is
+    by_input (Some (input.Clock reading)) is due = ap (λ its. unless_answered (hurried_in g its) c) is
+    by_input (Some input.Turn) is due = ap (λ its. unless_answered (hurried_in g its) c) is

@@ -1,7 +1,12 @@
 -- What a table says of its jobs' names, and what is kept before anything has happened.
-use Rattle.std.proofs.Common.{◌≡◌, ℕ, zero, suc, ◌+◌, ◌<◌, ◌&&◌, Bool, true, false, List, [], ◌∷◌, ◌++◌, length, map, take, get_or, bytes_eq, Option, refl, sym, ◌∙◌, ap, subst, arith}
+use Rattle.std.proofs.Common.{◌≡◌, ℕ, zero, suc, ◌+◌, ◌<◌, ◌&&◌, Bool, true, false, List, [], ◌∷◌, ◌++◌, length, map, take, get_or, bytes_eq, Option, Some, slice_index_or, refl, sym, ◌∙◌, ap, subst, arith}
 use Rattle.std.specs.List.{AllByRecursion}
 use Rattle.up_conf.specs.declared.job.JobDef.{JobDef}
+use Rattle.up_image.specs.Index.{named}
+use Rattle.up_image.specs.declared.index.Place.{Place}
+use Rattle.up_job.specs.Lists.{nth}
+use Rattle.up_marks.specs.Naming.{of_expression, naming_in, side_of}
+use Rattle.up_book.specs.Ledgers.{HasIndex}
 use Rattle.up_image.specs.Giving.{are_ascending, can_all_be_given, IsTable}
 use Rattle.up_job.specs.JobLists.{job_of, new_job}
 use Rattle.up_job.specs.Named.{AreInOrder, IsBelowAll}
@@ -57,3 +62,18 @@ starts-unused config [] (job ∷ jobs) id blank = absurd (blank (λ one. Rattle.
 starts-unused config (t ∷ ts) [] id blank = absurd (blank (λ one. Rattle.std.proofs.Common.None))
 starts-unused config (t ∷ ts) (job ∷ jobs) id blank =
     omega (arith, blank-unused t job.start_on (λ places. (blank places).0) id, starts-unused config ts jobs id (λ places. (blank places).1))
+
+-- an index has the leaves of each expression
+there-at : (n : ℕ) (jobs : List JobDef) (job : JobDef) → nth n jobs ≡ Some job → (n < length jobs) × (slice_index_or jobs n job ≡ job)
+there-at n [] job there = absurd cc
+there-at zero (first ∷ jobs) job there = (omega arith, cc)
+there-at (suc n) (first ∷ jobs) job there =
+    let rest = there-at n jobs job there in
+    (omega (arith, rest.0), rest.1)
+
+pub indexed : (jobs : List JobDef) (index : List Place)
+    → ((name : Bytes) (k : ℕ) (start : Bool) (job : JobDef) → k < length jobs → map (λ (place : Place). place.node) (of_expression k start (named name index)) ≡ naming_in (side_of start (slice_index_or jobs k job)) name) → HasIndex index jobs
+indexed jobs index leaves = record {
+  stops = λ n job there name. leaves name n false job (there-at n jobs job there).0 ∙ ap (λ (j : JobDef). naming_in (side_of false j) name) (there-at n jobs job there).1;
+  starts = λ n job there name. leaves name n true job (there-at n jobs job there).0 ∙ ap (λ (j : JobDef). naming_in (side_of true j) name) (there-at n jobs job there).1;
+}

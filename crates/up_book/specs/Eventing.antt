@@ -63,3 +63,7 @@ holds_of id events = holds_in (named id events)
 -- each is held as often as it is used, and what doesn't live isn't
 abbrev pub AreCounted : List LiveEvent → List JobInstances → List (Option (List Mark)) → Type 0
 AreCounted events jobs starts = (id : EventId) → holds_of id events ≡ uses id jobs + start_uses id starts
+
+-- ids stand for the same places among whatever lives
+abbrev pub SamePlaces : (news olds : List LiveEvent) → Type 0
+SamePlaces news olds = (lives : List Live) (id : EventId) → place_of news lives id ≡ place_of olds lives id

@@ -7,7 +7,11 @@ use Rattle.up_model.specs.declared.event_id.EventId.{EventId}
 use Rattle.up_job.specs.declared.holder.Holder.{Holder}
 use Rattle.up_job.specs.declared.holder.Holder.TheVariants as holder
 use Rattle.up_job.specs.declared.instance.Instance.{Instance as Kept}
+use Rattle.up_book.specs.Asking.{client_of}
 use Rattle.up_book.specs.Counting.{event_of}
+use Rattle.up_book.specs.declared.holders.Holders.{Holders}
+use Rattle.up_book.specs.declared.holders.Holders.TheVariants.{Taken, Client, Nobody}
+use Rattle.up_book.specs.declared.step.Asked.{Asked}
 
 -- one hold less, if there is one
 abbrev pub freed : (failed : Bool) → LiveEvent → LiveEvent
@@ -34,3 +38,9 @@ AllLive events its =
 -- these events, as holders
 abbrev pub as_holders : List EventId → List Holder
 as_holders ids = map holder.Event ids
+
+-- those who hold an instance in a step that was asked for so
+abbrev pub holders_by : Holders → Option Asked → List Holder
+holders_by (Taken ids) asked = as_holders ids
+holders_by Client asked = client_of asked
+holders_by Nobody asked = []

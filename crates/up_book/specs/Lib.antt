@@ -38,5 +38,7 @@ pub mod Asking
 pub mod Steps
 -- What an offer and a firing make of a trigger.
 pub mod Hearing
--- Which instance a key stands for, by the table.
-pub mod Keyed
+-- Which places of the chronicle the keys of a book stand for.
+pub mod Keys
+-- What a ledger stands for.
+pub mod Ledgers

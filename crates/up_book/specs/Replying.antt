@@ -1,7 +1,9 @@
 -- What clients are answered that held an instance.
-use Rattle.std.specs.Prelude.{Bool, List, [], ◌∷◌, ◌++◌}
+use Rattle.std.specs.Prelude.{ℕ, Bool, Option, None, Some, List, [], ◌∷◌, ◌++◌}
+use Rattle.up_event.specs.declared.live.Finished.{Finished}
 use Rattle.up_model.specs.declared.output.Output.{Output}
 use Rattle.up_model.specs.declared.output.Output.TheVariants as output
+use Rattle.up_model.specs.declared.request.Command.TheVariants.{Emit}
 use Rattle.up_model.specs.Replies.{answer_to}
 use Rattle.up_model.specs.Values.{Bytes}
 use Rattle.up_job.specs.declared.holder.Holder.{Holder}
@@ -14,3 +16,13 @@ reply_to (holder.Client id command) failed told = output.Reply id (answer_to com
 abbrev pub replies_to : List Holder → (failed : Bool) → Bytes → List Output
 replies_to [] failed told = []
 replies_to (its ∷ holders) failed told = reply_to its failed told ++ replies_to holders failed told
+
+-- what the client is answered that waits for an event
+abbrev pub waiter_replies : Option ℕ → (spoilt : Bool) → List Output
+waiter_replies None spoilt = []
+waiter_replies (Some id) spoilt = output.Reply id (answer_to Emit spoilt []) ∷ []
+
+-- and once that has finished
+abbrev pub finished_replies : Option Finished → List Output
+finished_replies None = []
+finished_replies (Some finished) = waiter_replies finished.waiter finished.spoilt

@@ -1,5 +1,5 @@
 -- What the request of a step acted on.
-use Rattle.std.specs.Prelude.{◌≡◌, ◌<◌, ◌==◌, if◌then◌else◌, ℕ, zero, suc, List, [], Option, None, Some, length}
+use Rattle.std.specs.Prelude.{◌≡◌, ◌<◌, ◌==◌, ◌&&◌, Bool, if◌then◌else◌, ℕ, zero, suc, List, [], Option, None, Some, length}
 use Rattle.up_job.specs.Lists.{nth}
 use Rattle.up_conf.specs.declared.job.JobDef.{JobDef}
 use Rattle.up_model.specs.Chronicle.{Chronicle}
@@ -12,17 +12,18 @@ use Rattle.up_book.specs.declared.step.ActedOn.{ActedOn}
 use Rattle.up_book.specs.declared.step.ActedOn.TheVariants.{Exists, Gone}
 use Rattle.up_job.specs.declared.instances.JobInstances.{JobInstances}
 use Rattle.up_job.specs.declared.instance.Instance.{Instance as Kept}
-use Rattle.up_book.specs.Keeps.{place_at}
+use Rattle.up_book.specs.Keys.{instance_place}
+use Rattle.up_model.specs.Configuration.{Configuration}
 use Rattle.up_book.specs.Views.{Places, view, kept_at}
 use Rattle.up_book.specs.Sending.{status_by}
 
 abbrev pub IsGone : ℕ → Chronicle → Type 0
 IsGone i c = (i < length c) × (count i (all_instances c) ≡ 0)
 
-abbrev pub OnMeans : List JobInstances → Chronicle → Option ActedOn → Type 0
-OnMeans jobs c None = request_instance c ≡ None
-OnMeans jobs c (Some (Exists key)) = (i : ℕ) × (request_instance c ≡ Some i) × (place_at jobs c key ≡ Some i)
-OnMeans jobs c (Some (Gone text)) = (i : ℕ) × (request_instance c ≡ Some i) × (status_of i c ≡ text) × IsGone i c
+abbrev pub OnMeans : Configuration → Chronicle → Option ActedOn → Type 0
+OnMeans config c None = request_instance c ≡ None
+OnMeans config c (Some (Exists key)) = (i : ℕ) × (request_instance c ≡ Some i) × (instance_place config c key ≡ Some i)
+OnMeans config c (Some (Gone text)) = (i : ℕ) × (request_instance c ≡ Some i) × (status_of i c ≡ text) × IsGone i c
 
 abbrev pub status_kept : Places → Option JobDef → Option Kept → Bytes
 status_kept places None kept = []
@@ -60,3 +61,12 @@ after_made job position key =
 abbrev pub after_left : (job position : ℕ) → InstanceKey → InstanceKey
 after_left job position key =
     if key.job == job then record { job = key.job; at = after_remove position key.at } else key
+
+abbrev pub same_key : InstanceKey → InstanceKey → Bool
+same_key key other = (key.job == other.job) && (key.at == other.at)
+
+-- what a request acted on, once the instance of a key has left, of which this is told
+abbrev pub on_left : InstanceKey → Bytes → Option ActedOn → Option ActedOn
+on_left key told None = None
+on_left key told (Some (Exists on)) = Some (if same_key on key then Gone told else Exists (after_left key.job key.at on))
+on_left key told (Some (Gone text)) = Some (Gone text)

@@ -1,5 +1,6 @@
 //! Offers of events to expressions, and what becomes of those that fire.
 ghost use Rattle.std.specs.Prelude.{◌≡◌, ◌++◌, ◌∷◌, ℕ, List, [], false, true, map, replicate, Some, IfOk, OnOk};
+ghost use Rattle.up_book.specs.Eventing.{SamePlaces};
 ghost use Rattle.up_book.specs.Hearing.{Fires, HasLeaves, Hears, trigger_at, trigger_in};
 ghost use Rattle.up_book.specs.Holding.{freed, all_changed, as_holders};
 ghost use Rattle.up_conf.specs.declared.job.JobDef.{JobDef as JobValue};
@@ -109,6 +110,7 @@ impl Past {
             → HasLeaves index.now key.job false job.now.stop_on → event_place self.old c id ≡ Some e
             → holds ≡ seen.holds job.now.stop_on
             (seen.seen config (entry.StopOn i) (entry.Offered (entry.StopOn i) e ∷ c))) }
+        ensures places { OnOk result (SamePlaces self.new.events self.old.events) }
     {
         let env = self.env_copy(alloc, key)?;
         let offer = self.offer_to_stop(alloc, index, key, job, id, &env)?;
@@ -176,6 +178,7 @@ impl Past {
             → HasLeaves index.now place true job.now.start_on → event_place self.old c id ≡ Some e
             → holds ≡ seen.holds job.now.start_on
             (seen.seen config (entry.StartOn job.now.name) (entry.Offered (entry.StartOn job.now.name) e ∷ c))) }
+        ensures places { OnOk result (SamePlaces self.new.events self.old.events) }
     {
         let offer = self.offer_to_start(alloc, index, place, job, id, env)?;
         hold_times(&mut self.events, id, offer.kept)?;
@@ -214,6 +217,7 @@ impl Past {
             → nth key.job config.jobs ≡ Some job.now
             → map (event_place self.new (entry.Fired (entry.StopOn i) ts ∷ c)) taken
             ≡ map Some (seen.taken job.now.stop_on (seen.seen config (entry.StopOn i) c))) }
+        ensures places { OnOk result (SamePlaces self.new.events self.old.events) }
     {
         let Firing { taken, kept } = self.fire_stop_of(alloc, key, job)?;
         free_ids(&mut self.events, kept.as_slice());
@@ -252,6 +256,7 @@ impl Past {
             → Forgets self.old config c → nth place config.jobs ≡ Some job.now
             → map (event_place self.new (entry.Fired (entry.StartOn job.now.name) ts ∷ c)) taken
             ≡ map Some (seen.taken job.now.start_on (seen.seen config (entry.StartOn job.now.name) c))) }
+        ensures places { OnOk result (SamePlaces self.new.events self.old.events) }
     {
         let Firing { taken, kept } = self.fire_start_of(alloc, place, job)?;
         free_ids(&mut self.events, kept.as_slice());

@@ -19,8 +19,10 @@ ghost use Rattle.up_model.specs.Readings as read;
 ghost use Rattle.up_event.specs.LiveEvents.{with_change, as_handled, named, without, outcome_of, AreDistinct};
 ghost use Rattle.up_event.specs.declared.live.LiveEvent.{LiveEvent as LiveEventValue};
 ghost use Rattle.up_model.specs.Held.{is_held};
-ghost use Rattle.up_book.specs.Eventing.{finished_at, number_of};
+ghost use Rattle.up_book.specs.Eventing.{SamePlaces, finished_at, number_of};
+ghost use Rattle.up_model.specs.declared.event_id.EventId.{EventId as EventIdValue};
 ghost use Rattle.up_book.specs.Keeps.{is_waiting, AreOlder};
+ghost use Rattle.up_book.specs.Keys.{SpeaksOf};
 ghost use Rattle.up_job.specs.InstanceLists.{new_instance};
 ghost use Rattle.up_job.specs.JobLists.{with_made, removed_at, position_at};
 ghost use Rattle.up_job.specs.declared.instance.Instance.{Instance as InstanceValue};
@@ -44,7 +46,7 @@ use up_event::{Events, Finished, TurnKind};
 use up_image::Table;
 use up_job::{Change, Holder, Instance, InstanceKey, Instances};
 use up_marks::Trigger;
-use up_model::{Event, EventId, Failure, Process, State};
+use up_model::{Event, EventId, Failure, Goal, Input, Process, State};
 use up_text::{Env, Items};
 
 /// What can still matter of the past.
@@ -167,8 +169,11 @@ impl Past {
 
     /// A turn takes an event up. Takes no memory.
     pub fn handle(&mut self, id: EventId)
-        ensures { (config : Configuration) (c : Chronicle) (e : ℕ) → Forgets self.old config c
+        ensures after { (config : Configuration) (c : Chronicle) (e : ℕ) → Forgets self.old config c
             → event_place self.old c id ≡ Some e → Forgets self.new config (entry.Handled e ∷ c) }
+        ensures events { (config : Configuration) (c : Chronicle) (e : ℕ) (k : EventIdValue) (j : ℕ)
+            → Forgets self.old config c → event_place self.old c id ≡ Some e → event_place self.old c k ≡ Some j
+            → event_place self.new (entry.Handled e ∷ c) k ≡ Some j }
     {
         take_up(&mut self.events, id);
     }
@@ -199,45 +204,107 @@ impl Past {
         Ok(())
     }
 
-    /// A turn is given. Takes no memory.
-    pub fn give_turn(&mut self)
-        ensures { (config : Configuration) (c : Chronicle) → Forgets self.old config c
-            → Forgets self.new config (entry.Given given_as.Turn ∷ c) }
-    {}
+    /// An event that tells that another was spoilt goes to the end of the queue.
+    pub fn tell(&mut self, event: Event) -> Result<(), AllocError>
+        ensures { OnOk result ((config : Configuration) (c : Chronicle) (spoilt : ℕ)
+            → Forgets self.old config c
+            → Forgets self.new config (entry.Queued (entry.Spoilt spoilt) event ∷ c)) }
+    {
+        let _ = self.events.push(event, None)?;
+        Ok(())
+    }
 
-    /// A reading of the clock is given. Takes no memory.
-    pub fn give_reading(&mut self, reading: u64)
-        ensures { (config : Configuration) (c : Chronicle) → Forgets self.old config c
+    /// An input is given; one of a process speaks of this instance, if it exists. Takes no memory.
+    pub fn given(&mut self, input: &Input, on: Option<InstanceKey>)
+        ensures after { (config : Configuration) (c : Chronicle) → Forgets self.old config c
+            → SpeaksOf config on input.now c → Forgets self.new config (entry.Given input.now ∷ c) }
+        ensures events { self.new.events ≡ self.old.events }
+    {
+        match input {
+            Input::Spawned { process, pid, .. } => self.spawned_if(on, *process, *pid),
+            Input::Refused { process, .. } => self.refused_if(on, *process),
+            Input::Ended { process, .. } => self.ended_if(on, *process),
+            Input::Clock(reading) => self.give_reading(*reading),
+            Input::Emit(_) => {}
+            Input::Request { .. } => {}
+            Input::Turn => {}
+        }
+    }
+
+    fn spawned_if(&mut self, on: Option<InstanceKey>, process: Process, pid: u32)
+        ensures after { (config : Configuration) (c : Chronicle) (who : WhoValue) → Forgets self.old config c
+            → SpeaksOf config on (given_as.Spawned who process pid) c
+            → Forgets self.new config (entry.Given (given_as.Spawned who process pid) ∷ c) }
+        ensures events { self.new.events ≡ self.old.events }
+    {
+        match on {
+            Some(key) => self.spawned(key, process, pid),
+            None => {}
+        }
+    }
+
+    fn refused_if(&mut self, on: Option<InstanceKey>, process: Process)
+        ensures after { (config : Configuration) (c : Chronicle) (who : WhoValue) → Forgets self.old config c
+            → SpeaksOf config on (given_as.Refused who process) c
+            → Forgets self.new config (entry.Given (given_as.Refused who process) ∷ c) }
+        ensures events { self.new.events ≡ self.old.events }
+    {
+        match on {
+            Some(key) => self.refused(key, process),
+            None => {}
+        }
+    }
+
+    fn ended_if(&mut self, on: Option<InstanceKey>, process: Process)
+        ensures after { (config : Configuration) (c : Chronicle) (who : WhoValue) (how : HowValue)
+            → Forgets self.old config c
+            → SpeaksOf config on (given_as.Ended who process how) c
+            → Forgets self.new config (entry.Given (given_as.Ended who process how) ∷ c) }
+        ensures events { self.new.events ≡ self.old.events }
+    {
+        match on {
+            Some(key) => self.ended(key, process),
+            None => {}
+        }
+    }
+
+    // A reading of the clock is given. Takes no memory.
+    fn give_reading(&mut self, reading: u64)
+        ensures after { (config : Configuration) (c : Chronicle) → Forgets self.old config c
             → Forgets self.new config (entry.Given (given_as.Clock reading) ∷ c) }
+        ensures events { self.new.events ≡ self.old.events }
     {
         self.reading = later_of(self.reading, reading);
     }
 
-    /// A process of an instance was spawned. Takes no memory.
-    pub fn spawned(&mut self, key: InstanceKey, process: Process, pid: u32)
-        ensures { (config : Configuration) (c : Chronicle) (i : ℕ) (who : WhoValue) → Forgets self.old config c
+    // A process of an instance was spawned. Takes no memory.
+    fn spawned(&mut self, key: InstanceKey, process: Process, pid: u32)
+        ensures after { (config : Configuration) (c : Chronicle) (i : ℕ) (who : WhoValue) → Forgets self.old config c
             → instance_place self.old c key ≡ Some i → instance_named who c ≡ Some i
             → Forgets self.new config (entry.Given (given_as.Spawned who process pid) ∷ c) }
+        ensures events { self.new.events ≡ self.old.events }
     {
         self.instances
             .change_at(key, Change::Answers(process, Some(pid)));
     }
 
-    /// The start of a process of an instance was refused. Takes no memory.
-    pub fn refused(&mut self, key: InstanceKey, process: Process)
-        ensures { (config : Configuration) (c : Chronicle) (i : ℕ) (who : WhoValue) → Forgets self.old config c
+    // The start of a process of an instance was refused. Takes no memory.
+    fn refused(&mut self, key: InstanceKey, process: Process)
+        ensures after { (config : Configuration) (c : Chronicle) (i : ℕ) (who : WhoValue) → Forgets self.old config c
             → instance_place self.old c key ≡ Some i → instance_named who c ≡ Some i
             → Forgets self.new config (entry.Given (given_as.Refused who process) ∷ c) }
+        ensures events { self.new.events ≡ self.old.events }
     {
         self.instances
             .change_at(key, Change::Answers(process, None));
     }
 
-    /// A process of an instance has ended. Takes no memory.
-    pub fn ended(&mut self, key: InstanceKey, process: Process)
-        ensures { (config : Configuration) (c : Chronicle) (i : ℕ) (who : WhoValue) (how : HowValue)
+    // A process of an instance has ended. Takes no memory.
+    fn ended(&mut self, key: InstanceKey, process: Process)
+        ensures after { (config : Configuration) (c : Chronicle) (i : ℕ) (who : WhoValue) (how : HowValue)
             → Forgets self.old config c → instance_place self.old c key ≡ Some i → instance_named who c ≡ Some i
             → Forgets self.new config (entry.Given (given_as.Ended who process how) ∷ c) }
+        ensures events { self.new.events ≡ self.old.events }
     {
         self.instances.change_at(key, Change::Loses(process));
     }
@@ -250,22 +317,24 @@ impl Past {
         ensures instances { (c : Chronicle) (i : ℕ) (k : InstanceKeyValue) → is_waiting state ≡ false
             → instance_place self.old c k ≡ Some i
             → instance_place self.new (entry.Entered i state ∷ c) k ≡ Some i }
+        ensures places { SamePlaces self.new.events self.old.events }
     {
         self.instances.change_at(key, Change::Enters(state));
     }
 
-    /// The goal of an instance becomes start, with the environment and the holders that go with it.
-    pub fn start(
+    // The goal of an instance becomes start, with the environment and the holders that go with it.
+    fn start(
         &mut self,
         key: InstanceKey,
         environment: Env,
         holders: Items<Holder>,
     ) -> Result<(), AllocError>
-        ensures { OnOk result ((config : Configuration) (c : Chronicle) (i : ℕ) (events : List ℕ)
+        ensures after { OnOk result ((config : Configuration) (c : Chronicle) (i : ℕ) (events : List ℕ)
             → Forgets self.old config c → instance_place self.old c key ≡ Some i
             → map (holding_of (event_place self.old c)) holders ≡ map (holding_at c) events
             → AreOlder (length c) events → AllLive self.old.events holders
             → Forgets self.new config (entry.Aimed i aim.Start environment events ∷ c)) }
+        ensures places { OnOk result (SamePlaces self.new.events self.old.events) }
     {
         hold_all(&mut self.events, holders.as_slice())?;
         free_held(&mut self.events, self.instances.at(key), false);
@@ -279,18 +348,19 @@ impl Past {
         Ok(())
     }
 
-    /// The goal of an instance becomes stop, with what that adds to the environment and the holders that go with it.
-    pub fn stop(
+    // The goal of an instance becomes stop, with what that adds to the environment and the holders that go with it.
+    fn stop(
         &mut self,
         key: InstanceKey,
         environment: Env,
         holders: Items<Holder>,
     ) -> Result<(), AllocError>
-        ensures { OnOk result ((config : Configuration) (c : Chronicle) (i : ℕ) (events : List ℕ)
+        ensures after { OnOk result ((config : Configuration) (c : Chronicle) (i : ℕ) (events : List ℕ)
             → Forgets self.old config c → instance_place self.old c key ≡ Some i
             → map (holding_of (event_place self.old c)) holders ≡ map (holding_at c) events
             → AreOlder (length c) events → AllLive self.old.events holders
             → Forgets self.new config (entry.Aimed i aim.Stop environment events ∷ c)) }
+        ensures places { OnOk result (SamePlaces self.new.events self.old.events) }
     {
         hold_all(&mut self.events, holders.as_slice())?;
         free_held(&mut self.events, self.instances.at(key), false);
@@ -301,6 +371,28 @@ impl Past {
                 holders,
             },
         );
+        Ok(())
+    }
+
+    /// The goal of an instance changes, with the environment and the holders that go with it.
+    pub fn aim(
+        &mut self,
+        key: InstanceKey,
+        goal: Goal,
+        environment: Env,
+        holders: Items<Holder>,
+    ) -> Result<(), AllocError>
+        ensures after { OnOk result ((config : Configuration) (c : Chronicle) (i : ℕ) (events : List ℕ)
+            → Forgets self.old config c → instance_place self.old c key ≡ Some i
+            → map (holding_of (event_place self.old c)) holders ≡ map (holding_at c) events
+            → AreOlder (length c) events → AllLive self.old.events holders
+            → Forgets self.new config (entry.Aimed i goal environment events ∷ c)) }
+        ensures places { OnOk result (SamePlaces self.new.events self.old.events) }
+    {
+        match goal {
+            Goal::Start => self.start(key, environment, holders)?,
+            Goal::Stop => self.stop(key, environment, holders)?,
+        }
         Ok(())
     }
 
@@ -329,9 +421,10 @@ impl Past {
 
     /// An instance lets its holders go. Takes no memory.
     pub fn let_go(&mut self, key: InstanceKey, none: Items<Holder>)
-        ensures { (config : Configuration) (c : Chronicle) (i : ℕ)
+        ensures after { (config : Configuration) (c : Chronicle) (i : ℕ)
             → Forgets self.old config c → instance_place self.old c key ≡ Some i → none ≡ []
             → Forgets self.new config (entry.Released i false ∷ c) }
+        ensures places { SamePlaces self.new.events self.old.events }
     {
         free_held(&mut self.events, self.instances.at(key), false);
         self.instances.change_at(key, Change::Releases(none));
@@ -366,6 +459,7 @@ impl Past {
             → Forgets self.new config (entry.Ordered i process ∷ c) }
         ensures instances { (c : Chronicle) (i : ℕ) (k : InstanceKeyValue) → instance_place self.old c k ≡ Some i
             → instance_place self.new (entry.Ordered i process ∷ c) k ≡ Some i }
+        ensures places { SamePlaces self.new.events self.old.events }
     {
         self.instances.change_at(key, Change::Orders(process));
     }
@@ -377,6 +471,7 @@ impl Past {
             → Forgets self.new config (entry.Signalled i signal false ∷ c) }
         ensures instances { (c : Chronicle) (i : ℕ) (k : InstanceKeyValue) → instance_place self.old c k ≡ Some i
             → instance_place self.new (entry.Signalled i signal false ∷ c) k ≡ Some i }
+        ensures places { SamePlaces self.new.events self.old.events }
     {
         self.instances
             .change_at(key, Change::Signals(Some(self.reading)));
@@ -416,6 +511,9 @@ impl Past {
         ensures instances { OnOk result ((c : Chronicle) (i : ℕ) (k : InstanceKeyValue)
             → instance_place self.old c k ≡ Some i
             → instance_place self.new (entry.Queued (entry.Entering i state) event ∷ c) k ≡ Some i) }
+        ensures events { OnOk result ((config : Configuration) (c : Chronicle) (i : ℕ) (k : EventIdValue) (j : ℕ)
+            → Forgets self.old config c → event_place self.old c k ≡ Some j
+            → event_place self.new (entry.Queued (entry.Entering i state) event ∷ c) k ≡ Some j) }
     {
         let id = self.events.push(event, None)?;
         if is_blocking(state) {
@@ -426,10 +524,16 @@ impl Past {
 
     /// An instance enters waiting with its last event, and is gone.
     pub fn leave(&mut self, alloc: Global, key: InstanceKey, event: Event) -> Result<(), AllocError>
-        ensures { OnOk result ((config : Configuration) (c : Chronicle) (i : ℕ)
+        ensures after { OnOk result ((config : Configuration) (c : Chronicle) (i : ℕ)
             → Forgets self.old config c → instance_place self.old c key ≡ Some i
             → Forgets self.new config
             (entry.Queued (entry.Entering i entered.Waiting) event ∷ entry.Entered i entered.Waiting ∷ c)) }
+        ensures events { OnOk result ((config : Configuration) (c : Chronicle) (i : ℕ) (k : EventIdValue) (j : ℕ)
+            → Forgets self.old config c → instance_place self.old c key ≡ Some i
+            → event_place self.old c k ≡ Some j
+            → event_place self.new
+            (entry.Queued (entry.Entering i entered.Waiting) event ∷ entry.Entered i entered.Waiting ∷ c) k
+            ≡ Some j) }
     {
         self.bury(alloc, key)?;
         let _ = self.events.push(event, None)?;
@@ -469,6 +573,9 @@ impl Past {
         ensures made { IfOk result (λ key. (config : Configuration) (c : Chronicle)
             → Forgets self.old config c → nth place config.jobs ≡ Some job.now
             → instance_place self.new (entry.Made job.now.name name.now ∷ c) key ≡ Some (length c)) }
+        ensures key { IfOk result (λ key. key
+            ≡ record { job = place; at = position_at name.now place self.old.instances }) }
+        ensures places { OnOk result (SamePlaces self.new.events self.old.events) }
     {
         let stop_on = Trigger::new(alloc, &job.stop_on)?;
         let at = self.add(place, name, job.limit, stop_on)?;

@@ -1,10 +1,10 @@
 //! What is known of an instance by what is kept of it. None of these calls takes memory.
-ghost use Rattle.std.specs.Prelude.{◌≡◌, ℕ, [], Some, is_some, length, option_map};
+ghost use Rattle.std.specs.Prelude.{◌≡◌, ℕ, [], Some, is_some, length, option_map, IfSome};
 ghost use Rattle.std.specs.Option.{option_copied, option_map_or};
 ghost use Rattle.up_book.specs.Regular.{called};
 ghost use Rattle.up_model.specs.Held as held;
 ghost use Rattle.up_model.specs.Instances.{Instance as InstanceValue, instances_of, instance_named};
-ghost use Rattle.up_book.specs.Keyed.{instance_at};
+ghost use Rattle.up_book.specs.Keys.{instance_at};
 ghost use Rattle.up_book.specs.Views.{bindings_of};
 ghost use Rattle.up_conf.specs.declared.job.JobDef.{JobDef as JobValue};
 ghost use Rattle.up_job.specs.Changes as spec;
@@ -175,9 +175,10 @@ impl Past {
 
     /// The key of an instance of the job at a place of the table, by its name.
     pub fn find(&self, job: usize, name: &str) -> Option<InstanceKey>
-        ensures { (config : Configuration) (c : Chronicle) (its : JobValue) → Forgets self.now config c
+        ensures place { (config : Configuration) (c : Chronicle) (its : JobValue) → Forgets self.now config c
             → nth job config.jobs ≡ Some its
             → option_map (instance_place self.now c) result ≡ option_map Some (instance_named (called its.name name.now) c) }
+        ensures job { IfSome result (λ key. key.job ≡ job) }
     {
         self.instances.position(job, name)
     }

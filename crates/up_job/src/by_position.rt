@@ -4,7 +4,7 @@ ghost use Rattle.std.specs.Option.{option_copied};
 ghost use Rattle.std.specs.Borrow.{sem};
 ghost use Rattle.up_job.specs.Changes.{changed};
 ghost use Rattle.up_job.specs.InstanceLists.{max_instances, name_of, named, new_instance, refusal};
-ghost use Rattle.up_job.specs.JobLists.{changed_at, changed_in, instance_at, instances_at, key_of, position_at, removed_at, removed_in, with_made};
+ghost use Rattle.up_job.specs.JobLists.{changed_at, changed_in, instance_at, instances_at, job_of, key_of, position_at, removed_at, removed_in, with_made};
 ghost use Rattle.up_job.specs.Lending.{stop_on_of, LendsStopOnAt};
 ghost use Rattle.up_job.specs.Lists.{nth, with_at, position_in};
 ghost use Rattle.up_job.specs.Named as by_name;
@@ -18,6 +18,7 @@ use crate::instances::{Instances, JobInstances};
 use up_marks::Trigger;
 use up_model::EventId;
 use up_stanza::Limit;
+use up_text::Name;
 
 fn at(jobs: &[JobInstances], key: InstanceKey) -> Option<&Instance>
     ensures { option_copied result ≡ instance_at key jobs.now }
@@ -126,6 +127,16 @@ impl Instances {
         match self.jobs.get(job) {
             Some(job) => job.instances.len(),
             None => 0,
+        }
+    }
+
+    /// The name of a job.
+    pub fn job_name(&self, job: usize) -> Option<&Name>
+        ensures { option_copied result ≡ option_map job_of (nth job self.now) }
+    {
+        match self.jobs.get(job) {
+            Some(job) => Some(&job.name),
+            None => None,
         }
     }
 

@@ -3,6 +3,7 @@ use Rattle.up_job.specs.declared.change.Change.TheVariants as change
 use Rattle.up_model.specs.Chronicle.{Queued, Entering}
 use Rattle.up_book.proofs.Announcing.{forgets-emitted, forgets-blocked}
 use Rattle.up_book.proofs.Entering as entry
+use Rattle.up_book.proofs.Announcing.{pushed-so}
 use Rattle.up_book.proofs.past.Past.announce.Goals as goal
 
 pub returns-then-is_blocking-clause-after : goal.returns-then-is_blocking-clause-after
@@ -17,3 +18,9 @@ returns-then-is_blocking-clause-instances c c' i k found =
 pub returns-else-is_blocking-clause-after : goal.returns-else-is_blocking-clause-after
 returns-else-is_blocking-clause-after c config c' i f found =
     forgets-emitted c.args.self.now _ config c' i c.args.state c.args.event c.in_ok-id.id f (sym c.is_blocking.ensures ∙ c.if-is_blocking.false) c.in_ok-id.ensures.fresh c.in_ok-id.ensures.pushed refl refl refl
+
+pub returns-then-is_blocking-clause-events : goal.returns-then-is_blocking-clause-events
+returns-then-is_blocking-clause-events c config c' i k j f found = pushed-so c.args.self.now config c' _ c.args.event _ _ k j f c.in_ok-id.ensures.fresh c.in_ok-id.ensures.pushed found
+
+pub returns-else-is_blocking-clause-events : goal.returns-else-is_blocking-clause-events
+returns-else-is_blocking-clause-events c config c' i k j f found = pushed-so c.args.self.now config c' _ c.args.event _ _ k j f c.in_ok-id.ensures.fresh c.in_ok-id.ensures.pushed found

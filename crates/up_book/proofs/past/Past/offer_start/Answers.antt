@@ -8,6 +8,8 @@ use Rattle.up_model.specs.Values.{Bytes}
 use Rattle.up_book.specs.Hearing.{trigger_in}
 use Rattle.up_book.specs.Holding.{all_changed, as_holders}
 use Rattle.up_book.proofs.Seeing.{StartOffer, start-offered, start-true}
+use Rattle.up_book.specs.Eventing.{place_of}
+use Rattle.up_book.proofs.Holds.{all-places, mild-hold}
 use Rattle.up_book.proofs.past.Past.offer_start.Goals as goal
 
 pub returns-clause-after : goal.returns-clause-after
@@ -29,3 +31,8 @@ returns-clause-holds c config c' e f in_jobs in_force leaves placed =
     let trigger = trigger_in place c.offer_to_start.new.self.starts.items in
     let o : StartOffer book place c.args.job.now c.args.id c.args.env.now trigger nodes c.in_ok-offer.offer = record { hears = c.in_ok-offer.ensures.hears; leaves = leaves } in
     start-true book config c' place e c.args.job.now c.args.id c.args.env.now trigger nodes c.in_ok-offer.offer f in_jobs placed in_force o
+
+pub returns-clause-places : goal.returns-clause-places
+returns-clause-places c lives id =
+    ap (λ events. place_of events lives id) c.in_ok-hold_times.ensures ∙ all-places with_hold (as_holders (replicate c.in_ok-offer.offer.kept c.args.id)) c.offer_to_start.new.self.events lives id mild-hold
+    ∙ ap (λ events. place_of events lives id) c.in_ok-offer.ensures.events

@@ -8,6 +8,8 @@ use Rattle.up_book.specs.declared.past.Past.{Past}
 use Rattle.up_book.specs.Hearing.{trigger_at}
 use Rattle.up_book.specs.Holding.{all_changed, as_holders}
 use Rattle.up_book.proofs.Seeing.{StopOffer, stop-offered, stop-true}
+use Rattle.up_book.specs.Eventing.{place_of}
+use Rattle.up_book.proofs.Holds.{all-places, mild-hold}
 use Rattle.up_book.proofs.past.Past.offer_stop.Goals as goal
 
 pub returns-clause-after : goal.returns-clause-after
@@ -30,3 +32,8 @@ returns-clause-holds c config c' i e f found in_jobs leaves placed =
     let trigger = trigger_at key c.offer_to_stop.new.self.instances in
     let o : StopOffer book key c.args.job.now c.args.id c.in_ok-env.env trigger nodes c.in_ok-offer.offer = record { hears = c.in_ok-offer.ensures.hears; leaves = leaves } in
     stop-true book config c' key i e c.args.job.now c.args.id c.in_ok-env.env trigger nodes c.in_ok-offer.offer f found in_jobs placed (c.in_ok-env.ensures config c' i f found) o
+
+pub returns-clause-places : goal.returns-clause-places
+returns-clause-places c lives id =
+    ap (λ events. place_of events lives id) c.in_ok-hold_times.ensures ∙ all-places with_hold (as_holders (replicate c.in_ok-offer.offer.kept c.args.id)) c.offer_to_stop.new.self.events lives id mild-hold
+    ∙ ap (λ (p : Past). place_of p.events lives id) c.in_ok-offer.ensures.only

@@ -1,0 +1,13 @@
+use Rattle.std.proofs.Common.{◌∙◌, sym, ap, refl, ◌∷◌}
+use Rattle.up_model.specs.Chronicle.{Given}
+use Rattle.up_model.specs.Queue.{queue}
+use Rattle.up_book.specs.Eventing.{place_of}
+use Rattle.up_book.proofs.Ledgers.{stood}
+use Rattle.up_book.proofs.ledger.LedgerBook.given.Goals as goal
+
+pub returns-clause-after : goal.returns-clause-after
+returns-clause-after c config c' s speaks = stood _ _ config _ (c.given.ensures.after config c' s.past speaks) s.index
+    (c.new.ensures config c' s.past.lives.older)
+
+pub returns-clause-events : goal.returns-clause-events
+returns-clause-events c config c' k j s found = ap (λ events. place_of events (queue c') k) c.given.ensures.events ∙ found

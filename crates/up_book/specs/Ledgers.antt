@@ -1,0 +1,32 @@
+-- What a ledger stands for.
+use Rattle.std.specs.Prelude.{◌≡◌, ℕ, true, false, List, [], None, Some, ⊤}
+use Rattle.up_book.specs.Hearing.{HasLeaves}
+use Rattle.up_book.specs.Keys.{Mode, Resting, Stepping}
+use Rattle.up_book.specs.Standing.{Forgets}
+use Rattle.up_book.specs.Steps.{IsStep}
+use Rattle.up_book.specs.declared.ledger.Ledger.{Ledger}
+use Rattle.up_book.specs.declared.step.Step.{Step}
+use Rattle.up_conf.specs.declared.job.JobDef.{JobDef}
+use Rattle.up_image.specs.declared.index.Place.{Place}
+use Rattle.up_job.specs.Lists.{nth}
+use Rattle.up_model.specs.Chronicle.{Chronicle}
+use Rattle.up_model.specs.Configuration.{Configuration, job_named}
+use Rattle.up_model.specs.Instances.{instances_of}
+use Rattle.up_model.specs.Values.{Bytes}
+
+-- an index has the leaves of each of these jobs' expressions
+pub record HasIndex (index : List Place) (jobs : List JobDef) : Type 0 where
+  pub stops : (n : ℕ) (job : JobDef) → nth n jobs ≡ Some job → HasLeaves index n false job.stop_on
+  pub starts : (n : ℕ) (job : JobDef) → nth n jobs ≡ Some job → HasLeaves index n true job.start_on
+
+-- what a step has asked for is known while it isn't over
+abbrev pub IsStepIn : Mode → Step → Configuration → Chronicle → Type 0
+IsStepIn Resting step config c = ⊤
+IsStepIn Stepping step config c = IsStep step config c
+
+pub record Stands (ledger : Ledger) (mode : Mode) (config : Configuration) (c : Chronicle) : Type 0 where
+  pub past : Forgets ledger.past config c
+  pub index : HasIndex ledger.index config.jobs
+  pub step : IsStepIn mode ledger.step config c
+  -- no job but those of the table has instances
+  pub known : (job : Bytes) → job_named job config.jobs ≡ None → instances_of job c ≡ []

@@ -1,0 +1,465 @@
+//! What an engine keeps of the past, whatever that is.
+ghost use Rattle.std.specs.Prelude.{◌≡◌, ◌≤◌, ℕ, true, false, List, ◌∷◌, ◌++◌, [], map, length, Option, None, Some, is_some, option_map, OnOk, IfOk, IfSome};
+ghost use Rattle.std.specs.Option.{option_copied, option_map_or};
+ghost use Rattle.up_book.specs.declared.holders.Holders.{Holders as HoldersValue};
+ghost use Rattle.up_book.specs.Keeps.{is_waiting};
+ghost use Rattle.up_book.specs.Keys.{Mode, Resting, Stepping, SpeaksOf, held_as, request_place, job_at, name_at, instance_at, instance_place};
+ghost use Rattle.up_book.specs.Regular.{called};
+ghost use Rattle.up_book.specs.Turning.{turn_at};
+ghost use Rattle.up_conf.specs.declared.job.JobDef.{JobDef as JobValue};
+ghost use Rattle.up_model.specs.declared.event_id.EventId.{EventId as EventIdValue};
+ghost use Rattle.up_model.specs.declared.input.Input.{Input as InputValue};
+ghost use Rattle.up_model.specs.declared.state.Goal.TheVariants.{Stop as goal_stop};
+ghost use Rattle.up_model.specs.declared.state.State.TheVariants as entered;
+ghost use Rattle.up_model.specs.Chronicle.{Chronicle};
+ghost use Rattle.up_model.specs.Chronicle as entry;
+ghost use Rattle.up_model.specs.Clock as clock;
+ghost use Rattle.up_model.specs.Configuration.{Configuration, job_named};
+ghost use Rattle.up_model.specs.Environments.{env_of_job};
+ghost use Rattle.up_model.specs.Due.{turn_event, telling};
+ghost use Rattle.up_model.specs.Held as held;
+ghost use Rattle.up_model.specs.Instances.{Instance, instances_of, instance_named};
+ghost use Rattle.up_model.specs.Outputs.{outputs_of};
+ghost use Rattle.up_model.specs.Queue as queue;
+ghost use Rattle.up_model.specs.Readings as read;
+ghost use Rattle.up_model.specs.Replies as replies;
+ghost use Rattle.up_model.specs.Seen as seen;
+ghost use Rattle.up_model.specs.Values.{Bytes};
+ghost use Rattle.up_text.specs.Scripts.{is_filled};
+
+use crate::holders::Holders;
+use std::alloc::AllocError;
+use up_conf::{JobDef, Limit};
+use up_event::TurnKind;
+use up_job::InstanceKey;
+use up_model::{Answer, Event, EventId, Failure, Goal, Input, Output, Process, State};
+use up_text::{Env, Items, Text};
+
+/// What an engine keeps of the past: what it must still know, and what a step asks for. An engine takes an input in by `given`, then
+/// tells what comes of it, entry by entry, and ends the step by `rest`.
+///
+/// A job is named by its index in the table, and an instance by its index among those of its job, in byte order of their names: so `make`
+/// and `leave` change which instance a key stands for.
+pub trait Book: Drop {
+    ghost stands: { Self → Mode → Configuration → Chronicle → Type 0 };
+
+    // where the event of a key was queued
+    ghost event_place: { Self → Chronicle → EventIdValue → Option ℕ };
+
+    fn goal(&self, key: InstanceKey) -> Goal
+        ensures { (mode : Mode) (config : Configuration) (c : Chronicle) (i : ℕ)
+            → stands self.now mode config c
+            → instance_place config c key ≡ Some i → result ≡ read.goal i c };
+
+    fn state_of(&self, key: InstanceKey) -> State
+        ensures { (mode : Mode) (config : Configuration) (c : Chronicle) (i : ℕ)
+            → stands self.now mode config c
+            → instance_place config c key ≡ Some i → result ≡ read.state_of i c };
+
+    /// Whether a restart of an instance was taken since it entered its state.
+    fn was_restarted(&self, key: InstanceKey) -> bool
+        ensures { (mode : Mode) (config : Configuration) (c : Chronicle) (i : ℕ)
+            → stands self.now mode config c
+            → instance_place config c key ≡ Some i → result ≡ read.was_restarted i c };
+
+    /// What clients read of an instance.
+    fn status_of(&self, key: InstanceKey) -> Result<Text, AllocError>
+        ensures { IfOk result (λ text. (mode : Mode) (config : Configuration) (c : Chronicle) (i : ℕ)
+            → stands self.now mode config c
+            → instance_place config c key ≡ Some i → text ≡ replies.status_of i c) };
+
+    /// What the clock reads.
+    fn now(&self) -> u64
+        ensures { (mode : Mode) (config : Configuration) (c : Chronicle) → stands self.now mode config c
+            → result ≡ clock.now c };
+
+    /// Whether the limit of its job allows one respawn more of an instance (init(5), `respawn limit`).
+    fn may_respawn(&self, key: InstanceKey, job: &JobDef) -> bool
+        ensures { (mode : Mode) (config : Configuration) (c : Chronicle) (i : ℕ)
+            → stands self.now mode config c
+            → instance_place config c key ≡ Some i → job_at config key.job ≡ Some job.now
+            → result ≡ clock.may_respawn job.now.limit i c };
+
+    /// What the clock read when main was sent its signal, until the timer has sent KILL.
+    fn kill_moment(&self, key: InstanceKey) -> Option<u64>
+        ensures { (mode : Mode) (config : Configuration) (c : Chronicle) (i : ℕ)
+            → stands self.now mode config c
+            → instance_place config c key ≡ Some i → result ≡ clock.kill_moment i c };
+
+    /// The environment in force, if the instance has one.
+    fn env(&self, key: InstanceKey) -> Option<&Env>
+        ensures { (mode : Mode) (config : Configuration) (c : Chronicle) (i : ℕ)
+            → stands self.now mode config c
+            → instance_place config c key ≡ Some i
+            → option_map_or (λ env. env.now) result [] ≡ read.env i c };
+
+    /// Why an instance failed since it entered starting last.
+    fn failure(&self, key: InstanceKey) -> Option<Failure>
+        ensures { (mode : Mode) (config : Configuration) (c : Chronicle) (i : ℕ)
+            → stands self.now mode config c
+            → instance_place config c key ≡ Some i → result ≡ read.failure i c };
+
+    /// Whether an instance waits for its own event.
+    fn is_blocked(&self, key: InstanceKey) -> bool
+        ensures { (mode : Mode) (config : Configuration) (c : Chronicle) (i : ℕ)
+            → stands self.now mode config c
+            → instance_place config c key ≡ Some i → result ≡ is_some (read.blocker i c) };
+
+    /// Whether a process was ordered and not answered since.
+    fn awaits(&self, key: InstanceKey, process: Process) -> bool
+        ensures { (mode : Mode) (config : Configuration) (c : Chronicle) (i : ℕ)
+            → stands self.now mode config c
+            → instance_place config c key ≡ Some i → result ≡ read.is_awaited i process c };
+
+    /// Whether a process lives.
+    fn lives(&self, key: InstanceKey, process: Process) -> bool
+        ensures { (mode : Mode) (config : Configuration) (c : Chronicle) (i : ℕ)
+            → stands self.now mode config c
+            → instance_place config c key ≡ Some i → result ≡ read.lives i process c };
+
+    /// How many instances a job has.
+    fn count(&self, job: usize) -> usize
+        ensures { (mode : Mode) (config : Configuration) (c : Chronicle) (its : Bytes)
+            → stands self.now mode config c
+            → name_at config job ≡ Some its → result ≡ length (instances_of its c) };
+
+    /// The name of an instance.
+    fn name(&self, key: InstanceKey) -> &str
+        ensures { (mode : Mode) (config : Configuration) (c : Chronicle) (its : Instance)
+            → stands self.now mode config c
+            → instance_at config c key ≡ Some its → result.now ≡ its.name };
+
+    /// The instance of a job that has a name.
+    fn find(&self, job: usize, name: &str) -> Option<InstanceKey>
+        ensures place { (mode : Mode) (config : Configuration) (c : Chronicle) (its : Bytes)
+            → stands self.now mode config c → name_at config job ≡ Some its
+            → option_map (instance_place config c) result
+            ≡ option_map Some (instance_named (called its name.now) c) }
+        ensures job { IfSome result (λ key. key.job ≡ job) };
+
+    /// An event that hasn't finished.
+    fn event_at(&self, key: EventId) -> Option<&Event>
+        ensures { (mode : Mode) (config : Configuration) (c : Chronicle) (e : ℕ)
+            → stands self.now mode config c
+            → event_place self.now c key ≡ Some e → option_copied result ≡ read.event_at e c };
+
+    /// Whether an instance that held an event let it go as failed.
+    fn is_spoilt(&self, key: EventId) -> bool
+        ensures { (mode : Mode) (config : Configuration) (c : Chronicle) (e : ℕ)
+            → stands self.now mode config c
+            → event_place self.now c key ≡ Some e → result ≡ held.is_spoilt e c };
+
+    /// How many events haven't finished.
+    fn live_events(&self) -> usize
+        ensures { (mode : Mode) (config : Configuration) (c : Chronicle) → stands self.now mode config c
+            → result ≡ length (queue.queue c) };
+
+    /// What a turn would do with which event, between two steps.
+    fn turn(&self) -> Option<(EventId, TurnKind)>
+        ensures { (config : Configuration) (c : Chronicle) → stands self.now Resting config c
+            → turn_at (event_place self.now c) result
+            ≡ option_map Some (turn_event config (queue.queue c) c) };
+
+    /// A step begins with an input; one of a process speaks of this instance, if it exists. Takes no memory.
+    fn given(&mut self, input: &Input, on: Option<InstanceKey>)
+        ensures after { (config : Configuration) (c : Chronicle)
+            → stands self.old Resting config c → SpeaksOf config on input.now c
+            → stands self.new Stepping config (entry.Given input.now ∷ c) }
+        ensures events { (config : Configuration) (c : Chronicle) (k : EventIdValue) (j : ℕ)
+            → stands self.old Resting config c
+            → event_place self.old c k ≡ Some j → event_place self.new (entry.Given input.now ∷ c) k ≡ Some j };
+
+    /// The input was an event from outside: it goes to the end of the queue.
+    fn emit(&mut self, event: Event) -> Result<(), AllocError>
+        ensures { OnOk result ((config : Configuration) (c : Chronicle) (input : InputValue)
+            → stands self.old Stepping config (entry.Given input ∷ c)
+            → stands self.new Stepping config
+            (entry.Queued (entry.Outside (length c)) event ∷ entry.Given input ∷ c)) };
+
+    /// The input was a request: it is answered.
+    fn reply(&mut self, answer: Answer) -> Result<(), AllocError>
+        ensures { OnOk result ((config : Configuration) (c : Chronicle) (input : InputValue)
+            → stands self.old Stepping config (entry.Given input ∷ c)
+            → stands self.new Stepping config (entry.Replied (length c) answer ∷ entry.Given input ∷ c)) };
+
+    /// A turn takes an event up.
+    fn handle(&mut self, key: EventId) -> Result<(), AllocError>
+        ensures after { OnOk result ((config : Configuration) (c : Chronicle) (e : ℕ)
+            → stands self.old Stepping config c
+            → event_place self.old c key ≡ Some e → stands self.new Stepping config (entry.Handled e ∷ c)) }
+        ensures events { OnOk result ((config : Configuration) (c : Chronicle) (e : ℕ) (k : EventIdValue) (j : ℕ)
+            → stands self.old Stepping config c
+            → event_place self.old c key ≡ Some e
+            → event_place self.old c k ≡ Some j → event_place self.new (entry.Handled e ∷ c) k ≡ Some j) };
+
+    /// An event that nobody holds leaves the queue, and the client that waits for it is answered; an event that tells that it was spoilt
+    /// goes to the end, if there is one.
+    fn finish(&mut self, key: EventId, told: Option<Event>) -> Result<(), AllocError>
+        ensures { OnOk result ((config : Configuration) (c : Chronicle) (e : ℕ)
+            → stands self.old Stepping config c
+            → event_place self.old c key ≡ Some e → held.is_held config e c ≡ false
+            → stands self.new Stepping config
+            (telling e told ++ (replies.answering_waiter (replies.waiter e c) (held.is_spoilt e c)
+            ++ entry.Finished e ∷ c))) };
+
+    /// An instance enters a state other than waiting.
+    fn enter(&mut self, key: InstanceKey, state: State) -> Result<(), AllocError>
+        ensures after { OnOk result ((config : Configuration) (c : Chronicle) (i : ℕ)
+            → stands self.old Stepping config c
+            → instance_place config c key ≡ Some i → is_waiting state ≡ false
+            → stands self.new Stepping config (entry.Entered i state ∷ c)) }
+        ensures events { OnOk result ((config : Configuration) (c : Chronicle) (i : ℕ) (k : EventIdValue) (j : ℕ)
+            → stands self.old Stepping config c
+            → instance_place config c key ≡ Some i → is_waiting state ≡ false
+            → event_place self.old c k ≡ Some j → event_place self.new (entry.Entered i state ∷ c) k ≡ Some j) };
+
+    /// An instance enters waiting, with its last event, lets its holders go, and is gone.
+    fn leave(&mut self, key: InstanceKey, event: Event) -> Result<(), AllocError>
+        ensures after { OnOk result ((config : Configuration) (c : Chronicle) (i : ℕ)
+            → stands self.old Stepping config c
+            → instance_place config c key ≡ Some i
+            → stands self.new Stepping config
+            (replies.releasing i false (entry.Queued (entry.Entering i entered.Waiting) event
+            ∷ entry.Entered i entered.Waiting ∷ c)
+            ++ entry.Queued (entry.Entering i entered.Waiting) event ∷ entry.Entered i entered.Waiting
+            ∷ c)) }
+        ensures events { OnOk result ((config : Configuration) (c : Chronicle) (i : ℕ) (k : EventIdValue) (j : ℕ)
+            → stands self.old Stepping config c
+            → instance_place config c key ≡ Some i
+            → event_place self.old c k ≡ Some j → event_place self.new (replies.releasing i false (entry.Queued (entry.Entering i entered.Waiting) event
+            ∷ entry.Entered i entered.Waiting ∷ c)
+            ++ entry.Queued (entry.Entering i entered.Waiting) event ∷ entry.Entered i entered.Waiting ∷ c) k ≡ Some j) };
+
+    /// A process of an instance of a job is to be started.
+    fn order(&mut self, job: &JobDef, key: InstanceKey, process: Process) -> Result<(), AllocError>
+        ensures after { OnOk result ((config : Configuration) (c : Chronicle) (i : ℕ)
+            → stands self.old Stepping config c
+            → instance_place config c key ≡ Some i → job_at config key.job ≡ Some job.now
+            → stands self.new Stepping config (entry.Ordered i process ∷ c)) }
+        ensures events { OnOk result ((config : Configuration) (c : Chronicle) (i : ℕ) (k : EventIdValue) (j : ℕ)
+            → stands self.old Stepping config c
+            → instance_place config c key ≡ Some i → job_at config key.job ≡ Some job.now
+            → event_place self.old c k ≡ Some j → event_place self.new (entry.Ordered i process ∷ c) k ≡ Some j) };
+
+    /// An instance emits an event on entering a state.
+    fn announce(&mut self, key: InstanceKey, state: State, event: Event) -> Result<(), AllocError>
+        ensures after { OnOk result ((config : Configuration) (c : Chronicle) (i : ℕ)
+            → stands self.old Stepping config c
+            → instance_place config c key ≡ Some i
+            → stands self.new Stepping config (entry.Queued (entry.Entering i state) event ∷ c)) }
+        ensures events { OnOk result ((config : Configuration) (c : Chronicle) (i : ℕ) (k : EventIdValue) (j : ℕ)
+            → stands self.old Stepping config c
+            → instance_place config c key ≡ Some i
+            → event_place self.old c k ≡ Some j → event_place self.new (entry.Queued (entry.Entering i state) event ∷ c) k ≡ Some j) };
+
+    /// Main of an instance is sent a signal.
+    fn signal(&mut self, key: InstanceKey, signal: u8) -> Result<(), AllocError>
+        ensures after { OnOk result ((config : Configuration) (c : Chronicle) (i : ℕ)
+            → stands self.old Stepping config c
+            → instance_place config c key ≡ Some i
+            → stands self.new Stepping config (entry.Signalled i signal false ∷ c)) }
+        ensures events { OnOk result ((config : Configuration) (c : Chronicle) (i : ℕ) (k : EventIdValue) (j : ℕ)
+            → stands self.old Stepping config c
+            → instance_place config c key ≡ Some i
+            → event_place self.old c k ≡ Some j → event_place self.new (entry.Signalled i signal false ∷ c) k ≡ Some j) };
+
+    /// Main of an instance is sent KILL by the timer.
+    fn kill(&mut self, key: InstanceKey) -> Result<(), AllocError>
+        ensures { OnOk result ((config : Configuration) (c : Chronicle) (i : ℕ)
+            → stands self.old Stepping config c
+            → instance_place config c key ≡ Some i
+            → stands self.new Stepping config (entry.Signalled i clock.kill true ∷ c)) };
+
+    /// Main of an instance is respawned.
+    fn respawn(&mut self, key: InstanceKey) -> Result<(), AllocError>
+        ensures { OnOk result ((config : Configuration) (c : Chronicle) (i : ℕ)
+            → stands self.old Stepping config c
+            → instance_place config c key ≡ Some i
+            → stands self.new Stepping config (entry.Respawned i (clock.now c) ∷ c)) };
+
+    /// An instance lets its holders go; clients among them are answered.
+    fn release(&mut self, key: InstanceKey) -> Result<(), AllocError>
+        ensures after { OnOk result ((config : Configuration) (c : Chronicle) (i : ℕ)
+            → stands self.old Stepping config c
+            → instance_place config c key ≡ Some i
+            → stands self.new Stepping config (replies.releasing i false c ++ c)) }
+        ensures holders { OnOk result ((config : Configuration) (c : Chronicle) (i : ℕ)
+            (its : HoldersValue) (places : List ℕ)
+            → stands self.old Stepping config c → instance_place config c key ≡ Some i
+            → held_as (event_place self.old c) (request_place c) its ≡ map Some places
+            → held_as (event_place self.new (replies.releasing i false c ++ c))
+            (request_place (replies.releasing i false c ++ c)) its ≡ map Some places) }
+        ensures events { OnOk result ((config : Configuration) (c : Chronicle) (i : ℕ) (k : EventIdValue) (j : ℕ)
+            → stands self.old Stepping config c
+            → instance_place config c key ≡ Some i
+            → event_place self.old c k ≡ Some j → event_place self.new (replies.releasing i false c ++ c) k ≡ Some j) };
+
+    /// An instance's goal changes, with the environment and the holders that go with it.
+    fn aim(
+        &mut self,
+        key: InstanceKey,
+        goal: Goal,
+        environment: Env,
+        holders: Holders,
+    ) -> Result<(), AllocError>
+        ensures after { OnOk result ((config : Configuration) (c : Chronicle) (i : ℕ) (places : List ℕ)
+            → stands self.old Stepping config c → instance_place config c key ≡ Some i
+            → held_as (event_place self.old c) (request_place c) holders ≡ map Some places
+            → stands self.new Stepping config (entry.Aimed i goal environment places ∷ c)) }
+        ensures events { OnOk result ((config : Configuration) (c : Chronicle) (i : ℕ) (places : List ℕ) (k : EventIdValue) (j : ℕ)
+            → stands self.old Stepping config c
+            → instance_place config c key ≡ Some i
+            → held_as (event_place self.old c) (request_place c) holders ≡ map Some places
+            → event_place self.old c k ≡ Some j → event_place self.new (entry.Aimed i goal environment places ∷ c) k ≡ Some j) };
+
+    /// A restart of an instance is taken, with these holders.
+    fn restart(&mut self, key: InstanceKey, holders: Holders) -> Result<(), AllocError>
+        ensures { OnOk result ((config : Configuration) (c : Chronicle) (i : ℕ) (places : List ℕ)
+            → stands self.old Stepping config c → instance_place config c key ≡ Some i
+            → held_as (event_place self.old c) (request_place c) holders ≡ map Some places
+            → stands self.new Stepping config (entry.Restarted i places ∷ c)) };
+
+    /// An instance's goal becomes stop by itself; its holders stay.
+    fn end_itself(&mut self, key: InstanceKey) -> Result<(), AllocError>
+        ensures { OnOk result ((config : Configuration) (c : Chronicle) (i : ℕ)
+            → stands self.old Stepping config c
+            → instance_place config c key ≡ Some i
+            → stands self.new Stepping config (entry.Aimed i goal_stop [] (read.holders i c) ∷ c)) };
+
+    /// An instance fails: that is kept, and it lets its holders go as failed; clients among them are answered.
+    fn fail(&mut self, key: InstanceKey, failure: Failure) -> Result<(), AllocError>
+        ensures { OnOk result ((config : Configuration) (c : Chronicle) (i : ℕ)
+            → stands self.old Stepping config c
+            → instance_place config c key ≡ Some i
+            → stands self.new Stepping config
+            (replies.releasing i true (entry.Failed i failure ∷ c) ++ entry.Failed i failure ∷ c)) };
+
+    /// The job at an index of the table gets an instance of this name, which it didn't have.
+    fn make(&mut self, index: usize, job: &JobDef, name: &str) -> Result<InstanceKey, AllocError>
+        ensures after { OnOk result ((config : Configuration) (c : Chronicle)
+            → stands self.old Stepping config c → job_at config index ≡ Some job.now
+            → instance_named (called job.now.name name.now) c ≡ None
+            → stands self.new Stepping config (entry.Made job.now.name name.now ∷ c)) }
+        ensures made { IfOk result (λ key. (config : Configuration) (c : Chronicle)
+            → stands self.old Stepping config c → job_at config index ≡ Some job.now
+            → instance_named (called job.now.name name.now) c ≡ None
+            → instance_place config (entry.Made job.now.name name.now ∷ c) key ≡ Some (length c)) }
+        ensures holders { OnOk result ((config : Configuration) (c : Chronicle)
+            (who : HoldersValue) (places : List ℕ)
+            → stands self.old Stepping config c → job_at config index ≡ Some job.now
+            → instance_named (called job.now.name name.now) c ≡ None
+            → held_as (event_place self.old c) (request_place c) who ≡ map Some places
+            → held_as (event_place self.new (entry.Made job.now.name name.now ∷ c)) (request_place c) who
+            ≡ map Some places) }
+        ensures events { OnOk result ((config : Configuration) (c : Chronicle) (k : EventIdValue) (j : ℕ)
+            → stands self.old Stepping config c
+            → job_at config index ≡ Some job.now → instance_named (called job.now.name name.now) c ≡ None
+            → event_place self.old c k ≡ Some j → event_place self.new (entry.Made job.now.name name.now ∷ c) k ≡ Some j) };
+
+    /// An event is offered to the `stop on` of an instance; returns whether that is true then.
+    fn offer_stop(
+        &mut self,
+        job: &JobDef,
+        key: InstanceKey,
+        event: EventId,
+    ) -> Result<bool, AllocError>
+        ensures after { OnOk result ((config : Configuration) (c : Chronicle) (i e : ℕ)
+            → stands self.old Stepping config c
+            → instance_place config c key ≡ Some i → job_at config key.job ≡ Some job.now
+            → event_place self.old c event ≡ Some e
+            → stands self.new Stepping config (entry.Offered (entry.StopOn i) e ∷ c)) }
+        ensures holds { IfOk result (λ holds. (config : Configuration) (c : Chronicle) (i e : ℕ)
+            → stands self.old Stepping config c
+            → instance_place config c key ≡ Some i → job_at config key.job ≡ Some job.now
+            → event_place self.old c event ≡ Some e
+            → holds ≡ seen.holds job.now.stop_on
+            (seen.seen config (entry.StopOn i) (entry.Offered (entry.StopOn i) e ∷ c))) }
+        ensures events { OnOk result ((config : Configuration) (c : Chronicle) (i e : ℕ) (k : EventIdValue) (j : ℕ)
+            → stands self.old Stepping config c
+            → instance_place config c key ≡ Some i → job_at config key.job ≡ Some job.now
+            → event_place self.old c event ≡ Some e → event_place self.old c k ≡ Some j
+            → event_place self.new (entry.Offered (entry.StopOn i) e ∷ c) k ≡ Some j) };
+
+    /// An event is offered to the `start on` of the job at an index of the table, which has this environment; returns whether that is
+    /// true then.
+    fn offer_start(
+        &mut self,
+        index: usize,
+        job: &JobDef,
+        env: &Env,
+        event: EventId,
+    ) -> Result<bool, AllocError>
+        ensures after { OnOk result ((config : Configuration) (c : Chronicle) (e : ℕ)
+            → stands self.old Stepping config c → job_at config index ≡ Some job.now
+            → env.now ≡ env_of_job config job.now.name → event_place self.old c event ≡ Some e
+            → stands self.new Stepping config (entry.Offered (entry.StartOn job.now.name) e ∷ c)) }
+        ensures holds { IfOk result (λ holds. (config : Configuration) (c : Chronicle) (e : ℕ)
+            → stands self.old Stepping config c → job_at config index ≡ Some job.now
+            → env.now ≡ env_of_job config job.now.name → event_place self.old c event ≡ Some e
+            → holds ≡ seen.holds job.now.start_on
+            (seen.seen config (entry.StartOn job.now.name)
+            (entry.Offered (entry.StartOn job.now.name) e ∷ c))) }
+        ensures events { OnOk result ((config : Configuration) (c : Chronicle) (e : ℕ) (k : EventIdValue) (j : ℕ)
+            → stands self.old Stepping config c → job_at config index ≡ Some job.now
+            → env.now ≡ env_of_job config job.now.name → event_place self.old c event ≡ Some e
+            → event_place self.old c k ≡ Some j
+            → event_place self.new (entry.Offered (entry.StartOn job.now.name) e ∷ c) k ≡ Some j) };
+
+    /// The `stop on` of an instance fires; returns the events that it takes, from left to right.
+    fn fire_stop(&mut self, job: &JobDef, key: InstanceKey) -> Result<Items<EventId>, AllocError>
+        ensures after { OnOk result ((config : Configuration) (c : Chronicle) (i : ℕ)
+            → stands self.old Stepping config c
+            → instance_place config c key ≡ Some i → job_at config key.job ≡ Some job.now
+            → stands self.new Stepping config
+            (entry.Fired (entry.StopOn i) (seen.taken job.now.stop_on
+            (seen.seen config (entry.StopOn i) c)) ∷ c)) }
+        ensures taken { IfOk result (λ taken. (config : Configuration) (c : Chronicle) (i : ℕ)
+            → stands self.old Stepping config c
+            → instance_place config c key ≡ Some i → job_at config key.job ≡ Some job.now
+            → map (event_place self.new (entry.Fired (entry.StopOn i)
+            (seen.taken job.now.stop_on (seen.seen config (entry.StopOn i) c)) ∷ c)) taken
+            ≡ map Some (seen.taken job.now.stop_on (seen.seen config (entry.StopOn i) c))) }
+        ensures events { OnOk result ((config : Configuration) (c : Chronicle) (i : ℕ) (k : EventIdValue) (j : ℕ)
+            → stands self.old Stepping config c
+            → instance_place config c key ≡ Some i → job_at config key.job ≡ Some job.now
+            → event_place self.old c k ≡ Some j → event_place self.new (entry.Fired (entry.StopOn i) (seen.taken job.now.stop_on
+            (seen.seen config (entry.StopOn i) c)) ∷ c) k ≡ Some j) };
+
+    /// The `start on` of the job at an index of the table fires; returns the events that it takes, from left to right.
+    fn fire_start(&mut self, index: usize, job: &JobDef) -> Result<Items<EventId>, AllocError>
+        ensures after { OnOk result ((config : Configuration) (c : Chronicle)
+            → stands self.old Stepping config c → job_at config index ≡ Some job.now
+            → stands self.new Stepping config
+            (entry.Fired (entry.StartOn job.now.name)
+            (seen.taken job.now.start_on (seen.seen config (entry.StartOn job.now.name) c)) ∷ c)) }
+        ensures taken { IfOk result (λ taken. (config : Configuration) (c : Chronicle)
+            → stands self.old Stepping config c → job_at config index ≡ Some job.now
+            → map (event_place self.new (entry.Fired (entry.StartOn job.now.name)
+            (seen.taken job.now.start_on (seen.seen config (entry.StartOn job.now.name) c)) ∷ c)) taken
+            ≡ map Some (seen.taken job.now.start_on (seen.seen config (entry.StartOn job.now.name) c))) }
+        ensures events { OnOk result ((config : Configuration) (c : Chronicle) (k : EventIdValue) (j : ℕ)
+            → stands self.old Stepping config c
+            → job_at config index ≡ Some job.now
+            → event_place self.old c k ≡ Some j → event_place self.new (entry.Fired (entry.StartOn job.now.name) (seen.taken job.now.start_on
+            (seen.seen config (entry.StartOn job.now.name) c)) ∷ c) k ≡ Some j) };
+
+    /// This step's client is answered, if it doesn't wait and wasn't answered yet; returns whether it was.
+    fn reply_last(&mut self) -> Result<bool, AllocError>
+        ensures after { OnOk result ((config : Configuration) (c : Chronicle)
+            → stands self.old Stepping config c
+            → stands self.new Stepping config (replies.answering_last c ++ c)) }
+        ensures any { IfOk result (λ replied. (config : Configuration) (c : Chronicle)
+            → stands self.old Stepping config c
+            → replied ≡ is_filled (replies.answering_last c)) };
+
+    /// The step is over; returns what it asks for, in order. Takes no memory.
+    fn rest(&mut self) -> Vec<Output>
+        ensures after { (config : Configuration) (c : Chronicle) → stands self.old Stepping config c
+            → stands self.new Resting config c }
+        ensures outputs { (config : Configuration) (c : Chronicle) → stands self.old Stepping config c
+            → result.items ≡ outputs_of config c };
+
+    // no job but those of the table has instances
+    ghost known: { (book : Self) (mode : Mode) (config : Configuration) (c : Chronicle) (job : Bytes)
+        → stands book mode config c → job_named job config.jobs ≡ None → instances_of job c ≡ [] };
+}
