@@ -1,26 +1,13 @@
--- The answers of a release, one after another.
+-- The lines that clients read of jobs and instances, one after another.
 use Rattle.std.proofs.Common.{◌≡◌, ℕ, ◌+◌, ◌<◌, Bool, true, false, List, [], ◌∷◌, ◌++◌, Option, None, Some, codes, if◌then◌else◌, length, drop, get_or, map, refl, sym, ◌∙◌, ap, add-one, drop-cons, append_assoc, ◌==◌, eq-eqb, arith}
 use Rattle.std.proofs.lemmas.Bool.Decides.{Decides-eqb}
-use Rattle.up_engine.specs.declared.keys.EventKey.{EventKey}
-use Rattle.up_engine.specs.declared.record.Record.{Record}
-use Rattle.up_engine.specs.Records.{place_of, chronicle, entry_of}
 use Rattle.up_conf.specs.declared.job.JobDef.{JobDef}
 use Rattle.up_engine.specs.Requests.{answer_of}
 use Rattle.up_model.specs.Chronicle.{Chronicle, Entry, Replied}
 use Rattle.up_model.specs.Commands.{Told, Target, Nobody, Concerns, refusal, stopped_text, status_at, status, statuses, job_lines, list_lines, entries_of}
 use Rattle.up_model.specs.Instances.{Instance, instances_of, instance_named}
-use Rattle.up_model.specs.Replies.{request_at, answering_one, answering}
 use Rattle.up_model.specs.Values.{Bytes}
 use Rattle.up_text.specs.Scripts.{is_filled}
-
--- the answers from one holder on
-pub answers_left : (keys : List EventKey) (i : ℕ) (d : EventKey) (failed : Bool) (told : Bytes) (c : Chronicle) (rest : List Entry) → i < length keys
-    → answering (map place_of (drop i keys)) failed told c ++ rest
-    ≡ answering (map place_of (drop (i + 1) keys)) failed told c ++ (answering_one (get_or keys i d).place (request_at (get_or keys i d).place c) failed told ++ rest)
-answers_left keys i d failed told c rest within =
-    let one : drop i keys ≡ get_or keys i d ∷ drop (i + 1) keys = rw add-one (drop-cons keys i d within) in
-    ap (λ left. answering (map place_of left) failed told c ++ rest) one
-    ∙ append_assoc (answering (map place_of (drop (i + 1) keys)) failed told c) (answering_one (get_or keys i d).place (request_at (get_or keys i d).place c) failed told) rest
 
 -- the lines from one on
 pub lines_left : (lines : List Bytes) (i : ℕ) (d : Bytes) → i < length lines → drop i lines ≡ get_or lines i d ∷ drop (i + 1) lines

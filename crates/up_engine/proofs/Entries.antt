@@ -1,7 +1,15 @@
 -- Lists of entries.
-use Rattle.std.proofs.Common.{◌≡◌, ℕ, false, true, Bool, List, [], ◌∷◌, ◌++◌, Option, None, Some, is_some, option_map, map, refl, sym, ◌∙◌, ap, append_assoc}
-use Rattle.up_model.specs.Chronicle.{Chronicle, Entry, Offered, Fired, StartOn, StopOn}
-use Rattle.up_model.specs.Predicates.{or_else}
+use Rattle.std.proofs.Common.{◌≡◌, ℕ, ◌&&◌, false, true, Bool, List, [], ◌∷◌, ◌++◌, Option, None, Some, is_some, option_map, map, refl, sym, ◌∙◌, ap, append_assoc}
+use Rattle.up_conf.specs.declared.job.JobDef.{JobDef}
+use Rattle.up_stanza.specs.declared.process.Process.TheVariants.{Main}
+use Rattle.up_model.specs.declared.life.Entry as table
+use Rattle.up_model.specs.declared.state.State.{State}
+use Rattle.up_model.specs.declared.who.Who.{Who}
+use Rattle.up_model.specs.Chronicle.{Chronicle, Entry, Offered, Fired, Entered, Signalled, StartOn, StopOn}
+use Rattle.up_model.specs.Moves.{ordering, emitting, enter, enter_whole}
+use Rattle.up_model.specs.Predicates.{entries_if, or_else}
+use Rattle.up_model.specs.Readings.{lives}
+use Rattle.up_model.specs.Replies.{releasing}
 use Rattle.up_model.specs.Values.{Bytes}
 use Rattle.up_text.specs.Scripts.{is_filled}
 
@@ -66,3 +74,29 @@ same_offer p q = cc
 
 pub same_start : {job other : Bytes} {xs ys : List ℕ} → job ≡ other → xs ≡ ys → Fired (StartOn job) xs ≡ Fired (StartOn other) ys
 same_start p q = cc
+
+-- the entries with which an instance enters a state, one kind before another
+pub enter_shape : (job : JobDef) (who : Who) (p : ℕ) (to : State) (entry : table.Entry) (c : Chronicle)
+    → enter_whole job who p to entry c ++ c
+    ≡ (let x : List Entry = ordering job p entry.orders ++ Entered p to ∷ c in
+    let y : List Entry = entries_if (entry.kills && lives p Main c) (Signalled p job.kill_signal false ∷ []) ++ (emitting job who p to entry.emits x ++ x) in
+    entries_if entry.releases (releasing p false y) ++ y)
+enter_shape job who p to entry c =
+    append_assoc (entries_if entry.releases (releasing p false (enter job who p to entry c ++ c))) (enter job who p to entry c) c ∙ ap (λ y. entries_if entry.releases (releasing p false y) ++ y) inner
+  where
+    O : List Entry
+    O = ordering job p entry.orders
+
+    K : List Entry
+    K = entries_if (entry.kills && lives p Main c) (Signalled p job.kill_signal false ∷ [])
+
+    entered : List Entry
+    entered = O ++ Entered p to ∷ []
+
+    M : List Entry → List Entry
+    M x = emitting job who p to entry.emits x
+
+    inner : enter job who p to entry c ++ c ≡ K ++ (M (O ++ Entered p to ∷ c) ++ (O ++ Entered p to ∷ c))
+    inner =
+        append_assoc K (M (entered ++ c) ++ entered) c ∙ ap (λ es. K ++ es) (append_assoc (M (entered ++ c)) entered c)
+        ∙ ap (λ x. K ++ (M x ++ x)) (append_assoc O (Entered p to ∷ []) c)

@@ -1,6 +1,6 @@
 -- The events that are left, one on.
 use Rattle.std.proofs.Common.{◌≡◌, ℕ, suc, ◌+◌, ◌<◌, List, [], ◌∷◌, Bor, Option, length, drop, get_or, map, refl, sym, ◌∙◌, ap, add-one, drop-cons}
-use Rattle.up_engine.specs.declared.keys.EventKey.{EventKey}
+use Rattle.up_model.specs.declared.event_id.EventId.{EventId}
 use Rattle.up_engine.proofs.EventKeys.{KeyThere}
 use Rattle.up_model.specs.declared.event.Event.{Event}
 use Rattle.up_model.specs.Chronicle.{Chronicle}
@@ -16,7 +16,7 @@ events_left events i d within =
     ap (map (λ event. event.now)) one
 
 -- the events at the places that are left, one on
-pub key_events : (places : EventKey → Option ℕ) (key : EventKey) (events : List ℕ) (n : ℕ) (c : Chronicle) (found : Option Event)
+pub key_events : (places : EventId → Option ℕ) (key : EventId) (events : List ℕ) (n : ℕ) (c : Chronicle) (found : Option Event)
     → (there : KeyThere places key events n) → found ≡ event_at there.place c → with_event found (events_at (drop (n + 1) events) c) ≡ events_at (drop n events) c
 key_events places key events n c found there is =
     let first : events_at (drop n events) c ≡ with_event (event_at there.place c) (events_at (drop (suc n) events) c) = ap (λ left. events_at left c) there.rest in

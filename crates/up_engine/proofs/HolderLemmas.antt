@@ -1,9 +1,6 @@
 -- Who holds an instance, as entries are added.
 use Rattle.std.proofs.Common.{◌≡◌, ℕ, Bool, List, [], ◌∷◌, ◌++◌, Option, None, Some, map, option_map, refl, ◌∙◌, ap, append_assoc}
-use Rattle.up_engine.specs.declared.keys.EventKey.{EventKey}
-use Rattle.up_engine.specs.declared.keys.Holders.{Holders}
-use Rattle.up_engine.specs.Keys.{held_as, request_place}
-use Rattle.up_engine.specs.Records.{place_of, event_key}
+use Rattle.up_book.specs.Keys.{request_place}
 use Rattle.up_model.specs.declared.request.Answer.{Answer}
 use Rattle.up_model.specs.Chronicle.{Chronicle, Released, Replied}
 use Rattle.up_model.specs.Readings.{holders}
@@ -34,17 +31,3 @@ past-releasing f past released instance failed c =
 -- the request of a step stays
 pub request_released : (instance : ℕ) (failed : Bool) (c : Chronicle) → request_place (releasing instance failed c ++ c) ≡ request_place c
 request_released instance failed c = past-releasing request_place (λ place answer d. refl) (λ i b d. refl) instance failed c
-
--- a key that has its place
-pub key_place : (found : Option ℕ) → option_map place_of (option_map event_key found) ≡ found
-key_place None = refl
-key_place (Some place) = refl
-
-pub one_known : (place : ℕ) (places : List ℕ) → Some place ∷ [] ≡ map (λ (i : ℕ). Some i) places → place ∷ [] ≡ places
-one_known place [] h = absurd cc
-one_known place (first ∷ []) h = cc
-one_known place (first ∷ next ∷ places) h = absurd cc
-
-pub none_known : (places : List ℕ) → None ∷ [] ≡ map (λ (i : ℕ). Some i) places → [] ≡ places
-none_known [] h = absurd cc
-none_known (first ∷ places) h = absurd cc

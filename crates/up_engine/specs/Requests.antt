@@ -3,7 +3,7 @@ use Rattle.std.specs.Prelude.{◌≡◌, true, false, [], Option, None, Some, �
 use Rattle.up_engine.specs.declared.target.Target.{Target}
 use Rattle.up_engine.specs.declared.target.Target.TheVariants as target
 use Rattle.up_model.specs.declared.request.Answer.{Answer}
-use Rattle.up_engine.specs.Keys.{name_at}
+use Rattle.up_book.specs.Keys.{job_at, name_at}
 use Rattle.up_model.specs.Commands as model
 use Rattle.up_model.specs.Configuration.{Configuration}
 use Rattle.up_model.specs.Values.{Bytes}
@@ -13,10 +13,11 @@ abbrev pub target_of : Target → model.Target
 target_of (target.Nobody text) = model.Nobody text
 target_of (target.Concerns index job who environment) = model.Concerns job.now who environment
 
--- whom a request names has the index of its job
+-- whom a request names has the index of its job, which is the one that it names
 abbrev pub IsIndexed : Configuration → Target → Type 0
 IsIndexed config (target.Nobody text) = ⊤
-IsIndexed config (target.Concerns index job who environment) = name_at config index ≡ Some who.job
+IsIndexed config (target.Concerns index job who environment) =
+    (name_at config index ≡ Some who.job) × (job_at config index ≡ Some job.now)
 
 -- an outcome, unless it is refused with a text
 abbrev pub unless : Option Bytes → model.Outcome → model.Outcome

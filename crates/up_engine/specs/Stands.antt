@@ -1,28 +1,31 @@
 -- What an engine stands for: a chronicle of its jobs and its base environment. These are the only definitions that read its fields.
-use Rattle.std.specs.Prelude.{◌≡◌, ◌≤◌, ◌+◌, ◌∷◌, ℕ, Bool, true, false, List, length, take, drop, is_some, Option, None, Some, Result, Ok, Err}
+use Rattle.std.specs.Prelude.{◌≡◌, ◌≤◌, ◌+◌, [], ◌∷◌, ℕ, Bool, true, false, List, length, take, drop, is_some, Option, None, Some, Result, Ok, Err}
 use Rattle.up_engine.specs.declared.engine.Engine.{Engine}
 use Rattle.up_engine.specs.declared.fault.StepError.{StepError}
 use Rattle.up_engine.specs.declared.fault.StepError.TheVariants.{NotExpected, Down, Memory}
 use Rattle.up_engine.specs.declared.run.Run.{Run}
-use Rattle.up_engine.specs.Keys.{Resting}
+use Rattle.up_book.specs.Keys.{Resting}
 use Rattle.up_model.specs.declared.input.Input.{Input}
 use Rattle.up_model.specs.declared.output.Output.{Output}
 use Rattle.up_model.specs.declared.step.Step.{Step}
 use Rattle.up_model.specs.Answers.{after, is_expected, answer, next, answers, after_all}
 use Rattle.up_model.specs.Chronicle.{Chronicle}
 use Rattle.up_model.specs.Configuration.{Configuration}
-use Rattle.up_model.specs.Due.{turn_event}
-use Rattle.up_model.specs.Left.{left, spawns}
+use Rattle.up_model.specs.Due.{due, turn_event}
+use Rattle.up_model.specs.Left.{spawns}
 use Rattle.up_model.specs.Outputs.{outputs_of}
 use Rattle.up_model.specs.Queue.{queue}
 -- the one line that names the book in use
-use Rattle.up_engine.specs.Stored.{Stored as BookStands, past_of}
+use Rattle.up_book.specs.Ledgers.{Stands as BookStands}
+use Rattle.up_book.specs.Lefts.{left_of_jobs}
 
 -- the engine isn't down, and its book stands for this chronicle of this configuration
 pub record Stands (engine : Engine) (config : Configuration) (c : Chronicle) : Type 0 where
   pub up : engine.down ≡ false
   pub setup : engine.setup ≡ config
   pub past : BookStands engine.book Resting config c
+  -- nothing is left to do
+  pub rested : due config c ≡ []
 
 -- the engine is down
 abbrev pub IsDown : Engine → Type 0
@@ -75,7 +78,7 @@ RunMeans (Err NotExpected) engine config c inputs = ⊥
 
 -- how many processes its instances may still order before they wait for an event
 abbrev pub left_of : Engine → ℕ
-left_of engine = left (past_of engine.book)
+left_of engine = left_of_jobs engine.book.past.instances
 
 -- What a step of an input that is no turn and no request leaves to be ordered: fewer, by at least the processes that it orders, and as
 -- many as before if the input wasn't expected.

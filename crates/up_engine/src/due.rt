@@ -1,7 +1,9 @@
 //! What is due, the effect of an input, and whether it is expected.
 ghost use Rattle.std.specs.Prelude.{◌≡◌, ℕ, false, List, ◌∷◌, [], ◌++◌, map, Option, Some, option_map, IfOk, OnOk};
-ghost use Rattle.up_engine.specs.Keys.{Mode, Resting, Stepping, live_at, instance_place};
+ghost use Rattle.up_book.specs.Keys.{Mode, Resting, Stepping, instance_place};
+ghost use Rattle.up_engine.specs.Keys.{Takes};
 ghost use Rattle.up_model.specs.declared.input.Input.TheVariants as given_as;
+ghost use Rattle.up_book.specs.Turning.{is_finish};
 ghost use Rattle.up_model.specs.Answers as answer;
 ghost use Rattle.up_model.specs.Chronicle.{Chronicle};
 ghost use Rattle.up_model.specs.Chronicle as entry;
@@ -12,38 +14,16 @@ ghost use Rattle.up_model.specs.Instances.{instance_named};
 ghost use Rattle.up_model.specs.Queue as queue;
 ghost use Rattle.up_text.specs.Scripts.{is_filled};
 
-use crate::book::Book;
+use up_book::Book;
+use up_event::TurnKind;
 use crate::events::failure_of_event;
 use crate::judgement::{conclude, verdict_on};
-use crate::keys::{EventKey, InstanceKey, Live};
-use crate::moves::move_first;
-use crate::offers::offer_next;
 use crate::requests::take_request;
 use crate::setup::Setup;
 use crate::time::kill_overdue;
 use std::alloc::{AllocError, Global};
-use up_model::{End, Event, How, Input, Process, Who};
-
-/// Does the first thing that is due; returns whether anything was.
-#[tactic(auto, unfolding(up_model::specs::Due::due))]
-pub(crate) fn do_next<B: Book>(
-    alloc: Global,
-    setup: &Setup,
-    book: &mut B,
-) -> Result<bool, AllocError>
-    ensures entries { OnOk result ((c : Chronicle) → B.stands book.old Stepping setup.now c
-        → B.stands book.new Stepping setup.now (model.due setup.now c ++ c)) }
-    ensures any { IfOk result (λ done. (c : Chronicle) → B.stands book.old Stepping setup.now c
-        → done ≡ is_filled (model.due setup.now c)) }
-{
-    if move_first(alloc, setup, book, setup.jobs())? {
-        return Ok(true);
-    }
-    if offer_next(alloc, setup, book, setup.jobs())? {
-        return Ok(true);
-    }
-    book.reply_last()
-}
+use up_job::InstanceKey;
+use up_model::{End, Event, EventId, How, Input, Process, Who};
 
 // The instance that is known outside by these names.
 fn find<B: Book>(setup: &Setup, book: &B, who: &Who) -> Option<InstanceKey>
@@ -97,9 +77,19 @@ fn take_event<B: Book>(book: &mut B, event: Event) -> Result<(), AllocError>
         → B.stands book.new Stepping config (model.effect config (given_as.Emit event) c ++ c)) }
 {
     let copy = event.copy()?;
-    book.given(Input::Emit(event))?;
+    book.given(&Input::Emit(event), None);
     book.emit(copy)?;
     Ok(())
+}
+
+#[tactic(auto, unfolding(up_model::specs::Due::effect))]
+fn take_spawn<B: Book>(setup: &Setup, book: &mut B, who: Who, process: Process, pid: u32)
+    ensures { (c : Chronicle) → B.stands book.old Resting setup.now c
+        → B.stands book.new Stepping setup.now
+        (model.effect setup.now (given_as.Spawned who process pid) c ++ c) }
+{
+    let on = find(setup, book, &who);
+    book.given(&Input::Spawned { who, process, pid }, on);
 }
 
 #[tactic(auto, unfolding(up_model::specs::Due::effect), using(crate::proofs::Entries::one_last))]
@@ -114,7 +104,8 @@ fn take_refusal<B: Book>(
         (model.effect setup.now (given_as.Refused who process) c ++ c)) }
 {
     let its = who.copy()?;
-    book.given(Input::Refused { who, process })?;
+    let on = find(setup, book, &who);
+    book.given(&Input::Refused { who, process }, on);
     let verdict_on_end = verdict_on(setup, book, &its, process, End::Refused);
     conclude(book, verdict_on_end)?;
     Ok(())
@@ -133,7 +124,8 @@ fn take_end<B: Book>(
         (model.effect setup.now (given_as.Ended who process how) c ++ c)) }
 {
     let its = who.copy()?;
-    book.given(Input::Ended { who, process, how })?;
+    let on = find(setup, book, &who);
+    book.given(&Input::Ended { who, process, how }, on);
     let verdict_on_end = verdict_on(setup, book, &its, process, End::Ended(how));
     conclude(book, verdict_on_end)?;
     Ok(())
@@ -143,7 +135,7 @@ fn take_end<B: Book>(
 fn failed_event_of<B: Book>(
     alloc: Global,
     book: &B,
-    key: EventKey,
+    key: EventId,
 ) -> Result<Option<Event>, AllocError>
     ensures { IfOk result (λ told. (mode : Mode) (config : Configuration) (c : Chronicle) (e : ℕ)
         → B.stands book.now mode config c
@@ -157,60 +149,84 @@ fn failed_event_of<B: Book>(
 }
 
 #[tactic(auto, using(crate::proofs::Entries::finishing_last))]
-fn finish<B: Book>(alloc: Global, book: &mut B, key: EventKey) -> Result<(), AllocError>
+fn finish<B: Book>(alloc: Global, book: &mut B, key: EventId) -> Result<(), AllocError>
     ensures { OnOk result ((config : Configuration) (c : Chronicle) (e : ℕ)
         → B.stands book.old Resting config c
         → B.event_place book.old c key ≡ Some e → held.is_held config e c ≡ false
         → B.stands book.new Stepping config (model.finishing e (entry.Given given_as.Turn ∷ c)
         ++ entry.Given given_as.Turn ∷ c)) }
 {
-    book.given(Input::Turn)?;
+    book.given(&Input::Turn, None);
     let told = failed_event_of(alloc, book, key)?;
     book.finish(key, told)?;
     Ok(())
 }
 
-fn handle<B: Book>(book: &mut B, key: EventKey) -> Result<(), AllocError>
-    ensures { OnOk result ((config : Configuration) (c : Chronicle) (e : ℕ)
+fn handle<B: Book>(book: &mut B, key: EventId) -> Result<(), AllocError>
+    ensures after { OnOk result ((config : Configuration) (c : Chronicle) (e : ℕ)
         → B.stands book.old Resting config c
         → B.event_place book.old c key ≡ Some e
         → B.stands book.new Stepping config (entry.Handled e ∷ entry.Given given_as.Turn ∷ c)) }
+    ensures events { OnOk result ((config : Configuration) (c : Chronicle) (e : ℕ)
+        → B.stands book.old Resting config c
+        → B.event_place book.old c key ≡ Some e
+        → B.event_place book.new (entry.Handled e ∷ entry.Given given_as.Turn ∷ c) key ≡ Some e) }
 {
-    book.given(Input::Turn)?;
+    book.given(&Input::Turn, None);
     book.handle(key)?;
     Ok(())
 }
 
-// Takes a turn in: it handles an unhandled event, and finishes a handled one.
+// Takes a turn in: it handles an unhandled event, which it returns, and finishes a handled one.
 #[tactic(auto, using(crate::proofs::Entries::one_last))]
-fn turn_by<B: Book>(alloc: Global, book: &mut B, live: Live) -> Result<(), AllocError>
-    ensures { OnOk result ((config : Configuration) (c : Chronicle) (e : ℕ)
+fn turn_by<B: Book>(
+    alloc: Global,
+    book: &mut B,
+    id: EventId,
+    kind: TurnKind,
+) -> Result<Option<EventId>, AllocError>
+    ensures after { OnOk result ((config : Configuration) (c : Chronicle) (e : ℕ)
         → B.stands book.old Resting config c
-        → B.event_place book.old c live.key ≡ Some e
-        → model.turn_event config (queue.queue c) c ≡ Some (queue.live_at e live.handled)
-        → B.stands book.new Stepping config (model.turn_of (Some (queue.live_at e live.handled))
+        → B.event_place book.old c id ≡ Some e
+        → model.turn_event config (queue.queue c) c ≡ Some (queue.live_at e (is_finish kind))
+        → B.stands book.new Stepping config (model.turn_of (Some (queue.live_at e (is_finish kind)))
         (entry.Given given_as.Turn ∷ c) ++ entry.Given given_as.Turn ∷ c)) }
+    ensures takes { IfOk result (λ taken. (config : Configuration) (c : Chronicle) (e : ℕ)
+        → B.stands book.old Resting config c
+        → B.event_place book.old c id ≡ Some e
+        → model.turn_event config (queue.queue c) c ≡ Some (queue.live_at e (is_finish kind))
+        → Takes (B.event_place book.new) taken config given_as.Turn c) }
 {
-    if live.handled {
-        finish(alloc, book, live.key)?;
-    } else {
-        handle(book, live.key)?;
+    match kind {
+        TurnKind::Finish => {
+            finish(alloc, book, id)?;
+            Ok(None)
+        }
+        TurnKind::Handle => {
+            handle(book, id)?;
+            Ok(Some(id))
+        }
     }
-    Ok(())
 }
 
 #[tactic(auto, unfolding(up_model::specs::Due::effect))]
-fn take_turn<B: Book>(alloc: Global, book: &mut B) -> Result<(), AllocError>
-    ensures { OnOk result ((config : Configuration) (c : Chronicle) → B.stands book.old Resting config c
+fn take_turn<B: Book>(alloc: Global, book: &mut B) -> Result<Option<EventId>, AllocError>
+    ensures after { OnOk result ((config : Configuration) (c : Chronicle) → B.stands book.old Resting config c
         → B.stands book.new Stepping config (model.effect config given_as.Turn c ++ c)) }
+    ensures takes { IfOk result (λ taken. (config : Configuration) (c : Chronicle)
+        → B.stands book.old Resting config c
+        → Takes (B.event_place book.new) taken config given_as.Turn c) }
 {
     match book.turn() {
-        Some(live) => turn_by(alloc, book, live)?,
+        Some((id, kind)) => {
+            let taken = turn_by(alloc, book, id, kind)?;
+            Ok(taken)
+        }
         None => {
-            book.given(Input::Turn)?;
+            book.given(&Input::Turn, None);
+            Ok(None)
         }
     }
-    Ok(())
 }
 
 #[tactic(auto, unfolding(up_model::specs::Due::effect), using(crate::proofs::Entries::one_last))]
@@ -223,32 +239,35 @@ fn take_reading<B: Book>(
     ensures { OnOk result ((c : Chronicle) → B.stands book.old Resting setup.now c
         → B.stands book.new Stepping setup.now (model.effect setup.now (given_as.Clock reading) c ++ c)) }
 {
-    book.given(Input::Clock(reading))?;
+    book.given(&Input::Clock(reading), None);
     kill_overdue(alloc, book, setup.jobs())?;
     Ok(())
 }
 
-/// Takes an input in, with its own effect.
+/// Takes an input in, with its own effect; returns the event that it takes up, if it takes one up.
 #[tactic(auto, unfolding(up_model::specs::Due::effect))]
 pub(crate) fn act<B: Book>(
     alloc: Global,
     setup: &Setup,
     book: &mut B,
     input: Input,
-) -> Result<(), AllocError>
-    ensures { OnOk result ((c : Chronicle) → B.stands book.old Resting setup.now c
+) -> Result<Option<EventId>, AllocError>
+    ensures after { OnOk result ((c : Chronicle) → B.stands book.old Resting setup.now c
         → B.stands book.new Stepping setup.now (model.effect setup.now input c ++ c)) }
+    ensures takes { IfOk result (λ taken. (c : Chronicle) → B.stands book.old Resting setup.now c
+        → Takes (B.event_place book.new) taken setup.now input c) }
 {
     match input {
         Input::Emit(event) => take_event(book, event)?,
         Input::Request { id, request } => take_request(alloc, setup, book, id, request)?,
-        Input::Spawned { who, process, pid } => {
-            book.given(Input::Spawned { who, process, pid })?;
-        }
+        Input::Spawned { who, process, pid } => take_spawn(setup, book, who, process, pid),
         Input::Refused { who, process } => take_refusal(setup, book, who, process)?,
         Input::Ended { who, process, how } => take_end(setup, book, who, process, how)?,
         Input::Clock(reading) => take_reading(alloc, setup, book, reading)?,
-        Input::Turn => take_turn(alloc, book)?,
+        Input::Turn => {
+            let taken = take_turn(alloc, book)?;
+            return Ok(taken);
+        }
     }
-    Ok(())
+    Ok(None)
 }

@@ -1,8 +1,8 @@
 //! The engine: one step for one input, and a run over a list of them.
 ghost use Rattle.std.specs.Prelude.{◌≡◌, List, ℕ, true, false, Ok, Err, [], length, is_some, IfOk, OnOk};
-ghost use Rattle.up_engine.specs.Keys.{Resting};
+ghost use Rattle.up_book.specs.Keys.{Resting};
 ghost use Rattle.up_engine.specs.Requests.{answer_of};
-ghost use Rattle.up_engine.specs.Stored.{IsSound};
+ghost use Rattle.up_engine.specs.Sound.{IsSound};
 ghost use Rattle.up_model.specs.Answers as answer;
 ghost use Rattle.up_model.specs.Chronicle.{Chronicle};
 ghost use Rattle.up_model.specs.Commands as commands;
@@ -12,14 +12,14 @@ ghost use Rattle.up_model.specs.Left.{is_calm};
 ghost use Rattle.up_model.specs.Outputs.{outputs_of};
 ghost use Rattle.up_model.specs.Queue as queue;
 
-use crate::book::Book;
+use up_book::{Book, Ledger};
 use crate::due::is_expected;
 use crate::fault::StepError;
 use crate::run::Run;
 use crate::settle::run_step;
 use crate::setup::Setup;
 use crate::status::{list, status};
-use crate::stored::StoringBook;
+
 use crate::target::target_of;
 use std::alloc::{AllocError, Global};
 use up_image::Table;
@@ -28,12 +28,12 @@ use up_text::{Env, Items, Text};
 
 /// What runs the jobs of a table: it takes one input a step, and answers what is to be done.
 ///
-/// It stores all that happened, so that a step takes longer the more did.
+/// It keeps of the past what can still matter, so that a step takes no longer, and no more memory, however much has happened.
 #[derive(Drop)]
 pub struct Engine {
     alloc: Global,
     setup: Setup,
-    book: StoringBook,
+    book: Ledger,
     // A step ran out of memory; what the engine tells of its events is then what held before that step.
     down: bool,
     live: usize,
@@ -49,12 +49,14 @@ fn step_book<B: Book>(
     given: Input,
 ) -> Result<Vec<Output>, AllocError>
     ensures after { OnOk result ((c : Chronicle) → B.stands book.old Resting setup.now c
+        → due.due setup.now c ≡ []
         → B.stands book.new Resting setup.now (answer.after setup.now c given)) }
     ensures outputs { IfOk result (λ outputs. (c : Chronicle) → B.stands book.old Resting setup.now c
+        → due.due setup.now c ≡ []
         → outputs.items ≡ outputs_of setup.now (answer.after setup.now c given)) }
 {
     run_step(alloc, setup, book, given)?;
-    let outputs = book.rest(setup)?;
+    let outputs = book.rest();
     Ok(outputs)
 }
 
@@ -81,8 +83,8 @@ impl Engine {
     pub fn new(alloc: Global, table: Table, base: Env) -> Result<Self, AllocError>
         ensures { IfOk result (λ engine. Stands engine (record { base = base; jobs = table }) []) }
     {
+        let book = Ledger::new(alloc, &table)?;
         let setup = Setup::new(alloc, table, base)?;
-        let book = StoringBook::new(alloc, &setup)?;
         Ok(Engine {
             alloc,
             setup,

@@ -3,7 +3,7 @@ ghost use Rattle.std.specs.Prelude.{◌≡◌, List, ℕ, [], ◌∷◌, ◌++�
 ghost use Rattle.std.specs.Fmt.{decimal};
 ghost use Rattle.std.specs.Option.{option_copied, option_map_or};
 ghost use Rattle.up_text.specs.Bindings.{value_of, set_in, set_all};
-ghost use Rattle.up_engine.specs.Keys.{Mode, instance_at, instance_place};
+ghost use Rattle.up_book.specs.Keys.{Mode, instance_at, instance_place};
 ghost use Rattle.up_model.specs.declared.event.Event.{Event as EventValue};
 ghost use Rattle.up_model.specs.Chronicle.{Chronicle};
 ghost use Rattle.up_model.specs.Configuration.{Configuration};
@@ -12,11 +12,11 @@ ghost use Rattle.up_model.specs.Instances.{Instance};
 ghost use Rattle.up_model.specs.Moves as moves;
 ghost use Rattle.up_model.specs.Signals.{signal_text};
 
-use crate::book::Book;
-use crate::keys::{EventKey, InstanceKey};
+use up_book::Book;
 use std::alloc::{AllocError, Global};
+use up_job::InstanceKey;
 use up_conf::signal_name;
-use up_model::{Cause, Event, Failure, How, JobDef, JobEvent, process_name};
+use up_model::{Cause, Event, EventId, Failure, How, JobDef, JobEvent, process_name};
 use up_text::{Env, Name, Text};
 
 // The keys and values here are ones that an environment takes, so that it refuses them only if it is out of memory.
@@ -260,7 +260,7 @@ fn push_event<'a>(events: &mut Vec<&'a Event>, found: Option<&'a Event>) -> Resu
 fn events_of<'a, B: Book>(
     alloc: Global,
     book: &'a B,
-    keys: &[EventKey],
+    keys: &[EventId],
 ) -> Result<Vec<&'a Event>, AllocError>
     ensures { IfOk result (λ events. (mode : Mode) (config : Configuration) (c : Chronicle) (places : List ℕ)
         → B.stands book.now mode config c
@@ -333,7 +333,7 @@ pub(crate) fn events_env<B: Book>(
     alloc: Global,
     base: &Env,
     book: &B,
-    keys: &[EventKey],
+    keys: &[EventId],
 ) -> Result<Env, AllocError>
     ensures { IfOk result (λ env. (mode : Mode) (config : Configuration) (c : Chronicle) (places : List ℕ)
         → B.stands book.now mode config c
@@ -367,7 +367,7 @@ fn stop_env_by(alloc: Global, events: &[&Event]) -> Result<Env, AllocError>
 pub(crate) fn stop_env<B: Book>(
     alloc: Global,
     book: &B,
-    keys: &[EventKey],
+    keys: &[EventId],
 ) -> Result<Env, AllocError>
     ensures { IfOk result (λ env. (mode : Mode) (config : Configuration) (c : Chronicle) (places : List ℕ)
         → B.stands book.now mode config c

@@ -1,6 +1,7 @@
 //! What the end or the refusal of a process does to its instance.
 ghost use Rattle.std.specs.Prelude.{◌≡◌, ℕ, List, ◌++◌, map, Option, None, Some, IfOk, OnOk};
-ghost use Rattle.up_engine.specs.Keys.{Mode, Stepping, name_at, instance_place, Judges};
+ghost use Rattle.up_book.specs.Keys.{job_at, Mode, Stepping, name_at, instance_place};
+ghost use Rattle.up_engine.specs.Keys.{Judges};
 ghost use Rattle.std.specs.List.{list_any};
 ghost use Rattle.up_conf.specs.Jobs.{same_exit};
 ghost use Rattle.up_model.specs.Chronicle.{Chronicle, Entry as EntryValue};
@@ -9,13 +10,12 @@ ghost use Rattle.up_model.specs.Due.{end_of};
 ghost use Rattle.up_model.specs.Instances.{instance_named};
 ghost use Rattle.up_model.specs.Judgement as model;
 
-use crate::book::Book;
-use crate::keys::InstanceKey;
+use up_book::Book;
 use crate::life::is_start;
 use crate::setup::Setup;
 use std::alloc::AllocError;
 use up_conf::Exit;
-use up_job::judge_end;
+use up_job::{InstanceKey, judge_end};
 use up_model::{End, Failure, How, JobDef, Process, Verdict, Who};
 
 // The goal of an instance becomes stop by itself, if it is start.
@@ -101,12 +101,13 @@ fn verdict_on_end<B: Book>(
     end: End,
 ) -> Verdict
     ensures { (mode : Mode) (config : Configuration) (c : Chronicle) (i : ℕ) → B.stands book.now mode config c
-        → instance_place config c key ≡ Some i → result ≡ model.verdict_on_end job.now i process end c }
+        → instance_place config c key ≡ Some i → job_at config key.job ≡ Some job.now
+        → result ≡ model.verdict_on_end job.now i process end c }
 {
     let goal = book.goal(key);
     let state = book.state_of(key);
     let normal = is_normal(job.normal.as_slice(), end);
-    let may = book.may_respawn(key, job.limit);
+    let may = book.may_respawn(key, job);
     judge_end(
         goal,
         state,
@@ -129,7 +130,7 @@ fn verdict_in<B: Book>(
     end: End,
 ) -> Option<(InstanceKey, Verdict)>
     ensures { (mode : Mode) (config : Configuration) (c : Chronicle) → B.stands book.now mode config c
-        → name_at config index ≡ Some who.now.job
+        → name_at config index ≡ Some who.now.job → job_at config index ≡ Some job.now
         → Judges config result (end_of (Some job.now) (instance_named who.now c) process end c) c }
 {
     match book.find(index, who.instance.as_str()) {

@@ -1,12 +1,11 @@
 //! What a job's processes run, and tests on goals and states.
 ghost use Rattle.std.specs.Prelude.{◌≡◌};
-ghost use Rattle.std.specs.Option.{option_copied};
-ghost use Rattle.up_engine.specs.Keys.{is_waiting};
+ghost use Rattle.up_book.specs.Keeps.{is_waiting};
 ghost use Rattle.up_model.specs.Commands as commands;
 ghost use Rattle.up_model.specs.Moves as model;
 ghost use Rattle.up_model.specs.Predicates as test;
 
-use up_conf::Action;
+use up_book::action_of;
 use up_model::{Goal, JobDef, Process, State};
 
 pub(crate) fn is_start(goal: Goal) -> bool
@@ -49,19 +48,6 @@ pub(crate) fn is_waiting(state: State) -> bool
         | State::Stopping
         | State::Killed
         | State::PostStop => false,
-    }
-}
-
-/// What a process of a job runs.
-pub(crate) fn action_of(job: &JobDef, process: Process) -> Option<&Action>
-    ensures { option_copied result ≡ model.action_of job.now process }
-{
-    match process {
-        Process::Main => job.main.as_ref(),
-        Process::PreStart => job.pre_start.as_ref(),
-        Process::PostStart => job.post_start.as_ref(),
-        Process::PreStop => job.pre_stop.as_ref(),
-        Process::PostStop => job.post_stop.as_ref(),
     }
 }
 

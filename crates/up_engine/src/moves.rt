@@ -1,6 +1,9 @@
 //! The moves of instances from state to state.
 ghost use Rattle.std.specs.Prelude.{◌≡◌, ℕ, false, not, ◌&&◌, ◌||◌, List, ◌∷◌, [], ◌++◌, map, Option, Some, IfOk, OnOk};
-ghost use Rattle.up_engine.specs.Keys.{Mode, Stepping, is_waiting, name_at, instance_at, instance_place, FindsMove};
+ghost use Rattle.up_model.specs.declared.event_id.EventId.{EventId as EventIdValue};
+ghost use Rattle.up_book.specs.Keys.{job_at, Mode, Stepping, name_at, instance_at, instance_place};
+ghost use Rattle.up_book.specs.Keeps.{is_waiting};
+ghost use Rattle.up_engine.specs.Settling.{settle_one, ListsAfter};
 ghost use Rattle.up_model.specs.declared.state.State.TheVariants as entered;
 ghost use Rattle.up_model.specs.Chronicle.{Chronicle};
 ghost use Rattle.up_model.specs.Chronicle as entry;
@@ -15,13 +18,12 @@ ghost use Rattle.up_model.specs.Predicates.{entries_if};
 ghost use Rattle.up_stanza.specs.declared.process.Process.TheVariants as process;
 ghost use Rattle.up_text.specs.Scripts.{is_filled};
 
-use crate::book::Book;
+use up_book::Book;
 use crate::events::job_event;
-use crate::keys::InstanceKey;
 use crate::life::{has_process, is_start, is_waiting};
 use crate::setup::Setup;
 use std::alloc::{AllocError, Global};
-use up_job::{entering, next_state};
+use up_job::{InstanceKey, entering, next_state};
 use up_model::{Entry, Goal, JobDef, JobEvent, Process, State};
 
 // Whether an order was answered, if the job has the process.
@@ -124,14 +126,20 @@ fn order<B: Book>(
 ) -> Result<(), AllocError>
     ensures after { OnOk result ((c : Chronicle) (i : ℕ) → B.stands book.old Stepping setup.now c
         → instance_place setup.now c key ≡ Some i
+        → job_at setup.now key.job ≡ Some job.now
         → B.stands book.new Stepping setup.now (model.ordering job.now i orders ++ c)) }
+    ensures events { OnOk result ((c : Chronicle) (i : ℕ) (k : EventIdValue) (j : ℕ)
+        → B.stands book.old Stepping setup.now c → instance_place setup.now c key ≡ Some i
+        → job_at setup.now key.job ≡ Some job.now
+        → B.event_place book.old c k ≡ Some j
+        → B.event_place book.new (model.ordering job.now i orders ++ c) k ≡ Some j) }
     ensures stays { OnOk result ((c : Chronicle) (i : ℕ)
         → instance_at setup.now (model.ordering job.now i orders ++ c) key ≡ instance_at setup.now c key) }
 {
     match orders {
         Some(process) => {
             if has_process(job, process) {
-                book.order(setup, key, process)?;
+                book.order(job, key, process)?;
             }
         }
         None => {}
@@ -152,6 +160,12 @@ fn emit<B: Book>(
         → B.stands book.old Stepping config c → instance_at config c key ≡ Some its
         → B.stands book.new Stepping config
         (model.emitting job.now (model.who_of job.now its) its.place to emits c ++ c)) }
+    ensures events { OnOk result ((config : Configuration) (c : Chronicle) (its : Instance) (k : EventIdValue)
+        (j : ℕ)
+        → B.stands book.old Stepping config c → instance_at config c key ≡ Some its
+        → B.event_place book.old c k ≡ Some j
+        → B.event_place book.new (model.emitting job.now (model.who_of job.now its) its.place to emits c ++ c)
+        k ≡ Some j) }
     ensures stays { OnOk result ((config : Configuration) (c : Chronicle) (its : Instance)
         → instance_at config (model.emitting job.now (model.who_of job.now its) its.place to emits c ++ c) key
         ≡ instance_at config c key) }
@@ -171,6 +185,10 @@ fn kill<B: Book>(book: &mut B, key: InstanceKey, signal: u8, kills: bool) -> Res
     ensures after { OnOk result ((config : Configuration) (c : Chronicle) (i : ℕ)
         → B.stands book.old Stepping config c → instance_place config c key ≡ Some i
         → B.stands book.new Stepping config (entries_if kills (entry.Signalled i signal false ∷ []) ++ c)) }
+    ensures events { OnOk result ((config : Configuration) (c : Chronicle) (i : ℕ) (k : EventIdValue) (j : ℕ)
+        → B.stands book.old Stepping config c → instance_place config c key ≡ Some i
+        → B.event_place book.old c k ≡ Some j
+        → B.event_place book.new (entries_if kills (entry.Signalled i signal false ∷ []) ++ c) k ≡ Some j) }
     ensures stays { OnOk result ((config : Configuration) (c : Chronicle) (i : ℕ)
         → instance_at config (entries_if kills (entry.Signalled i signal false ∷ []) ++ c) key
         ≡ instance_at config c key) }
@@ -182,9 +200,13 @@ fn kill<B: Book>(book: &mut B, key: InstanceKey, signal: u8, kills: bool) -> Res
 }
 
 fn release<B: Book>(book: &mut B, key: InstanceKey, releases: bool) -> Result<(), AllocError>
-    ensures { OnOk result ((config : Configuration) (c : Chronicle) (i : ℕ)
+    ensures after { OnOk result ((config : Configuration) (c : Chronicle) (i : ℕ)
         → B.stands book.old Stepping config c → instance_place config c key ≡ Some i
         → B.stands book.new Stepping config (entries_if releases (replies.releasing i false c) ++ c)) }
+    ensures events { OnOk result ((config : Configuration) (c : Chronicle) (i : ℕ) (k : EventIdValue) (j : ℕ)
+        → B.stands book.old Stepping config c → instance_place config c key ≡ Some i
+        → B.event_place book.old c k ≡ Some j
+        → B.event_place book.new (entries_if releases (replies.releasing i false c) ++ c) k ≡ Some j) }
 {
     if releases {
         book.release(key)?;
@@ -203,13 +225,22 @@ fn enter_with<B: Book>(
     table: Entry,
 ) -> Result<(), AllocError>
     ensures after { OnOk result ((c : Chronicle) (its : Instance) → B.stands book.old Stepping setup.now c
-        → instance_at setup.now c key ≡ Some its → is_waiting to ≡ false
+        → instance_at setup.now c key ≡ Some its
+        → job_at setup.now key.job ≡ Some job.now → is_waiting to ≡ false
         → B.stands book.new Stepping setup.now
         (model.emitting job.now (model.who_of job.now its) its.place to table.emits
         (model.ordering job.now its.place table.orders ++ entry.Entered its.place to ∷ c)
         ++ (model.ordering job.now its.place table.orders ++ entry.Entered its.place to ∷ c))) }
+    ensures events { OnOk result ((c : Chronicle) (its : Instance) (k : EventIdValue) (j : ℕ)
+        → B.stands book.old Stepping setup.now c → instance_at setup.now c key ≡ Some its
+        → job_at setup.now key.job ≡ Some job.now
+        → is_waiting to ≡ false → B.event_place book.old c k ≡ Some j
+        → B.event_place book.new (model.emitting job.now (model.who_of job.now its) its.place to table.emits
+        (model.ordering job.now its.place table.orders ++ entry.Entered its.place to ∷ c) ++ (model.ordering
+        job.now its.place table.orders ++ entry.Entered its.place to ∷ c)) k ≡ Some j) }
     ensures stays { OnOk result ((c : Chronicle) (its : Instance) → B.stands book.old Stepping setup.now c
-        → instance_at setup.now c key ≡ Some its → is_waiting to ≡ false
+        → instance_at setup.now c key ≡ Some its
+        → job_at setup.now key.job ≡ Some job.now → is_waiting to ≡ false
         → instance_at setup.now
         (model.emitting job.now (model.who_of job.now its) its.place to table.emits
         (model.ordering job.now its.place table.orders ++ entry.Entered its.place to ∷ c)
@@ -231,10 +262,17 @@ fn enter_other<B: Book>(
     to: State,
     table: Entry,
 ) -> Result<(), AllocError>
-    ensures { OnOk result ((c : Chronicle) (its : Instance) → B.stands book.old Stepping setup.now c
-        → instance_at setup.now c key ≡ Some its → is_waiting to ≡ false
+    ensures after { OnOk result ((c : Chronicle) (its : Instance) → B.stands book.old Stepping setup.now c
+        → instance_at setup.now c key ≡ Some its
+        → job_at setup.now key.job ≡ Some job.now → is_waiting to ≡ false
         → B.stands book.new Stepping setup.now
         (model.enter_whole job.now (model.who_of job.now its) its.place to table c ++ c)) }
+    ensures events { OnOk result ((c : Chronicle) (its : Instance) (k : EventIdValue) (j : ℕ)
+        → B.stands book.old Stepping setup.now c → instance_at setup.now c key ≡ Some its
+        → job_at setup.now key.job ≡ Some job.now
+        → is_waiting to ≡ false → B.event_place book.old c k ≡ Some j
+        → B.event_place book.new (model.enter_whole job.now (model.who_of job.now its) its.place to table c ++
+        c) k ≡ Some j) }
 {
     let lives = book.lives(key, Process::Main);
     enter_with(alloc, setup, book, job, key, to, table)?;
@@ -251,105 +289,93 @@ fn enter_waiting<B: Book>(
     key: InstanceKey,
     from: State,
 ) -> Result<(), AllocError>
-    ensures { OnOk result ((config : Configuration) (c : Chronicle) (its : Instance)
+    ensures after { OnOk result ((config : Configuration) (c : Chronicle) (its : Instance)
         → B.stands book.old Stepping config c → instance_at config c key ≡ Some its
         → B.stands book.new Stepping config
         (model.enter_whole job.now (model.who_of job.now its) its.place entered.Waiting
         (life.entering entered.Waiting from job.now.task) c ++ c)) }
+    ensures events { OnOk result ((config : Configuration) (c : Chronicle) (its : Instance) (k : EventIdValue)
+        (j : ℕ)
+        → B.stands book.old Stepping config c → instance_at config c key ≡ Some its
+        → B.event_place book.old c k ≡ Some j
+        → B.event_place book.new (model.enter_whole job.now (model.who_of job.now its) its.place
+        entered.Waiting (life.entering entered.Waiting from job.now.task) c ++ c) k ≡ Some j) }
 {
     let event = job_event(alloc, book, job, key, JobEvent::Stopped)?;
     book.leave(key, event)?;
     Ok(())
 }
 
-// Moves an instance on.
+// Moves an instance on; returns whether it is still there.
 fn move_on<B: Book>(
     alloc: Global,
     setup: &Setup,
     book: &mut B,
     job: &JobDef,
     key: InstanceKey,
-) -> Result<(), AllocError>
-    ensures { OnOk result ((c : Chronicle) (its : Instance) → B.stands book.old Stepping setup.now c
+) -> Result<bool, AllocError>
+    ensures after { OnOk result ((c : Chronicle) (its : Instance) → B.stands book.old Stepping setup.now c
         → instance_at setup.now c key ≡ Some its
+        → job_at setup.now key.job ≡ Some job.now
         → B.stands book.new Stepping setup.now (model.move job.now its c ++ c)) }
+    ensures events { OnOk result ((c : Chronicle) (its : Instance) (k : EventIdValue) (j : ℕ)
+        → B.stands book.old Stepping setup.now c → instance_at setup.now c key ≡ Some its
+        → job_at setup.now key.job ≡ Some job.now
+        → B.event_place book.old c k ≡ Some j
+        → B.event_place book.new (model.move job.now its c ++ c) k ≡ Some j) }
+    ensures stays { IfOk result (λ stays. (c : Chronicle) (its : Instance) → B.stands book.old Stepping setup.now c
+        → instance_at setup.now c key ≡ Some its
+        → job_at setup.now key.job ≡ Some job.now
+        → stays ≡ not (is_waiting (model.next_of job.now its.place c))) }
 {
     let from = book.state_of(key);
     let to = next_of(book, job, key);
     if is_waiting(to) {
         enter_waiting(alloc, book, job, key, from)?;
-    } else {
-        enter_other(
-            alloc,
-            setup,
-            book,
-            job,
-            key,
-            to,
-            entering(to, from, job.task),
-        )?;
+        return Ok(false);
     }
-    Ok(())
+    enter_other(
+        alloc,
+        setup,
+        book,
+        job,
+        key,
+        to,
+        entering(to, from, job.task),
+    )?;
+    Ok(true)
 }
 
-// The first of a job's instances that may leave its state.
-fn first_moving<B: Book>(book: &B, index: usize, job: &JobDef) -> Option<InstanceKey>
-    ensures { (mode : Mode) (config : Configuration) (c : Chronicle) → B.stands book.now mode config c
-        → name_at config index ≡ Some job.now.name
-        → FindsMove config result job.now c }
-{
-    for at in 0..book.count(index) {
-        let key = InstanceKey { job: index, at };
-        if may_leave(book, job, key) {
-            return Some(key);
-        }
-    }
-    None
-}
-
-// Moves the first of a job's instances that may leave its state; returns whether there was one.
-fn move_in<B: Book>(
+/// Moves an instance on as long as it may leave its state; returns whether it is still there.
+pub(crate) fn moves<B: Book>(
     alloc: Global,
     setup: &Setup,
     book: &mut B,
-    index: usize,
     job: &JobDef,
+    key: InstanceKey,
 ) -> Result<bool, AllocError>
-    ensures entries { OnOk result ((c : Chronicle) → B.stands book.old Stepping setup.now c
-        → name_at setup.now index ≡ Some job.now.name
-        → B.stands book.new Stepping setup.now
-        (model.move_in job.now (model_instances.instances_of job.now.name c) c ++ c)) }
-    ensures any { IfOk result (λ moved. (c : Chronicle) → B.stands book.old Stepping setup.now c
-        → name_at setup.now index ≡ Some job.now.name
-        → moved ≡ is_filled (model.move_in job.now (model_instances.instances_of job.now.name c) c)) }
+    ensures after { OnOk result ((c : Chronicle) (its : Instance) → B.stands book.old Stepping setup.now c
+        → instance_at setup.now c key ≡ Some its
+        → job_at setup.now key.job ≡ Some job.now
+        → B.stands book.new Stepping setup.now (settle_one 5 job.now its c)) }
+    ensures events { OnOk result ((c : Chronicle) (its : Instance) (k : EventIdValue) (j : ℕ)
+        → B.stands book.old Stepping setup.now c → instance_at setup.now c key ≡ Some its
+        → job_at setup.now key.job ≡ Some job.now
+        → B.event_place book.old c k ≡ Some j
+        → B.event_place book.new (settle_one 5 job.now its c) k ≡ Some j) }
+    ensures lists { IfOk result (λ stays. (c : Chronicle) (its : Instance) → B.stands book.old Stepping setup.now c
+        → instance_at setup.now c key ≡ Some its
+        → job_at setup.now key.job ≡ Some job.now
+        → ListsAfter stays its c (settle_one 5 job.now its c)) }
 {
-    match first_moving(book, index, job) {
-        Some(key) => {
-            move_on(alloc, setup, book, job, key)?;
-            Ok(true)
-        }
-        None => Ok(false),
-    }
-}
-
-/// Moves the first instance, job by job, that may leave its state; returns whether there was one.
-pub(crate) fn move_first<B: Book>(
-    alloc: Global,
-    setup: &Setup,
-    book: &mut B,
-    jobs: &[JobDef],
-) -> Result<bool, AllocError>
-    ensures entries { OnOk result ((c : Chronicle) → jobs.now ≡ setup.now.jobs
-        → B.stands book.old Stepping setup.now c
-        → B.stands book.new Stepping setup.now (model.move_first jobs.now c ++ c)) }
-    ensures any { IfOk result (λ moved. (c : Chronicle) → jobs.now ≡ setup.now.jobs
-        → B.stands book.old Stepping setup.now c
-        → moved ≡ is_filled (model.move_first jobs.now c)) }
-{
-    for (index, job) in jobs.iter().enumerate() {
-        if move_in(alloc, setup, book, index, job)? {
+    // No instance moves more than five times before it waits.
+    for turn in 0..5u8 {
+        if !may_leave(book, job, key) {
             return Ok(true);
         }
+        if !move_on(alloc, setup, book, job, key)? {
+            return Ok(false);
+        }
     }
-    Ok(false)
+    Ok(true)
 }

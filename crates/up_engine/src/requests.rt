@@ -1,7 +1,7 @@
 //! What the requests of clients do (initctl(8)).
-ghost use Rattle.std.specs.Prelude.{◌≡◌, ℕ, true, false, List, length, ◌∷◌, [], ◌++◌, map, Option, None, Some, IfOk, OnOk};
-ghost use Rattle.up_engine.specs.declared.keys.EventKey.{EventKey as EventKeyValue};
-ghost use Rattle.up_engine.specs.Keys.{Mode, Resting, Stepping, held_as, request_place, name_at, instance_place};
+ghost use Rattle.std.specs.Prelude.{◌≡◌, ℕ, true, false, List, length, ◌∷◌, [], ◌++◌, map, Option, None, Some, if◌then◌else◌, IfOk, OnOk};
+ghost use Rattle.up_model.specs.declared.event_id.EventId.{EventId as EventIdValue};
+ghost use Rattle.up_book.specs.Keys.{job_at, Mode, Resting, Stepping, held_as, request_place, name_at, instance_place};
 ghost use Rattle.up_engine.specs.Requests.{target_of as said_of, IsIndexed, answer_of, unless};
 ghost use Rattle.up_model.specs.declared.input.Input.{Input as InputValue};
 ghost use Rattle.up_model.specs.declared.input.Input.TheVariants as given_as;
@@ -16,9 +16,8 @@ ghost use Rattle.up_model.specs.Offers as offer;
 ghost use Rattle.up_model.specs.Requests.{RequestValue};
 ghost use Rattle.up_model.specs.Values.{Bindings};
 
-use crate::book::Book;
+use up_book::{Book, Holders};
 use crate::events::event_of;
-use crate::keys::{Holders, InstanceKey};
 use crate::life::{is_running, is_start};
 use crate::offers::{has_room, start_called, stop_of};
 use crate::setup::Setup;
@@ -29,7 +28,8 @@ use crate::texts::{
     too_many_instances, unknown_instance, version,
 };
 use std::alloc::{AllocError, Global};
-use up_model::{Answer, Command, Input, MAX_EVENTS, Request, Who};
+use up_job::InstanceKey;
+use up_model::{Answer, Command, Input, JobDef, MAX_EVENTS, Request, Who};
 use up_text::{Env, Text};
 
 // A request is refused.
@@ -56,7 +56,7 @@ fn tell<B: Book>(book: &mut B, text: Text) -> Result<(), AllocError>
 
 // A client that waits holds the instance that it acts on.
 fn holders_of(wait: bool) -> Holders
-    ensures { (places : EventKeyValue → Option ℕ) (request : Option ℕ) (given : ℕ) → request ≡ Some given
+    ensures { (places : EventIdValue → Option ℕ) (request : Option ℕ) (given : ℕ) → request ≡ (if wait then Some given else None)
         → held_as places request result ≡ map Some (model.holders_of given wait) }
 {
     if wait {
@@ -137,12 +137,13 @@ fn start_who<B: Book>(
     book: &mut B,
     holders: Holders,
     index: usize,
+    job: &JobDef,
     who: &Who,
     environment: Env,
 ) -> Result<(), AllocError>
     ensures { OnOk result ((config : Configuration) (c : Chronicle) (input : InputValue) (places : List ℕ)
         → B.stands book.old Stepping config (entry.Given input ∷ c)
-        → name_at config index ≡ Some who.now.job
+        → name_at config index ≡ Some who.now.job → job_at config index ≡ Some job.now
         → held_as (B.event_place book.old (entry.Given input ∷ c)) (request_place (entry.Given input ∷ c)) holders
         ≡ map Some places
         → B.stands book.new Stepping config
@@ -159,7 +160,7 @@ fn start_who<B: Book>(
         None => start_called(
             book,
             index,
-            &who.job,
+            job,
             who.instance.as_str(),
             environment,
             holders,
@@ -189,10 +190,10 @@ fn start<B: Book>(
         }
         Target::Concerns {
             index,
-            job: _,
+            job,
             who,
             environment,
-        } => start_who(alloc, book, holders, index, &who, environment)?,
+        } => start_who(alloc, book, holders, index, job, &who, environment)?,
     }
     Ok(())
 }
@@ -407,7 +408,7 @@ fn change<B: Book>(
 ) -> Result<(), AllocError>
     ensures { OnOk result ((c : Chronicle) (input : InputValue)
         → B.stands book.old Stepping setup.now (entry.Given input ∷ c)
-        → request_place (entry.Given input ∷ c) ≡ Some (length c)
+        → request_place (entry.Given input ∷ c) ≡ (if request.wait then Some (length c) else None)
         → B.stands book.new Stepping setup.now
         (model.entries_of (length c) (model.outcome_of setup.now (length c) request (entry.Given input ∷ c))
         ++ entry.Given input ∷ c)) }
@@ -478,7 +479,7 @@ pub(crate) fn take_request<B: Book>(
         → B.stands book.new Stepping setup.now (effect setup.now (given_as.Request id request) c ++ c)) }
 {
     let asked = request.copy()?;
-    book.given(Input::Request { id, request })?;
+    book.given(&Input::Request { id, request }, None);
     change(alloc, setup, book, asked)?;
     Ok(())
 }

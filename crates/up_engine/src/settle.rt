@@ -1,37 +1,79 @@
 //! What is due is done until nothing is.
-ghost use Rattle.std.specs.Prelude.{◌≡◌, ◌≤◌, OnOk};
-ghost use Rattle.up_engine.specs.Keys.{Mode, Resting, Stepping};
+ghost use Rattle.std.specs.Prelude.{◌≡◌, ℕ, [], ◌++◌, Some, OnOk};
+ghost use Rattle.up_model.specs.declared.event_id.EventId.{EventId as EventIdValue};
+ghost use Rattle.up_book.specs.Keys.{Mode, Resting, Stepping, job_at};
+ghost use Rattle.up_engine.specs.Settling as settling;
 ghost use Rattle.up_model.specs.Answers as answer;
 ghost use Rattle.up_model.specs.Chronicle.{Chronicle};
-ghost use Rattle.up_model.specs.Work as model;
+ghost use Rattle.up_model.specs.Due.{due};
+ghost use Rattle.up_model.specs.Instances.{instances_of};
+ghost use Rattle.up_model.specs.Replies.{answering_last};
 
-use crate::book::Book;
-use crate::due::{act, do_next};
+use up_book::Book;
+use crate::due::act;
+use crate::hear::hear_all;
+use crate::moves::moves;
 use crate::setup::Setup;
 use std::alloc::{AllocError, Global};
-use up_model::Input;
+use up_job::InstanceKey;
+use up_model::{Input, JobDef};
 
-// No more can be due one after another than this.
-fn most_due<B: Book>(setup: &Setup, book: &B) -> u128
-    ensures { (c : Chronicle) → B.stands book.now Stepping setup.now c → model.work setup.now c ≤ result }
+/// Moves each instance of a job on, as long as it may.
+pub(crate) fn settle_each<B: Book>(
+    alloc: Global,
+    setup: &Setup,
+    book: &mut B,
+    index: usize,
+    job: &JobDef,
+) -> Result<(), AllocError>
+    ensures after { OnOk result ((c : Chronicle) → B.stands book.old Stepping setup.now c
+        → job_at setup.now index ≡ Some job.now
+        → B.stands book.new Stepping setup.now
+        (settling.settle_each job.now (instances_of job.now.name c) c)) }
+    ensures events { OnOk result ((c : Chronicle) (k : EventIdValue) (j : ℕ)
+        → B.stands book.old Stepping setup.now c → job_at setup.now index ≡ Some job.now
+        → B.event_place book.old c k ≡ Some j
+        → B.event_place book.new (settling.settle_each job.now (instances_of job.now.name c) c) k ≡ Some j) }
 {
-    11 * (book.most_instances() as u128) + 6 * (setup.jobs().len() as u128) + 1
-}
-
-fn settle<B: Book>(alloc: Global, setup: &Setup, book: &mut B) -> Result<(), AllocError>
-    ensures { OnOk result ((c : Chronicle) → B.stands book.old Stepping setup.now c
-        → B.stands book.new Stepping setup.now (model.settle (model.work setup.now c) setup.now c)) }
-{
-    let most = most_due(setup, book);
-    for turn in 0..most {
-        if !do_next(alloc, setup, book)? {
-            return Ok(());
+    let mut at = 0;
+    for turn in 0..book.count(index) {
+        let key = InstanceKey { job: index, at };
+        if moves(alloc, setup, book, job, key)? {
+            at += 1;
         }
     }
     Ok(())
 }
 
-/// Takes an input in, and then does what is due until nothing is.
+// Moves all instances on, job by job.
+fn settle_all<B: Book>(
+    alloc: Global,
+    setup: &Setup,
+    book: &mut B,
+    jobs: &[JobDef],
+) -> Result<(), AllocError>
+    ensures { OnOk result ((c : Chronicle) → jobs.now ≡ setup.now.jobs
+        → B.stands book.old Stepping setup.now c
+        → B.stands book.new Stepping setup.now (settling.settle_all jobs.now c)) }
+{
+    for (index, job) in jobs.iter().enumerate() {
+        settle_each(alloc, setup, book, index, job)?;
+    }
+    Ok(())
+}
+
+// Moves all instances on, and answers the client of this step if it doesn't wait.
+fn settle<B: Book>(alloc: Global, setup: &Setup, book: &mut B) -> Result<(), AllocError>
+    ensures { OnOk result ((c : Chronicle) → B.stands book.old Stepping setup.now c
+        → B.stands book.new Stepping setup.now (answering_last (settling.settle_all setup.now.jobs c)
+        ++ settling.settle_all setup.now.jobs c)) }
+{
+    settle_all(alloc, setup, book, setup.jobs())?;
+    book.reply_last()?;
+    Ok(())
+}
+
+/// Takes an input in, and then does what is due until nothing is. Nothing was due before.
 #[tactic(auto, unfolding(up_model::specs::Answers::after))]
 pub(crate) fn run_step<B: Book>(
     alloc: Global,
@@ -39,10 +81,13 @@ pub(crate) fn run_step<B: Book>(
     book: &mut B,
     input: Input,
 ) -> Result<(), AllocError>
-    ensures { OnOk result ((c : Chronicle) → B.stands book.old Resting setup.now c
+    ensures { OnOk result ((c : Chronicle) → B.stands book.old Resting setup.now c → due setup.now c ≡ []
         → B.stands book.new Stepping setup.now (answer.after setup.now c input)) }
 {
-    act(alloc, setup, book, input)?;
-    settle(alloc, setup, book)?;
+    setup.names_differ();
+    match act(alloc, setup, book, input)? {
+        Some(event) => hear_all(alloc, setup, book, setup.jobs(), event)?,
+        None => settle(alloc, setup, book)?,
+    }
     Ok(())
 }

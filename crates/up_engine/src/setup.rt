@@ -2,7 +2,8 @@
 ghost use Rattle.std.specs.Prelude.{◌≡◌, map, None, Some, slice_get, unwrap_or, IfOk, OnOk, IfSome, IfNone};
 ghost use Rattle.std.specs.Option.{option_copied};
 ghost use Rattle.std.specs.Str.{bytes_eq};
-ghost use Rattle.up_engine.specs.Keys.{name_at};
+ghost use Rattle.up_book.specs.Keeps.{AreDistinct};
+ghost use Rattle.up_book.specs.Keys.{job_at, name_at};
 ghost use Rattle.up_model.specs.Configuration.{job_named};
 ghost use Rattle.up_model.specs.Environments.{with_value, setting_value, with_settings, job_env, env_by_job, env_of_job};
 
@@ -165,10 +166,17 @@ impl Setup {
         self.table.as_slice()
     }
 
+    /// No two jobs have one name.
+    pub(crate) fn names_differ(&self)
+        ensures { AreDistinct self.now.jobs }
+    {
+        self.table.is_given();
+    }
+
     /// The job of this name, and its index.
     pub(crate) fn job_named(&self, name: &str) -> Option<(usize, &JobDef)>
         ensures some { IfSome result (λ found. (job_named name.now self.now.jobs ≡ Some found.1.now)
-            × (name_at self.now found.0 ≡ Some name.now) × (found.1.now.name ≡ name.now)) }
+            × (name_at self.now found.0 ≡ Some name.now) × (job_at self.now found.0 ≡ Some found.1.now) × (found.1.now.name ≡ name.now)) }
         ensures none { IfNone result (job_named name.now self.now.jobs ≡ None) }
     {
         find_job(self.table.as_slice(), name)

@@ -1,6 +1,6 @@
 //! What clients are told of instances: `status` and `list`.
 ghost use Rattle.std.specs.Prelude.{◌≡◌, ◌==◌, ℕ, List, ◌∷◌, [], ◌++◌, map, Some, IfOk, OnOk, string_bytes, if◌then◌else◌};
-ghost use Rattle.up_engine.specs.Keys.{Mode, name_at, instance_place};
+ghost use Rattle.up_book.specs.Keys.{Mode, name_at, instance_place};
 ghost use Rattle.up_engine.specs.Requests.{target_of as said_of, IsIndexed, answer_of};
 ghost use Rattle.up_model.specs.Chronicle.{Chronicle};
 ghost use Rattle.up_model.specs.Commands as model;
@@ -9,12 +9,12 @@ ghost use Rattle.up_model.specs.Instances as model_instances;
 ghost use Rattle.up_model.specs.Replies.{status_of};
 ghost use Rattle.up_model.specs.Values.{Bytes};
 
-use crate::book::Book;
-use crate::keys::InstanceKey;
+use up_book::Book;
 use crate::setup::Setup;
 use crate::target::Target;
 use crate::texts::{stopped, unknown_instance};
 use std::alloc::{AllocError, Global};
+use up_job::InstanceKey;
 use up_model::{Answer, JobDef, Who};
 use up_text::Text;
 

@@ -1,6 +1,6 @@
 //! Whom a request names.
 ghost use Rattle.std.specs.Prelude.{◌≡◌, Some, IfOk};
-ghost use Rattle.up_engine.specs.Keys.{name_at};
+ghost use Rattle.up_book.specs.Keys.{job_at};
 ghost use Rattle.up_engine.specs.Requests.{target_of as said_of, IsIndexed};
 ghost use Rattle.up_model.specs.Commands as model;
 ghost use Rattle.up_model.specs.Configuration.{Configuration};
@@ -51,7 +51,7 @@ fn target_in<'a>(
     ensures target { IfOk result (λ target. said_of target
         ≡ model.target_as job.now environment (expansion job.now.instance environment)) }
     ensures index { IfOk result (λ target. (config : Configuration)
-        → name_at config index ≡ Some job.now.name → IsIndexed config target) }
+        → job_at config index ≡ Some job.now → IsIndexed config target) }
 {
     match expand(alloc, job.instance.as_str(), &environment) {
         Ok(Expanded::Text(name)) => {

@@ -1,15 +1,15 @@
 //! Times in milliseconds, and what the timer does.
 ghost use Rattle.std.specs.Prelude.{◌≡◌, ℕ, List, ◌∷◌, ◌++◌, [], map, Some, IfOk, OnOk};
-ghost use Rattle.up_engine.specs.Keys.{Mode, Stepping, name_at, instance_place};
+ghost use Rattle.up_book.specs.Keys.{Mode, Stepping, name_at, instance_place};
 ghost use Rattle.up_model.specs.Chronicle.{Chronicle};
 ghost use Rattle.up_model.specs.Clock as clock;
 ghost use Rattle.up_model.specs.Configuration.{Configuration};
 ghost use Rattle.up_model.specs.Instances.{instances_of};
 ghost use Rattle.up_model.specs.Predicates.{entries_if};
 
-use crate::book::Book;
-use crate::keys::InstanceKey;
+use up_book::Book;
 use std::alloc::{AllocError, Global};
+use up_job::InstanceKey;
 use up_model::{JobDef, Process, State};
 
 /// So many seconds.

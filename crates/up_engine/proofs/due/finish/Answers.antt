@@ -1,5 +1,5 @@
 use Rattle.std.proofs.Common.{◌≡◌, ◌∷◌, ◌++◌, ◌∙◌}
-use Rattle.up_engine.specs.Keys.{Resting, Stepping}
+use Rattle.up_book.specs.Keys.{Resting, Stepping}
 use Rattle.up_engine.proofs.Entries.{finishing_last}
 use Rattle.up_model.specs.declared.input.Input.TheVariants.{Turn}
 use Rattle.up_model.specs.Chronicle.{Chronicle, Given, Finished}
@@ -12,8 +12,8 @@ use Rattle.up_engine.proofs.due.finish.Goals as goal
 pub returns : goal.returns
 returns g c config c' e s known free =
     let d : Chronicle = Given Turn ∷ c' in
-    let now = c.in_ok-given.ensures.after config c' s in
-    let here = c.in_ok-given.ensures.events config c' c.args.key e s known in
+    let now = c.given.ensures.after config c' s tt in
+    let here = c.given.ensures.events config c' c.args.key e s known in
     let told = c.in_ok-told.ensures Stepping config d e now here in
     rw (finishing_last (telling e (failed_event_of e d)) (answering_waiter (waiter e d) (is_spoilt e d)) (Finished e) d, ← told)
     (c.in_ok-finish.ensures config d e now here (held-given config e Turn c' ∙ free))

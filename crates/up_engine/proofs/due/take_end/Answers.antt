@@ -1,5 +1,5 @@
 use Rattle.std.proofs.Common.{◌≡◌, ◌++◌, ◌∷◌, [], List, subst}
-use Rattle.up_engine.specs.Keys.{Stepping}
+use Rattle.up_book.specs.Keys.{Resting, Stepping}
 use Rattle.up_engine.proofs.Entries.{one_last}
 use Rattle.up_model.specs.declared.failure.End.TheVariants as end
 use Rattle.up_model.specs.declared.input.Input.TheVariants as input
@@ -15,7 +15,7 @@ unfolding effect
 returns g c c' s =
     let d : Chronicle = Given (input.Ended c.args.who c.args.process c.args.how) ∷ c' in
     let config = c.args.setup.now in
-    let now = c.in_ok-given.ensures.after config c' s in
+    let now = c.given.ensures.after config c' s (c.find-on.ensures Resting c' s) in
     let does : Who → List Entry = λ who. end_of (job_named who.job config.jobs) (instance_named who d) c.args.process (end.Ended c.args.how) d in
     let done = c.in_ok-conclude.ensures config d (does c.in_ok-its.its) now (c.verdict_on-verdict_on_end.ensures Stepping d now) in
     rw one_last (subst (λ who. g.B.Book.stands c.conclude.new.book Stepping config (does who ++ d)) c.in_ok-its.ensures done)

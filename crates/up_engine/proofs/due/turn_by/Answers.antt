@@ -1,7 +1,16 @@
-use Rattle.std.proofs.Common.{◌≡◌, ◌∷◌, ◌++◌, true}
+use Rattle.std.proofs.Common.{◌≡◌, ◌∷◌, ◌++◌, ◌∙◌, Some, true, false, ap, refl}
+use Rattle.up_book.specs.Turning.{is_finish}
+use Rattle.up_engine.proofs.Effects.{turn-finishes, turn-takes}
 use Rattle.up_engine.proofs.TurnLemmas.{free_then}
 use Rattle.up_engine.proofs.due.turn_by.Goals as goal
 
-pub returns-in_ok-finish : goal.returns-in_ok-finish
-returns-in_ok-finish g c config c' e s known found =
-    rw c.if-live.true (c.in_ok-finish.ensures config c' e s known (free_then config c' e c.args.live.handled found c.if-live.true))
+pub returns-in_ok-finish-in-Finish-clause-after : goal.returns-in_ok-finish-in-Finish-clause-after
+returns-in_ok-finish-in-Finish-clause-after g c config c' e s known found =
+    let is : is_finish c.args.kind ≡ true = ap is_finish c.in-Finish.is in
+    rw is (c.in_ok-finish-in-Finish.ensures config c' e s known (free_then config c' e (is_finish c.args.kind) found is))
+
+pub returns-in_ok-finish-in-Finish-clause-takes : goal.returns-in_ok-finish-in-Finish-clause-takes
+returns-in_ok-finish-in-Finish-clause-takes g c config c' e s known found = turn-finishes config c' e (is_finish c.args.kind) found (ap is_finish c.in-Finish.is)
+
+pub returns-in_ok-handle-in-Handle-clause-takes : goal.returns-in_ok-handle-in-Handle-clause-takes
+returns-in_ok-handle-in-Handle-clause-takes g c config c' e s known found = (e, turn-takes config c' e (is_finish c.args.kind) found (ap is_finish c.in-Handle.is), c.in_ok-handle-in-Handle.ensures.events config c' e s known)

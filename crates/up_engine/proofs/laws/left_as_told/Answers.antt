@@ -1,6 +1,5 @@
-use Rattle.std.proofs.Common.{ap}
-use Rattle.up_model.specs.Left.{left}
+use Rattle.up_engine.proofs.LeftLemmas.{left_told}
 use Rattle.up_engine.proofs.laws.left_as_told.Goals as goal
 
 pub returns : goal.returns
-returns c = λ engine config past stands. ap left stands.past.entries
+returns c = λ engine config past stands. left_told config engine.book past stands.past

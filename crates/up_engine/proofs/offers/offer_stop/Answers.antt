@@ -3,7 +3,14 @@ use Rattle.up_model.specs.Chronicle.{Offered, StopOn}
 use Rattle.up_engine.proofs.Entries.{two_last}
 use Rattle.up_engine.proofs.offers.offer_stop.Goals as goal
 
-pub returns-in_ok-stop_fires : goal.returns-in_ok-stop_fires
-returns-in_ok-stop_fires g c c' i e s known event =
-    let holds = sym (c.in_ok-holds.ensures.holds c' i e s known event) ∙ c.if-holds.true in
-    rw (holds, two_last) (c.in_ok-stop_fires.ensures (Offered (StopOn i) e ∷ c') i (c.in_ok-holds.ensures.after c' i e s known event) known)
+pub returns-in_ok-stop_fires-clause-after : goal.returns-in_ok-stop_fires-clause-after
+returns-in_ok-stop_fires-clause-after g c c' i e s known in_table event =
+    let config = c.args.setup.now in
+    let holds = sym (c.in_ok-holds.ensures.holds config c' i e s known in_table event) ∙ c.if-holds.true in
+    rw (holds, two_last) (c.in_ok-stop_fires.ensures.after (Offered (StopOn i) e ∷ c') i (c.in_ok-holds.ensures.after config c' i e s known in_table event) known in_table)
+
+pub returns-in_ok-stop_fires-clause-events : goal.returns-in_ok-stop_fires-clause-events
+returns-in_ok-stop_fires-clause-events g c c' i e k j s known in_table event other =
+    let config = c.args.setup.now in
+    let holds = sym (c.in_ok-holds.ensures.holds config c' i e s known in_table event) ∙ c.if-holds.true in
+    rw (holds, two_last) (c.in_ok-stop_fires.ensures.events (Offered (StopOn i) e ∷ c') i k j (c.in_ok-holds.ensures.after config c' i e s known in_table event) known in_table (c.in_ok-holds.ensures.events config c' i e k j s known in_table event other))

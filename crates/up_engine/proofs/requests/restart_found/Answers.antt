@@ -1,5 +1,5 @@
 use Rattle.std.proofs.Common.{◌≡◌, ◌∷◌, ◌++◌, ◌∙◌, true, false, sym, ap}
-use Rattle.up_engine.specs.Keys.{Stepping}
+use Rattle.up_book.specs.Keys.{Stepping}
 use Rattle.up_model.specs.Chronicle.{Chronicle, Given}
 use Rattle.up_model.specs.Commands.{is_running}
 use Rattle.up_model.specs.Readings.{state_of}

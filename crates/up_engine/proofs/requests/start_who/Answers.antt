@@ -1,24 +1,27 @@
 use Rattle.std.proofs.Common.{◌≡◌, ◌∷◌, ◌++◌, ◌∙◌, Some, None, ap, sym, subst, length, ℕ}
-use Rattle.up_engine.specs.Keys.{Stepping}
+use Rattle.up_book.specs.Keys.{Stepping}
 use Rattle.up_engine.specs.Requests.{unless}
 use Rattle.up_model.specs.Chronicle.{Chronicle, Given}
 use Rattle.up_model.specs.Commands.{Outcome, Done, entries_of, start_at}
 use Rattle.up_model.specs.Events.{with_instance}
 use Rattle.up_model.specs.Instances.{instance_named}
 use Rattle.up_model.specs.Offers.{start_of}
+use Rattle.up_engine.proofs.Entries.{some_same}
+use Rattle.up_engine.proofs.KeyLemmas.{job_name}
 use Rattle.up_engine.proofs.requests.start_who.Goals as goal
 
 pub returns-in_ok-refuse-in-Some : goal.returns-in_ok-refuse-in-Some
-returns-in_ok-refuse-in-Some g c config c' input places s named held =
+returns-in_ok-refuse-in-Some g c config c' input places s named in_table held =
     let d : Chronicle = Given input ∷ c' in
     let told = with_instance c.args.who.now c.args.environment in
     let means = rw c.in-Some.is at (c.in_ok-text.ensures Stepping config d places told s named) in
     subst (λ outcome. g.B.Book.stands c.refuse.new.book Stepping config (entries_of (length c') outcome ++ d)) (sym means) (c.in_ok-refuse-in-Some.ensures config c' input s)
 
 pub returns-in_ok-start_called-in-None : goal.returns-in_ok-start_called-in-None
-returns-in_ok-start_called-in-None g c config c' input places s named held =
+returns-in_ok-start_called-in-None g c config c' input places s named in_table held =
     let d : Chronicle = Given input ∷ c' in
     let told = with_instance c.args.who.now c.args.environment in
     let means = rw c.in-None.is at (c.in_ok-text.ensures Stepping config d places told s named) in
-    let done = rw c.as_str.ensures at (c.in_ok-start_called-in-None.ensures config d places s named held) in
+    let one = some_same (sym (job_name config c.args.index c.args.job.now in_table) ∙ named) in
+    let done = rw (c.as_str.ensures, one) at (c.in_ok-start_called-in-None.ensures.after config d places s in_table held) in
     subst (λ outcome. g.B.Book.stands c.start_called.new.book Stepping config (entries_of (length c') outcome ++ d)) (sym means) done

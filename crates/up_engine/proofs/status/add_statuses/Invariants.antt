@@ -1,5 +1,5 @@
 use Rattle.std.proofs.Common.{◌≡◌, ◌++◌, Some, drop}
-use Rattle.up_engine.specs.Keys.{Mode, name_at}
+use Rattle.up_book.specs.Keys.{Mode, name_at}
 use Rattle.up_model.specs.Chronicle.{Chronicle}
 use Rattle.up_model.specs.Commands.{statuses}
 use Rattle.up_model.specs.Configuration.{Configuration}

@@ -1,5 +1,5 @@
 use Rattle.std.proofs.Common.{◌≡◌, ◌++◌, drop}
-use Rattle.up_engine.specs.Keys.{Mode}
+use Rattle.up_book.specs.Keys.{Mode}
 use Rattle.up_model.specs.Chronicle.{Chronicle}
 use Rattle.up_model.specs.Commands.{list_lines}
 use Rattle.up_model.specs.Configuration.{Configuration}

@@ -1,6 +1,6 @@
 use Rattle.std.proofs.Common.{◌≡◌, ◌∙◌, ◌+◌, ◌++◌, ◌∷◌, [], Some, List, ℕ, map, drop, sym, ap, arith, length, refl, add-one, append_assoc, append-nil}
 use Rattle.std.proofs.lemmas.List.{drop_all}
-use Rattle.up_engine.specs.declared.keys.InstanceKey.{InstanceKey}
+use Rattle.up_job.specs.declared.instance_key.InstanceKey.{InstanceKey}
 use Rattle.up_engine.proofs.KeyLemmas.{there}
 use Rattle.up_model.specs.Clock.{kill_due, overdue}
 use Rattle.up_model.specs.Instances.{instances_of}

@@ -1,5 +1,5 @@
 use Rattle.std.proofs.Common.{◌≡◌, ◌++◌, ℕ, List, Some, drop, map}
-use Rattle.up_engine.specs.Keys.{Mode, name_at, instance_place}
+use Rattle.up_book.specs.Keys.{Mode, name_at, instance_place}
 use Rattle.up_model.specs.Chronicle.{Chronicle}
 use Rattle.up_model.specs.Clock.{overdue}
 use Rattle.up_model.specs.Configuration.{Configuration}

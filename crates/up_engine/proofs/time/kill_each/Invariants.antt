@@ -1,5 +1,5 @@
 use Rattle.std.proofs.Common.{◌≡◌, ◌++◌, ℕ, List, Some, take, map}
-use Rattle.up_engine.specs.Keys.{Stepping, instance_place}
+use Rattle.up_book.specs.Keys.{Stepping, instance_place}
 use Rattle.up_model.specs.Chronicle.{Chronicle}
 use Rattle.up_model.specs.Clock.{killing}
 use Rattle.up_model.specs.Configuration.{Configuration}

@@ -1,4 +1,4 @@
-use Rattle.up_engine.specs.Keys.{Resting}
+use Rattle.up_book.specs.Keys.{Resting}
 use Rattle.up_engine.proofs.engine.Engine.live_events.Goals as goal
 
 pub returns-clause-up : goal.returns-clause-up

@@ -1,11 +1,14 @@
-use Rattle.std.proofs.Common.{[], refl}
-use Rattle.up_engine.proofs.LeftLemmas.{stores}
+use Rattle.std.proofs.Common.{[], refl, subst, sym}
+use Rattle.up_book.specs.Keys.{Resting}
+use Rattle.up_book.specs.Ledgers.{Stands}
+use Rattle.up_model.specs.Configuration.{Configuration}
+use Rattle.up_engine.proofs.LeftLemmas.{rests-first}
 use Rattle.up_engine.proofs.engine.Engine.new.Goals as goal
 
 pub invariant_of-result : goal.invariant_of-result
 invariant_of-result c = record {
-  sound = λ up. ∣ stores c.in_ok-setup.setup c.in_ok-book.book [] c.in_ok-book.ensures ∣₁;
+  sound = λ up. ∣ ([], subst (λ (config : Configuration). Stands c.in_ok-book.book Resting config []) (sym c.in_ok-setup.ensures) (c.in_ok-book.ensures c.args.base), rests-first c.in_ok-setup.setup) ∣₁;
 }
 
 pub returns : goal.returns
-returns c = record { up = refl; setup = c.in_ok-setup.ensures; past = rw (← c.in_ok-setup.ensures) c.in_ok-book.ensures }
+returns c = record { up = refl; setup = c.in_ok-setup.ensures; past = c.in_ok-book.ensures c.args.base; rested = rests-first _ }

@@ -1,7 +1,9 @@
-use Rattle.std.proofs.Common.{◌≡◌, ◌∙◌, sym, refl, ap, true, is_some}
-use Rattle.up_engine.specs.Keys.{Resting}
-use Rattle.up_engine.proofs.Entries.{is_some_map}
+use Rattle.std.proofs.Common.{◌≡◌, ◌∙◌, sym, refl, ap, [], true, is_some}
+use Rattle.up_book.specs.Keys.{Resting}
+use Rattle.up_engine.proofs.TurnLemmas.{turn_told}
 use Rattle.up_engine.proofs.LeftLemmas.{left_after, sound_after}
+use Rattle.up_model.specs.Due.{due}
+use Rattle.up_model.proofs.Settling.{after_rests}
 use Rattle.up_engine.proofs.engine.Engine.step.Goals as goal
 
 pub returns-then-not-expects-clause-meaning : goal.returns-then-not-expects-clause-meaning
@@ -13,16 +15,17 @@ returns-in-Err-clause-meaning c config c' s = (
   record {
     down = refl;
     live = c.live_events-self.ensures Resting config c' s.past;
-    turn = c.is_some-self.ensures ∙ is_some_map _ _ _ _ (c.turn.ensures config c' s.past);
+    turn = c.is_some-self.ensures ∙ turn_told _ _ _ (c.turn.ensures config c' s.past);
   },
 )
 
 pub returns-in-Ok-clause-meaning : goal.returns-in-Ok-clause-meaning
 returns-in-Ok-clause-meaning c config c' s =
-    let past = rw (sym s.setup) at s.past in (
+    let past = rw (sym s.setup) at s.past in
+    let rested : due c.args.self.now.setup c' ≡ [] = ap (λ conf. due conf c') s.setup ∙ s.rested in (
       sym (c.expects.ensures config c' s) ∙ c.if-not-expects.false,
-      rw (sym s.setup) (c.in-Ok.ensures.outputs c' past),
-      record { up = refl; setup = s.setup; past = rw (sym s.setup) (c.in-Ok.ensures.after c' past) },
+      rw (sym s.setup) (c.in-Ok.ensures.outputs c' past rested),
+      record { up = refl; setup = s.setup; past = rw (sym s.setup) (c.in-Ok.ensures.after c' past rested); rested = after_rests config c' c.args.given },
     )
 
 pub returns-in-Ok-clause-left : goal.returns-in-Ok-clause-left

@@ -1,0 +1,190 @@
+-- After an offer, a firing or a move: what is still to be offered, and who may move.
+use Rattle.std.proofs.Common.{◌≡◌, ℕ, zero, suc, nat_lt, ◌+◌, ◌<◌, ◌≤◌, ◌==◌, ◌&&◌, ◌||◌, Bool, true, false, not, List, [], ◌∷◌, ◌++◌, length, map, Option, None, Some, is_some, bytes_eq, if◌then◌else◌, refl, sym, ◌∙◌, ap, subst, arith, eqb-true, eq-eqb, ne_eqb, append_assoc}
+use Rattle.std.proofs.lemmas.Bool.{eqb-false}
+use Rattle.std.specs.List.{AllByRecursion}
+use Rattle.up_conf.specs.declared.job.JobDef.{JobDef}
+use Rattle.up_stanza.specs.declared.process.Process.{Process}
+use Rattle.up_stanza.specs.declared.process.Process.TheVariants as process
+use Rattle.up_model.specs.declared.life.Entry as table
+use Rattle.up_model.specs.declared.life.JobEvent.{JobEvent}
+use Rattle.up_model.specs.declared.state.Goal.TheVariants.{Start, Stop}
+use Rattle.up_model.specs.declared.state.State.{State}
+use Rattle.up_model.specs.declared.state.State.TheVariants as state
+use Rattle.up_model.specs.declared.who.Who.{Who}
+use Rattle.up_model.specs.Chronicle.{Chronicle, Entry, Expression, Given, Queued, Handled, Offered, Fired, Finished, Made, Aimed, Restarted, Released, Failed, Respawned, Entered, Ordered, Signalled, Replied, Entering, StartOn, StopOn}
+use Rattle.up_model.specs.Configuration.{Configuration}
+use Rattle.up_model.specs.Due.{due}
+use Rattle.up_model.specs.Environments.{env_of_job, instance_name}
+use Rattle.up_model.specs.Events.{events_at, events_env, with_instance, stopped_by}
+use Rattle.up_model.specs.Instances as instances
+use Rattle.up_model.specs.Instances.{Instance, is_before, without_instance, instances_of, all_instances, place_named, instance_named}
+use Rattle.up_model.specs.Life.{Wait, ForStart, ForEvent, ForAnswer, ForProcess, ForChange, ForMain, wait_in, entering}
+use Rattle.up_model.specs.Moves.{has_process, emitting, ordering, enter, enter_whole, is_over, may_leave, next_of, who_of, move, move_of, move_in, move_first}
+use Rattle.up_model.specs.Offers.{is_newborn, is_open, stop_of, stop_by, stop_offer, max_instances, start_of, who_called, start_who, start_by, start_offer, offering}
+use Rattle.up_model.specs.Predicates.{is_start, entries_if, or_else}
+use Rattle.up_model.specs.Readings.{goal, state_of, was_restarted, blocker, is_awaited, pid_of, lives}
+use Rattle.up_model.specs.Replies.{releasing}
+use Rattle.up_model.specs.Seen.{same_expression, seen, holds, taken, was_offered}
+use Rattle.up_model.specs.Values.{Bytes, Bindings}
+use Rattle.up_model.proofs.Places.{older-other, all-without, bytes_refl}
+use Rattle.up_model.proofs.ReplyLaws.{releasing-all}
+use Rattle.up_model.proofs.Sparing.{all-append, all-if}
+use Rattle.up_job.specs.Lists.{nth}
+use Rattle.up_book.specs.Keeps.{AreDistinct}
+use Rattle.up_engine.specs.Offering.{Asked, OfStop, OfStart, expression_of, open_stops, open_start, open_all, offer_at, offer_one}
+use Rattle.up_engine.proofs.Moving.{StayIn, Stay, first-moves}
+use Rattle.up_engine.proofs.Offering.{rested, rested-next, first-offer, offer-filled, all-left, is_left}
+use Rattle.up_book.proofs.One.{IsKnown, known-all}
+use Rattle.up_engine.proofs.Passing.{stays, or-nil-first, or-nil-rest}
+use Rattle.up_engine.proofs.Opening.{About, open-entry, closed-entry, offering-same, open-made, made-closed}
+
+-- such an entry leaves what is read of another instance
+other_way : (i q : ℕ) → (q == i) ≡ false → (i == q) ≡ false
+other_way i q apart = ne_eqb i q (λ e. eqb-false q i apart (sym e))
+
+goal-same : (q i : ℕ) (e : Entry) (c : Chronicle) → About i e → (q == i) ≡ false → goal q (e ∷ c) ≡ goal q c
+goal-same q i (Aimed j aim environment its) c is apart = rw is (rw (other_way i q apart) refl)
+goal-same q i e c is apart = refl
+
+state-same : (q i : ℕ) (e : Entry) (c : Chronicle) → About i e → (q == i) ≡ false → state_of q (e ∷ c) ≡ state_of q c
+state-same q i (Entered j entered) c is apart = rw is (rw (other_way i q apart) refl)
+state-same q i e c is apart = refl
+
+restarted-same : (q i : ℕ) (e : Entry) (c : Chronicle) → About i e → (q == i) ≡ false → was_restarted q (e ∷ c) ≡ was_restarted q c
+restarted-same q i (Entered j entered) c is apart = rw is (rw (other_way i q apart) refl)
+restarted-same q i (Restarted j its) c is apart = absurd is
+restarted-same q i e c is apart = refl
+
+blocker-same : (q i : ℕ) (e : Entry) (c : Chronicle) → About i e → (q == i) ≡ false → blocker q (e ∷ c) ≡ blocker q c
+blocker-same q i (Queued (Entering j entered) event) c is apart = rw is (rw (other_way i q apart) refl)
+blocker-same q i (Finished event) c is apart = absurd is
+blocker-same q i e c is apart = refl
+
+awaited-same : (q i : ℕ) (its : Process) (e : Entry) (c : Chronicle) → About i e → (q == i) ≡ false → is_awaited q its (e ∷ c) ≡ is_awaited q its c
+awaited-same q i its (Ordered j other) c is apart = rw is (rw (other_way i q apart) refl)
+awaited-same q i its (Given input) c is apart = absurd is
+awaited-same q i its (Made job name) c is apart = absurd is
+awaited-same q i its e c is apart = refl
+
+pid-same : (q i : ℕ) (its : Process) (e : Entry) (c : Chronicle) → About i e → pid_of q its (e ∷ c) ≡ pid_of q its c
+pid-same q i its (Given input) c is = absurd is
+pid-same q i its (Made job name) c is = absurd is
+pid-same q i its e c is = refl
+
+over-same : (job : JobDef) (q i : ℕ) (wait : Wait) (e : Entry) (c : Chronicle) → About i e → (q == i) ≡ false → is_over job q wait (e ∷ c) ≡ is_over job q wait c
+over-same job q i ForStart e c is apart = rw (goal-same q i e c is apart) refl
+over-same job q i ForEvent e c is apart = rw (blocker-same q i e c is apart) refl
+over-same job q i (ForAnswer its) e c is apart = rw (awaited-same q i its e c is apart) refl
+over-same job q i (ForProcess its) e c is apart = rw (awaited-same q i its e c is apart, pid-same q i its e c is) refl
+over-same job q i ForChange e c is apart = rw (goal-same q i e c is apart, restarted-same q i e c is apart, pid-same q i process.Main e c is) refl
+over-same job q i ForMain e c is apart = rw (pid-same q i process.Main e c is) refl
+
+pub leave-same : (job : JobDef) (q i : ℕ) (e : Entry) (c : Chronicle) → About i e → (q == i) ≡ false → may_leave job q (e ∷ c) ≡ may_leave job q c
+leave-same job q i e c is apart = ap (λ s. is_over job q (wait_in s) (e ∷ c)) (state-same q i e c is apart) ∙ over-same job q i (wait_in (state_of q c)) e c is apart
+
+-- so it leaves the others where they are
+stayin-same : (i : ℕ) (job : JobDef) (its : List Instance) (e : Entry) (c : Chronicle) → About i e → StayIn i job its c → StayIn i job its (e ∷ c)
+stayin-same i job [] e c is all = tt
+stayin-same i job (x ∷ its) e c is all = ((λ apart. leave-same job x.place i e c is apart ∙ all.0 apart), stayin-same i job its e c is all.1)
+
+stayin-entry : (i : ℕ) (job : JobDef) (e : Entry) (c : Chronicle) → About i e → StayIn i job (instances_of job.name c) c → StayIn i job (instances_of job.name (e ∷ c)) (e ∷ c)
+stayin-entry i job (Made other name) c is all = absurd is
+stayin-entry i job (Entered j state.Waiting) c is all =
+    all-without (λ x. (x.place == i) ≡ false → may_leave job x.place (Entered j state.Waiting ∷ c) ≡ false) j (instances_of job.name c) (stayin-same i job (instances_of job.name c) (Entered j state.Waiting) c is all)
+stayin-entry i job e c is all = stayin-same i job (instances_of job.name c) e c is all
+
+pub stay-entry : (i : ℕ) (jobs : List JobDef) (e : Entry) (c : Chronicle) → About i e → Stay i jobs c → Stay i jobs (e ∷ c)
+stay-entry i [] e c is stay = tt
+stay-entry i (job ∷ jobs) e c is stay = (stayin-entry i job e c is stay.0, stay-entry i jobs e c is stay.1)
+
+-- an instance that was just made is the only one that may move
+over-made : (job : JobDef) (q : ℕ) (wait : Wait) (other name : Bytes) (c : Chronicle) → q < length c → is_over job q wait (Made other name ∷ c) ≡ is_over job q wait c
+over-made job q ForStart other name c older = refl
+over-made job q ForEvent other name c older = refl
+over-made job q (ForAnswer its) other name c older = rw (older-other (length c) q older) refl
+over-made job q (ForProcess its) other name c older = rw (older-other (length c) q older) refl
+over-made job q ForChange other name c older = rw (older-other (length c) q older) refl
+over-made job q ForMain other name c older = rw (older-other (length c) q older) refl
+
+stayin-made : (job : JobDef) (its : List Instance) (other name : Bytes) (c : Chronicle) → AllByRecursion (IsKnown job.name c) its → StayIn (length c) job its c → StayIn (length c) job its (Made other name ∷ c)
+stayin-made job [] other name c known all = tt
+stayin-made job (x ∷ its) other name c known all =
+    ((λ apart. over-made job x.place (wait_in (state_of x.place c)) other name c known.0.0 ∙ all.0 apart), stayin-made job its other name c known.1 all.1)
+
+stayin-with : (job : JobDef) (n : ℕ) (x : Instance) (its : List Instance) (d : Chronicle) → x.place ≡ n → StayIn n job its d → StayIn n job (instances.with_instance x its) d
+stayin-with job n x [] d new all = ((λ apart. absurd (no apart)), tt)
+  where
+    no : (x.place == n) ≡ false → ⊥
+    no apart =
+        let yes : (x.place == n) ≡ true = eq-eqb x.place n new in
+        cc
+stayin-with job n x (y ∷ its) d new all = by_case (is_before y x) (stayin-with job n x its d new all.1)
+  where
+    no : (x.place == n) ≡ false → ⊥
+    no apart =
+        let yes : (x.place == n) ≡ true = eq-eqb x.place n new in
+        cc
+
+    by_case : (b : Bool) → StayIn n job (instances.with_instance x its) d → StayIn n job (if b then y ∷ instances.with_instance x its else x ∷ y ∷ its) d
+    by_case true ih = (all.0, ih)
+    by_case false ih = ((λ apart. absurd (no apart)), all)
+
+pub stay-made : (jobs : List JobDef) (other name : Bytes) (c : Chronicle) → Stay (length c) jobs c → Stay (length c) jobs (Made other name ∷ c)
+stay-made [] other name c stay = tt
+stay-made (job ∷ jobs) other name c stay = (by_case (bytes_eq other job.name), stay-made jobs other name c stay.1)
+  where
+    d : Chronicle
+    d = Made other name ∷ c
+
+    same : StayIn (length c) job (instances_of job.name c) d
+    same = stayin-made job (instances_of job.name c) other name c (known-all job.name c) stay.0
+
+    by_case : (b : Bool) → StayIn (length c) job (if b then instances.with_instance (record { place = length c; name = name }) (instances_of job.name c) else instances_of job.name c) d
+    by_case true = stayin-with job (length c) (record { place = length c; name = name }) (instances_of job.name c) d refl same
+    by_case false = same
+
+-- nobody may move, and these are still to be offered the event
+pub record IsHandling (jobs : List JobDef) (e : ℕ) (left : List Asked) (c : Chronicle) : Type 0 where
+  pub open_left : open_all jobs c ≡ left
+  pub handles : offering c ≡ Some e
+  pub still : (i : ℕ) → Stay i jobs c
+
+-- nobody but this instance may move, which isn't one of these
+pub record IsAt (i : ℕ) (jobs : List JobDef) (e : ℕ) (left : List Asked) (c : Chronicle) : Type 0 where
+  pub open_left : open_all jobs c ≡ left
+  pub handles : offering c ≡ Some e
+  pub closed : is_open i c ≡ false
+  pub stay : Stay i jobs c
+
+pub at-entries : (i : ℕ) (jobs : List JobDef) (e : ℕ) (left : List Asked) (es c : List Entry) → AllByRecursion (About i) es → IsAt i jobs e left c → IsAt i jobs e left (es ++ c)
+at-entries i jobs e left [] c all at = at
+at-entries i jobs e left (x ∷ es) c all at =
+    let rest = at-entries i jobs e left es c all.1 at in
+    record {
+      open_left = open-entry i jobs x (es ++ c) all.0 rest.closed ∙ rest.open_left;
+      handles = offering-same i x (es ++ c) all.0 ∙ rest.handles;
+      closed = closed-entry i x (es ++ c) all.0 rest.closed;
+      stay = stay-entry i jobs x (es ++ c) all.0 rest.stay;
+    }
+
+-- nobody may move if nothing is to be done for any
+stayin-still : (i : ℕ) (job : JobDef) (its : List Instance) (c : Chronicle) → move_in job its c ≡ [] → StayIn i job its c
+stayin-still i job [] c none = tt
+stayin-still i job (x ∷ its) c none =
+    ((λ apart. stays job x c (or-nil-first (move_of job x c) (move_in job its c) none)), stayin-still i job its c (or-nil-rest (move_of job x c) (move_in job its c) none))
+
+pub stay-still : (i : ℕ) (jobs : List JobDef) (c : Chronicle) → move_first jobs c ≡ [] → Stay i jobs c
+stay-still i [] c none = tt
+stay-still i (job ∷ jobs) c none =
+    (stayin-still i job (instances_of job.name c) c (or-nil-first (move_in job (instances_of job.name c) c) (move_first jobs c) none), stay-still i jobs c (or-nil-rest (move_in job (instances_of job.name c) c) (move_first jobs c) none))
+
+none-in : (job : JobDef) (its : List Instance) (c : Chronicle) → AllByRecursion (IsKnown job.name c) its → StayIn (length c) job its c → move_in job its c ≡ []
+none-in job [] c known all = refl
+none-in job (x ∷ its) c known all =
+    let apart : (x.place == length c) ≡ false = ne_eqb x.place (length c) (λ same. omega (arith, known.0.0)) in
+    rw (all.0 apart) (none-in job its c known.1 all.1)
+
+-- and the other way
+pub still-stay : (jobs : List JobDef) (c : Chronicle) → Stay (length c) jobs c → move_first jobs c ≡ []
+still-stay [] c stay = refl
+still-stay (job ∷ jobs) c stay = rw (none-in job (instances_of job.name c) c (known-all job.name c) stay.0) (still-stay jobs c stay.1)

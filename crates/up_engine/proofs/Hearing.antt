@@ -1,0 +1,516 @@
+-- A step that handles an event: each job hears of it, and what comes of the chronicle stays.
+use Rattle.std.proofs.Common.{◌≡◌, ℕ, zero, suc, nat_lt, ◌+◌, ◌<◌, ◌≤◌, ◌==◌, Bool, true, false, not, List, [], ◌∷◌, ◌++◌, length, Option, None, Some, is_some, bytes_eq, if◌then◌else◌, refl, sym, ◌∙◌, ap, subst, arith, eqb-true, eq-eqb, ne_eqb, append_assoc, append-nil}
+use Rattle.std.specs.List.{AllByRecursion}
+use Rattle.up_conf.specs.declared.job.JobDef.{JobDef}
+use Rattle.up_model.specs.declared.input.Input.{Input}
+use Rattle.up_model.specs.declared.input.Input.TheVariants.{Turn}
+use Rattle.up_model.specs.declared.request.Answer.{Answer}
+use Rattle.up_model.specs.declared.state.Goal.{Goal}
+use Rattle.up_model.specs.declared.state.Goal.TheVariants.{Start, Stop}
+use Rattle.up_model.specs.declared.state.State.TheVariants.{Waiting}
+use Rattle.up_model.specs.declared.who.Who.{Who}
+use Rattle.up_model.specs.Chronicle.{Chronicle, Entry, Expression, Given, Handled, Offered, Fired, Made, Aimed, Released, Entered, Replied, StartOn, StopOn}
+use Rattle.up_model.specs.Configuration.{Configuration}
+use Rattle.up_model.specs.Answers.{after}
+use Rattle.up_model.specs.Due.{due, effect}
+use Rattle.up_model.specs.Environments.{env_of_job, instance_name}
+use Rattle.up_model.specs.Events.{events_at, events_env, stopped_by}
+use Rattle.up_model.specs.Events as events_of
+use Rattle.up_model.specs.Instances.{Instance, is_before, with_instance, without_instance, instances_of, all_instances, place_named, instance_named}
+use Rattle.up_model.specs.Moves.{may_leave, next_of, move, move_first}
+use Rattle.up_model.specs.Offers.{offering, offer_next, stop_of, stop_by, stop_offer, max_instances, start_of, who_called, start_who, start_by, start_offer}
+use Rattle.up_model.specs.Predicates.{is_start, entries_if, or_else}
+use Rattle.up_model.specs.Readings.{goal, state_of, blocker, made_at}
+use Rattle.up_model.specs.Replies.{releasing, asked, unless_answered, answering_hurried, answering_last}
+use Rattle.up_model.specs.Seen.{seen, holds, taken}
+use Rattle.up_model.specs.Values.{Bytes, Bindings}
+use Rattle.up_model.specs.Work.{moves_at}
+use Rattle.up_model.proofs.MoveLaws.{moves-few}
+use Rattle.up_model.proofs.Places.{count, one_if, bytes_refl, count-older, all_instances-older, instances-exist}
+use Rattle.up_model.proofs.ReplyLaws.{releasing-all}
+use Rattle.up_model.proofs.Sparing.{same-append, all-append, all-if}
+use Rattle.up_book.specs.Keeps.{AreDistinct}
+use Rattle.up_book.proofs.One.{IsKnown, known-all, called, none-of-others, apart-back, nth-all}
+use Rattle.up_job.specs.Lists.{nth}
+use Rattle.up_engine.specs.Offering.{Asked, OfStop, OfStart, offer_at}
+use Rattle.up_engine.specs.Settling.{settle_one, settle_each, settle_all, hear_stops, hear_start, hear, hear_all, ListsAfter}
+use Rattle.up_engine.proofs.Effects.{one-same, each-same, settled-rested}
+use Rattle.up_engine.proofs.Firing.{IsHandling, IsAt}
+use Rattle.up_engine.proofs.Handling.{all_stops, all_asked, all-apart, taken-up, handled-all}
+use Rattle.up_engine.proofs.Moving.{StayIn, Stay}
+use Rattle.up_engine.proofs.Offering.{rested}
+use Rattle.up_engine.proofs.Opening.{About}
+use Rattle.up_engine.proofs.Passing.{AreApart, or-nil-first}
+use Rattle.up_engine.proofs.Resting.{KeepsLists, lists-kept, move-leaves, move-keeps, goes-or-stays, without-one, Once, once, all-middle, Rest}
+use Rattle.up_engine.proofs.Settled.{StandsStill, still-instances, gone-stays, one-stays, settled-one}
+use Rattle.up_engine.proofs.Shapes.{IsApart, AfterStart, started, started_at, started_who, start_env, after-stop, after-start, due-offer}
+
+-- the instances after one of them has settled
+pub record Settles (n : ℕ) (job : JobDef) (x : Instance) (c : Chronicle) : Type 0 where
+  pub stays : Bool
+  pub lists : ListsAfter stays x c (settle_one n job x c)
+
+pub lists-then : (b : Bool) (x : Instance) (c d f : Chronicle) → ListsAfter true x c d → ListsAfter b x d f → ListsAfter b x c f
+lists-then true x c d f first lists = λ job. lists job ∙ first job
+lists-then false x c d f first lists = λ job. lists job ∙ ap (without_instance x.place) (first job)
+
+pub settle-lists : (n : ℕ) (job : JobDef) (x : Instance) (c : Chronicle) → Settles n job x c
+settle-lists zero job x c = record { stays = true; lists = λ job. refl }
+settle-lists (suc n) job x c = by_case (may_leave job x.place c) refl (settle-lists n job x (move job x c ++ c))
+  where
+    d : Chronicle
+    d = move job x c ++ c
+
+    After : Chronicle → Type 0
+    After f = (b : Bool) × ListsAfter b x c f
+
+    goes : next_of job x.place c ≡ Waiting → After (settle_one n job x d)
+    goes to = (false, subst (ListsAfter false x c) (sym (one-stays n job x d (gone-stays job x c to))) (move-leaves job x c to))
+
+    goes_on : Settles n job x d → StandsStill (Entered x.place (next_of job x.place c)) → After (settle_one n job x d)
+    goes_on rest still = (rest.stays, lists-then rest.stays x c d (settle_one n job x d) (move-keeps job x c still) rest.lists)
+
+    may : Settles n job x d → After (settle_one n job x d)
+    may rest = goes-or-stays (After (settle_one n job x d)) x.place (next_of job x.place c) goes (goes_on rest)
+
+    pack : (f : Chronicle) → settle_one (suc n) job x c ≡ f → After f → Settles (suc n) job x c
+    pack f same after = record { stays = after.0; lists = subst (ListsAfter after.0 x c) (sym same) after.1 }
+
+    by_case : (b : Bool) → may_leave job x.place c ≡ b → Settles n job x d → Settles (suc n) job x c
+    by_case true leaves rest = pack (settle_one n job x d) (ap (λ (b : Bool). if b then settle_one n job x d else c) leaves) (may rest)
+    by_case false leaves rest = pack c (ap (λ (b : Bool). if b then settle_one n job x d else c) leaves) (true, λ job. refl)
+
+-- the lists of other jobs stay
+abbrev pub KeepsOthers : JobDef → Chronicle → Chronicle → Type 0
+KeepsOthers job c d = (other : JobDef) → bytes_eq other.name job.name ≡ false → instances_of other.name d ≡ instances_of other.name c
+
+others-then : (job : JobDef) (c d f : Chronicle) → KeepsOthers job c d → KeepsOthers job d f → KeepsOthers job c f
+others-then job c d f first then_ other apart = then_ other apart ∙ first other apart
+
+settle-others : (n : ℕ) (job : JobDef) (x : Instance) (c : Chronicle) → made_at x.place c ≡ Some (called job.name x.name) → KeepsOthers job c (settle_one n job x c)
+settle-others n job x c made other apart =
+    let all = settle-lists n job x c in
+    lists-kept all.stays x c (settle_one n job x c) all.lists other.name (none-of-others other.name c x.place (called job.name x.name) (instances_of other.name c) (known-all other.name c) made apart)
+
+known-in : (job : JobDef) (front back : List Instance) (x : Instance) (c : Chronicle) → instances_of job.name c ≡ front ++ x ∷ back → made_at x.place c ≡ Some (called job.name x.name)
+known-in job front back x c list = (all-middle (IsKnown job.name c) front x back (subst (AllByRecursion (IsKnown job.name c)) list (known-all job.name c))).1
+
+asked-others : (job : JobDef) (jobs : List JobDef) (c d : Chronicle) → AllByRecursion (λ other. bytes_eq other.name job.name ≡ false) jobs → KeepsOthers job c d → all_asked jobs d ≡ all_asked jobs c
+asked-others job [] c d apart keeps = refl
+asked-others job (other ∷ jobs) c d apart keeps =
+    ap (λ its. all_stops other its ++ (OfStart other ∷ all_asked jobs d)) (keeps other apart.0)
+    ∙ ap (λ rest. all_stops other (instances_of other.name c) ++ (OfStart other ∷ rest)) (asked-others job jobs c d apart.1 keeps)
+
+-- places of lists
+nth-middle : {X : Type 0} (front : List X) (x : X) (back : List X) → nth (length front) (front ++ x ∷ back) ≡ Some x
+nth-middle [] x back = refl
+nth-middle (y ∷ front) x back = nth-middle front x back
+
+-- a kind that all entries of an offer and of a firing are of, but for an instance that is made
+record Fires (P : Entry → Type 0) : Type 0 where
+  pub offered : (x : Expression) (event : ℕ) → P (Offered x event)
+  pub fired : (x : Expression) (its : List ℕ) → P (Fired x its)
+  pub aimed : (i : ℕ) (aim : Goal) (environment : Bindings) (its : List ℕ) → P (Aimed i aim environment its)
+  pub released : (i : ℕ) (failed : Bool) → P (Released i failed)
+  pub replied : (request : ℕ) (answer : Answer) → P (Replied request answer)
+
+releases : (P : Entry → Type 0) → Fires P → (i : ℕ) (c : Chronicle) → AllByRecursion P (releasing i false c)
+releases P of i c = releasing-all P of.replied i false (of.released i false) c
+
+stop-of : (P : Entry → Type 0) → Fires P → (config : Configuration) (job : JobDef) (i e : ℕ) (c : Chronicle) → AllByRecursion P (stop_offer config job i e c)
+stop-of P of config job i e c =
+    all-append P (entries_if (holds job.stop_on (seen config (StopOn i) d)) (stop_by i events f ++ Fired (StopOn i) events ∷ [])) (Offered (StopOn i) e ∷ [])
+    (all-if P (holds job.stop_on (seen config (StopOn i) d)) (stop_by i events f ++ Fired (StopOn i) events ∷ [])
+    (all-append P (stop_by i events f) (Fired (StopOn i) events ∷ [])
+    (all-if P (is_start (goal i f)) (stop_of i (stopped_by (events_at events f)) events f) (of.aimed i Stop (stopped_by (events_at events f)) events, releases P of i f)) (of.fired (StopOn i) events, tt)))
+    (of.offered (StopOn i) e, tt)
+  where
+    d : Chronicle
+    d = Offered (StopOn i) e ∷ c
+
+    events : List ℕ
+    events = taken job.stop_on (seen config (StopOn i) d)
+
+    f : Chronicle
+    f = Fired (StopOn i) events ∷ d
+
+start-of : (P : Entry → Type 0) → Fires P → (who : Who) → P (Made who.job who.instance) → (environment : Bindings) (its : List ℕ) (o : Option ℕ) (c : Chronicle) → AllByRecursion P (start_of who environment its o c)
+start-of P of who made environment its None c =
+    all-if P (nat_lt (length (instances_of who.job c)) max_instances) (Aimed (length c) Start environment its ∷ Made who.job who.instance ∷ []) (of.aimed (length c) Start environment its, (made, tt))
+start-of P of who made environment its (Some p) c =
+    all-if P (not (is_start (goal p c))) (Aimed p Start environment its ∷ releasing p false c) (of.aimed p Start environment its, releases P of p c)
+
+start-who : (P : Entry → Type 0) → Fires P → (job : Bytes) → ((name : Bytes) → P (Made job name)) → (name : Option Bytes) (environment : Bindings) (its : List ℕ) (c : Chronicle)
+    → AllByRecursion P (start_who environment its (who_called job name) c)
+start-who P of job made None environment its c = tt
+start-who P of job made (Some name) environment its c =
+    let who : Who = record { job = job; instance = name } in
+    start-of P of who (made name) (events_of.with_instance who environment) its (instance_named who c) c
+
+start-all : (P : Entry → Type 0) → Fires P → (config : Configuration) (job : JobDef) → ((name : Bytes) → P (Made job.name name)) → (e : ℕ) (c : Chronicle) → AllByRecursion P (start_offer config job e c)
+start-all P of config job made e c =
+    all-append P (entries_if (holds job.start_on (seen config x d)) (start_by config job events f ++ Fired x events ∷ [])) (Offered x e ∷ [])
+    (all-if P (holds job.start_on (seen config x d)) (start_by config job events f ++ Fired x events ∷ [])
+    (all-append P (start_by config job events f) (Fired x events ∷ []) (start-who P of job.name made (instance_name job (start_env config job events f)) (start_env config job events f) events f) (of.fired x events, tt)))
+    (of.offered x e, tt)
+  where
+    x : Expression
+    x = StartOn job.name
+
+    d : Chronicle
+    d = Offered x e ∷ c
+
+    events : List ℕ
+    events = taken job.start_on (seen config x d)
+
+    f : Chronicle
+    f = Fired x events ∷ d
+
+stands-fires : Fires StandsStill
+stands-fires = record { offered = λ x event. tt; fired = λ x its. tt; aimed = λ i aim environment its. tt; released = λ i failed. tt; replied = λ request answer. tt }
+
+-- an offer to a `stop on` leaves all lists
+pub stop-lists : (config : Configuration) (job : JobDef) (i e : ℕ) (c : Chronicle) (name : Bytes) → instances_of name (stop_offer config job i e c ++ c) ≡ instances_of name c
+stop-lists config job i e c name = same-append (instances_of name) StandsStill (still-instances name) (stop_offer config job i e c) c (stop-of StandsStill stands-fires config job i e c)
+
+-- what a job hears leaves the rest to hear of it
+pub record Heard (config : Configuration) (e : ℕ) (job : JobDef) (left : List Asked) (c d : Chronicle) : Type 0 where
+  pub handling : IsHandling config.jobs e left d
+  pub others : KeepsOthers job c d
+  pub same : rested config d ≡ rested config c
+
+few-moves : (i : ℕ) (c : Chronicle) → moves_at i c ≤ 5
+few-moves i c = omega (arith, moves-few (goal i c) (state_of i c) (is_some (blocker i c)))
+
+stops-heard : (config : Configuration) (e : ℕ) (done : List JobDef) (job : JobDef) (todo : List JobDef) (front its : List Instance) (left : List Asked) (c : Chronicle) → AreDistinct config.jobs
+    → config.jobs ≡ done ++ job ∷ todo → IsHandling config.jobs e (all_stops job its ++ left) c → AreApart (all_stops job its ++ left) → instances_of job.name c ≡ front ++ its
+    → Heard config e job left c (hear_stops config job its e c)
+stops-heard config e done job todo front [] left c distinct split h apart list = record { handling = h; others = λ other apart. refl; same = refl }
+stops-heard config e done job todo front (x ∷ its) left c distinct split h apart list =
+    goes-on stays_or_not (λ front list. stops-heard config e done job todo front its left f distinct split one.0 apart.1 list)
+  where
+    d : Chronicle
+    d = stop_offer config job x.place e c ++ c
+
+    f : Chronicle
+    f = settle_one 5 job x d
+
+    there : nth (length done) config.jobs ≡ Some job
+    there = ap (nth (length done)) split ∙ nth-middle done job todo
+
+    list_d : instances_of job.name d ≡ front ++ x ∷ its
+    list_d = stop-lists config job x.place e c job.name ∙ list
+
+    one : IsHandling config.jobs e (all_stops job its ++ left) f × (rested config f ≡ rested config d)
+    one =
+        settled-one 5 config e (all_stops job its ++ left) (length done) (length front) job x d (after-stop config job x.place (all_stops job its ++ left) e c h apart.0) distinct there
+        (ap (nth (length front)) list_d ∙ nth-middle front x its) (few-moves x.place d)
+
+    same : rested config f ≡ rested config c
+    same = one.1 ∙ (due-offer config (OfStop job x.place) (all_stops job its ++ left) e c h).1
+
+    others : KeepsOthers job c f
+    others =
+        others-then job c d f (λ other apart. stop-lists config job x.place e c other.name) (settle-others 5 job x d (known-in job front its x d list_d))
+
+    stays_or_not : (front : List Instance) × (instances_of job.name f ≡ front ++ its)
+    stays_or_not = by_case (settle-lists 5 job x d).stays (settle-lists 5 job x d).lists
+      where
+        by_case : (b : Bool) → ListsAfter b x d f → (front : List Instance) × (instances_of job.name f ≡ front ++ its)
+        by_case true lists = (front ++ x ∷ [], lists job.name ∙ list_d ∙ sym (append_assoc front (x ∷ []) its))
+        by_case false lists = (front, lists job.name ∙ without-one job.name d front its x list_d)
+
+    Later : Type 0
+    Later = Heard config e job left f (hear_stops config job its e f)
+
+    goes-on : (front : List Instance) × (instances_of job.name f ≡ front ++ its) → ((front : List Instance) → instances_of job.name f ≡ front ++ its → Later)
+        → Heard config e job left c (hear_stops config job its e f)
+    goes-on after again =
+        let rest = again after.0 after.1 in
+        record { handling = rest.handling; others = others-then job c f (hear_stops config job its e f) others rest.others; same = rest.same ∙ same }
+
+-- an offer to a `start on` leaves the lists of other jobs
+abbrev MakesOf : Bytes → Entry → Type 0
+MakesOf job (Made other name) = other ≡ job
+MakesOf job (Entered i Waiting) = ⊥
+MakesOf job entry = Unit {0}
+
+makes-others : (job k : Bytes) → bytes_eq job k ≡ false → (e : Entry) (c : Chronicle) → MakesOf job e → instances_of k (e ∷ c) ≡ instances_of k c
+makes-others job k apart (Made other name) c is =
+    ap (λ (b : Bool). if b then with_instance (record { place = length c; name = name }) (instances_of k c) else instances_of k c) (ap (λ its. bytes_eq its k) is ∙ apart)
+makes-others job k apart (Entered i Waiting) c is = absurd is
+makes-others job k apart e c is = refl
+
+start-others : (config : Configuration) (job : JobDef) (e : ℕ) (c : Chronicle) → KeepsOthers job c (start_offer config job e c ++ c)
+start-others config job e c other apart =
+    same-append (instances_of other.name) (MakesOf job.name) (makes-others job.name other.name (apart-back other.name job.name apart)) (start_offer config job e c) c
+    (start-all (MakesOf job.name) (record { offered = λ x event. tt; fired = λ x its. tt; aimed = λ i aim environment its. tt; released = λ i failed. tt; replied = λ request answer. tt }) config job (λ name. refl) e c)
+
+-- the instance that it starts stands in its job's list
+record StandsIn (p : ℕ) (its : List Instance) : Type 0 where
+  pub front : List Instance
+  pub here : Instance
+  pub back : List Instance
+  pub list : its ≡ front ++ here ∷ back
+  pub place : here.place ≡ p
+
+stands-next : (p : ℕ) (y : Instance) (its : List Instance) → StandsIn p its → StandsIn p (y ∷ its)
+stands-next p y its in_ = record { front = y ∷ in_.front; here = in_.here; back = in_.back; list = ap (λ xs. y ∷ xs) in_.list; place = in_.place }
+
+with-stands : (x : Instance) (its : List Instance) → StandsIn x.place (with_instance x its)
+with-stands x [] = record { front = []; here = x; back = []; list = refl; place = refl }
+with-stands x (y ∷ its) = by_case (is_before y x) (with-stands x its)
+  where
+    by_case : (b : Bool) → StandsIn x.place (with_instance x its) → StandsIn x.place (if b then y ∷ with_instance x its else x ∷ y ∷ its)
+    by_case true rest = stands-next x.place y (with_instance x its) rest
+    by_case false rest = record { front = []; here = x; back = y ∷ its; list = refl; place = refl }
+
+named-stands : (name : Bytes) (p : ℕ) (its : List Instance) → place_named name its ≡ Some p → StandsIn p its
+named-stands name p [] found = absurd cc
+named-stands name p (y ∷ its) found = by_case (bytes_eq y.name name) found (named-stands name p its)
+  where
+    by_case : (b : Bool) → (if b then Some y.place else place_named name its) ≡ Some p → (place_named name its ≡ Some p → StandsIn p its) → StandsIn p (y ∷ its)
+    by_case true found rest = record { front = []; here = y; back = its; list = refl; place = cc }
+    by_case false found rest = stands-next p y its (rest found)
+
+started-of : (who : Who) (environment : Bindings) (its : List ℕ) (o : Option ℕ) (c : Chronicle) (p : ℕ) → place_named who.instance (instances_of who.job c) ≡ o → started_at who o c ≡ Some p
+    → StandsIn p (instances_of who.job (start_of who environment its o c ++ c))
+started-of who environment its None c p is some = by_case (nat_lt (length (instances_of who.job c)) max_instances) some
+  where
+    made : Instance
+    made = record { place = length c; name = who.instance }
+
+    by_case : (b : Bool) → (if b then Some (length c) else None) ≡ Some p → StandsIn p (instances_of who.job (entries_if b (Aimed (length c) Start environment its ∷ Made who.job who.instance ∷ []) ++ c))
+    by_case true some =
+        let here : length c ≡ p = cc in
+        let list : with_instance made (instances_of who.job c) ≡ (if bytes_eq who.job who.job then with_instance made (instances_of who.job c) else instances_of who.job c) =
+        ap (λ (b : Bool). if b then with_instance made (instances_of who.job c) else instances_of who.job c) (sym (bytes_refl who.job)) in
+        subst (λ xs. StandsIn p xs) list (subst (λ q. StandsIn q (with_instance made (instances_of who.job c))) here (with-stands made (instances_of who.job c)))
+    by_case false some = absurd cc
+started-of who environment its (Some q) c p is some = by_case (not (is_start (goal q c))) some
+  where
+    es : List Entry
+    es = Aimed q Start environment its ∷ releasing q false c
+
+    same : instances_of who.job (es ++ c) ≡ instances_of who.job c
+    same = same-append (instances_of who.job) StandsStill (still-instances who.job) es c (tt, releases StandsStill stands-fires q c)
+
+    by_case : (b : Bool) → (if b then Some q else None) ≡ Some p → StandsIn p (instances_of who.job (entries_if b es ++ c))
+    by_case true some =
+        let here : q ≡ p = cc in
+        subst (λ xs. StandsIn p xs) (sym same) (named-stands who.instance p (instances_of who.job c) (is ∙ ap Some here))
+    by_case false some = absurd cc
+
+started-called : (job : Bytes) (name : Option Bytes) (environment : Bindings) (its : List ℕ) (c : Chronicle) (p : ℕ) → started_who (who_called job name) c ≡ Some p
+    → StandsIn p (instances_of job (start_who environment its (who_called job name) c ++ c))
+started-called job None environment its c p some = absurd cc
+started-called job (Some name) environment its c p some =
+    let who : Who = record { job = job; instance = name } in
+    started-of who (events_of.with_instance who environment) its (instance_named who c) c p refl some
+
+started-stands : (config : Configuration) (job : JobDef) (e : ℕ) (c : Chronicle) (p : ℕ) → started config job e c ≡ Some p → StandsIn p (instances_of job.name (start_offer config job e c ++ c))
+started-stands config job e c p some = by_case (holds job.start_on (seen config (StartOn job.name) d)) some
+  where
+    d : Chronicle
+    d = Offered (StartOn job.name) e ∷ c
+
+    events : List ℕ
+    events = taken job.start_on (seen config (StartOn job.name) d)
+
+    f : Chronicle
+    f = Fired (StartOn job.name) events ∷ d
+
+    env : Bindings
+    env = start_env config job events f
+
+    effect : List Entry
+    effect = start_by config job events f
+
+    order : ((effect ++ Fired (StartOn job.name) events ∷ []) ++ Offered (StartOn job.name) e ∷ []) ++ c ≡ effect ++ f
+    order = append_assoc (effect ++ Fired (StartOn job.name) events ∷ []) (Offered (StartOn job.name) e ∷ []) c ∙ append_assoc effect (Fired (StartOn job.name) events ∷ []) d
+
+    by_case : (b : Bool) → (if b then started_who (who_called job.name (instance_name job env)) f else None) ≡ Some p
+        → StandsIn p (instances_of job.name ((entries_if b (effect ++ Fired (StartOn job.name) events ∷ []) ++ Offered (StartOn job.name) e ∷ []) ++ c))
+    by_case true some = subst (λ g. StandsIn p (instances_of job.name g)) (sym order) (started-called job.name (instance_name job env) env events f p some)
+    by_case false some = absurd cc
+
+-- instances that rest settle at once
+each-still : (job : JobDef) (its : List Instance) (c : Chronicle) → Rest job its c → settle_each job its c ≡ c
+each-still job [] c rest = refl
+each-still job (x ∷ its) c rest = ap (settle_each job its) (one-stays 5 job x c rest.0) ∙ each-still job its c rest.1
+
+each-append : (job : JobDef) (xs ys : List Instance) (c : Chronicle) → settle_each job (xs ++ ys) c ≡ settle_each job ys (settle_each job xs c)
+each-append job [] ys c = refl
+each-append job (x ∷ xs) ys c = each-append job xs ys (settle_one 5 job x c)
+
+stay-middle : (i : ℕ) (done : List JobDef) (job : JobDef) (todo : List JobDef) (c : Chronicle) → Stay i (done ++ job ∷ todo) c → StayIn i job (instances_of job.name c) c
+stay-middle i [] job todo c stay = stay.0
+stay-middle i (first ∷ done) job todo c stay = stay-middle i done job todo c stay.1
+
+stay-rest : (i : ℕ) (job : JobDef) (its : List Instance) (c : Chronicle) → StayIn i job its c → count i its ≡ 0 → Rest job its c
+stay-rest i job [] c all none = tt
+stay-rest i job (x ∷ its) c all none = by_case (x.place == i) refl none (stay-rest i job its c all.1)
+  where
+    by_case : (b : Bool) → (x.place == i) ≡ b → one_if b + count i its ≡ 0 → (count i its ≡ 0 → Rest job its c) → Rest job (x ∷ its) c
+    by_case true same none rest = absurd (omega (arith, none))
+    by_case false differs none rest = (all.0 differs, rest (omega (arith, none)))
+
+handling-rest : (config : Configuration) (e : ℕ) (done : List JobDef) (job : JobDef) (todo : List JobDef) (left : List Asked) (c : Chronicle) → config.jobs ≡ done ++ job ∷ todo
+    → IsHandling config.jobs e left c → Rest job (instances_of job.name c) c
+handling-rest config e done job todo left c split h =
+    let stay : Stay (length c) (done ++ job ∷ todo) c = subst (λ js. Stay (length c) js c) split (h.still (length c)) in
+    let none : count (length c) (instances_of job.name c) ≡ 0 = omega (arith, instances-exist (length c) job.name c, count-older (length c) (length c) (all_instances c) (all_instances-older c) (omega arith)) in
+    stay-rest (length c) job (instances_of job.name c) c (stay-middle (length c) done job todo c stay) none
+
+all-front : {X : Type 0} (P : X → Type 0) (xs ys : List X) → AllByRecursion P (xs ++ ys) → AllByRecursion P xs
+all-front P [] ys all = tt
+all-front P (x ∷ xs) ys all = (all.0, all-front P xs ys all.1)
+
+all-back : {X : Type 0} (P : X → Type 0) (xs ys : List X) → AllByRecursion P (xs ++ ys) → AllByRecursion P ys
+all-back P [] ys all = all
+all-back P (x ∷ xs) ys all = all-back P xs ys all.1
+
+-- a job's `start on` hears of the event
+start-heard : (config : Configuration) (e : ℕ) (done : List JobDef) (job : JobDef) (todo : List JobDef) (left : List Asked) (c : Chronicle) → AreDistinct config.jobs → config.jobs ≡ done ++ job ∷ todo
+    → IsHandling config.jobs e (OfStart job ∷ left) c → IsApart (OfStart job) left → Heard config e job left c (hear_start config job e c)
+start-heard config e done job todo left c distinct split h apart = by_case (started config job e c) refl (after-start config job left e c h apart)
+  where
+    d : Chronicle
+    d = start_offer config job e c ++ c
+
+    its : List Instance
+    its = instances_of job.name d
+
+    same : rested config d ≡ rested config c
+    same = (due-offer config (OfStart job) left e c h).1
+
+    others : KeepsOthers job c d
+    others = start-others config job e c
+
+    none : IsHandling config.jobs e left d → Heard config e job left c (settle_each job its d)
+    none handling =
+        let still : settle_each job its d ≡ d = each-still job its d (handling-rest config e done job todo left d split handling) in
+        subst (Heard config e job left c) (sym still) (record { handling = handling; others = others; same = same })
+
+    one : (front back : List Instance) (x : Instance) → its ≡ front ++ x ∷ back → IsAt x.place config.jobs e left d → Heard config e job left c (settle_each job its d)
+    one front back x list at =
+        let there : nth (length done) config.jobs ≡ Some job = ap (nth (length done)) split ∙ nth-middle done job todo in
+        let here : nth (length front) its ≡ Some x = ap (nth (length front)) list ∙ nth-middle front x back in
+        let f = settle_one 5 job x d in
+        let moved = settled-one 5 config e left (length done) (length front) job x d at distinct there here (few-moves x.place d) in
+        let stay : StayIn x.place job its d = stay-middle x.place done job todo d (subst (λ js. Stay x.place js d) split at.stay) in
+        let stay_front : StayIn x.place job front d = all-front (λ y. (y.place == x.place) ≡ false → may_leave job y.place d ≡ false) front (x ∷ back) (subst (λ xs. StayIn x.place job xs d) list stay) in
+        let rest_front : Rest job front d = stay-rest x.place job front d stay_front (once job.name d front back x list).before in
+        let rest : Rest job (instances_of job.name f) f = handling-rest config e done job todo left f split moved.0 in
+        let lists = settle-lists 5 job x d in
+        let rest_back : Rest job back f = back-rests lists.stays front back x list lists.lists rest in
+        let whole : settle_each job its d ≡ f =
+        ap (λ xs. settle_each job xs d) list ∙ each-append job front (x ∷ back) d ∙ ap (λ g. settle_each job back (settle_one 5 job x g)) (each-still job front d rest_front) ∙ each-still job back f rest_back in
+        subst (Heard config e job left c) (sym whole)
+        (record { handling = moved.0; others = others-then job c d f others (settle-others 5 job x d (known-in job front back x d list)); same = moved.1 ∙ same })
+      where
+        back-rests : (b : Bool) (front back : List Instance) (x : Instance) → its ≡ front ++ x ∷ back → ListsAfter b x d (settle_one 5 job x d)
+            → Rest job (instances_of job.name (settle_one 5 job x d)) (settle_one 5 job x d) → Rest job back (settle_one 5 job x d)
+        back-rests true front back x list lists rest =
+            (all-back (λ y. may_leave job y.place (settle_one 5 job x d) ≡ false) front (x ∷ back) (subst (λ xs. Rest job xs (settle_one 5 job x d)) (lists job.name ∙ list) rest)).1
+        back-rests false front back x list lists rest =
+            all-back (λ y. may_leave job y.place (settle_one 5 job x d) ≡ false) front back (subst (λ xs. Rest job xs (settle_one 5 job x d)) (lists job.name ∙ without-one job.name d front back x list) rest)
+
+    by_case : (o : Option ℕ) → started config job e c ≡ o → AfterStart o config.jobs e left d → Heard config e job left c (settle_each job its d)
+    by_case None is after = none after
+    by_case (Some p) is after =
+        let in_ = started-stands config job e c p is in
+        one in_.front in_.back in_.here in_.list (subst (λ q. IsAt q config.jobs e left d) (sym in_.place) after)
+
+-- each of those that are left is another than the rest
+apart-back-part : (xs ys : List Asked) → AreApart (xs ++ ys) → AreApart ys
+apart-back-part [] ys apart = apart
+apart-back-part (x ∷ xs) ys apart = apart-back-part xs ys apart.1
+
+-- a job hears of the event
+job-heard : (config : Configuration) (e : ℕ) (done : List JobDef) (job : JobDef) (todo : List JobDef) (c : Chronicle) → AreDistinct config.jobs → config.jobs ≡ done ++ job ∷ todo
+    → IsHandling config.jobs e (all_asked (job ∷ todo) c) c → AreApart (all_asked (job ∷ todo) c) → Heard config e job (all_asked todo c) c (hear config job e c)
+job-heard config e done job todo c distinct split h apart =
+    let its = instances_of job.name c in
+    let left : List Asked = OfStart job ∷ all_asked todo c in
+    let stops = stops-heard config e done job todo [] its left c distinct split h apart refl in
+    let d = hear_stops config job its e c in
+    let start = start-heard config e done job todo (all_asked todo c) d distinct split stops.handling (apart-back-part (all_stops job its) left apart).0 in
+    record { handling = start.handling; others = others-then job c d (hear_start config job e d) stops.others start.others; same = start.same ∙ stops.same }
+
+distinct-after : (done jobs : List JobDef) → AreDistinct (done ++ jobs) → AreDistinct jobs
+distinct-after [] jobs distinct = distinct
+distinct-after (first ∷ done) jobs distinct = distinct-after done jobs distinct.1
+
+jobs-heard : (config : Configuration) (e : ℕ) (done jobs : List JobDef) (c : Chronicle) → AreDistinct config.jobs → config.jobs ≡ done ++ jobs → IsHandling config.jobs e (all_asked jobs c) c
+    → IsHandling config.jobs e [] (hear_all config jobs e c) × (rested config (hear_all config jobs e c) ≡ rested config c)
+jobs-heard config e done [] c distinct split h = (h, refl)
+jobs-heard config e done (job ∷ jobs) c distinct split h =
+    let mine : AreDistinct (job ∷ jobs) = distinct-after done (job ∷ jobs) (subst AreDistinct split distinct) in
+    let one = job-heard config e done job jobs c distinct split h (all-apart (job ∷ jobs) c mine) in
+    let d = hear config job e c in
+    let handling : IsHandling config.jobs e (all_asked jobs d) d = subst (λ left. IsHandling config.jobs e left d) (sym (asked-others job jobs c d mine.0 one.others)) one.handling in
+    let rest = jobs-heard config e (done ++ job ∷ []) jobs d distinct (split ∙ sym (append_assoc done (job ∷ []) jobs)) handling in
+    (rest.0, rest.1 ∙ one.same)
+
+-- no input is given meanwhile
+abbrev pub GivesNone : Entry → Type 0
+GivesNone (Given given) = ⊥
+GivesNone entry = Unit {0}
+
+gives-fires : Fires GivesNone
+gives-fires = record { offered = λ x event. tt; fired = λ x its. tt; aimed = λ i aim environment its. tt; released = λ i failed. tt; replied = λ request answer. tt }
+
+asked-same : (e : Entry) (c : Chronicle) → GivesNone e → asked (e ∷ c) ≡ asked c
+asked-same (Given given) c is = absurd is
+asked-same e c is = refl
+
+asked-about : (i : ℕ) (e : Entry) (c : Chronicle) → About i e → asked (e ∷ c) ≡ asked c
+asked-about i (Given given) c is = absurd is
+asked-about i e c is = refl
+
+asked-stops : (config : Configuration) (job : JobDef) (its : List Instance) (e : ℕ) (c : Chronicle) → asked (hear_stops config job its e c) ≡ asked c
+asked-stops config job [] e c = refl
+asked-stops config job (x ∷ its) e c =
+    let d = stop_offer config job x.place e c ++ c in
+    asked-stops config job its e (settle_one 5 job x d) ∙ one-same asked asked-about 5 job x d
+    ∙ same-append asked GivesNone asked-same (stop_offer config job x.place e c) c (stop-of GivesNone gives-fires config job x.place e c)
+
+asked-heard : (config : Configuration) (jobs : List JobDef) (e : ℕ) (c : Chronicle) → asked (hear_all config jobs e c) ≡ asked c
+asked-heard config [] e c = refl
+asked-heard config (job ∷ jobs) e c =
+    let d = hear_stops config job (instances_of job.name c) e c in
+    let f = start_offer config job e d ++ d in
+    asked-heard config jobs e (hear config job e c) ∙ each-same asked asked-about job (instances_of job.name f) f
+    ∙ same-append asked GivesNone asked-same (start_offer config job e d) d (start-all GivesNone gives-fires config job (λ name. tt) e d) ∙ asked-stops config job (instances_of job.name c) e c
+
+asked-taken : (jobs : List JobDef) (e : ℕ) (c : Chronicle) → all_asked jobs (Handled e ∷ Given Turn ∷ c) ≡ all_asked jobs c
+asked-taken [] e c = refl
+asked-taken (job ∷ jobs) e c = ap (λ rest. all_stops job (instances_of job.name c) ++ (OfStart job ∷ rest)) (asked-taken jobs e c)
+
+none-moves : (config : Configuration) (c : Chronicle) → due config c ≡ [] → move_first config.jobs c ≡ []
+unfolding due
+none-moves config c none = or-nil-first (move_first config.jobs c) (or_else (offer_next config (offering c) c) (answering_last c)) none
+
+-- so the step is done when all have heard of it
+pub heard-rested : (config : Configuration) (e : ℕ) (c : Chronicle) → AreDistinct config.jobs → due config c ≡ []
+    → hear_all config config.jobs e (Handled e ∷ Given Turn ∷ c) ≡ rested config (Handled e ∷ Given Turn ∷ c)
+heard-rested config e c distinct none =
+    let d : Chronicle = Handled e ∷ Given Turn ∷ c in
+    let f = hear_all config config.jobs e d in
+    let taken : IsHandling config.jobs e (all_asked config.jobs d) d = subst (λ left. IsHandling config.jobs e left d) (sym (asked-taken config.jobs e c)) (taken-up config.jobs e c (none-moves config c none)) in
+    let all = jobs-heard config e [] config.jobs d distinct refl taken in
+    let unasked : asked f ≡ None = asked-heard config config.jobs e d in
+    let quiet : answering_last f ≡ [] = ap (λ o. answering_hurried (unless_answered o f) f) unasked in
+    sym (handled-all config e f all.0 quiet).1 ∙ all.1
+
+-- what is after an input that takes an event up, and after any other
+pub after-taken : (config : Configuration) (given : Input) (c : Chronicle) (e : ℕ) → AreDistinct config.jobs → due config c ≡ [] → effect config given c ++ c ≡ Handled e ∷ Given Turn ∷ c
+    → hear_all config config.jobs e (Handled e ∷ Given Turn ∷ c) ≡ after config c given
+unfolding after
+after-taken config given c e distinct none same = heard-rested config e c distinct none ∙ ap (rested config) (sym same)
+
+pub after-other : (config : Configuration) (given : Input) (c : Chronicle) → AreDistinct config.jobs → offering (effect config given c ++ c) ≡ None
+    → answering_last (settle_all config.jobs (effect config given c ++ c)) ++ settle_all config.jobs (effect config given c ++ c) ≡ after config c given
+unfolding after
+after-other config given c distinct none = settled-rested config (effect config given c ++ c) distinct none

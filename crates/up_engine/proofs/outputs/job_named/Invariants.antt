@@ -1,6 +1,0 @@
-use Rattle.std.proofs.Common.{◌≡◌, drop}
-use Rattle.up_model.specs.Configuration.{job_named}
-use Rattle.up_engine.proofs.outputs.job_named.Given as goal
-
-abbrev pub invariant-loop-job : goal.invariant-loop-job
-invariant-loop-job l = job_named l.name (drop l.job-index l.jobs) ≡ job_named l.name l.jobs

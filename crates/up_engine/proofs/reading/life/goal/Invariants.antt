@@ -1,7 +1,0 @@
-use Rattle.std.proofs.Common.{◌≡◌, take}
-use Rattle.up_model.specs.Readings as reading
-use Rattle.up_engine.specs.Records.{chronicle}
-use Rattle.up_engine.proofs.reading.life.goal.Given as goal
-
-abbrev pub invariant-loop-next : goal.invariant-loop-next
-invariant-loop-next l = l.found ≡ reading.goal l.instance (chronicle (take l.next-index l.records))

@@ -1,7 +1,0 @@
-use Rattle.std.proofs.Common.{◌≡◌, take}
-use Rattle.up_model.specs.Readings as reading
-use Rattle.up_engine.specs.Records.{chronicle}
-use Rattle.up_engine.proofs.reading.process.pid_of.Given as goal
-
-abbrev pub invariant-loop-place : goal.invariant-loop-place
-invariant-loop-place l = l.found ≡ reading.pid_of l.instance l.process (chronicle (take l.place l.records))

@@ -1,0 +1,38 @@
+-- The expressions that are still to be offered the event of a step, in order.
+use Rattle.std.specs.Prelude.{◌≡◌, ℕ, Bool, true, false, not, ◌||◌, List, [], ◌∷◌, ◌++◌, Option, None, Some, if◌then◌else◌}
+use Rattle.up_conf.specs.declared.job.JobDef.{JobDef}
+use Rattle.up_model.specs.Chronicle.{Chronicle, Entry, Expression, Offered, StartOn, StopOn}
+use Rattle.up_model.specs.Configuration.{Configuration}
+use Rattle.up_model.specs.Instances.{Instance, instances_of}
+use Rattle.up_model.specs.Offers.{is_open, stop_offer, start_offer}
+use Rattle.up_model.specs.Seen.{was_offered}
+
+-- the `stop on` of an instance of a job, or the job's `start on`
+pub data Asked : Type 0 where
+  OfStop : (job : JobDef) → (instance : ℕ) → Asked
+  OfStart : (job : JobDef) → Asked
+
+abbrev pub expression_of : Asked → Expression
+expression_of (OfStop job instance) = StopOn instance
+expression_of (OfStart job) = StartOn job.name
+
+abbrev pub open_stops : JobDef → List Instance → Chronicle → List Asked
+open_stops job [] c = []
+open_stops job (its ∷ instances) c = if is_open its.place c then OfStop job its.place ∷ open_stops job instances c
+    else open_stops job instances c
+
+abbrev pub open_start : JobDef → Chronicle → List Asked
+open_start job c = if was_offered (StartOn job.name) c then [] else OfStart job ∷ []
+
+-- all that are left, in the order in which they are offered the event
+abbrev pub open_all : List JobDef → Chronicle → List Asked
+open_all [] c = []
+open_all (job ∷ jobs) c = open_stops job (instances_of job.name c) c ++ (open_start job c ++ open_all jobs c)
+
+abbrev pub offer_at : Configuration → Asked → (event : ℕ) → Chronicle → List Entry
+offer_at config (OfStop job instance) event c = stop_offer config job instance event c
+offer_at config (OfStart job) event c = start_offer config job event c
+
+abbrev pub offer_one : Configuration → List Asked → (event : ℕ) → Chronicle → List Entry
+offer_one config [] event c = []
+offer_one config (asked ∷ others) event c = offer_at config asked event c

@@ -1,0 +1,12 @@
+-- What the book of an engine is at rest.
+use Rattle.std.specs.Prelude.{◌≡◌, Bool, false, []}
+use Rattle.up_book.specs.Keys.{Resting}
+use Rattle.up_book.specs.Ledgers.{Stands}
+use Rattle.up_book.specs.declared.ledger.Ledger.{Ledger}
+use Rattle.up_model.specs.Chronicle.{Chronicle}
+use Rattle.up_model.specs.Configuration.{Configuration}
+use Rattle.up_model.specs.Due.{due}
+
+-- the book stands for a chronicle after which nothing is left to do, unless a step on it ran out of memory
+abbrev pub IsSound : (down : Bool) → Configuration → Ledger → Type 0
+IsSound down config book = down ≡ false → ∥ (c : Chronicle) × Stands book Resting config c × (due config c ≡ []) ∥₁

@@ -1,0 +1,143 @@
+//! How each job hears of the event that a turn takes up.
+ghost use Rattle.std.specs.Prelude.{◌≡◌, ℕ, ◌++◌, Some, IfOk, OnOk};
+ghost use Rattle.up_model.specs.declared.event_id.EventId.{EventId as EventIdValue};
+ghost use Rattle.up_book.specs.Keys.{Mode, Stepping, job_at, instance_at};
+ghost use Rattle.up_engine.specs.Settling.{settle_one, ListsAfter};
+ghost use Rattle.up_engine.specs.Settling as settling;
+ghost use Rattle.up_model.specs.Chronicle.{Chronicle};
+ghost use Rattle.up_model.specs.Instances.{Instance, instances_of};
+ghost use Rattle.up_model.specs.Offers as model;
+
+use up_book::Book;
+use crate::moves::moves;
+use crate::offers::{offer_start, offer_stop};
+use crate::settle::settle_each;
+use crate::setup::Setup;
+use std::alloc::{AllocError, Global};
+use up_job::InstanceKey;
+use up_model::{EventId, JobDef};
+
+// Offers the event to an instance's `stop on`, and moves the instance on as long as it may; returns whether it is still there.
+fn hear_stop<B: Book>(
+    alloc: Global,
+    setup: &Setup,
+    book: &mut B,
+    job: &JobDef,
+    key: InstanceKey,
+    event: EventId,
+) -> Result<bool, AllocError>
+    ensures after { OnOk result ((c : Chronicle) (its : Instance) (e : ℕ)
+        → B.stands book.old Stepping setup.now c
+        → instance_at setup.now c key ≡ Some its
+        → job_at setup.now key.job ≡ Some job.now → B.event_place book.old c event ≡ Some e
+        → B.stands book.new Stepping setup.now
+        (settle_one 5 job.now its (model.stop_offer setup.now job.now its.place e c ++ c))) }
+    ensures lists { IfOk result (λ stays. (c : Chronicle) (its : Instance) (e : ℕ)
+        → B.stands book.old Stepping setup.now c
+        → instance_at setup.now c key ≡ Some its
+        → job_at setup.now key.job ≡ Some job.now → B.event_place book.old c event ≡ Some e
+        → ListsAfter stays its c
+        (settle_one 5 job.now its (model.stop_offer setup.now job.now its.place e c ++ c))) }
+    ensures events { OnOk result ((c : Chronicle) (its : Instance) (e : ℕ) (k : EventIdValue) (j : ℕ)
+        → B.stands book.old Stepping setup.now c
+        → instance_at setup.now c key ≡ Some its
+        → job_at setup.now key.job ≡ Some job.now → B.event_place book.old c event ≡ Some e
+        → B.event_place book.old c k ≡ Some j
+        → B.event_place book.new
+        (settle_one 5 job.now its (model.stop_offer setup.now job.now its.place e c ++ c)) k ≡ Some j) }
+{
+    offer_stop(alloc, setup, book, job, key, event)?;
+    let stays = moves(alloc, setup, book, job, key)?;
+    Ok(stays)
+}
+
+// Each instance of a job hears of the event by its `stop on`.
+fn hear_stops<B: Book>(
+    alloc: Global,
+    setup: &Setup,
+    book: &mut B,
+    index: usize,
+    job: &JobDef,
+    event: EventId,
+) -> Result<(), AllocError>
+    ensures after { OnOk result ((c : Chronicle) (e : ℕ) → B.stands book.old Stepping setup.now c
+        → job_at setup.now index ≡ Some job.now → B.event_place book.old c event ≡ Some e
+        → B.stands book.new Stepping setup.now
+        (settling.hear_stops setup.now job.now (instances_of job.now.name c) e c)) }
+    ensures events { OnOk result ((c : Chronicle) (e : ℕ) (k : EventIdValue) (j : ℕ) → B.stands book.old Stepping setup.now c
+        → job_at setup.now index ≡ Some job.now → B.event_place book.old c event ≡ Some e
+        → B.event_place book.old c k ≡ Some j
+        → B.event_place book.new
+        (settling.hear_stops setup.now job.now (instances_of job.now.name c) e c) k ≡ Some j) }
+{
+    let mut at = 0;
+    for turn in 0..book.count(index) {
+        let key = InstanceKey { job: index, at };
+        if hear_stop(alloc, setup, book, job, key, event)? {
+            at += 1;
+        }
+    }
+    Ok(())
+}
+
+// A job hears of the event by its `start on`. Of its instances only the one that it starts may move on then.
+fn hear_start<B: Book>(
+    alloc: Global,
+    setup: &Setup,
+    book: &mut B,
+    index: usize,
+    job: &JobDef,
+    event: EventId,
+) -> Result<(), AllocError>
+    ensures after { OnOk result ((c : Chronicle) (e : ℕ) → B.stands book.old Stepping setup.now c
+        → job_at setup.now index ≡ Some job.now → B.event_place book.old c event ≡ Some e
+        → B.stands book.new Stepping setup.now (settling.hear_start setup.now job.now e c)) }
+    ensures events { OnOk result ((c : Chronicle) (e : ℕ) (k : EventIdValue) (j : ℕ) → B.stands book.old Stepping setup.now c
+        → job_at setup.now index ≡ Some job.now → B.event_place book.old c event ≡ Some e
+        → B.event_place book.old c k ≡ Some j
+        → B.event_place book.new (settling.hear_start setup.now job.now e c) k ≡ Some j) }
+{
+    offer_start(alloc, setup, book, index, job, event)?;
+    settle_each(alloc, setup, book, index, job)?;
+    Ok(())
+}
+
+// A job hears of the event.
+fn hear<B: Book>(
+    alloc: Global,
+    setup: &Setup,
+    book: &mut B,
+    index: usize,
+    job: &JobDef,
+    event: EventId,
+) -> Result<(), AllocError>
+    ensures after { OnOk result ((c : Chronicle) (e : ℕ) → B.stands book.old Stepping setup.now c
+        → job_at setup.now index ≡ Some job.now → B.event_place book.old c event ≡ Some e
+        → B.stands book.new Stepping setup.now (settling.hear setup.now job.now e c)) }
+    ensures events { OnOk result ((c : Chronicle) (e : ℕ) (k : EventIdValue) (j : ℕ) → B.stands book.old Stepping setup.now c
+        → job_at setup.now index ≡ Some job.now → B.event_place book.old c event ≡ Some e
+        → B.event_place book.old c k ≡ Some j
+        → B.event_place book.new (settling.hear setup.now job.now e c) k ≡ Some j) }
+{
+    hear_stops(alloc, setup, book, index, job, event)?;
+    hear_start(alloc, setup, book, index, job, event)?;
+    Ok(())
+}
+
+/// Each job hears of the event, one after another.
+pub(crate) fn hear_all<B: Book>(
+    alloc: Global,
+    setup: &Setup,
+    book: &mut B,
+    jobs: &[JobDef],
+    event: EventId,
+) -> Result<(), AllocError>
+    ensures { OnOk result ((c : Chronicle) (e : ℕ) → jobs.now ≡ setup.now.jobs
+        → B.stands book.old Stepping setup.now c → B.event_place book.old c event ≡ Some e
+        → B.stands book.new Stepping setup.now (settling.hear_all setup.now jobs.now e c)) }
+{
+    for (index, job) in jobs.iter().enumerate() {
+        hear(alloc, setup, book, index, job, event)?;
+    }
+    Ok(())
+}
