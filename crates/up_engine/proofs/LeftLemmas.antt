@@ -8,6 +8,7 @@ use Rattle.up_book.specs.Keys.{Resting}
 use Rattle.up_book.specs.Ledgers.{Stands}
 use Rattle.up_book.specs.Lefts.{left_of_jobs}
 use Rattle.up_book.specs.declared.ledger.Ledger.{Ledger}
+use Rattle.up_engine.specs.Sound.{Rests}
 use Rattle.up_conf.specs.declared.job.JobDef.{JobDef}
 use Rattle.up_model.specs.declared.input.Input.{Input}
 use Rattle.up_model.specs.declared.output.Output.{Output}
@@ -23,13 +24,6 @@ use Rattle.up_model.specs.Queue.{queue}
 use Rattle.up_model.proofs.LeftLaws.{spends}
 use Rattle.up_model.proofs.Settling.{after_rests}
 
--- a book that stands for a chronicle at rest
-abbrev pub AtRest : Ledger → Configuration → Chronicle → Type 0
-AtRest book config c = Stands book Resting config c × (due config c ≡ [])
-
-abbrev pub Rests : Ledger → Configuration → Type 0
-Rests book config = (c : Chronicle) × Stands book Resting config c × (due config c ≡ [])
-
 -- nothing is due before anything has happened
 none-moves : (jobs : List JobDef) → move_first jobs [] ≡ []
 none-moves [] = refl
@@ -40,8 +34,8 @@ unfolding due
 rests-first config = ap (λ es. or_else es []) (none-moves config.jobs)
 
 -- a sound book stays sound by a step
-pub sound_after : (config : Configuration) (old new : Ledger) (given : Input) → ∥ Rests old config ∥₁
-    → ((c : Chronicle) → Stands old Resting config c → due config c ≡ [] → Stands new Resting config (after config c given)) → ∥ Rests new config ∥₁
+pub sound_after : (config : Configuration) (old new : Ledger) (given : Input) → ∥ Rests config old ∥₁
+    → ((c : Chronicle) → Stands old Resting config c → due config c ≡ [] → Stands new Resting config (after config c given)) → ∥ Rests config new ∥₁
 sound_after config old new given sound steps =
     ∥∥₁_elim sound squash₁ (λ rests. ∣ (after config rests.0 given, steps rests.0 rests.1 rests.2, after_rests config rests.0 given) ∣₁)
 
@@ -50,7 +44,7 @@ pub left_told : (config : Configuration) (book : Ledger) (c : Chronicle) → Sta
 left_told config book c s = left-kept (place_of book.past.events (queue c)) book.past.instances config c s.past.lives.jobs s.past.lives.distinct s.past.regular.named
 
 -- and the step leaves fewer processes to be ordered, by those that it orders
-pub left_after : (config : Configuration) (old new : Ledger) (given : Input) (outputs : List Output) → is_calm given ≡ true → ∥ Rests old config ∥₁
+pub left_after : (config : Configuration) (old new : Ledger) (given : Input) (outputs : List Output) → is_calm given ≡ true → ∥ Rests config old ∥₁
     → ((c : Chronicle) → Stands old Resting config c → due config c ≡ [] → Stands new Resting config (after config c given))
     → ((c : Chronicle) → Stands old Resting config c → due config c ≡ [] → outputs ≡ outputs_of config (after config c given))
     → left_of_jobs new.past.instances + spawns outputs ≤ left_of_jobs old.past.instances

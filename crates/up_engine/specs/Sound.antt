@@ -7,6 +7,10 @@ use Rattle.up_model.specs.Chronicle.{Chronicle}
 use Rattle.up_model.specs.Configuration.{Configuration}
 use Rattle.up_model.specs.Due.{due}
 
--- the book stands for a chronicle after which nothing is left to do, unless a step on it ran out of memory
+-- the book stands for a chronicle after which nothing is left to do
+abbrev pub Rests : Configuration → Ledger → Type 0
+Rests config book = (c : Chronicle) × Stands book Resting config c × (due config c ≡ [])
+
+-- so it does, unless a step on it ran out of memory
 abbrev pub IsSound : (down : Bool) → Configuration → Ledger → Type 0
-IsSound down config book = down ≡ false → ∥ (c : Chronicle) × Stands book Resting config c × (due config c ≡ []) ∥₁
+IsSound down config book = down ≡ false → ∥ Rests config book ∥₁

@@ -8,7 +8,7 @@ use Rattle.up_engine.proofs.events.events_of.Goals as goal
 pub loop-key-preserved : goal.loop-key-preserved
 loop-key-preserved g c mode config c' places s given =
     let f = g.B.Book.event_place c.args.book.now c' in
-    let there = key_there f c.args.keys.now places c.loop-key.key-index (record { place = 0 }) given c.loop-key-test.true in
+    let there = key_there f c.args.keys.now places c.loop-key.key-index (record { key = 0 }) given c.loop-key-test.true in
     let found = c.event_at.ensures mode config c' there.place s there.is in
     c.in_ok-push_event.ensures (events_at (drop (c.loop-key.key-index + 1) places) c')
     ∙ ap (λ rest. map (λ event. event.now) c.loop-key.events.items ++ rest) (key_events f _ places c.loop-key.key-index c' _ there found)
