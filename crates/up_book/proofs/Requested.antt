@@ -29,39 +29,9 @@ use Rattle.up_book.proofs.Keyed.{place-keyed}
 use Rattle.up_book.proofs.One.{There, there}
 use Rattle.up_book.specs.declared.step.ActedOn.{ActedOn}
 use Rattle.up_book.specs.declared.step.ActedOn.TheVariants.{Exists, Gone}
-use Rattle.up_book.specs.Requesting.{IsGone, OnMeans, status_kept, told_of, after_insert, after_remove}
+use Rattle.up_book.specs.Requesting.{IsGone, OnMeans, after_insert, after_remove}
 use Rattle.up_book.specs.Sending.{status_by}
 use Rattle.up_book.proofs.Outgoing.{status-known, made-there}
-
--- what the request acted on, by what is kept
-told-there : (places : Places) (jobs : List JobInstances) (config : Configuration) (c : Chronicle) (key : InstanceKey) (i : ℕ) → There places jobs config c key i
-    → status_of i c ≡ status_kept places (nth key.job config.jobs) (kept_at key jobs)
-told-there places jobs config c key i t =
-    let text : status_of t.its.place c ≡ status_by t.job (summary config t.job c t.its) = status-known config c key.at t.job t.its t.in_instances in
-    ap (λ p. status_of p c) (sym t.place) ∙ text ∙ ap (status_by t.job) (sym t.same)
-    ∙ ap (λ (k : Option Kept). status_kept places (Some t.job) k) (sym t.found) ∙ ap (λ (j : Option JobDef). status_kept places j (kept_at key jobs)) (sym t.in_jobs)
-
--- the status text of the instance of a key, by what is kept of it
-pub status-kept : (places : Places) (jobs : List JobInstances) (config : Configuration) (c : Chronicle) (key : InstanceKey) (i : ℕ) (job : JobDef) (kept : Kept) → KeepsJobs places jobs config c
-    → place_at jobs c key ≡ Some i → nth key.job config.jobs ≡ Some job → kept_at key jobs ≡ Some kept → status_of i c ≡ status_by job (view places kept)
-status-kept places jobs config c key i job kept keeps place in_jobs found =
-    told-there places jobs config c key i (there places jobs config c key i keeps place)
-    ∙ ap (λ (j : Option JobDef). status_kept places j (kept_at key jobs)) in_jobs ∙ ap (λ (k : Option Kept). status_kept places (Some job) k) found
-
-pub told-so : (places : Places) (jobs : List JobInstances) (config : Configuration) (c : Chronicle) (on : Option ActedOn) → KeepsJobs places jobs config c → OnMeans config c on
-    → status_if (request_instance c) c ≡ told_of places config.jobs jobs on
-told-so places jobs config c None keeps means = rw means refl
-told-so places jobs config c (Some (Exists key)) keeps means =
-    ap (λ o. status_if o c) means.1 ∙ told-there places jobs config c key means.0 (there places jobs config c key means.0 keeps (place-keyed places jobs config c key keeps ∙ means.2))
-told-so places jobs config c (Some (Gone text)) keeps means = ap (λ o. status_if o c) means.1 ∙ means.2
-
--- the answer that ends a step
-pub last-out : (places : Places) (jobs : List JobInstances) (config : Configuration) (c : Chronicle) (on : Option ActedOn) (request id : ℕ) → KeepsJobs places jobs config c → OnMeans config c on
-    → unanswered c ≡ Some request → id_at request c ≡ Some id
-    → outputs_of config (answering_last c ++ c) ≡ outputs_of config c ++ output.Reply id (record { ok = true; text = told_of places config.jobs jobs on }) ∷ []
-unfolding outputs_of
-last-out places jobs config c on request id keeps means asked number =
-    rw (asked, number) (ap (λ text. outputs_of config c ++ output.Reply id (record { ok = true; text = text }) ∷ []) (told-so places jobs config c on keeps means))
 
 -- entries that don't speak of an instance leave its status text
 abbrev pub Mentions : ℕ → Entry → Bool

@@ -25,17 +25,6 @@ OnMeans config c None = request_instance c ≡ None
 OnMeans config c (Some (Exists key)) = (i : ℕ) × (request_instance c ≡ Some i) × (instance_place config c key ≡ Some i)
 OnMeans config c (Some (Gone text)) = (i : ℕ) × (request_instance c ≡ Some i) × (status_of i c ≡ text) × IsGone i c
 
-abbrev pub status_kept : Places → Option JobDef → Option Kept → Bytes
-status_kept places None kept = []
-status_kept places (Some job) None = []
-status_kept places (Some job) (Some kept) = status_by job (view places kept)
-
--- what the client is told
-abbrev pub told_of : Places → List JobDef → List JobInstances → Option ActedOn → Bytes
-told_of places config_jobs jobs None = []
-told_of places config_jobs jobs (Some (Exists key)) = status_kept places (nth key.job config_jobs) (kept_at key jobs)
-told_of places config_jobs jobs (Some (Gone text)) = text
-
 -- where a key stands after one more came to a place of its job, and after the one at a place left
 abbrev pub after_insert : ℕ → ℕ → ℕ
 after_insert zero n = suc n

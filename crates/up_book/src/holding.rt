@@ -53,7 +53,7 @@ fn hold_one(events: &mut Events, holder: Holder) -> Result<(), AllocError>
 
 /// The events of these holders are held once more each.
 #[tactic(auto, using(crate::proofs::Holds::holders_left))]
-pub fn hold_all(events: &mut Events, holders: &[Holder]) -> Result<(), AllocError>
+pub(crate) fn hold_all(events: &mut Events, holders: &[Holder]) -> Result<(), AllocError>
     ensures { OnOk result (events.new ≡ all_changed with_hold holders.now events.old) }
 {
     for holder in holders {
@@ -91,7 +91,7 @@ fn free_one(events: &mut Events, holder: Holder, failed: bool)
 
 /// The events of these holders are held once less each. Takes no memory.
 #[tactic(auto, using(crate::proofs::Holds::holders_left))]
-pub fn free_all(events: &mut Events, holders: &[Holder], failed: bool)
+pub(crate) fn free_all(events: &mut Events, holders: &[Holder], failed: bool)
     ensures { events.new ≡ all_changed (freed failed) holders.now events.old }
 {
     for holder in holders {
@@ -100,7 +100,7 @@ pub fn free_all(events: &mut Events, holders: &[Holder], failed: bool)
 }
 
 /// What an instance holds is held once less. Takes no memory.
-pub fn free_held(events: &mut Events, kept: Option<&Instance>, failed: bool)
+pub(crate) fn free_held(events: &mut Events, kept: Option<&Instance>, failed: bool)
     ensures { events.new ≡ all_changed (freed failed) (held_by_kept (option_copied kept.entry)) events.old }
 {
     match kept {
@@ -120,7 +120,7 @@ pub(crate) fn free_ids(events: &mut Events, ids: &[EventId])
 }
 
 /// What an instance held is held once less, for each leaf of its `stop on` too.
-pub fn free_all_of(alloc: Global, events: &mut Events, gone: &Instance) -> Result<(), AllocError>
+pub(crate) fn free_all_of(alloc: Global, events: &mut Events, gone: &Instance) -> Result<(), AllocError>
     ensures { OnOk result (events.new ≡ all_changed (freed false) (as_holders (kept_by gone.now.stop_on))
         (all_changed (freed false) gone.now.holders events.old)) }
 {

@@ -92,7 +92,7 @@ impl Past {
     }
 
     /// An event is offered to the `stop on` of an instance; returns whether that is true then.
-    pub fn offer_stop(
+    pub(crate) fn offer_stop(
         &mut self,
         alloc: Global,
         index: &Index,
@@ -159,7 +159,7 @@ impl Past {
 
     /// An event is offered to the `start on` of the job at a place of the table, whose environment this is; returns whether that is
     /// true then.
-    pub fn offer_start(
+    pub(crate) fn offer_start(
         &mut self,
         alloc: Global,
         index: &Index,
@@ -202,7 +202,7 @@ impl Past {
     }
 
     /// The `stop on` of an instance fires; returns the events that it takes, from left to right.
-    pub fn fire_stop(
+    pub(crate) fn fire_stop(
         &mut self,
         alloc: Global,
         key: InstanceKey,
@@ -243,7 +243,7 @@ impl Past {
     }
 
     /// The `start on` of the job at a place of the table fires; returns the events that it takes, from left to right.
-    pub fn fire_start(
+    pub(crate) fn fire_start(
         &mut self,
         alloc: Global,
         place: usize,

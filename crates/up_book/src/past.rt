@@ -127,7 +127,7 @@ impl Past {
     ghost use Rattle.up_book.specs.Standing.{Forgets, event_place, instance_place};
 
     /// Nothing has happened to the jobs of a table.
-    pub fn new(alloc: Global, table: &Table) -> Result<Self, AllocError>
+    pub(crate) fn new(alloc: Global, table: &Table) -> Result<Self, AllocError>
         ensures { IfOk result (λ past. (base : Bindings)
             → Forgets past (record { base = base; jobs = table.now }) []) }
     {
@@ -143,7 +143,7 @@ impl Past {
     }
 
     /// What the clock reads.
-    pub fn now(&self) -> u64
+    pub(crate) fn now(&self) -> u64
         ensures { (config : Configuration) (c : Chronicle) → Forgets self.now config c
             → result ≡ clock.now c }
     {
@@ -151,7 +151,7 @@ impl Past {
     }
 
     /// How many events haven't finished.
-    pub fn live_events(&self) -> usize
+    pub(crate) fn live_events(&self) -> usize
         ensures { (config : Configuration) (c : Chronicle) → Forgets self.now config c
             → result ≡ length (queue c) }
     {
@@ -159,7 +159,7 @@ impl Past {
     }
 
     /// What a turn would do. Takes no memory.
-    pub fn turn(&self) -> Option<(EventId, TurnKind)>
+    pub(crate) fn turn(&self) -> Option<(EventId, TurnKind)>
         ensures { (config : Configuration) (c : Chronicle) → Forgets self.now config c
             → turn_at (event_place self.now c) result
             ≡ option_map Some (turn_event config (queue c) c) }
@@ -168,7 +168,7 @@ impl Past {
     }
 
     /// A turn takes an event up. Takes no memory.
-    pub fn handle(&mut self, id: EventId)
+    pub(crate) fn handle(&mut self, id: EventId)
         ensures after { (config : Configuration) (c : Chronicle) (e : ℕ) → Forgets self.old config c
             → event_place self.old c id ≡ Some e → Forgets self.new config (entry.Handled e ∷ c) }
         ensures events { (config : Configuration) (c : Chronicle) (e : ℕ) (k : EventIdValue) (j : ℕ)
@@ -179,7 +179,7 @@ impl Past {
     }
 
     /// An event that nobody holds leaves the queue. Takes no memory.
-    pub fn finish(&mut self, id: EventId) -> Option<Finished>
+    pub(crate) fn finish(&mut self, id: EventId) -> Option<Finished>
         ensures after { (config : Configuration) (c : Chronicle) (e : ℕ) → Forgets self.old config c
             → event_place self.old c id ≡ Some e → is_held config e c ≡ false
             → Forgets self.new config (entry.Finished e ∷ c) }
@@ -193,7 +193,7 @@ impl Past {
     }
 
     /// An event from outside goes to the end of the queue.
-    pub fn emit(&mut self, event: Event, waiter: Option<u64>) -> Result<(), AllocError>
+    pub(crate) fn emit(&mut self, event: Event, waiter: Option<u64>) -> Result<(), AllocError>
         ensures { OnOk result ((config : Configuration) (c : Chronicle) (input : InputValue)
             → Forgets self.old config (entry.Given input ∷ c) →
             number_of (waiter_in (Some (entry.Queued (entry.Outside (length c)) event))
@@ -205,7 +205,7 @@ impl Past {
     }
 
     /// An event that tells that another was spoilt goes to the end of the queue.
-    pub fn tell(&mut self, event: Event) -> Result<(), AllocError>
+    pub(crate) fn tell(&mut self, event: Event) -> Result<(), AllocError>
         ensures { OnOk result ((config : Configuration) (c : Chronicle) (spoilt : ℕ)
             → Forgets self.old config c
             → Forgets self.new config (entry.Queued (entry.Spoilt spoilt) event ∷ c)) }
@@ -215,7 +215,7 @@ impl Past {
     }
 
     /// An input is given; one of a process speaks of this instance, if it exists. Takes no memory.
-    pub fn given(&mut self, input: &Input, on: Option<InstanceKey>)
+    pub(crate) fn given(&mut self, input: &Input, on: Option<InstanceKey>)
         ensures after { (config : Configuration) (c : Chronicle) → Forgets self.old config c
             → SpeaksOf config on input.now c → Forgets self.new config (entry.Given input.now ∷ c) }
         ensures events { self.new.events ≡ self.old.events }
@@ -310,7 +310,7 @@ impl Past {
     }
 
     /// An instance enters a state other than waiting. Takes no memory.
-    pub fn enter(&mut self, key: InstanceKey, state: State)
+    pub(crate) fn enter(&mut self, key: InstanceKey, state: State)
         ensures after { (config : Configuration) (c : Chronicle) (i : ℕ) → Forgets self.old config c
             → instance_place self.old c key ≡ Some i → is_waiting state ≡ false
             → Forgets self.new config (entry.Entered i state ∷ c) }
@@ -375,7 +375,7 @@ impl Past {
     }
 
     /// The goal of an instance changes, with the environment and the holders that go with it.
-    pub fn aim(
+    pub(crate) fn aim(
         &mut self,
         key: InstanceKey,
         goal: Goal,
@@ -397,7 +397,7 @@ impl Past {
     }
 
     /// An instance's goal becomes stop by itself; its holders stay. Takes no memory.
-    pub fn end_itself(&mut self, key: InstanceKey)
+    pub(crate) fn end_itself(&mut self, key: InstanceKey)
         ensures { (config : Configuration) (c : Chronicle) (i : ℕ)
             → Forgets self.old config c → instance_place self.old c key ≡ Some i
             → Forgets self.new config (entry.Aimed i aim.Stop [] (read.holders i c) ∷ c) }
@@ -406,7 +406,7 @@ impl Past {
     }
 
     /// A restart of an instance is taken, with these holders.
-    pub fn restart(&mut self, key: InstanceKey, holders: Items<Holder>) -> Result<(), AllocError>
+    pub(crate) fn restart(&mut self, key: InstanceKey, holders: Items<Holder>) -> Result<(), AllocError>
         ensures { OnOk result ((config : Configuration) (c : Chronicle) (i : ℕ) (events : List ℕ)
             → Forgets self.old config c → instance_place self.old c key ≡ Some i
             → map (holding_of (event_place self.old c)) holders ≡ map (holding_at c) events
@@ -420,7 +420,7 @@ impl Past {
     }
 
     /// An instance lets its holders go. Takes no memory.
-    pub fn let_go(&mut self, key: InstanceKey, none: Items<Holder>)
+    pub(crate) fn let_go(&mut self, key: InstanceKey, none: Items<Holder>)
         ensures after { (config : Configuration) (c : Chronicle) (i : ℕ)
             → Forgets self.old config c → instance_place self.old c key ≡ Some i → none ≡ []
             → Forgets self.new config (entry.Released i false ∷ c) }
@@ -431,7 +431,7 @@ impl Past {
     }
 
     /// An instance that failed lets its holders go, which spoils the events among them. Takes no memory.
-    pub fn let_go_failed(&mut self, key: InstanceKey, none: Items<Holder>)
+    pub(crate) fn let_go_failed(&mut self, key: InstanceKey, none: Items<Holder>)
         ensures { (config : Configuration) (c : Chronicle) (i : ℕ)
             → Forgets self.old config c → instance_place self.old c key ≡ Some i → none ≡ []
             → Forgets self.new config (entry.Released i true ∷ c) }
@@ -442,7 +442,7 @@ impl Past {
     }
 
     /// An instance fails. Takes no memory.
-    pub fn fail(&mut self, key: InstanceKey, failure: Failure)
+    pub(crate) fn fail(&mut self, key: InstanceKey, failure: Failure)
         ensures after { (config : Configuration) (c : Chronicle) (i : ℕ)
             → Forgets self.old config c → instance_place self.old c key ≡ Some i
             → Forgets self.new config (entry.Failed i failure ∷ c) }
@@ -453,7 +453,7 @@ impl Past {
     }
 
     /// A process of an instance is ordered. Takes no memory.
-    pub fn order(&mut self, key: InstanceKey, process: Process)
+    pub(crate) fn order(&mut self, key: InstanceKey, process: Process)
         ensures after { (config : Configuration) (c : Chronicle) (i : ℕ)
             → Forgets self.old config c → instance_place self.old c key ≡ Some i
             → Forgets self.new config (entry.Ordered i process ∷ c) }
@@ -465,7 +465,7 @@ impl Past {
     }
 
     /// Main of an instance is sent a signal on entering killed. Takes no memory.
-    pub fn signal(&mut self, key: InstanceKey, signal: u8)
+    pub(crate) fn signal(&mut self, key: InstanceKey, signal: u8)
         ensures after { (config : Configuration) (c : Chronicle) (i : ℕ)
             → Forgets self.old config c → instance_place self.old c key ≡ Some i
             → Forgets self.new config (entry.Signalled i signal false ∷ c) }
@@ -478,7 +478,7 @@ impl Past {
     }
 
     /// Main of an instance is killed by the timer. Takes no memory.
-    pub fn kill(&mut self, key: InstanceKey, signal: u8)
+    pub(crate) fn kill(&mut self, key: InstanceKey, signal: u8)
         ensures after { (config : Configuration) (c : Chronicle) (i : ℕ)
             → Forgets self.old config c → instance_place self.old c key ≡ Some i
             → Forgets self.new config (entry.Signalled i signal true ∷ c) }
@@ -489,7 +489,7 @@ impl Past {
     }
 
     /// Main of an instance is respawned. Takes no memory.
-    pub fn respawn(&mut self, key: InstanceKey)
+    pub(crate) fn respawn(&mut self, key: InstanceKey)
         ensures { (config : Configuration) (c : Chronicle) (i : ℕ)
             → Forgets self.old config c → instance_place self.old c key ≡ Some i
             → Forgets self.new config (entry.Respawned i (clock.now c) ∷ c) }
@@ -499,7 +499,7 @@ impl Past {
     }
 
     /// An instance emits an event on entering a state, and waits for it if the state is one that does.
-    pub fn announce(
+    pub(crate) fn announce(
         &mut self,
         key: InstanceKey,
         state: State,
@@ -523,7 +523,7 @@ impl Past {
     }
 
     /// An instance enters waiting with its last event, and is gone.
-    pub fn leave(&mut self, alloc: Global, key: InstanceKey, event: Event) -> Result<(), AllocError>
+    pub(crate) fn leave(&mut self, alloc: Global, key: InstanceKey, event: Event) -> Result<(), AllocError>
         ensures after { OnOk result ((config : Configuration) (c : Chronicle) (i : ℕ)
             → Forgets self.old config c → instance_place self.old c key ≡ Some i
             → Forgets self.new config
@@ -559,7 +559,7 @@ impl Past {
     }
 
     /// A job, which stands at this place of the table, gets an instance.
-    pub fn make(
+    pub(crate) fn make(
         &mut self,
         alloc: Global,
         place: usize,

@@ -54,7 +54,7 @@ impl Past {
     ghost use Rattle.up_book.specs.Standing.{Forgets, event_place, instance_place};
 
     /// Where an instance is heading.
-    pub fn goal(&self, key: InstanceKey) -> Goal
+    pub(crate) fn goal(&self, key: InstanceKey) -> Goal
         ensures { (config : Configuration) (c : Chronicle) (i : ℕ) → Forgets self.now config c
             → instance_place self.now c key ≡ Some i → result ≡ read.goal i c }
     {
@@ -65,7 +65,7 @@ impl Past {
     }
 
     /// The state of an instance.
-    pub fn state_of(&self, key: InstanceKey) -> State
+    pub(crate) fn state_of(&self, key: InstanceKey) -> State
         ensures { (config : Configuration) (c : Chronicle) (i : ℕ) → Forgets self.now config c
             → instance_place self.now c key ≡ Some i → result ≡ read.state_of i c }
     {
@@ -76,7 +76,7 @@ impl Past {
     }
 
     /// Whether a restart of an instance was taken since it entered its state.
-    pub fn was_restarted(&self, key: InstanceKey) -> bool
+    pub(crate) fn was_restarted(&self, key: InstanceKey) -> bool
         ensures { (config : Configuration) (c : Chronicle) (i : ℕ) → Forgets self.now config c
             → instance_place self.now c key ≡ Some i → result ≡ read.was_restarted i c }
     {
@@ -87,7 +87,7 @@ impl Past {
     }
 
     /// What the clock read when main was sent its signal, in milliseconds, until the timer has sent KILL.
-    pub fn kill_moment(&self, key: InstanceKey) -> Option<u64>
+    pub(crate) fn kill_moment(&self, key: InstanceKey) -> Option<u64>
         ensures { (config : Configuration) (c : Chronicle) (i : ℕ) → Forgets self.now config c
             → instance_place self.now c key ≡ Some i → result ≡ clock.kill_moment i c }
     {
@@ -98,7 +98,7 @@ impl Past {
     }
 
     /// Why an instance failed since it entered starting last.
-    pub fn failure(&self, key: InstanceKey) -> Option<Failure>
+    pub(crate) fn failure(&self, key: InstanceKey) -> Option<Failure>
         ensures { (config : Configuration) (c : Chronicle) (i : ℕ) → Forgets self.now config c
             → instance_place self.now c key ≡ Some i → result ≡ read.failure i c }
     {
@@ -109,7 +109,7 @@ impl Past {
     }
 
     /// The environment in force, if the instance has one.
-    pub fn env(&self, key: InstanceKey) -> Option<&Env>
+    pub(crate) fn env(&self, key: InstanceKey) -> Option<&Env>
         ensures { (config : Configuration) (c : Chronicle) (i : ℕ) → Forgets self.now config c
             → instance_place self.now c key ≡ Some i
             → option_map_or (λ env. env.now) result [] ≡ read.env i c }
@@ -121,7 +121,7 @@ impl Past {
     }
 
     /// Whether an instance waits for its own event.
-    pub fn is_blocked(&self, key: InstanceKey) -> bool
+    pub(crate) fn is_blocked(&self, key: InstanceKey) -> bool
         ensures { (config : Configuration) (c : Chronicle) (i : ℕ) → Forgets self.now config c
             → instance_place self.now c key ≡ Some i → result ≡ is_some (read.blocker i c) }
     {
@@ -132,7 +132,7 @@ impl Past {
     }
 
     /// Whether a process was ordered and not answered since.
-    pub fn awaits(&self, key: InstanceKey, process: Process) -> bool
+    pub(crate) fn awaits(&self, key: InstanceKey, process: Process) -> bool
         ensures { (config : Configuration) (c : Chronicle) (i : ℕ) → Forgets self.now config c
             → instance_place self.now c key ≡ Some i → result ≡ read.is_awaited i process c }
     {
@@ -143,7 +143,7 @@ impl Past {
     }
 
     /// Whether a process lives.
-    pub fn lives(&self, key: InstanceKey, process: Process) -> bool
+    pub(crate) fn lives(&self, key: InstanceKey, process: Process) -> bool
         ensures { (config : Configuration) (c : Chronicle) (i : ℕ) → Forgets self.now config c
             → instance_place self.now c key ≡ Some i → result ≡ read.lives i process c }
     {
@@ -154,7 +154,7 @@ impl Past {
     }
 
     /// Whether the limit of its job allows one respawn more of an instance (init(5), `respawn limit`).
-    pub fn may_respawn(&self, key: InstanceKey, limit: Limit) -> bool
+    pub(crate) fn may_respawn(&self, key: InstanceKey, limit: Limit) -> bool
         ensures { (config : Configuration) (c : Chronicle) (i : ℕ) (job : JobValue) → Forgets self.now config c
             → instance_place self.now c key ≡ Some i → nth key.job config.jobs ≡ Some job → job.limit ≡ limit
             → result ≡ clock.may_respawn limit i c }
@@ -166,7 +166,7 @@ impl Past {
     }
 
     /// How many instances the job at a place of the table has.
-    pub fn count(&self, job: usize) -> usize
+    pub(crate) fn count(&self, job: usize) -> usize
         ensures { (config : Configuration) (c : Chronicle) (its : JobValue) → Forgets self.now config c
             → nth job config.jobs ≡ Some its → result ≡ length (instances_of its.name c) }
     {
@@ -174,7 +174,7 @@ impl Past {
     }
 
     /// The key of an instance of the job at a place of the table, by its name.
-    pub fn find(&self, job: usize, name: &str) -> Option<InstanceKey>
+    pub(crate) fn find(&self, job: usize, name: &str) -> Option<InstanceKey>
         ensures place { (config : Configuration) (c : Chronicle) (its : JobValue) → Forgets self.now config c
             → nth job config.jobs ≡ Some its
             → option_map (instance_place self.now c) result ≡ option_map Some (instance_named (called its.name name.now) c) }
@@ -184,7 +184,7 @@ impl Past {
     }
 
     /// The name of an instance.
-    pub fn name(&self, key: InstanceKey) -> &str
+    pub(crate) fn name(&self, key: InstanceKey) -> &str
         ensures { (config : Configuration) (c : Chronicle) (its : InstanceValue) → Forgets self.now config c
             → instance_at config c key ≡ Some its → result.now ≡ its.name }
     {
@@ -195,7 +195,7 @@ impl Past {
     }
 
     /// The event that an id names, if it lives.
-    pub fn event_at(&self, id: EventId) -> Option<&Event>
+    pub(crate) fn event_at(&self, id: EventId) -> Option<&Event>
         ensures { (config : Configuration) (c : Chronicle) (e : ℕ) → Forgets self.now config c
             → event_place self.now c id ≡ Some e → option_copied result ≡ read.event_at e c }
     {
@@ -206,7 +206,7 @@ impl Past {
     }
 
     /// Whether an instance that held an event let it go as failed.
-    pub fn is_spoilt(&self, id: EventId) -> bool
+    pub(crate) fn is_spoilt(&self, id: EventId) -> bool
         ensures { (config : Configuration) (c : Chronicle) (e : ℕ) → Forgets self.now config c
             → event_place self.now c id ≡ Some e → result ≡ held.is_spoilt e c }
     {

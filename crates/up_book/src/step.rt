@@ -129,7 +129,7 @@ impl Step {
     ghost use Rattle.up_book.specs.Steps.{IsStep};
 
     /// A step begins with an input: it has asked for nothing, and acted on no instance. Takes no memory.
-    pub fn new(alloc: Global, given: &Input) -> Self
+    pub(crate) fn new(alloc: Global, given: &Input) -> Self
         ensures { (config : Configuration) (c : Chronicle) → ((i : ℕ) → HoldsOlder i c)
             → IsStep result config (entry.Given given.now ∷ c) }
     {
@@ -141,7 +141,7 @@ impl Step {
     }
 
     /// No step has begun.
-    pub fn none(alloc: Global) -> Self {
+    pub(crate) fn none(alloc: Global) -> Self {
         Step {
             asked: None,
             on: None,
@@ -150,7 +150,7 @@ impl Step {
     }
 
     /// The number of the client of this step's request, if it waits.
-    pub fn waiter(&self) -> Option<u64>
+    pub(crate) fn waiter(&self) -> Option<u64>
         ensures { result ≡ waiter_of self.now.asked }
     {
         match self.asked {
@@ -160,7 +160,7 @@ impl Step {
     }
 
     /// The number of the client that is still to be answered at the end of this step: one that doesn't wait, and wasn't answered.
-    pub fn due(&self) -> Option<u64>
+    pub(crate) fn due(&self) -> Option<u64>
         ensures { result ≡ due_of self.now.asked }
     {
         match self.asked {
@@ -170,7 +170,7 @@ impl Step {
     }
 
     /// The client of this step's request was answered.
-    pub fn answer(&mut self)
+    pub(crate) fn answer(&mut self)
         ensures { self.new ≡ record self.old { asked = answered_of self.old.asked } }
     {
         if let Some(asked) = &mut self.asked {
@@ -179,14 +179,14 @@ impl Step {
     }
 
     /// The request of the step acts on an instance. Takes no memory.
-    pub fn act_on(&mut self, key: InstanceKey)
+    pub(crate) fn act_on(&mut self, key: InstanceKey)
         ensures { self.new ≡ record self.old { on = Some (Exists key) } }
     {
         self.on = Some(ActedOn::Exists(key));
     }
 
     /// An instance leaves, of which this is told. Takes no memory.
-    pub fn leave(&mut self, key: InstanceKey, told: Text)
+    pub(crate) fn leave(&mut self, key: InstanceKey, told: Text)
         ensures { self.new ≡ record self.old { on = on_left key told self.old.on } }
     {
         match self.on {
@@ -196,7 +196,7 @@ impl Step {
     }
 
     /// An instance came to a key.
-    pub fn make(&mut self, key: InstanceKey) -> Result<(), AllocError>
+    pub(crate) fn make(&mut self, key: InstanceKey) -> Result<(), AllocError>
         ensures { OnOk result (self.new
             ≡ record self.old { on = moved_on (after_made key.job key.at) self.old.on }) }
     {

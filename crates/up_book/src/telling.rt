@@ -91,7 +91,7 @@ impl Past {
     ghost use Rattle.up_book.specs.Standing.{Forgets, instance_place};
 
     /// The status text of an instance (initctl(8), `status`).
-    pub fn status_of(&self, alloc: Global, key: InstanceKey) -> Result<Text, AllocError>
+    pub(crate) fn status_of(&self, alloc: Global, key: InstanceKey) -> Result<Text, AllocError>
         ensures { IfOk result (λ text. (config : Configuration) (c : Chronicle) (i : ℕ)
             → Forgets self.now config c → instance_place self.now c key ≡ Some i
             → text ≡ replies.status_of i c) }
@@ -106,7 +106,7 @@ impl Past {
     }
 
     /// The status text that an instance will have once it has entered waiting.
-    pub fn last_status_of(&self, alloc: Global, key: InstanceKey) -> Result<Text, AllocError>
+    pub(crate) fn last_status_of(&self, alloc: Global, key: InstanceKey) -> Result<Text, AllocError>
         ensures { IfOk result (λ text. (config : Configuration) (c : Chronicle) (i : ℕ)
             → Forgets self.now config c → instance_place self.now c key ≡ Some i
             → text ≡ replies.status_of i (entry.Entered i entered.Waiting ∷ c)) }
