@@ -1,5 +1,5 @@
 -- What a step has asked for after an answer, and after its request acted on an instance.
-use Rattle.std.proofs.Common.{◌≡◌, ℕ, zero, suc, ◌+◌, ◌<◌, ◌≤◌, ◌==◌, ◌&&◌, Bool, true, false, not, List, [], ◌∷◌, ◌++◌, length, map, Option, None, Some, option_map, if◌then◌else◌, refl, sym, ◌∙◌, ap, subst, arith, eqb-true, eq-eqb, ne_eqb, append-nil}
+use Rattle.std.proofs.Common.{◌≡◌, ℕ, ◌==◌, ◌&&◌, Bool, true, false, not, List, [], ◌∷◌, ◌++◌, length, Option, None, Some, option_map, if◌then◌else◌, refl, sym, ◌∙◌, ap, subst, arith, eqb-true, eq-eqb, ne_eqb, append-nil}
 use Rattle.std.specs.List.{AllByRecursion}
 use Rattle.up_model.specs.declared.input.Input.{Input}
 use Rattle.up_model.specs.declared.input.Input.TheVariants as input
@@ -8,11 +8,11 @@ use Rattle.up_model.specs.declared.output.Output.TheVariants as output
 use Rattle.up_model.specs.declared.request.Answer.{Answer}
 use Rattle.up_model.specs.declared.request.Command.TheVariants.{Emit}
 use Rattle.up_model.specs.declared.state.Goal.{Goal}
-use Rattle.up_model.specs.Chronicle.{Chronicle, Entry, Origin, Outside, Given, Queued, Aimed, Restarted, Finished, Replied}
+use Rattle.up_model.specs.Chronicle.{Chronicle, Entry, Outside, Given, Queued, Aimed, Restarted, Finished, Replied}
 use Rattle.up_model.specs.Configuration.{Configuration}
 use Rattle.up_model.specs.Outputs.{outputs_of, reply_of}
 use Rattle.up_model.specs.Readings.{entry_at, event_at, holders, id_of, id_at}
-use Rattle.up_model.specs.Replies.{answer_to, answering_last, answering_hurried, answering_waiter, if_waits, request_in, request_at, request_instance, status_if, unanswered, waiter, waiter_in, was_answered}
+use Rattle.up_model.specs.Replies.{answer_to, answering_last, answering_hurried, answering_waiter, if_waits, request_in, request_instance, status_if, waiter, waiter_in, was_answered}
 use Rattle.up_model.specs.Requests.{RequestValue}
 use Rattle.up_model.specs.Values.{Bytes, Bindings}
 use Rattle.up_model.proofs.Places.{older-other}
@@ -28,12 +28,11 @@ use Rattle.up_book.specs.Eventing.{finished_at, number_of}
 use Rattle.up_book.specs.Keeps.{AreOlder, HoldsOlder}
 use Rattle.up_book.specs.Keys.{instance_place}
 use Rattle.up_book.specs.Replying.{finished_replies, waiter_replies}
-use Rattle.up_book.specs.Requesting.{OnMeans}
 use Rattle.up_book.specs.Steps.{Asks}
 use Rattle.up_book.proofs.Holdings.{entry-older}
 use Rattle.up_book.proofs.Outgoing.{silent-out}
 use Rattle.up_book.proofs.Requested.{on-aimed, on-restarted}
-use Rattle.up_book.proofs.StepFrames.{due-some, given-there, on-stays-by, unheld-by}
+use Rattle.up_book.proofs.StepFrames.{due-some, given-there, on-stays-by}
 
 -- the holders of an instance are older than an input that is given now
 pub older-apart : (n : ℕ) (hs : List ℕ) → AreOlder n hs → AllByRecursion (λ place. (place == n) ≡ false) hs

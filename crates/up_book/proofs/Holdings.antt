@@ -1,5 +1,5 @@
 -- Those who hold an instance from now on, by what is kept of them.
-use Rattle.std.proofs.Common.{◌≡◌, ℕ, ◌+◌, ◌<◌, ◌==◌, Bool, true, false, not, List, [], ◌∷◌, length, map, Option, None, Some, is_some, option_map, if◌then◌else◌, refl, sym, ◌∙◌, ap, subst, arith, eqb-true}
+use Rattle.std.proofs.Common.{◌≡◌, ℕ, ◌<◌, ◌==◌, Bool, true, false, not, List, [], ◌∷◌, length, map, Option, None, Some, is_some, option_map, if◌then◌else◌, refl, sym, ◌∙◌, ap, arith, eqb-true}
 use Rattle.std.specs.List.{AllByRecursion}
 use Rattle.up_model.specs.declared.event.Event.{Event}
 use Rattle.up_model.specs.declared.event_id.EventId.{EventId}
@@ -21,7 +21,7 @@ use Rattle.up_book.specs.Holding.{AllLive, as_holders, holders_by}
 use Rattle.up_book.specs.Keeps.{AreOlder}
 use Rattle.up_book.specs.Keys.{request_place, held_as}
 use Rattle.up_book.specs.Standing.{Forgets, event_place}
-use Rattle.up_book.specs.Summaries.{Holding, ByEvent, ByClient, holding_in, holding_at}
+use Rattle.up_book.specs.Summaries.{ByEvent, ByClient, holding_in, holding_at}
 use Rattle.up_book.specs.Views.{holding_of}
 use Rattle.up_book.proofs.Closing.{event-placed, named-there}
 use Rattle.up_book.proofs.StepFrames.{given-there}

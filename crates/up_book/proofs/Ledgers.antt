@@ -1,32 +1,27 @@
 -- What a ledger stands for, one entry or one run of entries later.
 use Rattle.std.proofs.Common.{◌≡◌, ℕ, zero, suc, ◌+◌, ◌<◌, ◌≤◌, ◌==◌, ◌&&◌, Bool, true, false, not, List, [], ◌∷◌, ◌++◌, length, map, Option, None, Some, is_some, option_map, bytes_eq, if◌then◌else◌, refl, sym, ◌∙◌, ap, subst, arith, eqb-true, append_assoc, append-nil}
-use Rattle.std.specs.List.{AllByRecursion}
 use Rattle.up_conf.specs.declared.job.JobDef.{JobDef}
 use Rattle.up_stanza.specs.declared.process.Process.{Process}
-use Rattle.up_marks.specs.declared.mark.Mark.{Mark}
 use Rattle.up_model.specs.declared.event.Event.{Event}
 use Rattle.up_model.specs.declared.failure.Failure.{Failure}
 use Rattle.up_model.specs.declared.input.Input.{Input}
 use Rattle.up_model.specs.declared.input.Input.TheVariants as input
 use Rattle.up_model.specs.declared.output.Output.{Output}
 use Rattle.up_model.specs.declared.output.Output.TheVariants as output
-use Rattle.up_model.specs.declared.request.Answer.{Answer}
-use Rattle.up_model.specs.declared.state.Goal.{Goal}
 use Rattle.up_model.specs.declared.state.State.{State}
 use Rattle.up_model.specs.declared.state.State.TheVariants as state
-use Rattle.up_model.specs.Chronicle.{Chronicle, Entry, Given, Queued, Made, Aimed, Restarted, Released, Failed, Entered, Ordered, Signalled, Replied, Outside, Entering}
+use Rattle.up_model.specs.Chronicle.{Chronicle, Entry, Given, Queued, Made, Released, Failed, Entered, Ordered, Signalled, Replied, Outside, Entering}
 use Rattle.up_model.specs.Configuration.{Configuration, job_named}
-use Rattle.up_model.specs.Instances.{Instance, instances_of, all_instances, instance_named, with_instance, without_instance}
-use Rattle.up_model.specs.Outputs.{outputs_of, reply_of}
+use Rattle.up_model.specs.Instances.{instances_of, all_instances, with_instance, without_instance}
+use Rattle.up_model.specs.Outputs.{outputs_of}
 use Rattle.up_model.specs.Queue.{queue}
 use Rattle.up_model.specs.Readings.{entry_at, holders, id_of, id_at}
-use Rattle.up_model.specs.Replies.{answering, releasing, if_waits, request_in, request_instance, status_if, status_of, waiter_in, was_answered}
-use Rattle.up_model.specs.Values.{Bytes, Bindings}
-use Rattle.up_model.proofs.Places.{bytes_same, count, older-other}
+use Rattle.up_model.specs.Replies.{answering, releasing, if_waits, request_in, request_instance, status_if, status_of, waiter_in}
+use Rattle.up_model.specs.Values.{Bytes}
+use Rattle.up_model.proofs.Places.{bytes_same, count}
 use Rattle.up_job.specs.InstanceLists.{new_instance}
-use Rattle.up_job.specs.JobLists.{with_made, position_at, job_of}
-use Rattle.up_job.specs.Lists.{nth, with_at, position_in}
-use Rattle.up_job.specs.declared.holder.Holder.{Holder}
+use Rattle.up_job.specs.JobLists.{position_at, job_of}
+use Rattle.up_job.specs.Lists.{nth}
 use Rattle.up_job.specs.declared.instance.Instance.{Instance as Kept}
 use Rattle.up_job.specs.declared.instance_key.InstanceKey.{InstanceKey}
 use Rattle.up_job.specs.declared.instances.JobInstances.{JobInstances}
@@ -35,10 +30,10 @@ use Rattle.up_book.specs.declared.past.Past.{Past}
 use Rattle.up_book.specs.declared.step.ActedOn.{ActedOn}
 use Rattle.up_book.specs.declared.step.ActedOn.TheVariants.{Exists, Gone}
 use Rattle.up_book.specs.declared.step.Asked.{Asked}
-use Rattle.up_book.specs.Asking.{given_input, given_place, asked_in, asked_of, is_hurried, IsUnheld, waiter_of}
+use Rattle.up_book.specs.Asking.{asked_in, asked_of, waiter_of}
 use Rattle.up_book.specs.Eventing.{number_of, place_of}
 use Rattle.up_book.specs.Holding.{held_by_kept}
-use Rattle.up_book.specs.Keeps.{is_waiting, HoldsOlder, place_at}
+use Rattle.up_book.specs.Keeps.{is_waiting, HoldsOlder}
 use Rattle.up_book.specs.Keys.{Mode, Stepping, job_at, instance_place, request_place, held_as}
 use Rattle.up_book.specs.declared.holders.Holders.{Holders}
 use Rattle.up_book.specs.declared.holders.Holders.TheVariants.{Taken, Client, Nobody}
@@ -55,7 +50,7 @@ use Rattle.up_book.specs.Sending.{listed, order_by, signal_by, status_by, IsOrde
 use Rattle.up_book.specs.Standing.{Forgets}
 use Rattle.up_book.specs.Standing as standing
 use Rattle.up_book.specs.Steps.{Asks}
-use Rattle.up_book.specs.Summaries.{Summary, summary, holding_at}
+use Rattle.up_book.specs.Summaries.{Summary, holding_at}
 use Rattle.up_book.specs.Views.{Places, view, holding_of, kept_in, kept_at}
 use Rattle.up_book.proofs.Beginning.{new-blank}
 use Rattle.up_book.proofs.Entering.{older-after, place-older}
@@ -114,7 +109,7 @@ pub more : (old new : Ledger) (config : Configuration) (c : Chronicle) (e : Entr
 more old new config c e outs s f index unasked plain spares out outputs asked on =
     stood new Stepping config (e ∷ c) f (subst (λ its. HasIndex its config.jobs) (sym index) s.index)
     (asks-same (old.step.outputs.items ++ outs) new.step.outputs.items old.step.asked new.step.asked old.step.on new.step.on config (e ∷ c) outputs asked on
-      (step-more old.step.outputs.items outs old.step.asked old.step.on config c e unasked plain spares out s.step))
+    (step-more old.step.outputs.items outs old.step.asked old.step.on config c e unasked plain spares out s.step))
 
 -- entries by which keys stand where they stood
 pub calm : (config : Configuration) (c : Chronicle) (e : Entry) → ((job : Bytes) → instances_of job (e ∷ c) ≡ instances_of job c) → ((i : ℕ) → holders i (e ∷ c) ≡ holders i c) → ((i : ℕ) → Mentions i e ≡ false) → Spares config c e
@@ -270,7 +265,7 @@ step-left outputs asked on past config c key i told f found text s = record {
 pub step-leaves : (outputs : List Output) (asked : Option Asked) (on : Option ActedOn) (past : Past) (config : Configuration) (c : Chronicle) (key : InstanceKey) (i : ℕ) (told : Bytes) (event : Event) → Forgets past config c
     → instance_place config c key ≡ Some i → told ≡ status_of i (Entered i state.Waiting ∷ c) → Asks outputs asked on config c
     → (let d : Chronicle = Queued (Entering i state.Waiting) event ∷ Entered i state.Waiting ∷ c in
-       Asks ((outputs ++ output.Emitted event ∷ []) ++ replies_to (held_by_kept (kept_at key past.instances)) false told) asked (on_left key told on) config (releasing i false d ++ d))
+    Asks ((outputs ++ output.Emitted event ∷ []) ++ replies_to (held_by_kept (kept_at key past.instances)) false told) asked (on_left key told on) config (releasing i false d ++ d))
 step-leaves outputs asked on past config c key i told event f found text s =
     let t = there-so past config c key i f found in
     let first : Entry = Entered i state.Waiting in

@@ -1,37 +1,30 @@
 -- The answer that ends a step tells of the instance that the request acted on, even if it has gone.
-use Rattle.std.proofs.Common.{◌≡◌, ℕ, zero, suc, ◌+◌, ◌<◌, ◌==◌, Bool, true, false, List, [], ◌∷◌, ◌++◌, length, map, Option, None, Some, if◌then◌else◌, refl, sym, ◌∙◌, ap, arith, eqb-true, eq-eqb}
+use Rattle.std.proofs.Common.{◌≡◌, ℕ, zero, suc, ◌+◌, ◌<◌, ◌==◌, Bool, true, false, List, [], ◌∷◌, length, map, Option, None, Some, if◌then◌else◌, refl, ◌∙◌, ap, arith, eqb-true, eq-eqb}
 use Rattle.up_job.specs.Lists.{nth, with_named, without_at, position_in}
 use Rattle.up_conf.specs.Order.{is_below}
 use Rattle.up_conf.specs.declared.job.JobDef.{JobDef}
 use Rattle.up_stanza.specs.declared.process.Process.{Process}
 use Rattle.up_stanza.specs.declared.process.Process.TheVariants as process
-use Rattle.up_model.specs.declared.output.Output.TheVariants as output
 use Rattle.up_model.specs.declared.state.Goal.{Goal}
 use Rattle.up_model.specs.declared.state.State.TheVariants as state
 use Rattle.up_model.specs.declared.who.Who.{Who}
 use Rattle.up_model.specs.Chronicle.{Chronicle, Entry, Given, Made, Aimed, Restarted, Entered}
 use Rattle.up_model.specs.Configuration.{Configuration}
 use Rattle.up_model.specs.Instances.{Instance, without_instance, instances_of, all_instances}
-use Rattle.up_model.specs.Outputs.{outputs_of}
-use Rattle.up_model.specs.Readings.{made_at, id_at, goal, state_of, pid_of}
-use Rattle.up_model.specs.Replies.{own_process, pid_if, status_as, status_of, status_if, request_instance, unanswered, answering_last}
+use Rattle.up_model.specs.Readings.{made_at, goal, state_of, pid_of}
+use Rattle.up_model.specs.Replies.{own_process, pid_if, status_as, status_of, request_instance}
 use Rattle.up_model.specs.Status.{status_text}
 use Rattle.up_model.specs.Values.{Bytes, Bindings}
 use Rattle.up_model.proofs.Places.{older-other, count, one_if}
 use Rattle.up_job.specs.declared.instance_key.InstanceKey.{InstanceKey}
-use Rattle.up_job.specs.declared.instances.JobInstances.{JobInstances}
-use Rattle.up_job.specs.declared.instance.Instance.{Instance as Kept}
-use Rattle.up_book.specs.Keeps.{KeepsJobs, place_at}
 use Rattle.up_book.specs.Keys.{instance_place}
 use Rattle.up_book.specs.Summaries.{summary}
-use Rattle.up_book.specs.Views.{Places, view, kept_at}
-use Rattle.up_book.proofs.Keyed.{place-keyed}
-use Rattle.up_book.proofs.One.{There, there}
+use Rattle.up_book.proofs.One.{there}
 use Rattle.up_book.specs.declared.step.ActedOn.{ActedOn}
 use Rattle.up_book.specs.declared.step.ActedOn.TheVariants.{Exists, Gone}
 use Rattle.up_book.specs.Requesting.{IsGone, OnMeans, after_insert, after_remove}
 use Rattle.up_book.specs.Sending.{status_by}
-use Rattle.up_book.proofs.Outgoing.{status-known, made-there}
+use Rattle.up_book.proofs.Outgoing.{made-there}
 
 -- entries that don't speak of an instance leave its status text
 abbrev pub Mentions : ℕ → Entry → Bool

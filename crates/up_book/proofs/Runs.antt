@@ -1,14 +1,13 @@
 -- An instance lets its holders go: what a step has asked for after all entries of that.
-use Rattle.std.proofs.Common.{◌≡◌, ℕ, ◌<◌, ◌==◌, ◌&&◌, Bool, true, false, not, List, [], ◌∷◌, ◌++◌, length, map, Option, None, Some, if◌then◌else◌, refl, sym, ◌∙◌, ap, subst, append_assoc}
+use Rattle.std.proofs.Common.{◌≡◌, ℕ, ◌==◌, ◌&&◌, Bool, true, false, not, List, [], ◌∷◌, ◌++◌, map, Option, None, Some, if◌then◌else◌, refl, sym, ◌∙◌, ap, subst, append_assoc}
 use Rattle.std.specs.List.{AllByRecursion}
 use Rattle.up_model.specs.declared.input.Input.{Input}
 use Rattle.up_model.specs.declared.input.Input.TheVariants as input
 use Rattle.up_model.specs.declared.output.Output.{Output}
 use Rattle.up_model.specs.Chronicle.{Chronicle, Entry, Released, Replied}
 use Rattle.up_model.specs.Configuration.{Configuration}
-use Rattle.up_model.specs.Outputs.{outputs_of}
 use Rattle.up_model.specs.Readings.{holders}
-use Rattle.up_model.specs.Replies.{answer_to, answering, answering_one, releasing, request_at, status_of, was_answered}
+use Rattle.up_model.specs.Replies.{answering, answering_one, releasing, request_at, status_of, was_answered}
 use Rattle.up_model.specs.Requests.{RequestValue}
 use Rattle.up_model.specs.Values.{Bytes}
 use Rattle.up_model.proofs.ReplyLaws.{answering-all, releasing-all}

@@ -1,7 +1,5 @@
 -- What the request of a step acted on.
-use Rattle.std.specs.Prelude.{◌≡◌, ◌<◌, ◌==◌, ◌&&◌, Bool, if◌then◌else◌, ℕ, zero, suc, List, [], Option, None, Some, length}
-use Rattle.up_job.specs.Lists.{nth}
-use Rattle.up_conf.specs.declared.job.JobDef.{JobDef}
+use Rattle.std.specs.Prelude.{◌≡◌, ◌<◌, ◌==◌, ◌&&◌, Bool, if◌then◌else◌, ℕ, zero, suc, Option, None, Some, length}
 use Rattle.up_model.specs.Chronicle.{Chronicle}
 use Rattle.up_model.specs.Instances.{all_instances}
 use Rattle.up_model.specs.Replies.{status_of, request_instance}
@@ -10,12 +8,8 @@ use Rattle.up_model.proofs.Places.{count}
 use Rattle.up_job.specs.declared.instance_key.InstanceKey.{InstanceKey}
 use Rattle.up_book.specs.declared.step.ActedOn.{ActedOn}
 use Rattle.up_book.specs.declared.step.ActedOn.TheVariants.{Exists, Gone}
-use Rattle.up_job.specs.declared.instances.JobInstances.{JobInstances}
-use Rattle.up_job.specs.declared.instance.Instance.{Instance as Kept}
 use Rattle.up_book.specs.Keys.{instance_place}
 use Rattle.up_model.specs.Configuration.{Configuration}
-use Rattle.up_book.specs.Views.{Places, view, kept_at}
-use Rattle.up_book.specs.Sending.{status_by}
 
 abbrev pub IsGone : ℕ → Chronicle → Type 0
 IsGone i c = (i < length c) × (count i (all_instances c) ≡ 0)

@@ -120,7 +120,11 @@ pub(crate) fn free_ids(events: &mut Events, ids: &[EventId])
 }
 
 /// What an instance held is held once less, for each leaf of its `stop on` too.
-pub(crate) fn free_all_of(alloc: Global, events: &mut Events, gone: &Instance) -> Result<(), AllocError>
+pub(crate) fn free_all_of(
+    alloc: Global,
+    events: &mut Events,
+    gone: &Instance,
+) -> Result<(), AllocError>
     ensures { OnOk result (events.new ≡ all_changed (freed false) (as_holders (kept_by gone.now.stop_on))
         (all_changed (freed false) gone.now.holders events.old)) }
 {

@@ -361,7 +361,8 @@ impl Book for Ledger {
             &told,
         )?;
         self.past.fail(key, failure);
-        self.past.let_go_failed(key, Items::new(Vec::new(self.alloc)));
+        self.past
+            .let_go_failed(key, Items::new(Vec::new(self.alloc)));
         Ok(())
     }
 
@@ -377,7 +378,9 @@ impl Book for Ledger {
         key: InstanceKey,
         event: EventId,
     ) -> Result<bool, AllocError> {
-        let holds = self.past.offer_stop(self.alloc, &self.index, key, job, event)?;
+        let holds = self
+            .past
+            .offer_stop(self.alloc, &self.index, key, job, event)?;
         Ok(holds)
     }
 

@@ -406,7 +406,11 @@ impl Past {
     }
 
     /// A restart of an instance is taken, with these holders.
-    pub(crate) fn restart(&mut self, key: InstanceKey, holders: Items<Holder>) -> Result<(), AllocError>
+    pub(crate) fn restart(
+        &mut self,
+        key: InstanceKey,
+        holders: Items<Holder>,
+    ) -> Result<(), AllocError>
         ensures { OnOk result ((config : Configuration) (c : Chronicle) (i : ℕ) (events : List ℕ)
             → Forgets self.old config c → instance_place self.old c key ≡ Some i
             → map (holding_of (event_place self.old c)) holders ≡ map (holding_at c) events
@@ -523,7 +527,12 @@ impl Past {
     }
 
     /// An instance enters waiting with its last event, and is gone.
-    pub(crate) fn leave(&mut self, alloc: Global, key: InstanceKey, event: Event) -> Result<(), AllocError>
+    pub(crate) fn leave(
+        &mut self,
+        alloc: Global,
+        key: InstanceKey,
+        event: Event,
+    ) -> Result<(), AllocError>
         ensures after { OnOk result ((config : Configuration) (c : Chronicle) (i : ℕ)
             → Forgets self.old config c → instance_place self.old c key ≡ Some i
             → Forgets self.new config

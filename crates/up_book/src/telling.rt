@@ -53,12 +53,7 @@ fn who(job: &Name, kept: &Instance) -> Result<Who, AllocError>
 }
 
 // The status text of an instance of a job of this name, as if it were in this state.
-fn status_in(
-    alloc: Global,
-    job: &Name,
-    kept: &Instance,
-    state: State,
-) -> Result<Text, AllocError>
+fn status_in(alloc: Global, job: &Name, kept: &Instance, state: State) -> Result<Text, AllocError>
     ensures { IfOk result (λ text. (places : Places) (its : JobValue) → its.name ≡ job.now
         → text ≡ status_by its (record (view places kept.now) { state = state })) }
 {

@@ -1,4 +1,3 @@
-use Rattle.std.proofs.Common.{◌∙◌}
 use Rattle.up_book.proofs.Outgoing.{signal-by, signal-none}
 use Rattle.up_book.proofs.orders.signal_of.Goals as goal
 

@@ -1,4 +1,4 @@
-use Rattle.std.proofs.Common.{◌∙◌, Some, ap}
+use Rattle.std.proofs.Common.{Some, ap}
 use Rattle.up_book.specs.declared.step.ActedOn.{ActedOn}
 use Rattle.up_book.proofs.Ledgers.{keyed, told-last}
 use Rattle.up_book.proofs.ledger.Ledger.told_of.Goals as goal

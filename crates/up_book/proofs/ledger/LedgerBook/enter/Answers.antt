@@ -1,4 +1,3 @@
-use Rattle.std.proofs.Common.{refl}
 use Rattle.up_model.specs.Chronicle.{Entered}
 use Rattle.up_book.proofs.Ledgers.{keyed, exists-so, silent, spares-entered}
 use Rattle.std.proofs.Common.{◌∙◌}

@@ -1,4 +1,4 @@
-use Rattle.std.proofs.Common.{◌∙◌, sym, ap, refl, ◌∷◌, ◌++◌, subst}
+use Rattle.std.proofs.Common.{◌∙◌, ap, refl, ◌∷◌, ◌++◌}
 use Rattle.up_model.specs.Chronicle.{Finished}
 use Rattle.up_model.specs.Held.{is_spoilt}
 use Rattle.up_model.specs.Queue.{queue}
@@ -21,7 +21,7 @@ returns c config c' e s found free =
     let f = c.finish-finished.ensures.after config c' e s.past found free in
     let silent = step-silent old.step.outputs.items old.step.asked old.step.on config c' finished tt tt (calm config c' finished (λ job. refl) (λ i. refl) (λ i. refl)) s.step in
     let middle = stood _ _ config _ (forgets-waiter _ config (finished ∷ c') (waiter e c') spoilt f) s.index
-        (asks-same (old.step.outputs.items ++ waiter_replies (number_of (waiter e c') c') spoilt) _ old.step.asked _ old.step.on _ config _
-        (c.in_ok-reply_finished.ensures ∙ ap (λ outs. old.step.outputs.items ++ outs) (finished-waiter e c' _ event.0 event.1 (c.finish-finished.ensures.told config c' e s.past found free))) refl refl
-        (step-waiter old.step.outputs.items old.step.asked old.step.on config c' e spoilt silent)) in
+    (asks-same (old.step.outputs.items ++ waiter_replies (number_of (waiter e c') c') spoilt) _ old.step.asked _ old.step.on _ config _
+    (c.in_ok-reply_finished.ensures ∙ ap (λ outs. old.step.outputs.items ++ outs) (finished-waiter e c' _ event.0 event.1 (c.finish-finished.ensures.told config c' e s.past found free))) refl refl
+    (step-waiter old.step.outputs.items old.step.asked old.step.on config c' e spoilt silent)) in
     c.in_ok-tell_if.ensures config _ e middle

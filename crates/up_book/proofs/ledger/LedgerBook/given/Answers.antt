@@ -1,5 +1,4 @@
-use Rattle.std.proofs.Common.{◌∙◌, sym, ap, refl, ◌∷◌}
-use Rattle.up_model.specs.Chronicle.{Given}
+use Rattle.std.proofs.Common.{◌∙◌, ap}
 use Rattle.up_model.specs.Queue.{queue}
 use Rattle.up_book.specs.Eventing.{place_of}
 use Rattle.up_book.proofs.Ledgers.{stood}

@@ -1,4 +1,4 @@
-use Rattle.std.proofs.Common.{refl, true, false}
+use Rattle.std.proofs.Common.{refl, true}
 use Rattle.up_model.specs.Chronicle.{Signalled}
 use Rattle.up_book.specs.Sending.{listed}
 use Rattle.up_book.proofs.Ledgers.{keyed, more, calm, signalled}

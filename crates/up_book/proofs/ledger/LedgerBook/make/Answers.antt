@@ -1,7 +1,6 @@
-use Rattle.std.proofs.Common.{◌∙◌, sym, ap, refl, ◌∷◌, length, None, subst, Some}
+use Rattle.std.proofs.Common.{◌∙◌, sym, ap, refl, ◌∷◌, subst}
 use Rattle.up_model.specs.Chronicle.{Made}
 use Rattle.up_model.specs.Queue.{queue}
-use Rattle.up_book.specs.Eventing.{place_of}
 use Rattle.up_book.specs.Requesting.{after_made, moved_on}
 use Rattle.up_job.specs.JobLists.{position_at}
 use Rattle.up_job.specs.declared.instance_key.InstanceKey.{InstanceKey}

@@ -1,4 +1,4 @@
-use Rattle.std.proofs.Common.{◌∙◌, sym, ap, refl, ◌∷◌, ◌++◌, length, subst}
+use Rattle.std.proofs.Common.{sym, refl, ◌∷◌, ◌++◌, length, subst}
 use Rattle.up_model.specs.Chronicle.{Given, Replied}
 use Rattle.up_model.specs.Outputs.{reply_of}
 use Rattle.up_book.specs.Asking.{number_asked}
