@@ -1,13 +1,11 @@
 -- The lines that clients read of jobs and instances, one after another.
-use Rattle.std.proofs.Common.{◌≡◌, ℕ, ◌+◌, ◌<◌, Bool, true, false, List, [], ◌∷◌, ◌++◌, Option, None, Some, codes, if◌then◌else◌, length, drop, get_or, map, refl, sym, ◌∙◌, ap, add-one, drop-cons, append_assoc, ◌==◌, eq-eqb, arith}
+use Rattle.std.proofs.Common.{◌≡◌, ℕ, ◌+◌, ◌<◌, true, false, List, [], ◌∷◌, ◌++◌, length, drop, get_or, refl, sym, ◌∙◌, ap, add-one, drop-cons, ◌==◌, eq-eqb, arith}
 use Rattle.std.proofs.lemmas.Bool.Decides.{Decides-eqb}
 use Rattle.up_conf.specs.declared.job.JobDef.{JobDef}
-use Rattle.up_engine.specs.Requests.{answer_of}
-use Rattle.up_model.specs.Chronicle.{Chronicle, Entry, Replied}
-use Rattle.up_model.specs.Commands.{Told, Target, Nobody, Concerns, refusal, stopped_text, status_at, status, statuses, job_lines, list_lines, entries_of}
-use Rattle.up_model.specs.Instances.{Instance, instances_of, instance_named}
+use Rattle.up_model.specs.Chronicle.{Chronicle}
+use Rattle.up_model.specs.Commands.{stopped_text, statuses, job_lines, list_lines}
+use Rattle.up_model.specs.Instances.{Instance, instances_of}
 use Rattle.up_model.specs.Values.{Bytes}
-use Rattle.up_text.specs.Scripts.{is_filled}
 
 -- the lines from one on
 pub lines_left : (lines : List Bytes) (i : ℕ) (d : Bytes) → i < length lines → drop i lines ≡ get_or lines i d ∷ drop (i + 1) lines

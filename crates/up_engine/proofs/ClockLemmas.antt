@@ -1,11 +1,10 @@
 -- What the timer kills.
-use Rattle.std.proofs.Common.{◌≡◌, ℕ, zero, suc, ◌+◌, ◌<◌, true, List, [], ◌∷◌, ◌++◌, length, take, drop, get_or, map, Option, None, Some, refl, sym, ◌∙◌, ap, arith, add-one, append_assoc, append-nil, drop-cons}
+use Rattle.std.proofs.Common.{◌≡◌, ℕ, zero, suc, ◌+◌, ◌<◌, true, List, [], ◌∷◌, ◌++◌, length, take, drop, get_or, map, Option, Some, refl, sym, ◌∙◌, ap, arith, add-one, drop-cons}
 use Rattle.up_conf.specs.declared.job.JobDef.{JobDef}
 use Rattle.up_job.specs.declared.instance_key.InstanceKey.{InstanceKey}
-use Rattle.up_model.specs.Chronicle.{Chronicle, Entry, Signalled}
-use Rattle.up_model.specs.Clock.{kill, kill_due, overdue, all_overdue, killing}
-use Rattle.up_model.specs.Instances.{Instance, instances_of}
-use Rattle.up_model.specs.Predicates.{entries_if}
+use Rattle.up_model.specs.Chronicle.{Chronicle, Signalled}
+use Rattle.up_model.specs.Clock.{kill, overdue, all_overdue, killing}
+use Rattle.up_model.specs.Instances.{instances_of}
 
 -- one more is sent KILL after the others
 pub killing_push : (places : List ℕ) (place : ℕ) → killing (places ++ place ∷ []) ≡ Signalled place kill true ∷ killing places

@@ -1,5 +1,5 @@
 -- What a step comes to that handles no event: all instances settle, and a client that didn't wait is answered.
-use Rattle.std.proofs.Common.{◌≡◌, ℕ, zero, suc, ◌==◌, Bool, true, false, not, List, [], ◌∷◌, ◌++◌, length, Option, None, Some, is_some, if◌then◌else◌, refl, sym, ◌∙◌, ap, subst, eq-eqb, append_assoc}
+use Rattle.std.proofs.Common.{◌≡◌, ℕ, zero, suc, Bool, true, false, not, List, [], ◌∷◌, ◌++◌, length, Option, None, Some, is_some, if◌then◌else◌, refl, sym, ◌∙◌, ap, subst, eq-eqb, append_assoc}
 use Rattle.std.specs.List.{AllByRecursion}
 use Rattle.up_conf.specs.declared.job.JobDef.{JobDef}
 use Rattle.up_stanza.specs.declared.process.Process.{Process}
@@ -12,7 +12,7 @@ use Rattle.up_model.specs.declared.failure.Verdict.TheVariants as verdict
 use Rattle.up_model.specs.declared.input.Input.{Input}
 use Rattle.up_model.specs.declared.input.Input.TheVariants as input
 use Rattle.up_model.specs.declared.state.Goal.TheVariants.{Stop}
-use Rattle.up_model.specs.Chronicle.{Chronicle, Entry, Given, Queued, Handled, Finished, Aimed, Released, Failed, Signalled, Replied, Spoilt}
+use Rattle.up_model.specs.Chronicle.{Chronicle, Entry, Given, Handled, Finished, Aimed, Failed, Signalled}
 use Rattle.up_model.specs.Clock.{all_overdue, kill, killing}
 use Rattle.up_model.specs.Commands.{outcome_of, entries_of}
 use Rattle.up_model.specs.Configuration.{Configuration, job_named}
@@ -25,7 +25,7 @@ use Rattle.up_model.specs.Offers.{offering, offer_next}
 use Rattle.up_model.specs.Predicates.{is_start, entries_if, or_else}
 use Rattle.up_model.specs.Queue as queue
 use Rattle.up_model.specs.Readings.{goal, holders, failure}
-use Rattle.up_model.specs.Replies.{releasing, waiter, answering_waiter, asked, was_answered, unless_answered, unanswered, answering_hurried, answering_last, request_instance, status_if}
+use Rattle.up_model.specs.Replies.{releasing, waiter, answering_waiter, asked, was_answered, unless_answered, unanswered, answering_hurried, answering_last}
 use Rattle.up_model.specs.Work.{work}
 use Rattle.up_model.proofs.ReplyLaws.{Allows, releasing-all, answering_waiter-all, answering_hurried-all, outcome-all}
 use Rattle.up_model.proofs.Settling.{settle_still}

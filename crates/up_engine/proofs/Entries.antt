@@ -1,5 +1,5 @@
 -- Lists of entries.
-use Rattle.std.proofs.Common.{◌≡◌, ℕ, ◌&&◌, false, true, Bool, List, [], ◌∷◌, ◌++◌, Option, None, Some, is_some, option_map, map, refl, sym, ◌∙◌, ap, append_assoc}
+use Rattle.std.proofs.Common.{◌≡◌, ℕ, ◌&&◌, false, true, List, [], ◌∷◌, ◌++◌, Option, None, Some, is_some, option_map, refl, ◌∙◌, ap, append_assoc}
 use Rattle.up_conf.specs.declared.job.JobDef.{JobDef}
 use Rattle.up_stanza.specs.declared.process.Process.TheVariants.{Main}
 use Rattle.up_model.specs.declared.life.Entry as table

@@ -1,5 +1,5 @@
 -- What the keys of events stand for.
-use Rattle.std.proofs.Common.{◌≡◌, ℕ, zero, suc, ◌+◌, ◌<◌, List, [], ◌∷◌, Option, None, Some, length, drop, get_or, map, refl, ap, arith}
+use Rattle.std.proofs.Common.{◌≡◌, ℕ, zero, suc, ◌<◌, List, [], ◌∷◌, Option, Some, length, drop, get_or, map, refl, ap, arith}
 use Rattle.up_model.specs.declared.event_id.EventId.{EventId}
 
 -- the place of an event's key at an index, and those after it

@@ -1,5 +1,5 @@
 -- The events that are left, one on.
-use Rattle.std.proofs.Common.{◌≡◌, ℕ, suc, ◌+◌, ◌<◌, List, [], ◌∷◌, Bor, Option, length, drop, get_or, map, refl, sym, ◌∙◌, ap, add-one, drop-cons}
+use Rattle.std.proofs.Common.{◌≡◌, ℕ, suc, ◌+◌, ◌<◌, List, ◌∷◌, Bor, Option, length, drop, get_or, map, sym, ap, add-one, drop-cons}
 use Rattle.up_model.specs.declared.event_id.EventId.{EventId}
 use Rattle.up_engine.proofs.EventKeys.{KeyThere}
 use Rattle.up_model.specs.declared.event.Event.{Event}

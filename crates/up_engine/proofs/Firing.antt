@@ -1,42 +1,25 @@
 -- After an offer, a firing or a move: what is still to be offered, and who may move.
-use Rattle.std.proofs.Common.{◌≡◌, ℕ, zero, suc, nat_lt, ◌+◌, ◌<◌, ◌≤◌, ◌==◌, ◌&&◌, ◌||◌, Bool, true, false, not, List, [], ◌∷◌, ◌++◌, length, map, Option, None, Some, is_some, bytes_eq, if◌then◌else◌, refl, sym, ◌∙◌, ap, subst, arith, eqb-true, eq-eqb, ne_eqb, append_assoc}
+use Rattle.std.proofs.Common.{◌≡◌, ℕ, ◌<◌, ◌==◌, Bool, true, false, List, [], ◌∷◌, ◌++◌, length, Some, bytes_eq, if◌then◌else◌, refl, sym, ◌∙◌, ap, arith, eq-eqb, ne_eqb}
 use Rattle.std.proofs.lemmas.Bool.{eqb-false}
 use Rattle.std.specs.List.{AllByRecursion}
 use Rattle.up_conf.specs.declared.job.JobDef.{JobDef}
 use Rattle.up_stanza.specs.declared.process.Process.{Process}
 use Rattle.up_stanza.specs.declared.process.Process.TheVariants as process
-use Rattle.up_model.specs.declared.life.Entry as table
-use Rattle.up_model.specs.declared.life.JobEvent.{JobEvent}
-use Rattle.up_model.specs.declared.state.Goal.TheVariants.{Start, Stop}
-use Rattle.up_model.specs.declared.state.State.{State}
 use Rattle.up_model.specs.declared.state.State.TheVariants as state
-use Rattle.up_model.specs.declared.who.Who.{Who}
-use Rattle.up_model.specs.Chronicle.{Chronicle, Entry, Expression, Given, Queued, Handled, Offered, Fired, Finished, Made, Aimed, Restarted, Released, Failed, Respawned, Entered, Ordered, Signalled, Replied, Entering, StartOn, StopOn}
-use Rattle.up_model.specs.Configuration.{Configuration}
-use Rattle.up_model.specs.Due.{due}
-use Rattle.up_model.specs.Environments.{env_of_job, instance_name}
-use Rattle.up_model.specs.Events.{events_at, events_env, with_instance, stopped_by}
+use Rattle.up_model.specs.Chronicle.{Chronicle, Entry, Given, Queued, Finished, Made, Aimed, Restarted, Entered, Ordered, Entering}
 use Rattle.up_model.specs.Instances as instances
 use Rattle.up_model.specs.Instances.{Instance, is_before, without_instance, instances_of, all_instances, place_named, instance_named}
-use Rattle.up_model.specs.Life.{Wait, ForStart, ForEvent, ForAnswer, ForProcess, ForChange, ForMain, wait_in, entering}
-use Rattle.up_model.specs.Moves.{has_process, emitting, ordering, enter, enter_whole, is_over, may_leave, next_of, who_of, move, move_of, move_in, move_first}
-use Rattle.up_model.specs.Offers.{is_newborn, is_open, stop_of, stop_by, stop_offer, max_instances, start_of, who_called, start_who, start_by, start_offer, offering}
-use Rattle.up_model.specs.Predicates.{is_start, entries_if, or_else}
-use Rattle.up_model.specs.Readings.{goal, state_of, was_restarted, blocker, is_awaited, pid_of, lives}
-use Rattle.up_model.specs.Replies.{releasing}
-use Rattle.up_model.specs.Seen.{same_expression, seen, holds, taken, was_offered}
-use Rattle.up_model.specs.Values.{Bytes, Bindings}
-use Rattle.up_model.proofs.Places.{older-other, all-without, bytes_refl}
-use Rattle.up_model.proofs.ReplyLaws.{releasing-all}
-use Rattle.up_model.proofs.Sparing.{all-append, all-if}
-use Rattle.up_job.specs.Lists.{nth}
-use Rattle.up_book.specs.Keeps.{AreDistinct}
-use Rattle.up_engine.specs.Offering.{Asked, OfStop, OfStart, expression_of, open_stops, open_start, open_all, offer_at, offer_one}
-use Rattle.up_engine.proofs.Moving.{StayIn, Stay, first-moves}
-use Rattle.up_engine.proofs.Offering.{rested, rested-next, first-offer, offer-filled, all-left, is_left}
+use Rattle.up_model.specs.Life.{Wait, ForStart, ForEvent, ForAnswer, ForProcess, ForChange, ForMain, wait_in}
+use Rattle.up_model.specs.Moves.{is_over, may_leave, move_of, move_in, move_first}
+use Rattle.up_model.specs.Offers.{is_open, offering}
+use Rattle.up_model.specs.Readings.{goal, state_of, was_restarted, blocker, is_awaited, pid_of}
+use Rattle.up_model.specs.Values.{Bytes}
+use Rattle.up_model.proofs.Places.{older-other, all-without}
+use Rattle.up_engine.specs.Offering.{Asked, open_all}
+use Rattle.up_engine.proofs.Moving.{StayIn, Stay}
 use Rattle.up_book.proofs.One.{IsKnown, known-all}
 use Rattle.up_engine.proofs.Passing.{stays, or-nil-first, or-nil-rest}
-use Rattle.up_engine.proofs.Opening.{About, open-entry, closed-entry, offering-same, open-made, made-closed}
+use Rattle.up_engine.proofs.Opening.{About, open-entry, closed-entry, offering-same}
 
 -- such an entry leaves what is read of another instance
 other_way : (i q : ℕ) → (q == i) ≡ false → (i == q) ≡ false

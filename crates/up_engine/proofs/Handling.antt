@@ -1,27 +1,22 @@
 -- A turn that handles an event: what is to be offered at first, that it is apart, the end, and an instance that left.
-use Rattle.std.proofs.Common.{◌≡◌, ℕ, zero, suc, nat_lt, ◌+◌, ◌<◌, ◌≤◌, ◌==◌, ◌&&◌, ◌||◌, Bool, true, false, not, List, [], ◌∷◌, ◌++◌, length, map, Option, None, Some, is_some, bytes_eq, if◌then◌else◌, refl, sym, ◌∙◌, ap, subst, arith, eqb-true, eq-eqb, ne_eqb, append_assoc}
+use Rattle.std.proofs.Common.{◌≡◌, ℕ, zero, suc, ◌+◌, ◌≤◌, ◌==◌, Bool, true, false, List, [], ◌∷◌, ◌++◌, length, Some, bytes_eq, refl, sym, ◌∙◌, ap, arith, eq-eqb, ne_eqb}
 use Rattle.std.proofs.lemmas.Bool.{eqb-false}
 use Rattle.std.specs.List.{AllByRecursion}
 use Rattle.up_conf.specs.declared.job.JobDef.{JobDef}
 use Rattle.up_model.specs.declared.input.Input.{Input}
 use Rattle.up_model.specs.declared.input.Input.TheVariants as input
-use Rattle.up_model.specs.declared.state.State.{State}
-use Rattle.up_model.specs.declared.state.State.TheVariants as state
-use Rattle.up_model.specs.Chronicle.{Chronicle, Entry, Expression, Given, Handled, Offered, Made, Entered, StartOn, StopOn}
+use Rattle.up_model.specs.Chronicle.{Chronicle, Given, Handled}
 use Rattle.up_model.specs.Configuration.{Configuration}
 use Rattle.up_model.specs.Due.{due}
 use Rattle.up_model.specs.Instances.{Instance, instances_of, all_instances}
-use Rattle.up_model.specs.Moves.{is_over, may_leave, move_of, move_in, move_first}
-use Rattle.up_model.specs.Offers.{is_newborn, is_open, offering}
+use Rattle.up_model.specs.Moves.{is_over, move_first}
 use Rattle.up_model.specs.Readings.{made_at}
-use Rattle.up_model.specs.Replies.{asked, unanswered, answering_last}
-use Rattle.up_model.specs.Seen.{same_expression, was_offered}
+use Rattle.up_model.specs.Replies.{answering_last}
 use Rattle.up_model.specs.Values.{Bytes}
 use Rattle.up_model.specs.Work.{work, settle}
 use Rattle.up_model.proofs.Places.{bytes_same, bytes_refl, count, one_if, all_instances-once, instances-exist}
-use Rattle.up_model.proofs.Settling.{settle_enough}
 use Rattle.up_book.specs.Keeps.{AreDistinct}
-use Rattle.up_engine.specs.Offering.{Asked, OfStop, OfStart, expression_of, open_stops, open_start, open_all}
+use Rattle.up_engine.specs.Offering.{Asked, OfStop, OfStart, open_stops, open_all}
 use Rattle.up_book.proofs.Lists.{cons_same}
 use Rattle.up_engine.proofs.Moving.{StayIn, Stay}
 use Rattle.up_engine.proofs.Offering.{rested}

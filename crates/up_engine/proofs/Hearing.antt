@@ -1,5 +1,5 @@
 -- A step that handles an event: each job hears of it, and what comes of the chronicle stays.
-use Rattle.std.proofs.Common.{◌≡◌, ℕ, zero, suc, nat_lt, ◌+◌, ◌<◌, ◌≤◌, ◌==◌, Bool, true, false, not, List, [], ◌∷◌, ◌++◌, length, Option, None, Some, is_some, bytes_eq, if◌then◌else◌, refl, sym, ◌∙◌, ap, subst, arith, eqb-true, eq-eqb, ne_eqb, append_assoc, append-nil}
+use Rattle.std.proofs.Common.{◌≡◌, ℕ, zero, suc, nat_lt, ◌+◌, ◌≤◌, ◌==◌, Bool, true, false, not, List, [], ◌∷◌, ◌++◌, length, Option, None, Some, is_some, bytes_eq, if◌then◌else◌, refl, sym, ◌∙◌, ap, subst, arith, append_assoc}
 use Rattle.std.specs.List.{AllByRecursion}
 use Rattle.up_conf.specs.declared.job.JobDef.{JobDef}
 use Rattle.up_model.specs.declared.input.Input.{Input}
@@ -13,7 +13,7 @@ use Rattle.up_model.specs.Chronicle.{Chronicle, Entry, Expression, Given, Handle
 use Rattle.up_model.specs.Configuration.{Configuration}
 use Rattle.up_model.specs.Answers.{after}
 use Rattle.up_model.specs.Due.{due, effect}
-use Rattle.up_model.specs.Environments.{env_of_job, instance_name}
+use Rattle.up_model.specs.Environments.{instance_name}
 use Rattle.up_model.specs.Events.{events_at, events_env, stopped_by}
 use Rattle.up_model.specs.Events as events_of
 use Rattle.up_model.specs.Instances.{Instance, is_before, with_instance, without_instance, instances_of, all_instances, place_named, instance_named}
@@ -30,9 +30,9 @@ use Rattle.up_model.proofs.Places.{count, one_if, bytes_refl, count-older, all_i
 use Rattle.up_model.proofs.ReplyLaws.{releasing-all}
 use Rattle.up_model.proofs.Sparing.{same-append, all-append, all-if}
 use Rattle.up_book.specs.Keeps.{AreDistinct}
-use Rattle.up_book.proofs.One.{IsKnown, known-all, called, none-of-others, apart-back, nth-all}
+use Rattle.up_book.proofs.One.{IsKnown, known-all, called, none-of-others, apart-back}
 use Rattle.up_job.specs.Lists.{nth}
-use Rattle.up_engine.specs.Offering.{Asked, OfStop, OfStart, offer_at}
+use Rattle.up_engine.specs.Offering.{Asked, OfStop, OfStart}
 use Rattle.up_engine.specs.Settling.{settle_one, settle_each, settle_all, hear_stops, hear_start, hear, hear_all, ListsAfter}
 use Rattle.up_engine.proofs.Effects.{one-same, each-same, settled-rested}
 use Rattle.up_engine.proofs.Firing.{IsHandling, IsAt}
@@ -41,7 +41,7 @@ use Rattle.up_engine.proofs.Moving.{StayIn, Stay}
 use Rattle.up_engine.proofs.Offering.{rested}
 use Rattle.up_engine.proofs.Opening.{About}
 use Rattle.up_engine.proofs.Passing.{AreApart, or-nil-first}
-use Rattle.up_engine.proofs.Resting.{KeepsLists, lists-kept, move-leaves, move-keeps, goes-or-stays, without-one, Once, once, all-middle, Rest}
+use Rattle.up_engine.proofs.Resting.{lists-kept, move-leaves, move-keeps, goes-or-stays, without-one, once, all-middle, Rest}
 use Rattle.up_engine.proofs.Settled.{StandsStill, still-instances, gone-stays, one-stays, settled-one}
 use Rattle.up_engine.proofs.Shapes.{IsApart, AfterStart, started, started_at, started_who, start_env, after-stop, after-start, due-offer}
 

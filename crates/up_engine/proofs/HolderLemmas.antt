@@ -1,5 +1,5 @@
 -- Who holds an instance, as entries are added.
-use Rattle.std.proofs.Common.{◌≡◌, ℕ, Bool, List, [], ◌∷◌, ◌++◌, Option, None, Some, map, option_map, refl, ◌∙◌, ap, append_assoc}
+use Rattle.std.proofs.Common.{◌≡◌, ℕ, Bool, List, [], ◌∷◌, ◌++◌, Option, None, Some, refl, ◌∙◌, ap, append_assoc}
 use Rattle.up_book.specs.Keys.{request_place}
 use Rattle.up_model.specs.declared.request.Answer.{Answer}
 use Rattle.up_model.specs.Chronicle.{Chronicle, Released, Replied}

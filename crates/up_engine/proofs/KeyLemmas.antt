@@ -1,5 +1,5 @@
 -- What the keys of instances stand for.
-use Rattle.std.proofs.Common.{◌≡◌, ℕ, zero, suc, ◌+◌, ◌<◌, Bool, true, false, List, [], ◌∷◌, ◌++◌, Option, None, Some, length, drop, get_or, map, slice_get, option_map, refl, sym, ◌∙◌, ap, arith, add-one, append_assoc, if◌then◌else◌, bytes_eq, drop-cons, cond, ◌||◌}
+use Rattle.std.proofs.Common.{◌≡◌, ℕ, zero, suc, ◌<◌, Bool, true, false, List, [], ◌∷◌, ◌++◌, Option, None, Some, length, drop, get_or, slice_get, option_map, refl, sym, ◌∙◌, ap, arith, append_assoc}
 use Rattle.std.specs.Prelude.{option_and_then}
 use Rattle.std.proofs.lemmas.Option.{slice_get_read}
 use Rattle.up_conf.specs.declared.job.JobDef.{JobDef}
@@ -9,10 +9,10 @@ use Rattle.up_book.specs.Keeps.{is_waiting}
 use Rattle.up_engine.proofs.HolderLemmas.{past-releasing}
 use Rattle.up_model.specs.declared.state.State.{State}
 use Rattle.up_model.specs.declared.state.State.TheVariants as state
-use Rattle.up_model.specs.Chronicle.{Chronicle, Entry, Entered, Made, Signalled}
+use Rattle.up_model.specs.Chronicle.{Chronicle, Entered, Signalled}
 use Rattle.up_model.specs.Clock.{kill, killing}
-use Rattle.up_model.specs.Configuration.{Configuration, job_named}
-use Rattle.up_model.specs.Instances.{Instance, instances_of, place_named, with_instance, without_instance}
+use Rattle.up_model.specs.Configuration.{Configuration}
+use Rattle.up_model.specs.Instances.{Instance, instances_of}
 use Rattle.up_model.specs.Replies.{releasing}
 use Rattle.up_model.specs.Values.{Bytes}
 

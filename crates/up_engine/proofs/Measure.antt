@@ -1,31 +1,21 @@
 -- Each move of an instance leaves it fewer moves, and whether it has gone then.
-use Rattle.std.proofs.Common.{◌≡◌, ℕ, ◌+◌, ◌<◌, ◌≤◌, ◌==◌, Bool, true, false, ◌&&◌, ◌||◌, not, List, [], ◌∷◌, ◌++◌, Option, None, Some, is_some, if◌then◌else◌, refl, sym, ◌∙◌, ap, subst, arith, eq-eqb, append_assoc}
+use Rattle.std.proofs.Common.{◌≡◌, ℕ, ◌<◌, ◌==◌, Bool, true, false, ◌||◌, not, List, [], ◌∷◌, ◌++◌, is_some, if◌then◌else◌, refl, sym, ◌∙◌, ap, subst, arith, eq-eqb}
 use Rattle.std.specs.List.{AllByRecursion}
-use Rattle.up_stanza.specs.declared.process.Process.{Process}
 use Rattle.up_stanza.specs.declared.process.Process.TheVariants.{Main}
 use Rattle.up_conf.specs.declared.job.JobDef.{JobDef}
-use Rattle.up_model.specs.declared.life.Entry as table
-use Rattle.up_model.specs.declared.life.JobEvent.{JobEvent}
 use Rattle.up_model.specs.declared.state.Goal.{Goal}
 use Rattle.up_model.specs.declared.state.Goal.TheVariants.{Start, Stop}
 use Rattle.up_model.specs.declared.state.State.{State}
 use Rattle.up_model.specs.declared.state.State.TheVariants.{Waiting, Starting, PostStart, Running, PreStop, Stopping}
 use Rattle.up_model.specs.declared.who.Who.{Who}
-use Rattle.up_model.specs.Chronicle.{Chronicle, Entry, Given, Queued, Offered, Made, Aimed, Released, Entered, Ordered, Signalled, Replied, Entering, Expression, StartOn, StopOn}
-use Rattle.up_model.specs.Instances.{Instance, without_instance, instances_of, all_instances}
-use Rattle.up_model.specs.Life.{next_state, wait_in, entering}
-use Rattle.up_model.specs.Moves.{has_process, emitting, ordering, enter, enter_whole, is_over, may_leave, next_of, who_of, move}
-use Rattle.up_model.specs.Offers.{is_newborn, is_open}
+use Rattle.up_model.specs.Chronicle.{Chronicle, Entry}
+use Rattle.up_model.specs.Instances.{Instance, without_instance, all_instances}
+use Rattle.up_model.specs.Life.{next_state, entering}
+use Rattle.up_model.specs.Moves.{has_process, enter_whole, may_leave, next_of, who_of, move}
 use Rattle.up_model.specs.Readings.{goal, state_of, is_blocking, blocker, lives}
-use Rattle.up_model.specs.Replies.{releasing}
-use Rattle.up_model.specs.Seen.{was_offered}
-use Rattle.up_model.specs.Predicates.{is_start, entries_if}
-use Rattle.up_model.specs.Values.{Bytes}
-use Rattle.up_model.specs.Work.{moves, moves_at, offer_work, instance_work, work_in, start_work}
-use Rattle.up_model.proofs.Places.{one_if, count, all_instances-older, instances-exist}
-use Rattle.up_model.proofs.ReplyLaws.{releasing-all}
-use Rattle.up_model.proofs.Sparing.{same-append, all-append, all-if, all-weaker, IsOf, spared-works}
-use Rattle.up_model.proofs.Sums.{IsSpared, sum-less, gone-less}
+use Rattle.up_model.specs.Work.{moves, moves_at}
+use Rattle.up_model.proofs.Places.{count}
+use Rattle.up_model.proofs.Sparing.{same-append}
 use Rattle.up_model.proofs.MoveLaws.{Leaves, leaves, IsMove, move-goal, enter-moves, enter-state, is_waiting, enter-all_instances}
 
 whole-fewer : (b : Bool) → moves Start (if b then Running else Stopping) (is_blocking (if b then Running else Stopping)) < 2

@@ -6,7 +6,7 @@ use Rattle.up_model.specs.declared.life.Entry as life
 use Rattle.up_model.specs.declared.state.State.{State}
 use Rattle.up_model.specs.declared.who.Who.{Who}
 use Rattle.up_stanza.specs.declared.process.Process.TheVariants.{Main}
-use Rattle.up_model.specs.Chronicle.{Chronicle, Entry, Entered, Signalled}
+use Rattle.up_model.specs.Chronicle.{Chronicle, Entered, Signalled}
 use Rattle.up_model.specs.Instances.{Instance}
 use Rattle.up_model.specs.Moves.{move, enter, who_of, next_of, emitting, ordering}
 use Rattle.up_model.specs.Life.{entering}

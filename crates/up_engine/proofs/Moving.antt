@@ -1,20 +1,12 @@
 -- Who may move: after an entry about one instance that one alone, if none could before.
-use Rattle.std.proofs.Common.{◌≡◌, ℕ, zero, suc, ◌+◌, ◌<◌, ◌≤◌, ◌==◌, ◌&&◌, ◌||◌, Bool, true, false, not, List, [], ◌∷◌, ◌++◌, length, map, Option, None, Some, is_some, option_map, bytes_eq, if◌then◌else◌, refl, sym, ◌∙◌, ap, subst, arith, eqb-true, eq-eqb, ne_eqb}
-use Rattle.std.proofs.lemmas.Bool.{eqb-false}
+use Rattle.std.proofs.Common.{◌≡◌, ℕ, zero, suc, ◌+◌, ◌≤◌, ◌==◌, Bool, true, false, List, [], ◌∷◌, Some, bytes_eq, refl, ap, subst, arith, eq-eqb}
 use Rattle.std.specs.List.{AllByRecursion}
 use Rattle.up_conf.specs.declared.job.JobDef.{JobDef}
-use Rattle.up_stanza.specs.declared.process.Process.{Process}
-use Rattle.up_stanza.specs.declared.process.Process.TheVariants as process
-use Rattle.up_model.specs.declared.state.State.{State}
-use Rattle.up_model.specs.declared.state.State.TheVariants as state
 use Rattle.up_model.specs.Chronicle.{Chronicle, Entry}
-use Rattle.up_model.specs.Configuration.{Configuration}
 use Rattle.up_model.specs.Instances.{Instance, instances_of}
-use Rattle.up_model.specs.Life.{Wait, ForStart, ForEvent, ForAnswer, ForProcess, ForChange, ForMain, wait_in}
-use Rattle.up_model.specs.Moves.{is_over, may_leave, move, move_of, move_in, move_first, has_process}
-use Rattle.up_model.specs.Readings.{goal, state_of, was_restarted, blocker, is_awaited, lives, pid_of, made_at}
-use Rattle.up_model.specs.Predicates.{is_start, entries_if, or_else}
-use Rattle.up_model.specs.Values.{Bytes}
+use Rattle.up_model.specs.Moves.{may_leave, move_of, move_in, move_first}
+use Rattle.up_model.specs.Readings.{made_at}
+use Rattle.up_model.specs.Predicates.{or_else}
 use Rattle.up_model.proofs.Places.{count, one_if, all_instances-once, instances-exist}
 use Rattle.up_book.specs.Keeps.{AreDistinct}
 use Rattle.up_job.specs.Lists.{nth}

@@ -1,12 +1,11 @@
 -- The offers that are left in a step, and that doing what is due leaves what comes of it.
-use Rattle.std.proofs.Common.{◌≡◌, ℕ, zero, suc, ◌+◌, ◌<◌, ◌≤◌, ◌==◌, ◌&&◌, ◌||◌, Bool, true, false, not, List, [], ◌∷◌, ◌++◌, length, map, filter, Option, None, Some, is_some, bytes_eq, if◌then◌else◌, refl, sym, ◌∙◌, ap, subst, arith, eqb-true, eq-eqb, append_assoc, append-nil}
-use Rattle.std.specs.List.{AllByRecursion}
+use Rattle.std.proofs.Common.{◌≡◌, ℕ, suc, ◌+◌, ◌||◌, Bool, true, false, not, List, [], ◌∷◌, ◌++◌, filter, if◌then◌else◌, refl, ◌∙◌, ap, arith, append_assoc}
 use Rattle.up_conf.specs.declared.job.JobDef.{JobDef}
 use Rattle.up_model.specs.Chronicle.{Chronicle, Entry, Expression, Offered, StartOn, StopOn}
 use Rattle.up_model.specs.Configuration.{Configuration}
 use Rattle.up_model.specs.Due.{due}
 use Rattle.up_model.specs.Instances.{Instance, instances_of}
-use Rattle.up_model.specs.Offers.{is_newborn, is_open, stop_offer, stop_offer_in, start_offer, offer_in, offer_first, offering, offer_next}
+use Rattle.up_model.specs.Offers.{is_newborn, is_open, stop_offer, stop_offer_in, start_offer, offer_first}
 use Rattle.up_model.specs.Predicates.{entries_if, or_else}
 use Rattle.up_model.specs.Seen.{same_expression, was_offered}
 use Rattle.up_model.specs.Work.{work, settle}

@@ -1,18 +1,15 @@
 -- Which expressions are still to be offered an event, once one of them has fired and its instance has moved.
-use Rattle.std.proofs.Common.{◌≡◌, ℕ, zero, suc, ◌+◌, ◌<◌, ◌≤◌, ◌==◌, ◌&&◌, ◌||◌, Bool, true, false, not, List, [], ◌∷◌, ◌++◌, length, map, Option, None, Some, is_some, bytes_eq, if◌then◌else◌, refl, sym, ◌∙◌, ap, subst, arith, eqb-true, eq-eqb, ne_eqb, append_assoc}
+use Rattle.std.proofs.Common.{◌≡◌, ℕ, ◌<◌, ◌==◌, Bool, true, false, List, [], ◌∷◌, ◌++◌, length, bytes_eq, if◌then◌else◌, refl, ◌∙◌, ap, eqb-true, eq-eqb}
 use Rattle.std.specs.List.{AllByRecursion}
 use Rattle.up_conf.specs.declared.job.JobDef.{JobDef}
-use Rattle.up_model.specs.declared.state.State.{State}
 use Rattle.up_model.specs.declared.state.State.TheVariants as state
-use Rattle.up_model.specs.Chronicle.{Chronicle, Entry, Expression, Given, Queued, Handled, Offered, Fired, Finished, Made, Aimed, Restarted, Released, Failed, Respawned, Entered, Ordered, Signalled, Replied, Entering, StartOn, StopOn}
-use Rattle.up_model.specs.Configuration.{Configuration}
+use Rattle.up_model.specs.Chronicle.{Chronicle, Entry, Expression, Given, Queued, Handled, Offered, Fired, Made, Aimed, Released, Entered, Ordered, Signalled, Replied, Entering, StartOn, StopOn}
 use Rattle.up_model.specs.Instances.{Instance, is_before, with_instance, without_instance, instances_of}
 use Rattle.up_model.specs.Offers.{is_newborn, is_open, offering}
 use Rattle.up_model.specs.Seen.{was_offered}
 use Rattle.up_model.specs.Values.{Bytes}
 use Rattle.up_model.proofs.Places.{older-other}
-use Rattle.up_engine.specs.Offering.{Asked, OfStop, OfStart, open_stops, open_start, open_all}
-use Rattle.up_book.proofs.Lists.{cons_same}
+use Rattle.up_engine.specs.Offering.{open_stops, open_start, open_all}
 use Rattle.up_book.proofs.One.{IsKnown, known-all}
 
 -- an entry of a firing or a move that concerns an instance, beside the offer itself

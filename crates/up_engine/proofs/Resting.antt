@@ -1,14 +1,13 @@
 -- Instances settle one after another: those before rest, and what comes of the chronicle stays.
-use Rattle.std.proofs.Common.{◌≡◌, ℕ, zero, suc, ◌+◌, ◌<◌, ◌≤◌, ◌==◌, Bool, true, false, List, [], ◌∷◌, ◌++◌, length, Option, Some, is_some, bytes_eq, if◌then◌else◌, refl, sym, ◌∙◌, ap, subst, arith, eqb-true, eq-eqb, append_assoc, append-nil}
+use Rattle.std.proofs.Common.{◌≡◌, ℕ, zero, suc, ◌+◌, ◌≤◌, ◌==◌, Bool, true, false, List, [], ◌∷◌, ◌++◌, Some, is_some, bytes_eq, if◌then◌else◌, refl, sym, ◌∙◌, ap, subst, arith, eq-eqb, append_assoc, append-nil}
 use Rattle.std.specs.List.{AllByRecursion}
 use Rattle.up_conf.specs.declared.job.JobDef.{JobDef}
 use Rattle.up_model.specs.declared.state.State.{State}
 use Rattle.up_model.specs.declared.state.State.TheVariants.{Waiting, Starting, PreStart, Spawned, PostStart, Running, PreStop, Stopping, Killed, PostStop}
-use Rattle.up_model.specs.declared.who.Who.{Who}
 use Rattle.up_model.specs.Chronicle.{Chronicle, Entry, Made, Entered}
 use Rattle.up_model.specs.Configuration.{Configuration}
 use Rattle.up_model.specs.Due.{due}
-use Rattle.up_model.specs.Instances.{Instance, without_instance, instances_of, all_instances}
+use Rattle.up_model.specs.Instances.{Instance, without_instance, instances_of}
 use Rattle.up_model.specs.Life.{entering}
 use Rattle.up_model.specs.Moves.{may_leave, next_of, who_of, move, move_of, move_in, move_first}
 use Rattle.up_model.specs.Offers.{offering, offer_next}
@@ -19,7 +18,7 @@ use Rattle.up_model.specs.Values.{Bytes}
 use Rattle.up_model.specs.Work.{moves_at}
 use Rattle.up_model.proofs.MoveLaws.{moves-few}
 use Rattle.up_model.proofs.Places.{count, one_if, all_instances-once, instances-exist}
-use Rattle.up_model.proofs.Sparing.{same-append, all-append}
+use Rattle.up_model.proofs.Sparing.{same-append}
 use Rattle.up_book.specs.Keeps.{AreDistinct}
 use Rattle.up_book.proofs.One.{IsKnown, known-all, called, none-of-others, apart-back}
 use Rattle.up_engine.specs.Settling.{settle_one, settle_each, settle_all, ListsAfter}

@@ -1,25 +1,23 @@
 -- All moves of the one instance that may move.
-use Rattle.std.proofs.Common.{◌≡◌, ℕ, zero, suc, ◌+◌, ◌<◌, ◌≤◌, ◌==◌, ◌&&◌, ◌||◌, Bool, true, false, not, List, [], ◌∷◌, ◌++◌, length, Option, None, Some, is_some, if◌then◌else◌, refl, sym, ◌∙◌, ap, subst, arith}
+use Rattle.std.proofs.Common.{◌≡◌, ℕ, zero, suc, ◌≤◌, ◌&&◌, Bool, true, false, List, [], ◌∷◌, ◌++◌, Option, None, Some, if◌then◌else◌, refl, sym, ◌∙◌, ap, subst, arith}
 use Rattle.std.specs.List.{AllByRecursion}
 use Rattle.up_conf.specs.declared.job.JobDef.{JobDef}
 use Rattle.up_stanza.specs.declared.process.Process.{Process}
 use Rattle.up_stanza.specs.declared.process.Process.TheVariants.{Main}
-use Rattle.up_model.specs.declared.event.Event.{Event}
 use Rattle.up_model.specs.declared.life.Entry as table
 use Rattle.up_model.specs.declared.life.JobEvent.{JobEvent}
-use Rattle.up_model.specs.declared.request.Answer.{Answer}
 use Rattle.up_model.specs.declared.state.Goal.{Goal}
 use Rattle.up_model.specs.declared.state.Goal.TheVariants.{Start, Stop}
 use Rattle.up_model.specs.declared.state.State.{State}
 use Rattle.up_model.specs.declared.state.State.TheVariants.{Waiting, Starting, PreStart, Spawned, PostStart, Running, PreStop, Stopping, Killed, PostStop}
 use Rattle.up_model.specs.declared.who.Who.{Who}
-use Rattle.up_model.specs.Chronicle.{Chronicle, Entry, Queued, Made, Released, Entered, Ordered, Signalled, Replied, Entering}
+use Rattle.up_model.specs.Chronicle.{Chronicle, Entry, Made, Entered, Ordered, Signalled}
 use Rattle.up_model.specs.Configuration.{Configuration}
-use Rattle.up_model.specs.Instances.{Instance, instances_of, all_instances}
+use Rattle.up_model.specs.Instances.{Instance, instances_of}
 use Rattle.up_model.specs.Life.{if_whole, next_state, wait_in, entering}
 use Rattle.up_model.specs.Moves.{has_process, emitting, ordering, enter, enter_whole, is_over, may_leave, next_of, who_of, move}
 use Rattle.up_model.specs.Predicates.{is_start, entries_if}
-use Rattle.up_model.specs.Readings.{goal, state_of, lives, event_at}
+use Rattle.up_model.specs.Readings.{goal, state_of, lives}
 use Rattle.up_model.specs.Replies.{releasing}
 use Rattle.up_model.specs.Values.{Bytes}
 use Rattle.up_model.specs.Work.{moves_at}
@@ -31,7 +29,7 @@ use Rattle.up_job.specs.Lists.{nth}
 use Rattle.up_engine.specs.Offering.{Asked}
 use Rattle.up_engine.specs.Settling.{settle_one}
 use Rattle.up_engine.proofs.Offering.{rested}
-use Rattle.up_engine.proofs.Firing.{IsHandling, IsAt, stay-still, still-stay}
+use Rattle.up_engine.proofs.Firing.{IsHandling, IsAt}
 use Rattle.up_engine.proofs.Measure.{move-fewer, move-gone}
 use Rattle.up_engine.proofs.Shapes.{after-move, due-move, moves-done}
 use Rattle.up_engine.proofs.Handling.{moves-gone}

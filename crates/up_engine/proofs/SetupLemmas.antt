@@ -1,5 +1,5 @@
 -- The environments of jobs.
-use Rattle.std.proofs.Common.{◌≡◌, ℕ, ◌+◌, ◌<◌, true, Bool, List, [], ◌∷◌, length, map, drop, get_or, slice_get, unwrap_or, Option, None, Some, option_map, if◌then◌else◌, bytes_eq, ◌⊎◌, inl, inr, Result, Ok, Err, refl, sym, ◌∙◌, ap, add-one, drop-cons}
+use Rattle.std.proofs.Common.{◌≡◌, ℕ, ◌+◌, ◌<◌, true, Bool, List, ◌∷◌, length, map, drop, get_or, slice_get, unwrap_or, None, Some, option_map, if◌then◌else◌, bytes_eq, inl, inr, Ok, Err, refl, sym, ◌∙◌, ap, add-one, drop-cons}
 use Rattle.std.proofs.lemmas.Option.{slice_get-map, slice_get-get_or}
 use Rattle.std.proofs.lemmas.Slice.Eq.{bytes_eq-Decides}
 use Rattle.up_conf.specs.declared.job.JobDef.{JobDef}

@@ -1,24 +1,24 @@
 -- An offer that fires, and a move: what is left to be offered after them, and what comes of the step.
-use Rattle.std.proofs.Common.{◌≡◌, ℕ, zero, suc, nat_lt, ◌+◌, ◌<◌, ◌≤◌, ◌==◌, ◌&&◌, ◌||◌, Bool, true, false, not, List, [], ◌∷◌, ◌++◌, length, map, Option, None, Some, is_some, bytes_eq, if◌then◌else◌, refl, sym, ◌∙◌, ap, subst, arith, eqb-true, eq-eqb, ne_eqb, append_assoc}
+use Rattle.std.proofs.Common.{◌≡◌, ℕ, nat_lt, ◌&&◌, ◌||◌, Bool, true, false, not, List, [], ◌∷◌, ◌++◌, length, Option, None, Some, bytes_eq, if◌then◌else◌, refl, sym, ◌∙◌, ap, subst, eq-eqb, append_assoc}
 use Rattle.std.specs.List.{AllByRecursion}
 use Rattle.up_conf.specs.declared.job.JobDef.{JobDef}
 use Rattle.up_stanza.specs.declared.process.Process.{Process}
 use Rattle.up_stanza.specs.declared.process.Process.TheVariants as process
 use Rattle.up_model.specs.declared.life.Entry as table
 use Rattle.up_model.specs.declared.life.JobEvent.{JobEvent}
-use Rattle.up_model.specs.declared.state.Goal.TheVariants.{Start, Stop}
+use Rattle.up_model.specs.declared.state.Goal.TheVariants.{Start}
 use Rattle.up_model.specs.declared.state.State.{State}
 use Rattle.up_model.specs.declared.who.Who.{Who}
-use Rattle.up_model.specs.Chronicle.{Chronicle, Entry, Expression, Offered, Fired, Made, Aimed, Released, Entered, Ordered, Signalled, Replied, StartOn, StopOn}
+use Rattle.up_model.specs.Chronicle.{Chronicle, Entry, Expression, Offered, Fired, Made, Aimed, Entered, Ordered, Signalled, StartOn, StopOn}
 use Rattle.up_model.specs.Configuration.{Configuration}
 use Rattle.up_model.specs.Due.{due}
 use Rattle.up_model.specs.Environments.{env_of_job, instance_name}
 use Rattle.up_model.specs.Events.{events_at, events_env, with_instance, stopped_by}
 use Rattle.up_model.specs.Instances.{Instance, instances_of, place_named, instance_named}
 use Rattle.up_model.specs.Life.{entering}
-use Rattle.up_model.specs.Moves.{has_process, emitting, ordering, enter, enter_whole, may_leave, next_of, who_of, move, move_of, move_first}
-use Rattle.up_model.specs.Offers.{is_newborn, is_open, stop_of, stop_by, stop_offer, max_instances, start_of, who_called, start_who, start_by, start_offer, offering}
-use Rattle.up_model.specs.Predicates.{is_start, entries_if, or_else}
+use Rattle.up_model.specs.Moves.{has_process, emitting, ordering, enter, enter_whole, may_leave, next_of, who_of, move, move_first}
+use Rattle.up_model.specs.Offers.{is_newborn, is_open, stop_of, stop_by, stop_offer, max_instances, start_of, who_called, start_who, start_by, start_offer}
+use Rattle.up_model.specs.Predicates.{is_start, entries_if}
 use Rattle.up_model.specs.Readings.{goal, state_of, lives}
 use Rattle.up_model.specs.Replies.{releasing, answering_last}
 use Rattle.up_model.specs.Seen.{same_expression, seen, holds, taken, was_offered}
@@ -28,9 +28,9 @@ use Rattle.up_model.proofs.ReplyLaws.{releasing-all}
 use Rattle.up_model.proofs.Sparing.{all-append, all-if}
 use Rattle.up_job.specs.Lists.{nth}
 use Rattle.up_book.specs.Keeps.{AreDistinct}
-use Rattle.up_engine.specs.Offering.{Asked, OfStop, OfStart, expression_of, open_stops, open_start, open_all, offer_at, offer_one}
+use Rattle.up_engine.specs.Offering.{Asked, OfStop, OfStart, expression_of, open_stops, open_start, open_all, offer_at}
 use Rattle.up_book.proofs.Lists.{cons_same}
-use Rattle.up_engine.proofs.Moving.{Stay, first-moves}
+use Rattle.up_engine.proofs.Moving.{first-moves}
 use Rattle.up_engine.proofs.Offering.{rested, rested-next, first-offer, offer-filled, all-left, is_left}
 use Rattle.up_engine.proofs.Entries.{or_else-some}
 use Rattle.up_engine.proofs.MoveLemmas.{filled_move}

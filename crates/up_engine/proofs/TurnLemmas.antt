@@ -3,7 +3,6 @@ use Rattle.std.proofs.Common.{◌≡◌, ℕ, Bool, true, false, Option, None, S
 use Rattle.up_model.specs.declared.event_id.EventId.{EventId}
 use Rattle.up_event.specs.declared.live.TurnKind.{TurnKind}
 use Rattle.up_book.specs.Turning.{is_finish, turn_at}
-
 use Rattle.up_model.specs.Chronicle.{Chronicle}
 use Rattle.up_model.specs.Configuration.{Configuration}
 use Rattle.up_model.specs.Due.{turn_event}

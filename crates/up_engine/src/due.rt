@@ -14,14 +14,14 @@ ghost use Rattle.up_model.specs.Instances.{instance_named};
 ghost use Rattle.up_model.specs.Queue as queue;
 ghost use Rattle.up_text.specs.Scripts.{is_filled};
 
-use up_book::Book;
-use up_event::TurnKind;
 use crate::events::failure_of_event;
 use crate::judgement::{conclude, verdict_on};
 use crate::requests::take_request;
 use crate::setup::Setup;
 use crate::time::kill_overdue;
 use std::alloc::{AllocError, Global};
+use up_book::Book;
+use up_event::TurnKind;
 use up_job::InstanceKey;
 use up_model::{End, Event, EventId, How, Input, Process, Who};
 

@@ -12,16 +12,15 @@ ghost use Rattle.up_model.specs.Left.{is_calm};
 ghost use Rattle.up_model.specs.Outputs.{outputs_of};
 ghost use Rattle.up_model.specs.Queue as queue;
 
-use up_book::{Book, Ledger};
 use crate::due::is_expected;
 use crate::fault::StepError;
 use crate::run::Run;
 use crate::settle::run_step;
 use crate::setup::Setup;
 use crate::status::{list, status};
-
 use crate::target::target_of;
 use std::alloc::{AllocError, Global};
+use up_book::{Book, Ledger};
 use up_image::Table;
 use up_model::{Answer, Input, Output, Step};
 use up_text::{Env, Items, Text};

@@ -12,10 +12,10 @@ ghost use Rattle.up_model.specs.Instances.{Instance};
 ghost use Rattle.up_model.specs.Moves as moves;
 ghost use Rattle.up_model.specs.Signals.{signal_text};
 
-use up_book::Book;
 use std::alloc::{AllocError, Global};
-use up_job::InstanceKey;
+use up_book::Book;
 use up_conf::signal_name;
+use up_job::InstanceKey;
 use up_model::{Cause, Event, EventId, Failure, How, JobDef, JobEvent, process_name};
 use up_text::{Env, Name, Text};
 

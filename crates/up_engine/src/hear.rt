@@ -8,12 +8,12 @@ ghost use Rattle.up_model.specs.Chronicle.{Chronicle};
 ghost use Rattle.up_model.specs.Instances.{Instance, instances_of};
 ghost use Rattle.up_model.specs.Offers as model;
 
-use up_book::Book;
 use crate::moves::moves;
 use crate::offers::{offer_start, offer_stop};
 use crate::settle::settle_each;
 use crate::setup::Setup;
 use std::alloc::{AllocError, Global};
+use up_book::Book;
 use up_job::InstanceKey;
 use up_model::{EventId, JobDef};
 

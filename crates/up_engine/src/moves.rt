@@ -18,11 +18,11 @@ ghost use Rattle.up_model.specs.Predicates.{entries_if};
 ghost use Rattle.up_stanza.specs.declared.process.Process.TheVariants as process;
 ghost use Rattle.up_text.specs.Scripts.{is_filled};
 
-use up_book::Book;
 use crate::events::job_event;
 use crate::life::{has_process, is_start, is_waiting};
 use crate::setup::Setup;
 use std::alloc::{AllocError, Global};
+use up_book::Book;
 use up_job::{InstanceKey, entering, next_state};
 use up_model::{Entry, Goal, JobDef, JobEvent, Process, State};
 

@@ -13,11 +13,11 @@ ghost use Rattle.up_model.specs.Seen.{seen, taken};
 ghost use Rattle.up_model.specs.Values.{Bytes};
 ghost use Rattle.up_text.specs.Scripts.{is_filled};
 
-use up_book::{Book, Holders};
 use crate::events::{add_instance, events_env, stop_env};
 use crate::life::is_start;
 use crate::setup::Setup;
 use std::alloc::{AllocError, Global};
+use up_book::{Book, Holders};
 use up_job::InstanceKey;
 use up_model::{EventId, Goal, JobDef, MAX_INSTANCES};
 use up_text::{Env, Expanded, Items, Name, Text, TextFault, expand};

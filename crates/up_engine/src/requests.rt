@@ -16,7 +16,6 @@ ghost use Rattle.up_model.specs.Offers as offer;
 ghost use Rattle.up_model.specs.Requests.{RequestValue};
 ghost use Rattle.up_model.specs.Values.{Bindings};
 
-use up_book::{Book, Holders};
 use crate::events::event_of;
 use crate::life::{is_running, is_start};
 use crate::offers::{has_room, start_called, stop_of};
@@ -28,6 +27,7 @@ use crate::texts::{
     too_many_instances, unknown_instance, version,
 };
 use std::alloc::{AllocError, Global};
+use up_book::{Book, Holders};
 use up_job::InstanceKey;
 use up_model::{Answer, Command, Input, JobDef, MAX_EVENTS, Request, Who};
 use up_text::{Env, Text};

@@ -9,12 +9,12 @@ ghost use Rattle.up_model.specs.Due.{due};
 ghost use Rattle.up_model.specs.Instances.{instances_of};
 ghost use Rattle.up_model.specs.Replies.{answering_last};
 
-use up_book::Book;
 use crate::due::act;
 use crate::hear::hear_all;
 use crate::moves::moves;
 use crate::setup::Setup;
 use std::alloc::{AllocError, Global};
+use up_book::Book;
 use up_job::InstanceKey;
 use up_model::{Input, JobDef};
 

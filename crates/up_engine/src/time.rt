@@ -7,8 +7,8 @@ ghost use Rattle.up_model.specs.Configuration.{Configuration};
 ghost use Rattle.up_model.specs.Instances.{instances_of};
 ghost use Rattle.up_model.specs.Predicates.{entries_if};
 
-use up_book::Book;
 use std::alloc::{AllocError, Global};
+use up_book::Book;
 use up_job::InstanceKey;
 use up_model::{JobDef, Process, State};
 

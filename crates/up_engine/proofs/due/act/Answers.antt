@@ -1,5 +1,4 @@
 use Rattle.up_engine.proofs.Effects.{effect-offers}
-use Rattle.up_model.specs.declared.input.Input.TheVariants as input
 use Rattle.up_engine.proofs.due.act.Goals as goal
 
 pub returns-in_ok-take_request-in-Request-clause-takes : goal.returns-in_ok-take_request-in-Request-clause-takes

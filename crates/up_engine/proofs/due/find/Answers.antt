@@ -1,4 +1,4 @@
-use Rattle.std.proofs.Common.{◌≡◌, ◌∙◌, ℕ, ap, sym, option_map, Some, None}
+use Rattle.std.proofs.Common.{ℕ, ap, sym, option_map, Some}
 use Rattle.up_model.specs.Instances.{place_named}
 use Rattle.up_engine.proofs.due.find.Goals as goal
 

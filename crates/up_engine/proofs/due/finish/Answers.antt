@@ -1,5 +1,5 @@
-use Rattle.std.proofs.Common.{◌≡◌, ◌∷◌, ◌++◌, ◌∙◌}
-use Rattle.up_book.specs.Keys.{Resting, Stepping}
+use Rattle.std.proofs.Common.{◌∷◌, ◌∙◌}
+use Rattle.up_book.specs.Keys.{Stepping}
 use Rattle.up_engine.proofs.Entries.{finishing_last}
 use Rattle.up_model.specs.declared.input.Input.TheVariants.{Turn}
 use Rattle.up_model.specs.Chronicle.{Chronicle, Given, Finished}

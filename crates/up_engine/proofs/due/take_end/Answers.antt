@@ -1,4 +1,4 @@
-use Rattle.std.proofs.Common.{◌≡◌, ◌++◌, ◌∷◌, [], List, subst}
+use Rattle.std.proofs.Common.{◌++◌, ◌∷◌, List, subst}
 use Rattle.up_book.specs.Keys.{Resting, Stepping}
 use Rattle.up_engine.proofs.Entries.{one_last}
 use Rattle.up_model.specs.declared.failure.End.TheVariants as end

@@ -1,4 +1,3 @@
-use Rattle.std.proofs.Common.{◌≡◌, ◌∷◌, ◌++◌, [], None, Some}
 use Rattle.up_engine.proofs.Effects.{turn-idle}
 use Rattle.up_engine.proofs.Entries.{one_last}
 use Rattle.up_engine.proofs.TurnLemmas.{turn_found, turn_none}

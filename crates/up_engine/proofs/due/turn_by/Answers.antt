@@ -1,4 +1,4 @@
-use Rattle.std.proofs.Common.{◌≡◌, ◌∷◌, ◌++◌, ◌∙◌, Some, true, false, ap, refl}
+use Rattle.std.proofs.Common.{◌≡◌, true, ap}
 use Rattle.up_book.specs.Turning.{is_finish}
 use Rattle.up_engine.proofs.Effects.{turn-finishes, turn-takes}
 use Rattle.up_engine.proofs.TurnLemmas.{free_then}

@@ -1,4 +1,4 @@
-use Rattle.std.proofs.Common.{◌≡◌, ◌∙◌, ◌+◌, sym, ap, ◌++◌, ◌∷◌, [], Some, map, drop, arith, append-nil, length}
+use Rattle.std.proofs.Common.{◌≡◌, ◌∙◌, ◌+◌, sym, ap, ◌++◌, [], map, drop, arith, append-nil}
 use Rattle.std.proofs.lemmas.List.{drop_all}
 use Rattle.up_model.specs.Events.{events_at}
 use Rattle.up_engine.proofs.EventKeys.{key_there, keys_length}

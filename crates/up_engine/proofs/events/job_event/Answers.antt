@@ -1,4 +1,4 @@
-use Rattle.std.proofs.Common.{◌≡◌, ◌∙◌, ap}
+use Rattle.std.proofs.Common.{◌∙◌, ap}
 use Rattle.up_engine.proofs.KeyLemmas.{placed}
 use Rattle.up_model.specs.Moves.{job_event}
 use Rattle.up_model.specs.Values.{Bytes}

@@ -1,4 +1,4 @@
-use Rattle.std.proofs.Common.{◌≡◌, ◌∙◌, ap, refl, sym, drop, arith, length}
+use Rattle.std.proofs.Common.{◌∙◌, ap, refl, arith}
 use Rattle.std.proofs.lemmas.List.{drop_all}
 use Rattle.up_engine.specs.Settling.{hear, hear_all}
 use Rattle.up_engine.proofs.KeyLemmas.{job_there}

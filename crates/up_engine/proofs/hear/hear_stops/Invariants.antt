@@ -3,7 +3,6 @@ use Rattle.up_book.specs.Keys.{Stepping, job_at}
 use Rattle.up_engine.specs.Settling.{hear_stops}
 use Rattle.up_engine.proofs.Positions.{Ahead}
 use Rattle.up_model.specs.Chronicle.{Chronicle}
-use Rattle.up_model.specs.Instances.{instances_of}
 use Rattle.up_engine.proofs.hear.hear_stops.Given as goal
 
 -- the instances from here on are still to hear of the event

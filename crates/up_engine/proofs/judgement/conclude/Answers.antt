@@ -1,4 +1,3 @@
-use Rattle.std.proofs.Common.{◌≡◌, ◌++◌, []}
 use Rattle.up_engine.proofs.judgement.conclude.Goals as goal
 
 pub returns-in-None : goal.returns-in-None

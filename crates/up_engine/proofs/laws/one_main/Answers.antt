@@ -1,5 +1,4 @@
-use Rattle.std.proofs.Common.{◌≡◌, List, subst, sym}
-use Rattle.up_conf.specs.declared.job.JobDef.{JobDef}
+use Rattle.std.proofs.Common.{subst, sym}
 use Rattle.up_model.specs.Blocks.{AreFound}
 use Rattle.up_model.proofs.MainLaws.{lone}
 use Rattle.up_engine.proofs.FolderLemmas.{found}

@@ -1,16 +1,12 @@
-use Rattle.std.proofs.Common.{◌≡◌, ◌∙◌, ◌∷◌, ◌++◌, ◌+◌, ◌<◌, Some, true, false, ℕ, refl, sym, ap, subst, arith}
-use Rattle.up_model.specs.declared.event_id.EventId.{EventId}
-use Rattle.up_book.specs.Keys.{Stepping, instance_at}
-use Rattle.up_book.specs.Keeps.{is_waiting}
-use Rattle.up_engine.specs.Settling.{settle_one, ListsAfter}
+use Rattle.std.proofs.Common.{◌≡◌, ◌∙◌, ◌++◌, true, false, refl, sym, ap, subst, arith}
+use Rattle.up_book.specs.Keys.{Stepping}
+use Rattle.up_engine.specs.Settling.{ListsAfter}
 use Rattle.up_engine.proofs.KeyLemmas.{placed}
 use Rattle.up_engine.proofs.Positions.{same-instance}
 use Rattle.up_engine.proofs.Repeating.{waiting-is, still-is, not-true, not-false, one-more, one-gone, none-more}
 use Rattle.up_engine.proofs.Resting.{move-leaves, move-keeps}
 use Rattle.up_engine.proofs.Settled.{one-stays}
-use Rattle.up_model.specs.Chronicle.{Chronicle}
 use Rattle.up_model.specs.Moves.{may_leave, next_of, move}
-use Rattle.up_model.specs.declared.state.State.TheVariants.{Waiting}
 use Rattle.up_engine.proofs.moves.moves.Goals as goal
 
 pub loop-turn-init : goal.loop-turn-init

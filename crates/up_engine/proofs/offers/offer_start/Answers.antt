@@ -1,4 +1,4 @@
-use Rattle.std.proofs.Common.{◌≡◌, ◌∙◌, sym, ◌∷◌, true}
+use Rattle.std.proofs.Common.{◌∙◌, sym, ◌∷◌}
 use Rattle.up_model.specs.Chronicle.{Offered, StartOn}
 use Rattle.up_engine.proofs.Entries.{two_last}
 use Rattle.up_engine.proofs.offers.offer_start.Goals as goal

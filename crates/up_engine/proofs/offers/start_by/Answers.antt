@@ -1,4 +1,3 @@
-use Rattle.std.proofs.Common.{◌≡◌, ◌∙◌, sym, ap}
 use Rattle.up_book.specs.Keys.{Stepping}
 use Rattle.up_engine.proofs.offers.start_by.Goals as goal
 

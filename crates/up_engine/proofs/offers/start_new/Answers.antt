@@ -1,4 +1,4 @@
-use Rattle.std.proofs.Common.{◌≡◌, ◌∙◌, ◌∷◌, sym, ap, length, nat_lt}
+use Rattle.std.proofs.Common.{◌≡◌, ◌∙◌, ◌∷◌, sym, length, nat_lt}
 use Rattle.up_book.specs.Keys.{Stepping}
 use Rattle.up_model.specs.Chronicle.{Chronicle, Made}
 use Rattle.up_model.specs.Instances.{instances_of}

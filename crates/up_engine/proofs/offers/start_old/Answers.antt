@@ -1,4 +1,4 @@
-use Rattle.std.proofs.Common.{◌≡◌, ◌∷◌, ◌++◌, ◌∙◌, Some, false, sym, ap}
+use Rattle.std.proofs.Common.{◌≡◌, ◌++◌, ◌∙◌, Some, false, sym, ap}
 use Rattle.up_book.specs.Keys.{Stepping, instance_place}
 use Rattle.up_engine.proofs.KeyLemmas.{released_there}
 use Rattle.up_model.specs.Chronicle.{Chronicle}

@@ -1,4 +1,4 @@
-use Rattle.std.proofs.Common.{◌≡◌, ◌∷◌, ◌++◌, ◌∙◌, Some, false}
+use Rattle.std.proofs.Common.{◌≡◌, ◌++◌, ◌∙◌, Some, false}
 use Rattle.up_book.specs.Keys.{instance_place}
 use Rattle.up_engine.proofs.KeyLemmas.{released_there}
 use Rattle.up_model.specs.Chronicle.{Chronicle}

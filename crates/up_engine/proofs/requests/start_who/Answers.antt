@@ -1,11 +1,9 @@
-use Rattle.std.proofs.Common.{◌≡◌, ◌∷◌, ◌++◌, ◌∙◌, Some, None, ap, sym, subst, length, ℕ}
+use Rattle.std.proofs.Common.{◌≡◌, ◌∷◌, ◌++◌, ◌∙◌, Some, sym, subst, length}
 use Rattle.up_book.specs.Keys.{Stepping}
-use Rattle.up_engine.specs.Requests.{unless}
 use Rattle.up_model.specs.Chronicle.{Chronicle, Given}
-use Rattle.up_model.specs.Commands.{Outcome, Done, entries_of, start_at}
+use Rattle.up_model.specs.Commands.{entries_of}
 use Rattle.up_model.specs.Events.{with_instance}
-use Rattle.up_model.specs.Instances.{instance_named}
-use Rattle.up_model.specs.Offers.{start_of, start_who}
+use Rattle.up_model.specs.Offers.{start_who}
 use Rattle.up_engine.proofs.Entries.{some_same}
 use Rattle.up_engine.proofs.KeyLemmas.{job_name}
 use Rattle.up_engine.proofs.requests.start_who.Goals as goal
@@ -25,5 +23,5 @@ returns-in_ok-start_called-in-None g c config c' input places s named in_table h
     let same : c.args.job.now.name ≡ c.args.who.now.job = some_same (sym (job_name config c.args.index c.args.job.now in_table) ∙ named) in
     let done = rw c.as_str.ensures at (c.in_ok-start_called-in-None.ensures.after config d places s in_table held) in
     let told_who = subst (λ job. g.B.Book.stands c.start_called.new.book Stepping config
-        (start_who c.args.environment places (Some (record { job = job; instance = c.args.who.now.instance })) d ++ d)) same done in
+    (start_who c.args.environment places (Some (record { job = job; instance = c.args.who.now.instance })) d ++ d)) same done in
     subst (λ outcome. g.B.Book.stands c.start_called.new.book Stepping config (entries_of (length c') outcome ++ d)) (sym means) told_who

@@ -1,4 +1,4 @@
-use Rattle.std.proofs.Common.{◌≡◌, ◌∷◌, ◌++◌, ◌∙◌, true, false, sym, ap}
+use Rattle.std.proofs.Common.{◌≡◌, ◌∷◌, ◌∙◌, sym, ap}
 use Rattle.up_book.specs.Keys.{Stepping}
 use Rattle.up_model.specs.Chronicle.{Chronicle, Given}
 use Rattle.up_model.specs.Readings.{goal as goal_of}

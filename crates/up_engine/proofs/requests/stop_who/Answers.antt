@@ -1,4 +1,4 @@
-use Rattle.std.proofs.Common.{◌≡◌, ◌∷◌, ◌++◌, None}
+use Rattle.std.proofs.Common.{◌≡◌, ◌∷◌, None}
 use Rattle.up_job.specs.declared.instance_key.InstanceKey.{InstanceKey}
 use Rattle.up_book.specs.Keys.{Stepping, instance_place}
 use Rattle.up_engine.proofs.Entries.{named_some, named_none}

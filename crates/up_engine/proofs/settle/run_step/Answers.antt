@@ -1,9 +1,8 @@
-use Rattle.std.proofs.Common.{◌≡◌, ◌∷◌, subst}
+use Rattle.std.proofs.Common.{◌∷◌, subst}
 use Rattle.up_book.specs.Keys.{Stepping}
 use Rattle.up_engine.proofs.Hearing.{after-taken, after-other}
 use Rattle.up_model.specs.declared.input.Input.TheVariants.{Turn}
 use Rattle.up_model.specs.Chronicle.{Chronicle, Given, Handled}
-use Rattle.up_model.specs.Answers.{after}
 use Rattle.up_engine.proofs.settle.run_step.Goals as goal
 
 pub returns-in_ok-hear_all-in-Some : goal.returns-in_ok-hear_all-in-Some

@@ -1,10 +1,9 @@
-use Rattle.std.proofs.Common.{◌≡◌, ◌∙◌, ◌∷◌, ◌++◌, ◌+◌, ◌<◌, Some, true, false, ℕ, [], refl, sym, ap, arith, length, if◌then◌else◌}
+use Rattle.std.proofs.Common.{◌≡◌, ◌∙◌, ◌+◌, refl, sym, ap, arith, length, if◌then◌else◌}
 use Rattle.up_job.specs.declared.instance_key.InstanceKey.{InstanceKey}
 use Rattle.up_book.specs.Keys.{Stepping}
 use Rattle.up_engine.specs.Settling.{settle_each, settle_one}
 use Rattle.up_engine.proofs.KeyLemmas.{job_name}
-use Rattle.up_engine.proofs.Positions.{Ahead, ahead-next, few-next, instance-here, one-left, none-left}
-use Rattle.up_model.specs.Chronicle.{Chronicle}
+use Rattle.up_engine.proofs.Positions.{ahead-next, few-next, instance-here, one-left, none-left}
 use Rattle.up_model.specs.Instances.{instances_of}
 use Rattle.up_engine.proofs.settle.settle_each.Goals.{then-branch, else-branch}
 use Rattle.up_engine.proofs.settle.settle_each.Goals as goal

@@ -1,4 +1,4 @@
-use Rattle.std.proofs.Common.{◌≡◌, ◌∙◌, sym}
+use Rattle.std.proofs.Common.{◌∙◌, sym}
 use Rattle.up_engine.proofs.SetupLemmas.{job_there}
 use Rattle.up_engine.proofs.setup.find_job.Goals as goal
 

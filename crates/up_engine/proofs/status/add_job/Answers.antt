@@ -1,4 +1,4 @@
-use Rattle.std.proofs.Common.{◌≡◌, ◌∙◌, ◌++◌, sym, ap}
+use Rattle.std.proofs.Common.{◌∙◌, ◌++◌, sym, ap}
 use Rattle.up_engine.proofs.AnswerLemmas.{lines_filled, lines_none}
 use Rattle.up_model.specs.Instances.{instances_of}
 use Rattle.up_engine.proofs.status.add_job.Goals as goal

@@ -1,4 +1,3 @@
-use Rattle.std.proofs.Common.{◌≡◌, ◌∙◌, Some, sym, ap}
 use Rattle.up_engine.proofs.target.target_of.Goals as goal
 
 pub returns-in_ok-target-in-Some-clause-index : goal.returns-in_ok-target-in-Some-clause-index

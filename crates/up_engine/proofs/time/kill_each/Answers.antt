@@ -1,6 +1,6 @@
-use Rattle.std.proofs.Common.{◌≡◌, ◌∙◌, ◌+◌, ◌++◌, ◌∷◌, [], Some, List, ℕ, map, take, sym, ap, arith, length, refl, add-one}
+use Rattle.std.proofs.Common.{◌≡◌, ◌∙◌, ◌++◌, take, arith, add-one}
 use Rattle.std.proofs.lemmas.List.{take_all}
-use Rattle.up_book.specs.Keys.{Stepping, instance_place}
+use Rattle.up_book.specs.Keys.{instance_place}
 use Rattle.up_engine.proofs.ClockLemmas.{instance_there, instances_length, killing_push}
 use Rattle.up_engine.proofs.KeyLemmas.{killed_there}
 use Rattle.up_model.specs.Clock.{killing}
