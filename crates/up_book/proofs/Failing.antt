@@ -11,7 +11,7 @@ use Rattle.up_model.specs.Queue.{Live, queue}
 use Rattle.up_model.specs.Readings.{entry_at, event_at, holders}
 use Rattle.up_job.specs.declared.holder.Holder.{Holder}
 use Rattle.up_job.specs.declared.holder.Holder.TheVariants as holder
-use Rattle.up_book.specs.Counting.{one_if, event_of, holder_uses, count_in}
+use Rattle.up_book.specs.Counting.{one_if, holder_uses}
 use Rattle.up_book.specs.Eventing.{Standing, standing_of, standing_at, place_of, holds_of, holds_in}
 use Rattle.up_book.specs.Holding.{freed, all_changed}
 use Rattle.up_book.specs.Regular.{AreOlderOrigins}

@@ -1,5 +1,5 @@
 -- An entry that doesn't concern an instance leaves all that is known of it.
-use Rattle.std.proofs.Common.{◌≡◌, ℕ, ◌<◌, ◌==◌, Bool, true, false, List, [], ◌∷◌, length, map, Option, refl, ◌∙◌, ap}
+use Rattle.std.proofs.Common.{◌≡◌, ℕ, ◌<◌, ◌==◌, Bool, true, false, List, [], ◌∷◌, length, map, refl}
 use Rattle.std.specs.List.{AllByRecursion}
 use Rattle.up_conf.specs.declared.job.JobDef.{JobDef}
 use Rattle.up_model.specs.declared.input.Input.TheVariants as input
@@ -11,7 +11,7 @@ use Rattle.up_model.specs.Instances.{Instance}
 use Rattle.up_model.specs.Readings.{holders}
 use Rattle.up_model.proofs.Places.{older-other}
 use Rattle.up_book.specs.Keeps.{HoldsOlder}
-use Rattle.up_book.specs.Summaries.{Holding, holding_at, Summary, summary}
+use Rattle.up_book.specs.Summaries.{holding_at, summary}
 
 -- what holds by an older place does so one entry later
 pub holding-later : (e : Entry) (c : Chronicle) (places : List ℕ) → AllByRecursion (λ place. place < length c) places
@@ -45,13 +45,6 @@ concerns i (Entered other to) = other == i
 concerns i (Ordered other its) = other == i
 concerns i (Signalled other signal by_timer) = other == i
 concerns i (Replied request answer) = false
-
--- but for what is held, which is named by places
-abbrev pub SameBut : Summary → Summary → Type 0
-SameBut s t = s ≡ record t { holders = s.holders }
-
-pub same-held : (s t : Summary) → SameBut s t → s.holders ≡ t.holders → s ≡ t
-same-held s t same held = same ∙ ap (λ (hs : List (Option Holding)). record t { holders = hs }) held
 
 pub spared : (config : Configuration) (job : JobDef) (e : Entry) (c : Chronicle) (x : Instance) → concerns x.place e ≡ false → HoldsOlder x.place c
     → summary config job (e ∷ c) x ≡ summary config job c x

@@ -1,5 +1,5 @@
 -- What a ledger stands for, one entry or one run of entries later.
-use Rattle.std.proofs.Common.{◌≡◌, ℕ, zero, suc, ◌+◌, ◌<◌, ◌≤◌, ◌==◌, ◌&&◌, Bool, true, false, not, List, [], ◌∷◌, ◌++◌, length, map, Option, None, Some, is_some, option_map, bytes_eq, if◌then◌else◌, refl, sym, ◌∙◌, ap, subst, arith, eqb-true, append_assoc, append-nil}
+use Rattle.std.proofs.Common.{◌≡◌, ℕ, ◌+◌, ◌<◌, ◌==◌, ◌&&◌, Bool, true, false, List, [], ◌∷◌, ◌++◌, length, map, Option, None, Some, is_some, option_map, bytes_eq, if◌then◌else◌, refl, sym, ◌∙◌, ap, subst, arith, eqb-true, append_assoc}
 use Rattle.up_conf.specs.declared.job.JobDef.{JobDef}
 use Rattle.up_stanza.specs.declared.process.Process.{Process}
 use Rattle.up_model.specs.declared.event.Event.{Event}

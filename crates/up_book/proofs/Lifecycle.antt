@@ -138,9 +138,6 @@ without-absent p (z ∷ zs) none = by_case (z.place == p) none (without-absent p
     by_case true none ih = absurd (omega arith)
     by_case false none ih = cons_same refl (ih (omega (arith, none)))
 
-absent-of-known : (i : ℕ) (xs : List Instance) → AllByRecursion (λ x. (i == x.place) ≡ false) xs → (f g : Instance → Summary) → ((x : Instance) → (i == x.place) ≡ false → f x ≡ g x) → map f xs ≡ map g xs
-absent-of-known i xs all f g same = map-all (λ x. (i == x.place) ≡ false) f g xs same all
-
 abbrev pub without_summary : ℕ → JobSummary → JobSummary
 without_summary at job = record job { instances = without_at at job.instances }
 

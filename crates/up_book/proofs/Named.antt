@@ -1,16 +1,10 @@
 -- Lists in byte order of names.
-use Rattle.std.proofs.Common.{◌≡◌, ℕ, zero, suc, ◌+◌, ◌<◌, ◌≤◌, Bool, true, false, cond, List, [], ◌∷◌, map, Some, length, drop, get_or, insert, remove, if◌then◌else◌, refl, ap, arith, add-one, drop-cons}
+use Rattle.std.proofs.Common.{◌≡◌, ℕ, zero, suc, ◌+◌, ◌<◌, ◌≤◌, Bool, true, false, cond, List, [], ◌∷◌, map, Some, length, insert, remove, if◌then◌else◌, refl, ap, arith, add-one}
 use Rattle.up_job.specs.Lists.{nth, with_named, without_at, position_in}
 use Rattle.up_conf.specs.Order.{is_below}
 use Rattle.up_model.specs.Values.{Bytes}
 use Rattle.up_job.specs.declared.instance.Instance.{Instance as Kept}
 use Rattle.up_book.proofs.Lists.{cons_same}
-
-pub position_left : (items : List Kept) (name : Bytes) (i : ℕ) (d : Kept) → i < length items
-    → position_in name (map (λ k. k.name) (drop i items)) ≡ cond (is_below (get_or items i d).name name) (position_in name (map (λ k. k.name) (drop (i + 1) items)) + 1) 0
-position_left items name i d within =
-    let one : drop i items ≡ get_or items i d ∷ drop (i + 1) items = rw add-one (drop-cons items i d within) in
-    ap (λ ks. position_in name (map (λ (k : Kept). k.name) ks)) one
 
 pub position_within : (name : Bytes) (names : List Bytes) → position_in name names ≤ length names
 position_within name [] = omega arith

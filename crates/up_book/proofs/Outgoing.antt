@@ -6,16 +6,13 @@ use Rattle.up_conf.specs.declared.job.JobDef.{JobDef}
 use Rattle.up_stanza.specs.declared.process.Process.{Process}
 use Rattle.up_model.specs.declared.event.Event.{Event}
 use Rattle.up_model.specs.declared.input.Input.{Input}
-use Rattle.up_model.specs.declared.life.JobEvent.{JobEvent}
 use Rattle.up_model.specs.declared.output.Output.TheVariants as output
-use Rattle.up_model.specs.declared.request.Answer.{Answer}
 use Rattle.up_model.specs.declared.state.State.{State}
 use Rattle.up_model.specs.Chronicle.{Chronicle, Entry, Given, Queued, Ordered, Signalled, Replied, Outside, Entering, Spoilt}
 use Rattle.up_model.specs.Configuration.{Configuration, job_named}
 use Rattle.up_model.specs.Instances.{Instance, instances_of}
-use Rattle.up_model.specs.Moves.{job_event, who_of}
 use Rattle.up_model.specs.Outputs.{outputs_of}
-use Rattle.up_model.specs.Readings.{made_at, id_at, process_env, pid_of}
+use Rattle.up_model.specs.Readings.{made_at}
 use Rattle.up_model.specs.Replies.{status_of, own_process, pid_if}
 use Rattle.up_model.specs.Values.{Bytes}
 use Rattle.up_model.proofs.Places.{bytes_same, bytes_refl}
@@ -27,7 +24,7 @@ use Rattle.up_model.specs.declared.who.Who.{Who}
 use Rattle.up_book.specs.Views.{Places, view}
 use Rattle.up_book.proofs.Knowing.{work-known}
 use Rattle.up_book.proofs.One.{IsKnown, known-all, called, nth-all}
-use Rattle.up_book.specs.Sending.{order_by, signal_by, event_by, own_pid, status_by}
+use Rattle.up_book.specs.Sending.{order_by, signal_by, own_pid, status_by}
 
 -- the job of a place is found by its name
 back : (x y : Bytes) → bytes_eq x y ≡ false → bytes_eq y x ≡ false
@@ -77,18 +74,10 @@ pub entering-out : (config : Configuration) (c : Chronicle) (i : ℕ) (entered :
 unfolding outputs_of
 entering-out config c i entered event = refl
 
-pub event-known : (config : Configuration) (c : Chronicle) (job : JobDef) (x : Instance) (kind : JobEvent) → job_event job (who_of job x) x.place kind c ≡ event_by job (summary config job c x) kind
-event-known config c job x kind = refl
-
 -- an event that tells of another
 pub spoilt-out : (config : Configuration) (c : Chronicle) (spoilt : ℕ) (event : Event) → outputs_of config (Queued (Spoilt spoilt) event ∷ c) ≡ outputs_of config c ++ output.Emitted event ∷ []
 unfolding outputs_of
 spoilt-out config c spoilt event = refl
-
--- an answer to a request of this number
-pub replied-out : (config : Configuration) (c : Chronicle) (request id : ℕ) (answer : Answer) → id_at request c ≡ Some id → outputs_of config (Replied request answer ∷ c) ≡ outputs_of config c ++ output.Reply id answer ∷ []
-unfolding outputs_of
-replied-out config c request id answer there = rw there refl
 
 -- an input begins anew
 pub given-out : (config : Configuration) (c : Chronicle) (given : Input) → outputs_of config (Given given ∷ c) ≡ []

@@ -14,8 +14,8 @@ use Rattle.up_job.specs.declared.holder.Holder.TheVariants as holder
 use Rattle.up_job.specs.declared.instances.JobInstances.{JobInstances}
 use Rattle.up_job.specs.declared.instance.Instance.{Instance as Kept}
 use Rattle.up_book.specs.Counting.{one_if, holder_uses, kept_uses, uses}
-use Rattle.up_book.specs.Eventing.{Standing, standing_of, standing_at, place_of, holds_of, AreCounted}
-use Rattle.up_book.specs.Summaries.{Summary, JobSummary}
+use Rattle.up_book.specs.Eventing.{place_of, holds_of}
+use Rattle.up_book.specs.Summaries.{Summary}
 use Rattle.up_book.specs.Views.{Places, view, job_view, holding_of}
 use Rattle.up_book.proofs.Counting.{Names}
 use Rattle.up_book.proofs.Lists.{cons_same}

@@ -2,7 +2,7 @@
 use Rattle.std.proofs.Common.{◌≡◌, ℕ, zero, suc, Bool, true, false, List, [], ◌∷◌, ◌++◌, length, map, Some, is_some, bytes_eq, if◌then◌else◌, refl, ◌∙◌, ap, arith, append_assoc}
 use Rattle.up_job.specs.Lists.{nth}
 use Rattle.up_conf.specs.declared.job.JobDef.{JobDef}
-use Rattle.up_model.specs.Chronicle.{Chronicle, Entry, Made, Released}
+use Rattle.up_model.specs.Chronicle.{Chronicle, Released}
 use Rattle.up_model.specs.Configuration.{Configuration, job_named}
 use Rattle.up_model.specs.Outputs.{outputs_of}
 use Rattle.up_model.specs.Readings.{holders}
@@ -15,7 +15,6 @@ use Rattle.up_book.specs.Replying.{replies_to}
 use Rattle.up_book.specs.Summaries.{holding_at}
 use Rattle.up_book.specs.Views.{Places, holding_of}
 use Rattle.up_book.proofs.Replying.{Extends, replies-out}
-use Rattle.up_book.specs.Regular.{AreNamed}
 
 -- a release: the replies to the clients that are kept as holders, with the status text
 pub released-out : (places : Places) (config : Configuration) (c : Chronicle) (i : ℕ) (failed : Bool) (its : List Holder) (told : Bytes) → HoldsOlder i c
@@ -33,15 +32,6 @@ released-out places config c i failed its told older same text =
       same = λ p before. rw (older-other (length c) p before) refl;
     }
 
--- instances are of these jobs: any entry but one that makes an instance, and one that makes it of a job of these
-abbrev pub MakesNone : Entry → Type 0
-MakesNone (Made job name) = ⊥
-MakesNone entry = Unit {0}
-
-pub named-later : (jobs : List JobDef) (e : Entry) (c : Chronicle) → MakesNone e → AreNamed jobs c → AreNamed jobs (e ∷ c)
-named-later jobs (Made job name) c is named = absurd is
-named-later jobs e c is named = named
-
 pub found : (place : ℕ) (jobs : List JobDef) (job : JobDef) → nth place jobs ≡ Some job → is_some (job_named job.name jobs) ≡ true
 found place [] job there = absurd cc
 found zero (first ∷ jobs) job there =
@@ -53,6 +43,3 @@ found (suc place) (first ∷ jobs) job there = by_case (bytes_eq first.name job.
     by_case : (b : Bool) → is_some (job_named job.name jobs) ≡ true → is_some (if b then Some first else job_named job.name jobs) ≡ true
     by_case true ih = refl
     by_case false ih = ih
-
-pub named-made : (jobs : List JobDef) (place : ℕ) (job : JobDef) (name : Bytes) (c : Chronicle) → nth place jobs ≡ Some job → AreNamed jobs c → AreNamed jobs (Made job.name name ∷ c)
-named-made jobs place job name c there named = (found place jobs job there, named)

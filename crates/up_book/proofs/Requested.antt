@@ -145,12 +145,6 @@ on-later config e c (Some (Gone text)) move is places apart means =
     let gone : IsGone means.0 c = means.3 in
     (means.0, request-plain e c is ∙ means.1, status-apart means.0 e c (apart means.0 gone) gone.0 ∙ means.2, gone-later means.0 e c gone)
 
--- the instance of the request leaves: its text is kept
-pub on-left : (config : Configuration) (c : Chronicle) (at : ℕ) (job : JobDef) (x : Instance) → nth at (instances_of job.name c) ≡ Some x → x.place < length c
-    → request_instance c ≡ Some x.place
-    → OnMeans config (Entered x.place state.Waiting ∷ c) (Some (Gone (status_by job (record (summary config job c x) { state = state.Waiting }))))
-on-left config c at job x here older asked = (x.place, asked, status-left config c at job x here older, left-gone x.place c older)
-
 -- keys of a job's other instances, when one comes or goes
 add-one : {n : ℕ} → n + 1 ≡ suc n
 add-one = omega arith

@@ -93,9 +93,6 @@ map-append-live : (f : Live → Standing) (xs : List Live) (x : Live) → map f 
 map-append-live f [] x = refl
 map-append-live f (y ∷ xs) x = cons_same refl (map-append-live f xs x)
 
-not-spoilt : (c : Chronicle) (event : Event) (origin : Origin) → is_spoilt (length c) c ≡ false → is_spoilt (length c) (Queued origin event ∷ c) ≡ false
-not-spoilt c event origin h = h
-
 pub standings-queued : (events : List LiveEvent) (c : Chronicle) (id : EventId) (event : Event) (origin : Origin) (waits : Option ℕ) → AreOlderOrigins c → map standing_of events ≡ map (standing_at c) (queue c)
     → is_spoilt (length c) c ≡ false → number_of (waiter_in (Some (Queued origin event)) (Queued origin event ∷ c)) (Queued origin event ∷ c) ≡ waits
     → map standing_of (events ++ new_live id event waits ∷ []) ≡ map (standing_at (Queued origin event ∷ c)) (queue (Queued origin event ∷ c))

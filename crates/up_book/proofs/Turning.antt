@@ -36,10 +36,6 @@ Pairs places config c [] (live ∷ lives) = ⊥
 Pairs places config c (event ∷ events) [] = ⊥
 Pairs places config c (event ∷ events) (live ∷ lives) = Pair places config c event live × Pairs places config c events lives
 
-twice-not : (b : Bool) → not (not b) ≡ b
-twice-not true = refl
-twice-not false = refl
-
 pub turn-same : (places : Places) (config : Configuration) (c : Chronicle) (events : List LiveEvent) (lives : List Live) → Pairs places config c events lives
     → turn_at places (next_turn events) ≡ option_map Some (turn_event config lives c)
 turn-same places config c [] [] pairs = refl

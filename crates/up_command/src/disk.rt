@@ -11,7 +11,7 @@ use std::rt::Files;
 use up_conf::Folder;
 use up_replay::check::check;
 use up_replay::replay::MAX_BUNDLE;
-use up_replay::{Printed, cannot_use, render_folder, script_inputs};
+use up_replay::{Printed, cannot_use, read_inputs, render_folder};
 use up_text::Env;
 
 /// What a check of a folder on the disk prints.
@@ -60,7 +60,7 @@ fn replay_folder<R: Files + AllocGlobal>(
 {
     match read_script(rt, script)? {
         Some(bytes) => {
-            let read = script_inputs(rt.alloc(), bytes.as_slice(), 1)?;
+            let read = read_inputs(rt.alloc(), bytes.as_slice(), 1)?;
             render_folder(rt.alloc(), folder, base, script, read)
         }
         None => cannot_use(rt.alloc(), script),

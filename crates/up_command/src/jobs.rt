@@ -10,7 +10,7 @@ use std::rt::Files;
 use up_conf::Folder;
 use up_image::{CompileError, ImageError, Table, compile};
 use up_model::ExitStatus;
-use up_replay::{Printed, cannot_use, image_refused, render_folder};
+use up_replay::{Printed, ScriptInputs, cannot_use, image_refused, render_folder};
 use up_text::{Env, Items};
 
 /// The jobs of a run, with what is printed before it; without a table there is no run.
@@ -33,7 +33,7 @@ fn no_run(printed: Result<Printed, AllocError>) -> Result<Jobs, AllocError>
 
 // The jobs of a folder's files: its faults are printed, or why it is refused.
 fn folder_jobs(alloc: Global, folder: &Folder) -> Result<Jobs, AllocError> {
-    let read = Ok(Items::new(Vec::new(alloc)));
+    let read = Ok(ScriptInputs::none(alloc));
     let printed = render_folder(alloc, folder, Env::new(alloc), "-", read)?;
     match compile(alloc, folder) {
         Ok((table, report)) => {

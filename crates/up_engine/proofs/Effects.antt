@@ -142,8 +142,6 @@ turn-finishes config c e handled found is = effect-offers config input.Turn c (�
     no : handled ≡ false → ⊥
     no not_ = let both : true ≡ false = sym is ∙ not_ in absurd cc
 
-pub turn-idle : (config : Configuration) (c : Chronicle) → turn_event config (queue.queue c) c ≡ None → offering (effect config input.Turn c ++ c) ≡ None
-turn-idle config c none = effect-offers config input.Turn c (λ up. subst TakesUp none up)
 
 -- any other takes it up
 pub turn-takes : (config : Configuration) (c : Chronicle) (e : ℕ) (handled : Bool) → turn_event config (queue.queue c) c ≡ Some (queue.live_at e handled) → handled ≡ false
@@ -189,7 +187,7 @@ stay-entries : (i : ℕ) (jobs : List JobDef) (es c : List Entry) → AllByRecur
 stay-entries i jobs [] c all stay = stay
 stay-entries i jobs (e ∷ es) c all stay = stay-entry i jobs e (es ++ c) all.0 (stay-entries i jobs es c all.1 stay)
 
-none-due : (config : Configuration) (c : Chronicle) → move_first config.jobs c ≡ [] → offering c ≡ None → due config c ≡ answering_last c
+pub none-due : (config : Configuration) (c : Chronicle) → move_first config.jobs c ≡ [] → offering c ≡ None → due config c ≡ answering_last c
 unfolding due
 none-due config c still offers =
     ap (λ es. or_else es (or_else (offer_next config (offering c) c) (answering_last c))) still ∙ ap (λ o. or_else (offer_next config o c) (answering_last c)) offers

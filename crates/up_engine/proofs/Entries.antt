@@ -1,21 +1,16 @@
 -- Lists of entries.
-use Rattle.std.proofs.Common.{◌≡◌, ℕ, ◌&&◌, false, true, List, [], ◌∷◌, ◌++◌, Option, None, Some, is_some, option_map, refl, ◌∙◌, ap, append_assoc}
+use Rattle.std.proofs.Common.{◌≡◌, ℕ, ◌&&◌, false, true, List, [], ◌∷◌, ◌++◌, Option, None, Some, option_map, refl, ◌∙◌, ap, append_assoc}
 use Rattle.up_conf.specs.declared.job.JobDef.{JobDef}
 use Rattle.up_stanza.specs.declared.process.Process.TheVariants.{Main}
 use Rattle.up_model.specs.declared.life.Entry as table
 use Rattle.up_model.specs.declared.state.State.{State}
 use Rattle.up_model.specs.declared.who.Who.{Who}
-use Rattle.up_model.specs.Chronicle.{Chronicle, Entry, Offered, Fired, Entered, Signalled, StartOn, StopOn}
+use Rattle.up_model.specs.Chronicle.{Chronicle, Entry, Entered, Signalled}
 use Rattle.up_model.specs.Moves.{ordering, emitting, enter, enter_whole}
 use Rattle.up_model.specs.Predicates.{entries_if, or_else}
 use Rattle.up_model.specs.Readings.{lives}
 use Rattle.up_model.specs.Replies.{releasing}
-use Rattle.up_model.specs.Values.{Bytes}
 use Rattle.up_text.specs.Scripts.{is_filled}
-
-pub none_nil : (entries : List Entry) → is_filled entries ≡ false → entries ≡ []
-none_nil [] none = refl
-none_nil (entry ∷ entries) none = cc
 
 pub or_else-some : (entries others : List Entry) → is_filled entries ≡ true → or_else entries others ≡ entries
 or_else-some [] others some = cc
@@ -60,20 +55,6 @@ named_none places (Some i) h = absurd cc
 
 pub some_same : {X : Type 0} {x y : X} → Some x ≡ Some y → x ≡ y
 some_same e = cc
-
--- a search that answers as much as another
-pub is_some_map : {A B C : Type 0} (f : A → C) (g : B → C) (x : Option A) (y : Option B) → option_map f x ≡ option_map g y → is_some x ≡ is_some y
-is_some_map f g None None e = refl
-is_some_map f g None (Some y) e = absurd cc
-is_some_map f g (Some x) None e = absurd cc
-is_some_map f g (Some x) (Some y) e = refl
-
--- entries with equal parts
-pub same_offer : {i j d e : ℕ} → i ≡ j → d ≡ e → Offered (StopOn i) d ≡ Offered (StopOn j) e
-same_offer p q = cc
-
-pub same_start : {job other : Bytes} {xs ys : List ℕ} → job ≡ other → xs ≡ ys → Fired (StartOn job) xs ≡ Fired (StartOn other) ys
-same_start p q = cc
 
 -- the entries with which an instance enters a state, one kind before another
 pub enter_shape : (job : JobDef) (who : Who) (p : ℕ) (to : State) (entry : table.Entry) (c : Chronicle)

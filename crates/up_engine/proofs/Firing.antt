@@ -8,7 +8,7 @@ use Rattle.up_stanza.specs.declared.process.Process.TheVariants as process
 use Rattle.up_model.specs.declared.state.State.TheVariants as state
 use Rattle.up_model.specs.Chronicle.{Chronicle, Entry, Given, Queued, Finished, Made, Aimed, Restarted, Entered, Ordered, Entering}
 use Rattle.up_model.specs.Instances as instances
-use Rattle.up_model.specs.Instances.{Instance, is_before, without_instance, instances_of, all_instances, place_named, instance_named}
+use Rattle.up_model.specs.Instances.{Instance, is_before, instances_of}
 use Rattle.up_model.specs.Life.{Wait, ForStart, ForEvent, ForAnswer, ForProcess, ForChange, ForMain, wait_in}
 use Rattle.up_model.specs.Moves.{is_over, may_leave, move_of, move_in, move_first}
 use Rattle.up_model.specs.Offers.{is_open, offering}

@@ -1,5 +1,5 @@
 -- A turn that handles an event: what is to be offered at first, that it is apart, the end, and an instance that left.
-use Rattle.std.proofs.Common.{◌≡◌, ℕ, zero, suc, ◌+◌, ◌≤◌, ◌==◌, Bool, true, false, List, [], ◌∷◌, ◌++◌, length, Some, bytes_eq, refl, sym, ◌∙◌, ap, arith, eq-eqb, ne_eqb}
+use Rattle.std.proofs.Common.{◌≡◌, ℕ, ◌+◌, ◌≤◌, ◌==◌, Bool, true, false, List, [], ◌∷◌, ◌++◌, length, Some, bytes_eq, refl, sym, ◌∙◌, ap, arith, eq-eqb, ne_eqb}
 use Rattle.std.proofs.lemmas.Bool.{eqb-false}
 use Rattle.std.specs.List.{AllByRecursion}
 use Rattle.up_conf.specs.declared.job.JobDef.{JobDef}
@@ -13,7 +13,8 @@ use Rattle.up_model.specs.Moves.{is_over, move_first}
 use Rattle.up_model.specs.Readings.{made_at}
 use Rattle.up_model.specs.Replies.{answering_last}
 use Rattle.up_model.specs.Values.{Bytes}
-use Rattle.up_model.specs.Work.{work, settle}
+use Rattle.up_model.specs.Work.{work}
+use Rattle.up_model.proofs.Settling.{settle_still}
 use Rattle.up_model.proofs.Places.{bytes_same, bytes_refl, count, one_if, all_instances-once, instances-exist}
 use Rattle.up_book.specs.Keeps.{AreDistinct}
 use Rattle.up_engine.specs.Offering.{Asked, OfStop, OfStart, open_stops, open_all}
@@ -140,13 +141,8 @@ pub moves-gone : (i : ℕ) (jobs : List JobDef) (e : ℕ) (left : List Asked) (c
 moves-gone i jobs e left c h gone = record { open_left = h.open_left; handles = h.handles; still = λ j. stay-gone i j jobs c gone h.stay }
 
 -- when none is left, the step is done but for an answer
-settle-still : (n : ℕ) (config : Configuration) (c : Chronicle) → due config c ≡ [] → settle n config c ≡ c
-unfolding settle
-settle-still zero config c none = refl
-settle-still (suc n) config c none = ap (λ es. settle n config (es ++ c)) none ∙ settle-still n config c none
-
 pub handled-all : (config : Configuration) (e : ℕ) (c : Chronicle) → IsHandling config.jobs e [] c → answering_last c ≡ [] → (due config c ≡ []) × (rested config c ≡ c)
 unfolding due
 handled-all config e c h quiet =
     let none : due config c ≡ [] = rw (still-stay config.jobs c (h.still (length c)), h.handles, Rattle.up_engine.proofs.Offering.first-offer config config.jobs e c, h.open_left) quiet in
-    (none, settle-still (work config c) config c none)
+    (none, settle_still (work config c) config c none)

@@ -14,7 +14,7 @@ use Rattle.up_model.specs.Configuration.{Configuration}
 use Rattle.up_model.specs.Answers.{after}
 use Rattle.up_model.specs.Due.{due, effect}
 use Rattle.up_model.specs.Environments.{instance_name}
-use Rattle.up_model.specs.Events.{events_at, events_env, stopped_by}
+use Rattle.up_model.specs.Events.{events_at, stopped_by}
 use Rattle.up_model.specs.Events as events_of
 use Rattle.up_model.specs.Instances.{Instance, is_before, with_instance, without_instance, instances_of, all_instances, place_named, instance_named}
 use Rattle.up_model.specs.Moves.{may_leave, next_of, move, move_first}
@@ -461,7 +461,7 @@ GivesNone entry = Unit {0}
 gives-fires : Fires GivesNone
 gives-fires = record { offered = λ x event. tt; fired = λ x its. tt; aimed = λ i aim environment its. tt; released = λ i failed. tt; replied = λ request answer. tt }
 
-asked-same : (e : Entry) (c : Chronicle) → GivesNone e → asked (e ∷ c) ≡ asked c
+pub asked-same : (e : Entry) (c : Chronicle) → GivesNone e → asked (e ∷ c) ≡ asked c
 asked-same (Given given) c is = absurd is
 asked-same e c is = refl
 
@@ -488,7 +488,7 @@ asked-taken : (jobs : List JobDef) (e : ℕ) (c : Chronicle) → all_asked jobs 
 asked-taken [] e c = refl
 asked-taken (job ∷ jobs) e c = ap (λ rest. all_stops job (instances_of job.name c) ++ (OfStart job ∷ rest)) (asked-taken jobs e c)
 
-none-moves : (config : Configuration) (c : Chronicle) → due config c ≡ [] → move_first config.jobs c ≡ []
+pub none-moves : (config : Configuration) (c : Chronicle) → due config c ≡ [] → move_first config.jobs c ≡ []
 unfolding due
 none-moves config c none = or-nil-first (move_first config.jobs c) (or_else (offer_next config (offering c) c) (answering_last c)) none
 

@@ -1,6 +1,5 @@
 -- Who holds an instance, as entries are added.
 use Rattle.std.proofs.Common.{◌≡◌, ℕ, Bool, List, [], ◌∷◌, ◌++◌, Option, None, Some, refl, ◌∙◌, ap, append_assoc}
-use Rattle.up_book.specs.Keys.{request_place}
 use Rattle.up_model.specs.declared.request.Answer.{Answer}
 use Rattle.up_model.specs.Chronicle.{Chronicle, Released, Replied}
 use Rattle.up_model.specs.Readings.{holders}
@@ -27,7 +26,3 @@ pub past-releasing : {X : Type 0} (f : Chronicle → X) → ((place : ℕ) (answ
 past-releasing f past released instance failed c =
     ap f (append_assoc (answering (holders instance c) failed (status_of instance c) c) (Released instance failed ∷ []) c)
     ∙ past-answering f past (holders instance c) failed (status_of instance c) c (Released instance failed ∷ c) ∙ released instance failed c
-
--- the request of a step stays
-pub request_released : (instance : ℕ) (failed : Bool) (c : Chronicle) → request_place (releasing instance failed c ++ c) ≡ request_place c
-request_released instance failed c = past-releasing request_place (λ place answer d. refl) (λ i b d. refl) instance failed c

@@ -25,5 +25,7 @@ pub mod Settled
 pub mod Resting
 pub mod Effects
 pub mod Hearing
+pub mod Quiet
+pub mod IdleLemmas
 pub mod Positions
 pub mod Repeating

@@ -1,7 +1,7 @@
 -- The refusals of an engine.
 pub mod Faults
--- Which places of the chronicle the keys of a book stand for.
-pub mod Keys
+-- What the effect of an input hands on.
+pub mod Effects
 -- What the code of requests hands on.
 pub mod Requests
 -- What an engine stands for.

@@ -1,7 +1,7 @@
 //! What is due, the effect of an input, and whether it is expected.
 ghost use Rattle.std.specs.Prelude.{◌≡◌, ℕ, false, List, ◌∷◌, [], ◌++◌, map, Option, Some, option_map, IfOk, OnOk};
 ghost use Rattle.up_book.specs.Keys.{Mode, Resting, Stepping, instance_place};
-ghost use Rattle.up_engine.specs.Keys.{Takes};
+ghost use Rattle.up_engine.specs.Effects.{Concerns};
 ghost use Rattle.up_model.specs.declared.input.Input.TheVariants as given_as;
 ghost use Rattle.up_book.specs.Turning.{is_finish};
 ghost use Rattle.up_model.specs.Answers as answer;
@@ -24,6 +24,16 @@ use up_book::Book;
 use up_event::TurnKind;
 use up_job::InstanceKey;
 use up_model::{End, Event, EventId, How, Input, Process, Who};
+
+/// Whom the effect of an input concerns.
+pub(crate) enum Concern {
+    /// No instance, so that none may move.
+    Nobody,
+    /// The jobs that hear of this event.
+    Event(EventId),
+    /// Any instance that may move.
+    Anybody,
+}
 
 // The instance that is known outside by these names.
 fn find<B: Book>(setup: &Setup, book: &B, who: &Who) -> Option<InstanceKey>
@@ -177,54 +187,54 @@ fn handle<B: Book>(book: &mut B, key: EventId) -> Result<(), AllocError>
     Ok(())
 }
 
-// Takes a turn in: it handles an unhandled event, which it returns, and finishes a handled one.
+// Takes a turn in: it handles an unhandled event, and finishes a handled one.
 #[tactic(auto, using(crate::proofs::Entries::one_last))]
 fn turn_by<B: Book>(
     alloc: Global,
     book: &mut B,
     id: EventId,
     kind: TurnKind,
-) -> Result<Option<EventId>, AllocError>
+) -> Result<Concern, AllocError>
     ensures after { OnOk result ((config : Configuration) (c : Chronicle) (e : ℕ)
         → B.stands book.old Resting config c
         → B.event_place book.old c id ≡ Some e
         → model.turn_event config (queue.queue c) c ≡ Some (queue.live_at e (is_finish kind))
         → B.stands book.new Stepping config (model.turn_of (Some (queue.live_at e (is_finish kind)))
         (entry.Given given_as.Turn ∷ c) ++ entry.Given given_as.Turn ∷ c)) }
-    ensures takes { IfOk result (λ taken. (config : Configuration) (c : Chronicle) (e : ℕ)
+    ensures concerns { IfOk result (λ concern. (config : Configuration) (c : Chronicle) (e : ℕ)
         → B.stands book.old Resting config c
         → B.event_place book.old c id ≡ Some e
         → model.turn_event config (queue.queue c) c ≡ Some (queue.live_at e (is_finish kind))
-        → Takes (B.event_place book.new) taken config given_as.Turn c) }
+        → Concerns (B.event_place book.new) concern config given_as.Turn c) }
 {
     match kind {
         TurnKind::Finish => {
             finish(alloc, book, id)?;
-            Ok(None)
+            Ok(Concern::Anybody)
         }
         TurnKind::Handle => {
             handle(book, id)?;
-            Ok(Some(id))
+            Ok(Concern::Event(id))
         }
     }
 }
 
 #[tactic(auto, unfolding(up_model::specs::Due::effect))]
-fn take_turn<B: Book>(alloc: Global, book: &mut B) -> Result<Option<EventId>, AllocError>
+fn take_turn<B: Book>(alloc: Global, book: &mut B) -> Result<Concern, AllocError>
     ensures after { OnOk result ((config : Configuration) (c : Chronicle) → B.stands book.old Resting config c
         → B.stands book.new Stepping config (model.effect config given_as.Turn c ++ c)) }
-    ensures takes { IfOk result (λ taken. (config : Configuration) (c : Chronicle)
+    ensures concerns { IfOk result (λ concern. (config : Configuration) (c : Chronicle)
         → B.stands book.old Resting config c
-        → Takes (B.event_place book.new) taken config given_as.Turn c) }
+        → Concerns (B.event_place book.new) concern config given_as.Turn c) }
 {
     match book.turn() {
         Some((id, kind)) => {
-            let taken = turn_by(alloc, book, id, kind)?;
-            Ok(taken)
+            let concern = turn_by(alloc, book, id, kind)?;
+            Ok(concern)
         }
         None => {
             book.given(&Input::Turn, None);
-            Ok(None)
+            Ok(Concern::Nobody)
         }
     }
 }
@@ -244,30 +254,47 @@ fn take_reading<B: Book>(
     Ok(())
 }
 
-/// Takes an input in, with its own effect; returns the event that it takes up, if it takes one up.
+/// Takes an input in, with its own effect; returns whom that concerns.
 #[tactic(auto, unfolding(up_model::specs::Due::effect))]
 pub(crate) fn act<B: Book>(
     alloc: Global,
     setup: &Setup,
     book: &mut B,
     input: Input,
-) -> Result<Option<EventId>, AllocError>
+) -> Result<Concern, AllocError>
     ensures after { OnOk result ((c : Chronicle) → B.stands book.old Resting setup.now c
         → B.stands book.new Stepping setup.now (model.effect setup.now input c ++ c)) }
-    ensures takes { IfOk result (λ taken. (c : Chronicle) → B.stands book.old Resting setup.now c
-        → Takes (B.event_place book.new) taken setup.now input c) }
+    ensures concerns { IfOk result (λ concern. (c : Chronicle) → B.stands book.old Resting setup.now c
+        → Concerns (B.event_place book.new) concern setup.now input c) }
 {
     match input {
-        Input::Emit(event) => take_event(book, event)?,
-        Input::Request { id, request } => take_request(alloc, setup, book, id, request)?,
-        Input::Spawned { who, process, pid } => take_spawn(setup, book, who, process, pid),
-        Input::Refused { who, process } => take_refusal(setup, book, who, process)?,
-        Input::Ended { who, process, how } => take_end(setup, book, who, process, how)?,
-        Input::Clock(reading) => take_reading(alloc, setup, book, reading)?,
+        Input::Emit(event) => {
+            take_event(book, event)?;
+            Ok(Concern::Nobody)
+        }
+        Input::Request { id, request } => {
+            take_request(alloc, setup, book, id, request)?;
+            Ok(Concern::Anybody)
+        }
+        Input::Spawned { who, process, pid } => {
+            take_spawn(setup, book, who, process, pid);
+            Ok(Concern::Anybody)
+        }
+        Input::Refused { who, process } => {
+            take_refusal(setup, book, who, process)?;
+            Ok(Concern::Anybody)
+        }
+        Input::Ended { who, process, how } => {
+            take_end(setup, book, who, process, how)?;
+            Ok(Concern::Anybody)
+        }
+        Input::Clock(reading) => {
+            take_reading(alloc, setup, book, reading)?;
+            Ok(Concern::Nobody)
+        }
         Input::Turn => {
-            let taken = take_turn(alloc, book)?;
-            return Ok(taken);
+            let concern = take_turn(alloc, book)?;
+            Ok(concern)
         }
     }
-    Ok(None)
 }

@@ -198,8 +198,8 @@ impl Engine {
         }
     }
 
-    // The answer to one input of a run, or none if memory ran out.
-    fn answer(&mut self, given: Input) -> Option<Step>
+    /// The answer to one input, as `run` gives it; none if memory ran out, in this step or before.
+    pub fn answer(&mut self, given: Input) -> Option<Step>
         ensures { (config : Configuration) (c : Chronicle) → Stands self.old config c
             → AnswerMeans result self.new config c given }
     {

@@ -1,7 +1,7 @@
 //! What the end or the refusal of a process does to its instance.
 ghost use Rattle.std.specs.Prelude.{◌≡◌, ℕ, List, ◌++◌, map, Option, None, Some, IfOk, OnOk};
 ghost use Rattle.up_book.specs.Keys.{job_at, Mode, Stepping, name_at, instance_place};
-ghost use Rattle.up_engine.specs.Keys.{Judges};
+ghost use Rattle.up_engine.specs.Effects.{Judges};
 ghost use Rattle.std.specs.List.{list_any};
 ghost use Rattle.up_conf.specs.Jobs.{same_exit};
 ghost use Rattle.up_model.specs.Chronicle.{Chronicle, Entry as EntryValue};

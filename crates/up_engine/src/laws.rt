@@ -1,5 +1,5 @@
 //! Laws: what holds of every run of a folder that is compiled.
-ghost use Rattle.std.specs.Prelude.{◌≡◌, [], false, List, Ok};
+ghost use Rattle.std.specs.Prelude.{◌≡◌, ℕ, [], false, List, None, Ok, replicate};
 ghost use Rattle.up_conf.specs.declared.folder.File.{File};
 ghost use Rattle.up_conf.specs.declared.job.JobDef.{JobDef};
 ghost use Rattle.up_conf.specs.declared.report.Fault.{Fault};
@@ -12,11 +12,15 @@ ghost use Rattle.up_isolation.specs.Isolation.{MeanTheSame};
 ghost use Rattle.up_isolation.specs.Steps.{AreStepsOf, deeds_by_step, joined, orders_of, outputs_in};
 ghost use Rattle.up_isolation.specs.Views.{deeds, view};
 ghost use Rattle.up_model.specs.declared.input.Input.{Input};
-ghost use Rattle.up_model.specs.Answers.{after_all};
+ghost use Rattle.up_model.specs.declared.input.Input.TheVariants.{Turn};
+ghost use Rattle.up_model.specs.declared.step.Step.TheVariants.{Gave};
+ghost use Rattle.up_model.specs.Answers.{after_all, answers};
 ghost use Rattle.up_model.specs.Blocks.{IsLone};
 ghost use Rattle.up_model.specs.Chronicle.{Chronicle};
 ghost use Rattle.up_model.specs.Configuration.{Configuration};
+ghost use Rattle.up_model.specs.Due.{turn_event};
 ghost use Rattle.up_model.specs.Left.{left};
+ghost use Rattle.up_model.specs.Queue.{queue};
 ghost use Rattle.up_model.specs.Values.{Bindings, Bytes};
 
 /// An instance doesn't order its main process while that lives, whatever folder is compiled and whatever is given.
@@ -36,6 +40,14 @@ pub fn one_main_of_tables()
 pub fn left_as_told()
     ensures { (engine : Engine) (config : Configuration) (c : Chronicle) → Stands engine config c
         → left_of engine ≡ left c }
+{}
+
+/// Turns that find no event ask for nothing, and an engine stands for as many of them as there are: it needs to take none.
+pub fn idle_turns()
+    ensures { (engine : Engine) (config : Configuration) (c : Chronicle) (count : ℕ) → Stands engine config c
+        → turn_event config (queue c) c ≡ None
+        → Stands engine config (after_all config c (replicate count Turn))
+        × (answers config c (replicate count Turn) ≡ replicate count (Gave [])) }
 {}
 
 /// In two runs of compiled folders in which the same comes to a job's notice, the job does the same: if the bases are one and the

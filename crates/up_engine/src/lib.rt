@@ -22,5 +22,5 @@ mod time;
 
 pub use engine::Engine;
 pub use fault::StepError;
-pub use laws::{left_as_told, one_main};
+pub use laws::{idle_turns, left_as_told, one_main};
 pub use run::Run;

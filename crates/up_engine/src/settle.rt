@@ -9,7 +9,7 @@ ghost use Rattle.up_model.specs.Due.{due};
 ghost use Rattle.up_model.specs.Instances.{instances_of};
 ghost use Rattle.up_model.specs.Replies.{answering_last};
 
-use crate::due::act;
+use crate::due::{Concern, act};
 use crate::hear::hear_all;
 use crate::moves::moves;
 use crate::setup::Setup;
@@ -86,8 +86,9 @@ pub(crate) fn run_step<B: Book>(
 {
     setup.names_differ();
     match act(alloc, setup, book, input)? {
-        Some(event) => hear_all(alloc, setup, book, setup.jobs(), event)?,
-        None => settle(alloc, setup, book)?,
+        Concern::Nobody => {}
+        Concern::Event(event) => hear_all(alloc, setup, book, setup.jobs(), event)?,
+        Concern::Anybody => settle(alloc, setup, book)?,
     }
     Ok(())
 }

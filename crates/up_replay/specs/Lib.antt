@@ -12,5 +12,9 @@ pub mod Requests
 pub mod Script
 -- The steps of a script.
 pub mod ScriptSteps
+-- The inputs that they give.
+pub mod ScriptInputs
+-- What an engine's answers print.
+pub mod Running
 -- What a replay prints, and its status.
 pub mod Replay

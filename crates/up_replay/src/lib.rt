@@ -9,8 +9,10 @@ pub mod printed;
 pub mod replay;
 mod requests;
 mod reread;
+mod running;
 mod same;
 pub mod script;
+pub mod script_inputs;
 mod variables;
 mod words;
 
@@ -19,4 +21,5 @@ pub use inputs::script_lines;
 pub use lines::{push_output, push_outputs, push_step};
 pub use printed::{Printed, cannot_use, image_refused};
 pub use replay::{render_bundle, render_folder, write_printed};
-pub use script::script_inputs;
+pub use script::{read_inputs, script_inputs};
+pub use script_inputs::ScriptInputs;

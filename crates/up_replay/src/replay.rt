@@ -13,30 +13,22 @@ ghost use Rattle.up_replay.specs.ScriptSteps.{script_inputs};
 
 use crate::bundle::{Bundle, read_bundle};
 use crate::check::compile_outcome;
-use crate::lines::{push, push_decimal, push_step};
+use crate::lines::{push, push_decimal};
 use crate::printed::{Printed, cannot_use, push_faults, refused, status_of};
 use crate::reread::reread;
-use crate::script::script_inputs;
+use crate::running::push_run;
+use crate::script::read_inputs;
+use crate::script_inputs::ScriptInputs;
 use std::alloc::{AllocError, Global};
 use std::io;
 use std::io::{ErrorKind, Read, Write};
 use up_conf::{Folder, Report};
-use up_engine::Engine;
 use up_image::{CompileError, Table};
-use up_model::{ExitStatus, Input, Step};
+use up_model::ExitStatus;
 use up_text::{Env, Items};
 
 /// The most bytes that a bundle has: 64 MiB.
 pub const MAX_BUNDLE: usize = 67_108_864;
-
-fn push_steps(text: &mut Vec<u8>, steps: &[Step]) -> Result<(), AllocError>
-    ensures { OnOk result (text.new.items ≡ text.old.items ++ flat_map step_lines steps.now) }
-{
-    for step in steps {
-        push_step(text, step)?;
-    }
-    Ok(())
-}
 
 #[tactic(auto, unfolding(crate::specs::Replay::bad_step_line))]
 fn push_bad_step(text: &mut Vec<u8>, name: &str, line: u32) -> Result<(), AllocError>
@@ -48,50 +40,33 @@ fn push_bad_step(text: &mut Vec<u8>, name: &str, line: u32) -> Result<(), AllocE
     push(text, ": bad step\n")
 }
 
-// The steps of a run from nothing.
-fn run(
-    alloc: Global,
-    table: Table,
-    base: Env,
-    inputs: Vec<Input>,
-) -> Result<Items<Step>, AllocError>
-    ensures { IfOk result (λ steps. steps ≡ answers (record { base = base; jobs = table }) [] inputs.items) }
-{
-    let mut engine = Engine::new(alloc, table, base)?;
-    let run = engine.run(inputs);
-    drop(engine);
-    match run {
-        Ok(run) => {
-            if run.down {
-                drop(run.steps);
-                Err(AllocError)
-            } else {
-                Ok(run.steps)
-            }
-        }
-        Err(_) => Err(AllocError),
-    }
-}
-
 // The inputs of a bundle, or its first bad line.
-fn inputs_in(alloc: Global, bundle: &Bundle<'_>) -> Result<Result<Items<Input>, u32>, AllocError>
+fn inputs_in(alloc: Global, bundle: &Bundle<'_>) -> Result<Result<ScriptInputs, u32>, AllocError>
     requires { bundle.now.line + length bundle.now.script.now < 4294967295 }
     ensures { IfOk result (λ read. read ≡ unless_bad bundle.now.bad
         (script_inputs bundle.now.line bundle.now.script.now)) }
 {
     match bundle.bad {
         Some(line) => Ok(Err(line)),
-        None => script_inputs(alloc, bundle.script, bundle.line),
+        None => read_inputs(alloc, bundle.script, bundle.line),
     }
 }
 
-// A folder's faults, and after them what a run gave.
-fn push_run(text: &mut Vec<u8>, report: &Report, steps: &[Step]) -> Result<(), AllocError>
-    ensures { OnOk result (text.new.items ≡ text.old.items
-        ++ (flat_map fault_line report.now ++ flat_map step_lines steps.now)) }
+// A folder's faults, and after them what a run of its jobs gives.
+fn push_all(
+    text: &mut Vec<u8>,
+    alloc: Global,
+    report: &Report,
+    table: Table,
+    base: Env,
+    inputs: ScriptInputs,
+) -> Result<(), AllocError>
+    ensures { OnOk result (text.new.items ≡ text.old.items ++ (flat_map fault_line report.now
+        ++ flat_map step_lines (answers (record { base = base; jobs = table }) [] inputs))) }
 {
     push_faults(text, report.as_slice())?;
-    push_steps(text, steps)
+    let table = reread(alloc, table)?;
+    push_run(text, alloc, table, base, inputs)
 }
 
 // A folder's faults, and after them the first bad line of a script.
@@ -109,18 +84,14 @@ fn play(
     report: &Report,
     base: Env,
     name: &str,
-    read: Result<Items<Input>, u32>,
+    read: Result<ScriptInputs, u32>,
 ) -> Result<Printed, AllocError>
     ensures { IfOk result (λ made. made ≡ play_output base name.now table report.now read) }
 {
     let mut text: Vec<u8> = Vec::new(alloc);
     match read {
         Ok(inputs) => {
-            let table = reread(alloc, table)?;
-            let steps = run(alloc, table, base, inputs.into_vec())?;
-            let pushed = push_run(&mut text, report, steps.as_slice());
-            drop(steps);
-            pushed?;
+            push_all(&mut text, alloc, report, table, base, inputs)?;
             let text = Items::new(text);
             let status = status_of(report);
             Ok(Printed { text, status })
@@ -142,7 +113,7 @@ fn render_made(
     made: Result<(Table, Report), CompileError>,
     base: Env,
     name: &str,
-    read: Result<Items<Input>, u32>,
+    read: Result<ScriptInputs, u32>,
 ) -> Result<Printed, AllocError>
     ensures { IfOk result (λ printed. printed ≡ replay_output base name.now made read) }
 {
@@ -159,7 +130,7 @@ pub fn render_folder(
     folder: &Folder,
     base: Env,
     name: &str,
-    read: Result<Items<Input>, u32>,
+    read: Result<ScriptInputs, u32>,
 ) -> Result<Printed, AllocError>
     ensures { IfOk result (Plays folder.now base name.now read) }
 {

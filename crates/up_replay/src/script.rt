@@ -1,12 +1,14 @@
 //! Reads a script.
-ghost use Rattle.std.specs.Prelude.{◌≡◌, ◌≤◌, ◌<◌, ◌+◌, IfOk, IfSome, MatchOption, OnErr, true, false, length};
+ghost use Rattle.std.specs.Prelude.{◌≡◌, ◌≤◌, ◌<◌, ◌+◌, IfOk, IfSome, MatchOption, OnErr, true, false, length, option_map};
 ghost use Rattle.up_stanza.specs.Reading.{LacksMemory};
 ghost use Rattle.up_text.specs.Places.{reading};
 ghost use Rattle.up_text.specs.Lexemes.{lexemes_of, stanzas};
 ghost use Rattle.up_replay.specs.Bundle.{lines_of};
+ghost use Rattle.up_replay.specs.ScriptInputs.{inputs_of_step};
 ghost use Rattle.up_replay.specs.ScriptSteps.{is_text, begins_text, after_step, inputs_from, lines_inputs, step_inputs, script_inputs, unless_left, texts_in, IsNext, Fronts, ReachesNoFurther};
 
 use crate::bundle::{as_text, split_line};
+use crate::script_inputs::{ScriptInputs, StepInputs};
 use crate::words::inputs_of;
 use std::alloc::{AllocError, Global};
 use up_model::Input;
@@ -90,10 +92,10 @@ fn step_words(alloc: Global, lexer: &mut Lexer) -> Result<Option<Items<Text>>, A
     Ok(Some(Items::new(words)))
 }
 
-// The inputs of the step in front, if it is no bad one; the lexer then stands after it.
-fn step_inputs(alloc: Global, lexer: &mut Lexer) -> Result<Option<Items<Input>>, AllocError>
-    ensures inputs { IfOk result (λ inputs. inputs ≡ step_inputs (lexemes_of lexer.old)) }
-    ensures after { IfOk result (λ inputs. IfSome inputs
+// What the step in front gives, if it is no bad one; the lexer then stands after it.
+fn step_inputs(alloc: Global, lexer: &mut Lexer) -> Result<Option<StepInputs>, AllocError>
+    ensures inputs { IfOk result (λ given. option_map inputs_of_step given ≡ step_inputs (lexemes_of lexer.old)) }
+    ensures after { IfOk result (λ given. IfSome given
         (λ _. lexemes_of lexer.new ≡ after_step (lexemes_of lexer.old))) }
     ensures within { ReachesNoFurther lexer.new lexer.old }
 {
@@ -109,25 +111,25 @@ fn text_inputs(
     alloc: Global,
     text: &str,
     line: u32,
-) -> Result<Result<Items<Input>, u32>, AllocError>
+) -> Result<Result<ScriptInputs, u32>, AllocError>
     requires { line + length text.now < 4294967295 }
     ensures { IfOk result (λ read. read ≡ inputs_from line (stanzas text.now)) }
 {
-    let mut inputs: Vec<Input> = Vec::new(alloc);
+    let mut inputs = ScriptInputs::none(alloc);
     let mut lexer = Lexer::new(text);
     'steps: while !lexer.at_end() {
         let lines = lexer.line();
         match step_inputs(alloc, &mut lexer)? {
-            Some(more) => inputs.append(&mut more.into_vec())?,
+            Some(given) => inputs.push(given)?,
             None => return Ok(Err(line + lines.saturating_sub(1))),
         }
     }
-    Ok(Ok(Items::new(inputs)))
+    Ok(Ok(inputs))
 }
 
 // What is read of a script, of which these bytes are left from this line on, where they begin with a line that is no text.
 #[tactic(auto, using(crate::proofs::Splitting::left_none, crate::proofs::Splitting::left_ok, crate::proofs::Splitting::left_err))]
-fn unless_left(read: Result<Items<Input>, u32>, rest: &[u8], line: u32) -> Result<Items<Input>, u32>
+fn unless_left(read: Result<ScriptInputs, u32>, rest: &[u8], line: u32) -> Result<ScriptInputs, u32>
     ensures { result ≡ unless_left line (lines_of rest.now) read }
 {
     if rest.is_empty() {
@@ -145,7 +147,7 @@ fn lines_inputs(
     alloc: Global,
     script: &[u8],
     line: u32,
-) -> Result<Result<Items<Input>, u32>, AllocError>
+) -> Result<Result<ScriptInputs, u32>, AllocError>
     requires { line + length script.now < 4294967295 }
     ensures { IfOk result (λ read. read ≡ lines_inputs line (lines_of script.now)) }
 {
@@ -159,6 +161,19 @@ fn lines_inputs(
 
 /// The inputs of a script that begins on this line, or its first bad line.
 #[tactic(auto, unfolding(crate::specs::ScriptSteps::script_inputs), using(up_text::proofs::Comments::no_longer))]
+pub fn read_inputs(
+    alloc: Global,
+    script: &[u8],
+    line: u32,
+) -> Result<Result<ScriptInputs, u32>, AllocError>
+    requires { line + length script.now < 4294967295 }
+    ensures { IfOk result (λ read. read ≡ script_inputs line script.now) }
+{
+    let bytes = without_comments(alloc, script)?;
+    lines_inputs(alloc, bytes.as_slice(), line)
+}
+
+/// The same, each turn for itself.
 pub fn script_inputs(
     alloc: Global,
     script: &[u8],
@@ -167,6 +182,11 @@ pub fn script_inputs(
     requires { line + length script.now < 4294967295 }
     ensures { IfOk result (λ read. read ≡ script_inputs line script.now) }
 {
-    let bytes = without_comments(alloc, script)?;
-    lines_inputs(alloc, bytes.as_slice(), line)
+    match read_inputs(alloc, script, line)? {
+        Ok(inputs) => {
+            let inputs = inputs.expanded(alloc)?;
+            Ok(Ok(inputs))
+        }
+        Err(line) => Ok(Err(line)),
+    }
 }

@@ -1,14 +1,15 @@
 //! Reads the words of a script's line.
-ghost use Rattle.std.specs.Prelude.{◌≡◌, IfOk, [], ◌∷◌, replicate, option_map};
-ghost use Rattle.up_model.specs.declared.input.Input.TheVariants as input;
+ghost use Rattle.std.specs.Prelude.{◌≡◌, IfOk, option_map};
+ghost use Rattle.up_replay.specs.ScriptInputs.{inputs_of_step};
 ghost use Rattle.up_replay.specs.Script.{who_named, process_of, how_of, emit_of, spawned_of, refused_of, ended_of, clock_of, input_of, turns_of, inputs_of};
 
 use crate::requests::request_of;
+use crate::script_inputs::StepInputs;
 use crate::variables::{name_of, vars_of};
 use std::alloc::{AllocError, Global};
 use up_conf::{Signal, number_in};
 use up_model::{Event, How, Input, Process, Who};
-use up_text::{Items, Text};
+use up_text::Text;
 
 fn who_of(alloc: Global, job: &Text, instance: &Text) -> Result<Option<Who>, AllocError>
     ensures { IfOk result (λ who. who ≡ who_named job.now instance.now) }
@@ -155,58 +156,28 @@ fn input_of(alloc: Global, kind: &Text, words: &[Text]) -> Result<Option<Input>,
     }
 }
 
-fn turns(alloc: Global, count: u64) -> Result<Vec<Input>, AllocError>
-    ensures { IfOk result (λ turns. turns.items ≡ replicate count input.Turn) }
-{
-    let mut turns: Vec<Input> = Vec::new(alloc);
-    for _ in 0..count {
-        turns.push(Input::Turn)?;
-    }
-    Ok(turns)
-}
-
-fn turns_of(alloc: Global, words: &[Text]) -> Result<Option<Items<Input>>, AllocError>
-    ensures { IfOk result (λ inputs. inputs ≡ turns_of words.now) }
+fn turns_of(words: &[Text]) -> Option<StepInputs>
+    ensures { option_map inputs_of_step result ≡ turns_of words.now }
 {
     match words {
-        [] => {
-            let turns = turns(alloc, 1)?;
-            Ok(Some(Items::new(turns)))
-        }
-        [count] => {
-            let Some(count) = number_in(1, 1_000_000, count.as_str()) else {
-                return Ok(None);
-            };
-            let turns = turns(alloc, count)?;
-            Ok(Some(Items::new(turns)))
-        }
-        _ => Ok(None),
+        [] => Some(StepInputs::Turns(1)),
+        [count] => number_in(1, 1_000_000, count.as_str()).map(StepInputs::Turns),
+        _ => None,
     }
 }
 
-fn one(alloc: Global, input: Option<Input>) -> Result<Option<Items<Input>>, AllocError>
-    ensures { IfOk result (λ inputs. inputs ≡ option_map (λ one. one ∷ []) input) }
-{
-    let Some(input) = input else {
-        return Ok(None);
-    };
-    let mut inputs: Vec<Input> = Vec::new(alloc);
-    inputs.push(input)?;
-    Ok(Some(Items::new(inputs)))
-}
-
-/// The inputs of a line by its words; a line without words has none.
-pub(crate) fn inputs_of(alloc: Global, words: &[Text]) -> Result<Option<Items<Input>>, AllocError>
-    ensures { IfOk result (λ inputs. inputs ≡ inputs_of words.now) }
+/// What a line gives by its words; a line without words gives nothing.
+pub(crate) fn inputs_of(alloc: Global, words: &[Text]) -> Result<Option<StepInputs>, AllocError>
+    ensures { IfOk result (λ given. option_map inputs_of_step given ≡ inputs_of words.now) }
 {
     match words {
-        [] => Ok(Some(Items::new(Vec::new(alloc)))),
+        [] => Ok(Some(StepInputs::Nothing)),
         [kind, words @ ..] => {
             if kind.is("turn") {
-                turns_of(alloc, words)
+                Ok(turns_of(words))
             } else {
                 let input = input_of(alloc, kind, words)?;
-                one(alloc, input)
+                Ok(input.map(StepInputs::One))
             }
         }
     }

@@ -9,8 +9,8 @@ returns-in_ok-finish-in-Finish-clause-after g c config c' e s known found =
     let is : is_finish c.args.kind ≡ true = ap is_finish c.in-Finish.is in
     rw is (c.in_ok-finish-in-Finish.ensures config c' e s known (free_then config c' e (is_finish c.args.kind) found is))
 
-pub returns-in_ok-finish-in-Finish-clause-takes : goal.returns-in_ok-finish-in-Finish-clause-takes
-returns-in_ok-finish-in-Finish-clause-takes g c config c' e s known found = turn-finishes config c' e (is_finish c.args.kind) found (ap is_finish c.in-Finish.is)
+pub returns-in_ok-finish-in-Finish-clause-concerns : goal.returns-in_ok-finish-in-Finish-clause-concerns
+returns-in_ok-finish-in-Finish-clause-concerns g c config c' e s known found = turn-finishes config c' e (is_finish c.args.kind) found (ap is_finish c.in-Finish.is)
 
-pub returns-in_ok-handle-in-Handle-clause-takes : goal.returns-in_ok-handle-in-Handle-clause-takes
-returns-in_ok-handle-in-Handle-clause-takes g c config c' e s known found = (e, turn-takes config c' e (is_finish c.args.kind) found (ap is_finish c.in-Handle.is), c.in_ok-handle-in-Handle.ensures.events config c' e s known)
+pub returns-in_ok-handle-in-Handle-clause-concerns : goal.returns-in_ok-handle-in-Handle-clause-concerns
+returns-in_ok-handle-in-Handle-clause-concerns g c config c' e s known found = (e, turn-takes config c' e (is_finish c.args.kind) found (ap is_finish c.in-Handle.is), c.in_ok-handle-in-Handle.ensures.events config c' e s known)
