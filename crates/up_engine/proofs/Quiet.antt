@@ -1,5 +1,5 @@
 -- An effect that concerns no instance: if nothing was due before, nothing is due after it.
-use Rattle.std.proofs.Common.{◌≡◌, ℕ, List, [], ◌∷◌, ◌++◌, length, None, refl, sym, ◌∙◌, ap, subst, append_assoc}
+use Rattle.std.proofs.Common.{◌≡◌, ℕ, true, List, [], ◌∷◌, ◌++◌, length, None, refl, sym, ◌∙◌, ap, subst, append_assoc}
 use Rattle.std.specs.List.{AllByRecursion}
 use Rattle.up_conf.specs.declared.job.JobDef.{JobDef}
 use Rattle.up_stanza.specs.declared.process.Process.{Process}
@@ -119,7 +119,7 @@ quiet-due config es c all offers none rests =
 
 pub event-due : (config : Configuration) (event : Event) (c : Chronicle) → due config c ≡ [] → due config (effect config (input.Emit event) c ++ c) ≡ []
 unfolding effect
-event-due config event c rests = quiet-due config (Queued (Outside (length c)) event ∷ Given (input.Emit event) ∷ []) c (tt, tt, tt) refl refl rests
+event-due config event c rests = quiet-due config (Queued (Outside (length c)) event ∷ Given (input.Emit event) ∷ []) c (tt, (tt, tt)) refl refl rests
 
 killing-quiet : (places : List ℕ) → AllByRecursion IsQuiet (killing places)
 killing-quiet [] = tt

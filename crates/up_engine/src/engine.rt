@@ -27,7 +27,7 @@ use up_text::{Env, Items, Text};
 
 /// What runs the jobs of a table: it takes one input a step, and answers what is to be done.
 ///
-/// It keeps of the past what can still matter, so that a step takes no longer, and no more memory, however much has happened.
+/// It keeps of the past what can still matter, and not what is over.
 #[derive(Drop)]
 pub struct Engine {
     alloc: Global,
