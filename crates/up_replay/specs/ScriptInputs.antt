@@ -3,8 +3,8 @@ use Rattle.std.specs.Prelude.{List, [], ◌∷◌, replicate}
 use Rattle.std.specs.List.{flat_map}
 use Rattle.up_model.specs.declared.input.Input.{Input}
 use Rattle.up_model.specs.declared.input.Input.TheVariants as input
-use Rattle.up_replay.specs.declared.script_inputs.StepInputs.{StepInputs}
-use Rattle.up_replay.specs.declared.script_inputs.StepInputs.TheVariants.{Nothing, One, Turns}
+use Rattle.up_replay.specs.declared.scripted.StepInputs.{StepInputs}
+use Rattle.up_replay.specs.declared.scripted.StepInputs.TheVariants.{Nothing, One, Turns}
 
 abbrev pub inputs_of_step : StepInputs → List Input
 inputs_of_step Nothing = []

@@ -12,7 +12,7 @@ mod reread;
 mod running;
 mod same;
 pub mod script;
-pub mod script_inputs;
+pub mod scripted;
 mod variables;
 mod words;
 
@@ -22,4 +22,4 @@ pub use lines::{push_output, push_outputs, push_step};
 pub use printed::{Printed, cannot_use, image_refused};
 pub use replay::{render_bundle, render_folder, write_printed};
 pub use script::{read_inputs, script_inputs};
-pub use script_inputs::ScriptInputs;
+pub use scripted::ScriptInputs;

@@ -18,7 +18,7 @@ use crate::printed::{Printed, cannot_use, push_faults, refused, status_of};
 use crate::reread::reread;
 use crate::running::push_run;
 use crate::script::read_inputs;
-use crate::script_inputs::ScriptInputs;
+use crate::scripted::ScriptInputs;
 use std::alloc::{AllocError, Global};
 use std::io;
 use std::io::{ErrorKind, Read, Write};

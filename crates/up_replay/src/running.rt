@@ -11,7 +11,7 @@ ghost use Rattle.up_replay.specs.Running.{Tells};
 ghost use Rattle.up_replay.specs.ScriptInputs.{inputs_of_step, inputs_of_steps};
 
 use crate::lines::push_step;
-use crate::script_inputs::{ScriptInputs, StepInputs};
+use crate::scripted::{ScriptInputs, StepInputs};
 use std::alloc::{AllocError, Global};
 use up_engine::{Engine, idle_turns};
 use up_image::Table;

@@ -8,7 +8,7 @@ ghost use Rattle.up_replay.specs.ScriptInputs.{inputs_of_step};
 ghost use Rattle.up_replay.specs.ScriptSteps.{is_text, begins_text, after_step, inputs_from, lines_inputs, step_inputs, script_inputs, unless_left, texts_in, IsNext, Fronts, ReachesNoFurther};
 
 use crate::bundle::{as_text, split_line};
-use crate::script_inputs::{ScriptInputs, StepInputs};
+use crate::scripted::{ScriptInputs, StepInputs};
 use crate::words::inputs_of;
 use std::alloc::{AllocError, Global};
 use up_model::Input;

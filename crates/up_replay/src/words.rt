@@ -4,7 +4,7 @@ ghost use Rattle.up_replay.specs.ScriptInputs.{inputs_of_step};
 ghost use Rattle.up_replay.specs.Script.{who_named, process_of, how_of, emit_of, spawned_of, refused_of, ended_of, clock_of, input_of, turns_of, inputs_of};
 
 use crate::requests::request_of;
-use crate::script_inputs::StepInputs;
+use crate::scripted::StepInputs;
 use crate::variables::{name_of, vars_of};
 use std::alloc::{AllocError, Global};
 use up_conf::{Signal, number_in};

@@ -45,10 +45,11 @@ fn push_inputs(inputs: &mut Vec<Input>, step: StepInputs) -> Result<(), AllocErr
     ensures { OnOk result (inputs.new.items ≡ inputs.old.items ++ inputs_of_step step) }
 {
     match step {
-        StepInputs::Nothing => Ok(()),
-        StepInputs::One(input) => inputs.push(input),
-        StepInputs::Turns(count) => push_turns(inputs, count),
+        StepInputs::Nothing => {}
+        StepInputs::One(input) => inputs.push(input)?,
+        StepInputs::Turns(count) => push_turns(inputs, count)?,
     }
+    Ok(())
 }
 
 // The inputs of steps, one after another.
@@ -76,7 +77,8 @@ impl ScriptInputs {
     pub(crate) fn push(&mut self, step: StepInputs) -> Result<(), AllocError>
         ensures { OnOk result (self.new ≡ self.old ++ inputs_of_step step) }
     {
-        self.steps.push(step)
+        self.steps.push(step)?;
+        Ok(())
     }
 
     pub(crate) fn into_steps(self) -> Vec<StepInputs>

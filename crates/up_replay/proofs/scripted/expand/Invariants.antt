@@ -1,7 +1,7 @@
 use Rattle.std.proofs.Common.{◌≡◌, ◌++◌, length}
 use Rattle.std.specs.Vec.Iter.{into_iter_items, into_iter_len}
 use Rattle.up_replay.specs.ScriptInputs.{inputs_of_steps}
-use Rattle.up_replay.proofs.script_inputs.expand.Given as goal
+use Rattle.up_replay.proofs.scripted.expand.Given as goal
 
 abbrev pub invariant-loop-step : goal.invariant-loop-step
 invariant-loop-step l = record {
