@@ -142,7 +142,6 @@ turn-finishes config c e handled found is = effect-offers config input.Turn c (�
     no : handled ≡ false → ⊥
     no not_ = let both : true ≡ false = sym is ∙ not_ in absurd cc
 
-
 -- any other takes it up
 pub turn-takes : (config : Configuration) (c : Chronicle) (e : ℕ) (handled : Bool) → turn_event config (queue.queue c) c ≡ Some (queue.live_at e handled) → handled ≡ false
     → effect config input.Turn c ++ c ≡ Handled e ∷ Given input.Turn ∷ c

@@ -93,4 +93,3 @@ pub(crate) fn push_run(
     drop(engine);
     pushed
 }
-
