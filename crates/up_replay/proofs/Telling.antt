@@ -1,5 +1,5 @@
 -- The lines of an engine's answers, one run of inputs after another.
-use Rattle.std.proofs.Common.{◌≡◌, ℕ, zero, suc, ◌+◌, ◌-◌, ◌≤◌, Bool, false, List, [], ◌∷◌, ◌++◌, Option, None, Some, is_some, replicate, refl, sym, ◌∙◌, ap, subst, arith, append_assoc, append-nil}
+use Rattle.std.proofs.Common.{◌≡◌, ℕ, zero, suc, ◌+◌, ◌-◌, ◌≤◌, Bool, false, List, [], ◌∷◌, ◌++◌, Option, None, Some, is_some, replicate, refl, sym, ◌∙◌, ap, subst, arith, add-one, append_assoc, append-nil}
 use Rattle.std.specs.List.{flat_map}
 use Rattle.up_engine.specs.declared.engine.Engine.{Engine}
 use Rattle.up_engine.specs.Stands.{Stands}
@@ -11,10 +11,16 @@ use Rattle.up_model.specs.Chronicle.{Chronicle}
 use Rattle.up_model.specs.Configuration.{Configuration}
 use Rattle.up_replay.specs.Lines.{step_lines}
 use Rattle.up_replay.specs.Running.{Tells}
+use Rattle.up_replay.specs.ScriptInputs.{inputs_of_step, inputs_of_steps}
+use Rattle.up_replay.specs.declared.scripted.StepInputs.{StepInputs}
 
-pub flat-append : {X Y : Type 0} (f : X → List Y) (xs ys : List X) → flat_map f (xs ++ ys) ≡ flat_map f xs ++ flat_map f ys
+flat-append : {X Y : Type 0} (f : X → List Y) (xs ys : List X) → flat_map f (xs ++ ys) ≡ flat_map f xs ++ flat_map f ys
 flat-append f [] ys = refl
 flat-append f (x ∷ xs) ys = ap (λ rest. f x ++ rest) (flat-append f xs ys) ∙ sym (append_assoc (f x) (flat_map f xs) (flat_map f ys))
+
+-- the inputs of one step more
+pub one-step-more : (steps : List StepInputs) (step : StepInputs) → inputs_of_steps steps ++ inputs_of_step step ≡ inputs_of_steps (steps ++ step ∷ [])
+one-step-more steps step = ap (λ more. inputs_of_steps steps ++ more) (sym (append-nil (inputs_of_step step))) ∙ sym (flat-append inputs_of_step steps (step ∷ []))
 
 answers-append : (config : Configuration) (c : Chronicle) (xs ys : List Input) → answers config c (xs ++ ys) ≡ answers config c xs ++ answers config (after_all config c xs) ys
 unfolding answers after_all
@@ -48,9 +54,12 @@ tells-then old text new first engine config c xs ys before more =
     }
 
 -- turns, one more or many more
-pub one-more : (n : ℕ) (given : Input) → replicate n given ++ given ∷ [] ≡ replicate (suc n) given
-one-more zero given = refl
-one-more (suc n) given = ap (λ rest. given ∷ rest) (one-more n given)
+pub one-after : (n : ℕ) (given : Input) → replicate n given ++ given ∷ [] ≡ replicate (suc n) given
+one-after zero given = refl
+one-after (suc n) given = ap (λ rest. given ∷ rest) (one-after n given)
+
+pub one-more : (n : ℕ) (given : Input) → replicate n given ++ given ∷ [] ≡ replicate (n + 1) given
+one-more n given = one-after n given ∙ ap (λ k. replicate k given) (sym (add-one n))
 
 many-more : (n m : ℕ) (given : Input) → replicate n given ++ replicate m given ≡ replicate (n + m) given
 many-more zero m given = ap (λ k. replicate k given) (omega arith)
@@ -60,7 +69,7 @@ many-more (suc n) m given =
     the : (A : Type 0) → A → A
     the A a = a
 
-none-found : {X : Type 0} (o : Option X) → is_some o ≡ false → o ≡ None
+pub none-found : {X : Type 0} (o : Option X) → is_some o ≡ false → o ≡ None
 none-found None none = refl
 none-found (Some x) none = cc
 

@@ -56,10 +56,11 @@ fn push_step_answers(
         → Tells text.old.items text.new.items engine.new config c (inputs_of_step given)) }
 {
     match given {
-        StepInputs::Nothing => Ok(()),
-        StepInputs::One(given) => push_answer(text, engine, given),
-        StepInputs::Turns(count) => push_turns(text, engine, count),
+        StepInputs::Nothing => {}
+        StepInputs::One(given) => push_answer(text, engine, given)?,
+        StepInputs::Turns(count) => push_turns(text, engine, count)?,
     }
+    Ok(())
 }
 
 // The lines of the answers to the inputs of a script.
