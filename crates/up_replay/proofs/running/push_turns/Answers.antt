@@ -1,4 +1,4 @@
-use Rattle.std.proofs.Common.{◌-◌, ◌∷◌, [], sym, ◌∙◌, ap, subst, arith, replicate}
+use Rattle.std.proofs.Common.{◌-◌, ◌∷◌, [], sym, ◌∙◌, subst, arith, replicate}
 use Rattle.up_model.specs.declared.input.Input.TheVariants.{Turn}
 use Rattle.up_model.specs.Answers.{after_all}
 use Rattle.up_model.specs.Due.{turn_event}

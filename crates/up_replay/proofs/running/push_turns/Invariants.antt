@@ -1,4 +1,4 @@
-use Rattle.std.proofs.Common.{◌≤◌, replicate}
+use Rattle.std.proofs.Common.{replicate}
 use Rattle.up_engine.specs.Stands.{Stands}
 use Rattle.up_model.specs.declared.input.Input.TheVariants.{Turn}
 use Rattle.up_model.specs.Chronicle.{Chronicle}
