@@ -1,5 +1,5 @@
 -- What is printed depends on no more than one byte past the most that a bundle has.
-use Rattle.std.proofs.Common.{◌≡◌, ℕ, ◌<◌, ◌≤◌, false, List, length, take, nat_le, length-take, arith, refl, ap, ⊎_elim, subst, inl, inr, ◌∙◌, Option, Some, None, codes}
+use Rattle.std.proofs.Common.{◌≡◌, ℕ, ◌<◌, ◌≤◌, false, List, length, take, nat_le, length-take, arith, refl, ap, ⊎_elim, subst, inl, ◌∙◌, Option, Some, None, codes}
 use Rattle.std.specs.Prelude.{IfSome}
 use Rattle.std.specs.Io.KnownBytes.{Appends}
 use Rattle.std.proofs.lemmas.Bool.{cases_lt}
@@ -70,8 +70,7 @@ replayed_known None bytes made status old new front had wrote begun = tt
 replayed_known (Some all) bytes made status old new front had wrote begun =
     (replayed_whole all bytes made status old new front had wrote, λ three. cut_off all bytes made old new front had begun)
 
--- what was written if the bytes couldn't be read
-pub unread_known : (known : Option (List ℕ)) (status : ℕ) (old new : Option (List ℕ)) → status ≡ 3 → IsBegun old new (unusable (codes "-"))
-    → IfSome known (λ all. Replays all status old new)
-unread_known None status old new three begun = tt
-unread_known (Some all) status old new three begun = ((λ below. absurd (omega (arith, three, below))), λ same. inr begun)
+-- nothing is promised of a status past 3
+pub refused_known : (known : Option (List ℕ)) (status : ℕ) (old new : Option (List ℕ)) → 3 < status → IfSome known (λ all. Replays all status old new)
+refused_known None status old new past = tt
+refused_known (Some all) status old new past = ((λ below. absurd (omega (arith, past, below))), λ same. absurd (omega (arith, past, same)))
