@@ -12,3 +12,4 @@ pub mod Counted
 pub mod Numberings
 pub mod Wholes
 pub mod Endings
+pub mod Departures

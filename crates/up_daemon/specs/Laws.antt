@@ -12,6 +12,7 @@ use Rattle.up_daemon.specs.declared.passed.Passed.{Passed}
 use Rattle.up_daemon.specs.Rounds.{IsRound}
 use Rattle.up_daemon.specs.RoundStates.{DaemonState, HasItsClients}
 use Rattle.up_daemon.specs.Counting.{MakesCalls}
+use Rattle.up_daemon.specs.Departing.{Departs}
 use Rattle.up_daemon.specs.Numbering.{AreNumbered}
 use Rattle.up_daemon.specs.Wholeness.{AreWhole}
 use Rattle.up_daemon.specs.Exchanges.{Exchange, open_after, frames_for, written_to, weight_given, weight_replied, requests_in, requests_of, asked_by, IsHeard, IsAmong, IsNumbered}
@@ -59,3 +60,8 @@ KeepsWhole = (config : Configuration) (c : Chronicle) (start : DaemonState) (fed
 abbrev pub CountsCalls : Type 0
 CountsCalls = (config : Configuration) (c : Chronicle) (start : DaemonState) (fed : List Input) (gave : List (List Output))
     (end : DaemonState) → IsRound config c start fed gave end → MakesCalls start fed gave end
+
+-- a client is closed for an end of input, a broken frame or a call of it that failed, and for nothing else
+abbrev pub ClosesForCause : Type 0
+ClosesForCause = (config : Configuration) (c : Chronicle) (start : DaemonState) (fed : List Input) (gave : List (List Output))
+    (end : DaemonState) → IsRound config c start fed gave end → Departs start end

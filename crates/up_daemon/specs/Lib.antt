@@ -38,5 +38,7 @@ pub mod Ending
 pub mod Exchanges
 -- How many calls a round makes.
 pub mod Counting
+-- Who is closed in a round, and why.
+pub mod Departing
 -- The laws of a round.
 pub mod Laws

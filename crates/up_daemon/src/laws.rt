@@ -1,5 +1,5 @@
 //! Laws of a round, of the relation that says what it does.
-ghost use Rattle.up_daemon.specs.Laws.{CountsCalls, LosesNothing, NumbersRequests, KeepsWhole};
+ghost use Rattle.up_daemon.specs.Laws.{ClosesForCause, CountsCalls, LosesNothing, NumbersRequests, KeepsWhole};
 
 /// No request and no reply is lost: the bytes written to a client and those that still wait are the frames of the replies to its
 /// requests, after what waited before; its requests that entered and those that still wait are those of the bytes read from it.
@@ -21,4 +21,9 @@ pub fn keeps_whole()
 /// orders: each is an entry of the record or one fault.
 pub fn counts_calls()
     ensures { CountsCalls }
+{}
+
+/// A client is closed only if it sends no more, if bytes that were read from it break a frame, or if a read or a write of it failed.
+pub fn closes_for_cause()
+    ensures { ClosesForCause }
 {}

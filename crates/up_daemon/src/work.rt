@@ -1,11 +1,11 @@
 //! The work of a daemon: an input is fed to the engine, and its orders are carried out.
-ghost use Rattle.std.specs.Prelude.{◌≡◌, ◌≤◌, ◌<◌, ◌+◌, ◌∷◌, ℕ, [], List, true, None, reverse, IfOk, OnOk, MatchOption};
+ghost use Rattle.std.specs.Prelude.{◌≡◌, ◌≤◌, ◌<◌, ◌+◌, ◌∷◌, ℕ, [], List, true, None, Err, alloc_error, reverse, IfOk, OnOk, MatchOption};
 ghost use Rattle.up_daemon.specs.Answering.{IsAnswered};
 ghost use Rattle.up_daemon.specs.declared.passed.Passed.{Passed};
 ghost use Rattle.up_daemon.specs.Rounds.{ran, ran_not};
 ghost use Rattle.up_daemon.specs.RoundStates.{Part, DaemonState, HasOrders};
 ghost use Rattle.up_daemon.specs.Working.{IsStarted, IsSent};
-ghost use Rattle.up_engine.specs.Stands.{Stands, left_of};
+ghost use Rattle.up_engine.specs.Stands.{Stands, IsDown, left_of};
 ghost use Rattle.up_host.specs.Calls.{Calls};
 ghost use Rattle.up_model.specs.Answers.{after_all};
 ghost use Rattle.up_model.specs.Chronicle.{Chronicle};
@@ -38,6 +38,7 @@ fn outputs_of(alloc: Global, engine: &mut Engine, given: Input) -> Result<Vec<Ou
         → IsAnswered engine.old engine.new config c given outputs.items) }
     ensures left { IfOk result (λ outputs. is_calm given ≡ true
         → left_of engine.new + spawns outputs.items ≤ left_of engine.old) }
+    ensures down { IsDown engine.old → result ≡ Err alloc_error }
 {
     match engine.step(given) {
         Ok(outputs) => Ok(outputs),

@@ -140,8 +140,12 @@ pub(crate) fn door_of(
     }
 }
 
-// A door to which one client comes.
-fn one_client(alloc: Global, says: &[Said<'_>], takes: &[usize]) -> Result<ScriptDoor, AllocError> {
+/// A door to which one client comes.
+pub(crate) fn one_client(
+    alloc: Global,
+    says: &[Said<'_>],
+    takes: &[usize],
+) -> Result<ScriptDoor, AllocError> {
     let mut visits: Vec<Option<Visitor>> = Vec::new(alloc);
     let made = push_client(alloc, &mut visits, says, takes);
     door_of(alloc, visits, made, &[])

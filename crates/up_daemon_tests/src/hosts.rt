@@ -91,8 +91,12 @@ fn push_ends(alloc: Global, ends: &mut Vec<Option<End>>, polls: usize) -> Result
     Ok(())
 }
 
-// A host whose first process ends so.
-fn late_host(alloc: Global, polls: usize, failures: &[Failure]) -> Result<ScriptHost, AllocError> {
+/// A host whose first process ends after so many polls that find nothing.
+pub(crate) fn late_host(
+    alloc: Global,
+    polls: usize,
+    failures: &[Failure],
+) -> Result<ScriptHost, AllocError> {
     let mut ends: Vec<Option<End>> = Vec::new(alloc);
     match push_ends(alloc, &mut ends, polls) {
         Ok(()) => host(alloc, &[100], ends, failures),

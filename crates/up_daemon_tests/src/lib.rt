@@ -9,3 +9,5 @@ mod doors;
 mod hosts;
 #[cfg(test)]
 mod stage;
+#[cfg(test)]
+mod waiting;

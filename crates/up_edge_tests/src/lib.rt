@@ -6,6 +6,8 @@ mod children;
 #[cfg(test)]
 mod faults;
 #[cfg(test)]
+mod init;
+#[cfg(test)]
 mod orders;
 #[cfg(test)]
 mod scripts;

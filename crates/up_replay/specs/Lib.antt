@@ -16,5 +16,7 @@ pub mod ScriptSteps
 pub mod ScriptInputs
 -- What an engine's answers print.
 pub mod Running
+-- What is written as far as a writer takes it.
+pub mod Writing
 -- What a replay prints, and its status.
 pub mod Replay

@@ -15,6 +15,7 @@ pub mod script;
 pub mod scripted;
 mod variables;
 mod words;
+mod writes;
 
 pub use bundle::{Bundle, read_bundle};
 pub use inputs::script_lines;
