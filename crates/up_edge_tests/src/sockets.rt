@@ -71,7 +71,7 @@ fn a_path_that_is_empty_or_too_long_or_there_is_refused(rt: HostRuntime) -> Resu
     assert_eq!(rt; refusal(&rt, "/tmp"), Some(SocketFault::Exists));
     assert_eq!(rt;
         refusal(&rt, "/no/such/folder/s"),
-        Some(SocketFault::Unusable)
+        Some(SocketFault::Unusable(ErrorKind::NotFound))
     );
     Ok(())
 }
