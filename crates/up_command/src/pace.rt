@@ -16,8 +16,8 @@ pub(crate) const SHORT_PAUSE: u64 = 100;
 /// The first pause after the short ones, in microseconds.
 const FIRST_PAUSE: u64 = 1_000;
 
-/// Each further pause is longer by this part of the one before. So no pause is longer than that part of the time for which nothing
-/// happened, and one millisecond.
+/// Each further pause is longer by this part of the one before, in whole milliseconds. So no pause is longer than a millisecond and a twelfth
+/// of the time for which nothing has happened.
 const GROWTH: u64 = 16;
 
 /// How long a run pauses: a moment right after something happened, and longer the longer nothing does.
