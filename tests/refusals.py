@@ -105,8 +105,11 @@ def sources_that_cant_be_read(work):
     folder = work / "odd"
     write(folder, {"a.conf": "exec /bin/true\n"})
     (folder / "nowhere").symlink_to("/no/such/file")
-    (folder / "round").symlink_to("round")
-    check("links to nothing are passed over", initd_said("check", folder), ("1 jobs, 0 faults\n", "", 0))
+    check("a link to nothing is passed over", initd_said("check", folder), ("1 jobs, 0 faults\n", "", 0))
+    link = folder / "round"
+    link.symlink_to("round")
+    check("a link to itself is not", initd_said("check", folder), unusable(folder, "Too many levels of symbolic links", link))
+    link.unlink()
     job = folder / "x.conf"
     job.symlink_to("/no/such/file")
     check("a job file that is a link to nothing", initd_said("check", folder), unusable(job, "No such file or directory"))

@@ -127,6 +127,14 @@ pub fn read_file<R: Files + AllocGlobal>(rt: &R, path: &str, most: usize) -> io:
     Ok(bytes)
 }
 
+// Whether an error isn't that of one file that could be passed over: too many links are met also where a folder lies in itself.
+fn is_of_folder(error: &io::Error) -> bool {
+    matches!(
+        error.kind(),
+        ErrorKind::FilesystemLoop | ErrorKind::OutOfMemory
+    )
+}
+
 // The bytes of a job file; none of another file. A pipe or a device is no file that could be read whole.
 fn read_source<R: Files + Eprint + AllocGlobal>(
     rt: &R,
@@ -223,8 +231,8 @@ impl Found {
             Err(error) if is_source(path.as_str()) => {
                 Err(refused(rt, error, whole.as_str(), whole.as_str()))
             }
-            Err(error) if error.kind() == ErrorKind::OutOfMemory => Err(WalkError::Memory),
-            // By its name no job file: a link to nothing or to itself, what may not be looked at, or what went meanwhile.
+            Err(error) if is_of_folder(&error) => Err(refused(rt, error, whole.as_str(), dir)),
+            // By its name no job file: a link to nothing, what may not be looked at, or what went meanwhile.
             Err(_) => Ok(()),
         }
     }
