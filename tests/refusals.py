@@ -19,6 +19,16 @@ def unusable(path, why, named=None):
     return f"initd: cannot use {path}\n", f"initd: {named or path}: {why}\n", 3
 
 
+def a_device(work):
+    """A device that it is no harm to lose: one of our own, or one that we couldn't replace."""
+    own = work / "null"
+    try:
+        os.mknod(own, stat.S_IFCHR | 0o600, os.makedev(1, 3))
+    except OSError:
+        return pathlib.Path("/dev/null")
+    return own
+
+
 def an_image_that_replaces_nothing(work, folder):
     link, pipe, there = work / "link.image", work / "pipe.image", work / "there.image"
     link.symlink_to(work / "elsewhere.image")
@@ -28,10 +38,10 @@ def an_image_that_replaces_nothing(work, folder):
     check("compile to a pipe", initd_said("compile", folder, pipe), unusable(pipe, "it is no regular file, and isn't replaced"))
     check("the pipe is still there", pipe.is_fifo(), True)
     check("compile to a folder", initd_said("compile", folder, folder), unusable(folder, "it is a folder, and isn't replaced"))
-    device = "/dev/null"
+    device = a_device(work)
     check("compile to a device", initd_said("compile", folder, device), unusable(device, "it is no regular file, and isn't replaced"))
     check("the device is still there", stat.S_ISCHR(os.stat(device).st_mode), True)
-    output = "/dev/stdout"
+    output = pathlib.Path("/dev/stdout")
     check("compile to the standard output", initd_said("compile", folder, output), unusable(output, "it is a symbolic link, and isn't replaced"))
     away = work / "no" / "image"
     check("compile to no folder", initd_said("compile", folder, away), unusable(away, "No such file or directory"))
@@ -68,7 +78,7 @@ def a_record_that_is_there(work, folder):
     write(work / "idle", {"a.conf": "exec /bin/true\n"})
     ended = initd_said("run", work / "idle", other, "--record", record, "--record-over", "--rounds", "2")
     check("a run that may write over a record", ended, ("", "", 0))
-    check("the record is that of the last run", "clock 1" in record.read_text() or len(record.read_text().splitlines()) < 6, True)
+    check("the record is that of the last run", ("spawned clock" in kept, "spawned clock" in record.read_text()), (True, False))
     other.unlink()
     away = work / "no" / "record"
     check("a record in no folder", initd_said("run", folder, other, "--record", away), unusable(away, "No such file or directory"))

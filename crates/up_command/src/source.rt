@@ -1,6 +1,6 @@
 //! Replays a script over a folder on the disk, or over an image.
-ghost use Rattle.std.specs.Prelude.{◌≡◌, ◌⊎◌, IfOk};
-ghost use Rattle.up_command.specs.Disk.{IsRefusedImage, IsUnusable, PlaysImage, PlaysSource, PlaysStored};
+ghost use Rattle.std.specs.Prelude.{IfOk};
+ghost use Rattle.up_command.specs.Disk.{PlaysSource, PlaysStored};
 
 use crate::disk::{play, replay_dir};
 use crate::image::{define_image, no_files, read_bytes};
