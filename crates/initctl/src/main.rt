@@ -16,15 +16,23 @@ fn words_of(rt: &(impl Env + AllocGlobal)) -> io::Result<Vec<String>> {
     Ok(words)
 }
 
-fn main(rt: HostRuntime) -> ExitCode {
-    match words_of(&rt) {
-        Ok(words) => ExitCode::from(up_client::run(&rt, words.as_slice()).number()),
-        Err(error) => {
-            if error.kind() == ErrorKind::OutOfMemory {
-                ExitCode::from(ExitStatus::Memory.number())
-            } else {
-                ExitCode::from(ExitStatus::Usage.number())
-            }
-        }
+// The status of words that can't be read.
+fn status_of(error: &io::Error) -> ExitStatus {
+    if error.kind() == ErrorKind::OutOfMemory {
+        ExitStatus::Memory
+    } else {
+        ExitStatus::Usage
     }
+}
+
+fn main(rt: HostRuntime) -> ExitCode {
+    let status = match words_of(&rt) {
+        Ok(words) => up_client::run(&rt, words.as_slice()),
+        Err(error) => status_of(&error),
+    };
+    if status == ExitStatus::Memory {
+        // A text that is there from the start: to write it takes no memory.
+        let _ = eprintln!(rt; "initctl: out of memory");
+    }
+    ExitCode::from(status.number())
 }

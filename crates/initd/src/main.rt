@@ -1,13 +1,34 @@
 //! The program `initd`: says what the job files of a folder do, and which are faulty.
 #![tactic(auto)]
 
+use std::fs::{File, OpenOptions};
 use std::io::ErrorKind;
+use std::os::fd::{AsRawFd, IntoRawFd};
 use std::process::ExitCode;
 use std::rt::Env;
 use std::{env, io};
 use up_command::answer::answer;
 use up_command::{print_refusal, read_words};
 use up_model::ExitStatus;
+
+// Opens the null device at each of the descriptors 0 to 2 without which the program was started. Else the next files that are opened
+// would be its standard input and outputs, and those of its services.
+fn fill_standard(rt: &HostRuntime) -> io::Result<()> {
+    for _ in 0..3 {
+        let probe = File::open(rt, "/")?;
+        let is_open = probe.as_raw_fd() > 2;
+        drop(probe);
+        if is_open {
+            return Ok(());
+        }
+        let null = OpenOptions::new()
+            .read(true)
+            .write(true)
+            .open(rt, "/dev/null")?;
+        let _ = null.into_raw_fd();
+    }
+    Ok(())
+}
 
 // The words of the command line, the program's name first.
 fn words_of(rt: &(impl Env + AllocGlobal)) -> io::Result<Vec<String>> {
@@ -20,6 +41,7 @@ fn words_of(rt: &(impl Env + AllocGlobal)) -> io::Result<Vec<String>> {
 
 // Does what the command line asks for, and returns the status.
 fn run(rt: &HostRuntime) -> io::Result<ExitStatus> {
+    fill_standard(rt)?;
     let words = words_of(rt)?;
     match read_words(rt.alloc(), words.as_slice()) {
         Ok((asked, base)) => answer(rt, asked, base),
@@ -27,15 +49,23 @@ fn run(rt: &HostRuntime) -> io::Result<ExitStatus> {
     }
 }
 
-fn main(rt: HostRuntime) -> ExitCode {
-    match run(&rt) {
-        Ok(status) => ExitCode::from(status.number()),
-        Err(error) => {
-            if error.kind() == ErrorKind::OutOfMemory {
-                ExitCode::from(ExitStatus::Memory.number())
-            } else {
-                ExitCode::from(ExitStatus::Unusable.number())
-            }
-        }
+// The status that an error is.
+fn status_of(error: &io::Error) -> ExitStatus {
+    if error.kind() == ErrorKind::OutOfMemory {
+        ExitStatus::Memory
+    } else {
+        ExitStatus::Unusable
     }
+}
+
+fn main(rt: HostRuntime) -> ExitCode {
+    let status = match run(&rt) {
+        Ok(status) => status,
+        Err(error) => status_of(&error),
+    };
+    if status == ExitStatus::Memory {
+        // A text that is there from the start: to write it takes no memory.
+        let _ = eprintln!(rt; "initd: out of memory");
+    }
+    ExitCode::from(status.number())
 }

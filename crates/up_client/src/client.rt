@@ -12,15 +12,19 @@ use crate::talk::{TalkFault, talk};
 use clap::error::ErrorKind;
 use clap::{Arg, ArgAction, ArgMatches, Command, Error};
 use std::alloc::{AllocError, Global};
-use std::env;
 use std::io::Eprint;
 use std::net::Net;
 use std::os::unix::net::UnixStream;
 use std::rt::Env;
+use std::{env, io};
 use up_model::{Answer, ExitStatus};
+use up_text::{Env as Variables, TextFault};
 use up_wire::{WireFault, command_line, request_of, write_request};
 
 const PROFILE: &str = "initctl (upstart profile 1)";
+
+/// How the tip to pass an option as a value begins.
+const VALUE_TIP: &str = "\n\n  tip: to pass '";
 
 fn socket<'a>(alloc: Global) -> Arg<'a>
     ensures rule { rule_of result ≡ socket_rule }
@@ -41,8 +45,35 @@ pub fn with_socket<'a>(alloc: Global) -> Result<Command<'a>, AllocError>
     Ok(command)
 }
 
+// What is said in place of the tip to pass an option as a value.
+fn tip_for(fault: &str) -> &'static str {
+    if fault.contains("'--socket'") {
+        "  tip: '--socket PATH' stands before the command\n\n"
+    } else {
+        ""
+    }
+}
+
+// Prints the fault and the usage of a text, whose tip to pass an option as a value is left out: no job and no variable begins so.
+fn print_text<R: Eprint>(rt: &R, text: &str) -> io::Result<()> {
+    let Some((fault, rest)) = text.split_once(VALUE_TIP) else {
+        return eprint!(rt; "{text}");
+    };
+    let (_, usage) = rest.split_once("\n\n").unwrap_or(("", ""));
+    let tip = tip_for(fault);
+    eprint!(rt; "{fault}\n\n{tip}{usage}")
+}
+
+// Prints why a command line is refused.
+fn print_fault<R: Print + Eprint + AllocGlobal>(rt: &R, error: &Error) -> io::Result<()> {
+    match format!(in rt.alloc(); "{error}") {
+        Ok(text) => print_text(rt, text.as_str()),
+        Err(_) => error.print(rt),
+    }
+}
+
 // Prints why a command line is refused, or the help that it asks for.
-fn print_refusal<R: Print + Eprint>(rt: &R, error: &Error) -> ExitStatus
+fn print_refusal<R: Print + Eprint + AllocGlobal>(rt: &R, error: &Error) -> ExitStatus
     ensures status { IsStatus result }
     ensures memory { kind_of error.now ≡ ErrorKind.OutOfMemory → result ≡ status.Memory }
     ensures usage { kind_of error.now ≡ ErrorKind.MissingRequiredArgument → result ≡ status.Usage }
@@ -54,7 +85,7 @@ fn print_refusal<R: Print + Eprint>(rt: &R, error: &Error) -> ExitStatus
             Err(_) => ExitStatus::Failed,
         },
         _ => {
-            let _ = error.print(rt);
+            let _ = print_fault(rt, error);
             ExitStatus::Usage
         }
     }
@@ -108,6 +139,40 @@ fn ask<R: Net + Print + Eprint>(rt: &R, alloc: Global, socket: &str, frame: &[u8
     }
 }
 
+// Whether a word sets a variable.
+fn is_binding(alloc: Global, word: &str) -> bool {
+    match word.split_once('=') {
+        Some((key, value)) => {
+            !matches!(
+                Variables::new(alloc).set(key, value),
+                Err(TextFault::BadName)
+            )
+        }
+        None => false,
+    }
+}
+
+// The word for which a request is refused: the first that sets no variable, or else the name.
+fn bad_word<'a>(alloc: Global, matches: &ArgMatches<'a>) -> &'a str {
+    let Some((_, given)) = matches.subcommand() else {
+        return "";
+    };
+    for word in given.get_strs("VARS").unwrap_or(&[]) {
+        if !is_binding(alloc, *word) {
+            return *word;
+        }
+    }
+    given.get_str("NAME").unwrap_or("")
+}
+
+// Says which word makes words no request.
+fn refuse_word<R: Eprint>(rt: &R, word: &str) -> ExitStatus
+    ensures { result ≡ status.Failed }
+{
+    let _ = eprintln!(rt; "initctl: Bad word: {word}");
+    ExitStatus::Failed
+}
+
 fn act<R: Net + Print + Eprint>(
     rt: &R,
     alloc: Global,
@@ -121,11 +186,12 @@ fn act<R: Net + Print + Eprint>(
     match frame_of(alloc, matches) {
         Ok(frame) => ask(rt, alloc, socket, &frame),
         Err(WireFault::Memory) => ExitStatus::Memory,
-        Err(_) => fail(rt, "Bad word"),
+        Err(WireFault::FrameTooLarge) => fail(rt, "Request too large"),
+        Err(_) => refuse_word(rt, bad_word(alloc, matches)),
     }
 }
 
-fn no_socket<R: Print + Eprint>(rt: &R, command: &mut Command) -> ExitStatus
+fn no_socket<R: Print + Eprint + AllocGlobal>(rt: &R, command: &mut Command) -> ExitStatus
     ensures { IsStatus result }
 {
     match command.error(

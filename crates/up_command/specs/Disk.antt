@@ -65,16 +65,37 @@ abbrev pub ShowsFile : List ℕ → Printed → Type 0
 ShowsFile image made = ((bytes : List ℕ) × ShowsImage bytes made)
     ⊎ (IsUnusable image made ⊎ IsRefusedImage made)
 
--- a replay of a script, which has 64 MiB at most, over the files that the folder has, with a base environment
-pub record PlaysFiles (base : List (List ℕ × List ℕ)) (script : List ℕ) (made : Printed) : Type 0 where
-  pub files : List File
-  pub walked : IsWalked files
+-- a replay of a script, which has 64 MiB at most, over these files, with a base environment
+pub record PlaysOver (files : List File) (base : List (List ℕ × List ℕ)) (script : List ℕ)
+    (made : Printed) : Type 0 where
   pub bytes : List ℕ
   pub bounded : length bytes ≤ MAX_BUNDLE
   pub plays : Plays files base script (script_inputs 1 bytes) made
 
+-- such a replay over the files that the folder has
+pub record PlaysFiles (base : List (List ℕ × List ℕ)) (script : List ℕ) (made : Printed) : Type 0 where
+  pub files : List File
+  pub walked : IsWalked files
+  pub over : PlaysOver files base script made
+
 abbrev pub PlaysDir : List ℕ → List (List ℕ × List ℕ) → List ℕ → Printed → Type 0
 PlaysDir dir base script made = PlaysFiles base script made ⊎ (CannotWalk dir made ⊎ IsUnusable script made)
+
+-- a replay of a script over files that define the jobs of an image
+pub record PlaysImage (base : List (List ℕ × List ℕ)) (script : List ℕ) (made : Printed) : Type 0 where
+  pub files : List File
+  pub image : List ℕ
+  pub has : IsImage image (jobs_of files)
+  pub over : PlaysOver files base script made
+
+-- the same for an image in a file, or why there is none
+abbrev pub PlaysStored : List ℕ → List (List ℕ × List ℕ) → List ℕ → Printed → Type 0
+PlaysStored image base script made = PlaysImage base script made
+    ⊎ (IsRefusedImage made ⊎ (IsUnusable image made ⊎ IsUnusable script made))
+
+-- a replay of a script over a folder or an image
+abbrev pub PlaysSource : List ℕ → List (List ℕ × List ℕ) → List ℕ → Printed → Type 0
+PlaysSource source base script made = PlaysDir source base script made ⊎ PlaysStored source base script made
 
 -- the status of something that may be printed, unless it can't be written or memory is refused
 abbrev pub EndsWith : (Printed → Type 0) → ExitStatus → Type 0
@@ -88,5 +109,5 @@ Answers base Bundle status = Unit {0}
 Answers base (Check dir) status = EndsWith (ChecksDir dir.now) status
 Answers base (Compile dir image) status = EndsWith (CompilesDir dir.now image.now) status
 Answers base (Show image) status = EndsWith (ShowsFile image.now) status
-Answers base (Replay dir script) status = EndsWith (PlaysDir dir.now base script.now) status
+Answers base (Replay source script) status = EndsWith (PlaysSource source.now base script.now) status
 Answers base (Run source socket rounds telling) status = Unit {0}

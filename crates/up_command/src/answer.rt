@@ -3,9 +3,10 @@ ghost use Rattle.std.specs.Prelude.{◌≡◌, IfOk, Ok};
 ghost use Rattle.up_command.specs.Disk.{Answers, EndsWith};
 
 use crate::command::Asked;
-use crate::disk::{check_dir, replay_dir};
+use crate::disk::check_dir;
 use crate::image::{compile_dir, show_image};
 use crate::run::run_source;
+use crate::source::replay_source;
 use std::alloc::AllocError;
 use std::io;
 use std::io::{BufWriter, Eprint, Write};
@@ -56,7 +57,7 @@ pub fn answer<
         Asked::Check { dir } => print(rt, check_dir(rt, dir)),
         Asked::Compile { dir, image } => print(rt, compile_dir(rt, dir, image)),
         Asked::Show { image } => print(rt, show_image(rt, image)),
-        Asked::Replay { dir, script } => print(rt, replay_dir(rt, dir, base, script)),
+        Asked::Replay { source, script } => { print(rt, replay_source(rt, source, base, script)) }
         Asked::Run {
             source,
             socket,

@@ -52,6 +52,13 @@ const IMAGE: Argument = Argument {
     kind: ArgumentKind::Place,
 };
 
+const SOURCE: Argument = Argument {
+    id: "SOURCE",
+    shown: "DIR|IMAGE",
+    help: "The folder of job files, or the file of an image",
+    kind: ArgumentKind::Place,
+};
+
 static SUBCOMMANDS: [Subcommand; 5] = [
     Subcommand {
         name: "check",
@@ -70,9 +77,9 @@ static SUBCOMMANDS: [Subcommand; 5] = [
     },
     Subcommand {
         name: "replay",
-        about: "Prints what a script of events makes the jobs of a folder do",
+        about: "Prints what a script of events makes the jobs of a folder or of an image do",
         arguments: &[
-            DIR,
+            SOURCE,
             Argument {
                 id: "SCRIPT",
                 shown: "SCRIPT",
@@ -91,12 +98,7 @@ static SUBCOMMANDS: [Subcommand; 5] = [
         name: "run",
         about: "Runs the jobs of a folder or of an image, and answers clients at a socket",
         arguments: &[
-            Argument {
-                id: "SOURCE",
-                shown: "DIR|IMAGE",
-                help: "The folder of job files, or the file of an image",
-                kind: ArgumentKind::Place,
-            },
+            SOURCE,
             Argument {
                 id: "SOCKET",
                 shown: "SOCKET",
@@ -122,10 +124,28 @@ static SUBCOMMANDS: [Subcommand; 5] = [
                 kind: ArgumentKind::Flag,
             },
             Argument {
+                id: "quiet",
+                shown: "",
+                help: "Says nothing on standard error of jobs that fail",
+                kind: ArgumentKind::Flag,
+            },
+            Argument {
+                id: "tell",
+                shown: "FILE",
+                help: "Writes what --verbose prints to FILE, which may not be there yet",
+                kind: ArgumentKind::Text,
+            },
+            Argument {
                 id: "record",
                 shown: "FILE",
-                help: "Writes what happens to FILE as a script, whose replay prints what the init did",
+                help: "Writes what happens to FILE, which may not be there yet, as a script, whose replay prints what the init did",
                 kind: ArgumentKind::Text,
+            },
+            Argument {
+                id: "record-over",
+                shown: "",
+                help: "Writes over the FILEs of --record and --tell if they are there",
+                kind: ArgumentKind::Flag,
             },
         ],
     },

@@ -32,9 +32,9 @@ pub enum Asked<'a> {
     Show {
         image: &'a str,
     },
-    /// To replay a script over a folder.
+    /// To replay a script over a folder or an image.
     Replay {
-        dir: &'a str,
+        source: &'a str,
         script: &'a str,
     },
     /// To run the jobs of a folder or of an image, with a socket for clients.
@@ -53,9 +53,13 @@ fn asked_compile<'a>(given: &ArgMatches<'a>) -> Option<Asked<'a>> {
 }
 
 fn asked_replay<'a>(given: &ArgMatches<'a>) -> Option<Asked<'a>> {
-    let dir = given.get_str("DIR")?;
+    let source = given.get_str("SOURCE")?;
     let script = given.get_str("SCRIPT")?;
-    Some(Asked::Replay { dir, script })
+    Some(Asked::Replay { source, script })
+}
+
+fn is_set(given: &ArgMatches, flag: &str) -> bool {
+    given.get_one::<bool>(flag).unwrap_or(false)
 }
 
 fn asked_run<'a>(given: &ArgMatches<'a>) -> Option<Asked<'a>> {
@@ -66,8 +70,11 @@ fn asked_run<'a>(given: &ArgMatches<'a>) -> Option<Asked<'a>> {
         most_pause: given.get_one::<u64>("pause").unwrap_or(MOST_PAUSE),
     };
     let telling = Telling {
-        verbose: given.get_one::<bool>("verbose").unwrap_or(false),
+        verbose: is_set(given, "verbose"),
+        quiet: is_set(given, "quiet"),
+        tell: given.get_str("tell"),
         log: given.get_str("record"),
+        over: is_set(given, "record-over"),
     };
     Some(Asked::Run {
         source,

@@ -2,13 +2,16 @@
 ghost use Rattle.std.specs.Prelude.{◌≡◌, ◌+◌, ◌≤◌, ◌⊎◌, IfOk, IfSome, length, true};
 ghost use Rattle.up_command.specs.Disk.{CompilesDir, HasImage, IsRefusedImage, IsUnusable, ShowsFile, ShowsImage, StoresFiles, StoresTable};
 ghost use Rattle.up_command.specs.Walk.{IsWalked};
+ghost use Rattle.up_conf.specs.Folders.{jobs_of};
+ghost use Rattle.up_image.specs.Image.{IsImage};
 ghost use Rattle.up_image.specs.declared.limits.TheConstants.{MAX_IMAGE};
 ghost use Rattle.up_replay.specs.declared.replay.TheConstants.{MAX_BUNDLE};
 
 use crate::walk::{WalkError, read_file, walk};
+use crate::why::{say, say_error};
 use std::alloc::{AllocError, Global};
-use std::fs::{File, OpenFile};
-use std::io::{ErrorKind, Write};
+use std::fs::{File, Metadata, OpenFile};
+use std::io::{Eprint, ErrorKind, Write};
 use std::rt::Files;
 use std::{fs, io};
 use up_conf::Folder;
@@ -28,34 +31,79 @@ fn fill_new<R: Files>(rt: &R, path: &str, bytes: &[u8]) -> io::Result<()> {
 }
 
 // Moves a whole file to its name, or removes it.
-fn put_in_place<R: Files>(rt: &R, temporary: &str, path: &str) -> io::Result<()> {
+fn put_in_place<R: Files + Eprint>(rt: &R, temporary: &str, path: &str) -> io::Result<()> {
     match fs::rename(rt, temporary, path) {
         Ok(()) => Ok(()),
         Err(error) => {
             let _ = fs::remove_file(rt, temporary);
+            say_error(rt, path, &error);
             Err(error)
         }
     }
 }
 
+// Why what is there isn't replaced; none of a regular file, which is.
+fn obstacle(found: &Metadata) -> Option<&'static str> {
+    if found.is_file() {
+        None
+    } else if found.is_dir() {
+        Some("it is a folder, and isn't replaced")
+    } else if found.is_symlink() {
+        Some("it is a symbolic link, and isn't replaced")
+    } else {
+        Some("it is no regular file, and isn't replaced")
+    }
+}
+
+// Refuses a path at which something is that no file may take the place of.
+fn may_replace<R: Files + Eprint>(rt: &R, path: &str) -> io::Result<()> {
+    match fs::symlink_metadata(rt, path) {
+        Ok(found) => match obstacle(&found) {
+            Some(why) => {
+                say(rt, path, why);
+                Err(io::Error::from(ErrorKind::AlreadyExists))
+            }
+            None => Ok(()),
+        },
+        // Nothing is there, or the folder isn't, which making the file will tell.
+        Err(_) => Ok(()),
+    }
+}
+
+// Says why a new file wasn't written. What was written of it is removed, and one that was there is somebody else's.
+fn give_up<R: Files + Eprint>(rt: &R, temporary: &str, path: &str, error: &io::Error) {
+    if error.kind() == ErrorKind::AlreadyExists {
+        say(
+            rt,
+            temporary,
+            "it is there, left by a compile that was ended or in use by another: remove it",
+        );
+    } else {
+        let _ = fs::remove_file(rt, temporary);
+        say_error(rt, path, error);
+    }
+}
+
 // Writes a file as a whole or not at all: by a file of this name with `.new` after it, which may not be there yet.
-fn write_whole<R: Files + AllocGlobal>(rt: &R, path: &str, bytes: &[u8]) -> io::Result<()> {
+fn write_whole<R: Files + Eprint + AllocGlobal>(
+    rt: &R,
+    path: &str,
+    bytes: &[u8],
+) -> io::Result<()> {
     let mut temporary = String::from_str(rt.alloc(), path)?;
     temporary.push_str(".new")?;
+    may_replace(rt, path)?;
     match fill_new(rt, temporary.as_str(), bytes) {
         Ok(()) => put_in_place(rt, temporary.as_str(), path),
         Err(error) => {
-            // One that was there is somebody else's.
-            if error.kind() != ErrorKind::AlreadyExists {
-                let _ = fs::remove_file(rt, temporary.as_str());
-            }
+            give_up(rt, temporary.as_str(), path, &error);
             Err(error)
         }
     }
 }
 
 // Stores the image of a table, for which this is printed then.
-fn store<R: Files + AllocGlobal>(
+fn store<R: Files + Eprint + AllocGlobal>(
     rt: &R,
     table: &Table,
     image: &str,
@@ -80,7 +128,7 @@ fn store<R: Files + AllocGlobal>(
 }
 
 // Stores the image of a folder's files, unless the folder is refused.
-fn store_folder<R: Files + AllocGlobal>(
+fn store_folder<R: Files + Eprint + AllocGlobal>(
     rt: &R,
     folder: &Folder,
     image: &str,
@@ -97,7 +145,7 @@ fn store_folder<R: Files + AllocGlobal>(
 
 /// What is printed once the image of a folder was stored: what a check of the folder prints. The image is stored in spite of faults. If
 /// it can't be, nothing is left of it, and that is what is printed.
-pub fn compile_dir<R: Files + AllocGlobal + Clone + Drop>(
+pub fn compile_dir<R: Files + Eprint + AllocGlobal + Clone + Drop>(
     rt: &R,
     dir: &str,
     image: &str,
@@ -112,7 +160,7 @@ pub fn compile_dir<R: Files + AllocGlobal + Clone + Drop>(
 }
 
 /// The bytes of an image, as many as show that it is too long; none if it can't be read.
-pub(crate) fn read_bytes<R: Files + AllocGlobal>(
+pub(crate) fn read_bytes<R: Files + Eprint + AllocGlobal>(
     rt: &R,
     image: &str,
 ) -> Result<Option<Vec<u8>>, AllocError>
@@ -124,6 +172,7 @@ pub(crate) fn read_bytes<R: Files + AllocGlobal>(
             if error.kind() == ErrorKind::OutOfMemory {
                 return Err(AllocError);
             }
+            say_error(rt, image, &error);
             Ok(None)
         }
     }
@@ -141,13 +190,11 @@ fn bundle_of(alloc: Global, folder: &Folder) -> Result<Vec<u8>, AllocError> {
     Ok(text)
 }
 
-// Whether the files of a bundle are compiled to a table with this image.
-fn has_image(alloc: Global, bundle: &[u8], image: &[u8]) -> Result<bool, AllocError>
-    requires { length bundle.now ≤ MAX_BUNDLE }
-    ensures { IfOk result (λ has. has ≡ true → HasImage image.now bundle.now) }
+/// Whether files are compiled to a table with this image.
+pub(crate) fn define_image(alloc: Global, folder: &Folder, image: &[u8]) -> Result<bool, AllocError>
+    ensures { IfOk result (λ has. has ≡ true → IsImage image.now (jobs_of folder.now)) }
 {
-    let bundle = read_bundle(alloc, bundle)?;
-    let table = match compile(alloc, &bundle.folder) {
+    let table = match compile(alloc, folder) {
         Ok((table, _)) => table,
         Err(CompileError::Memory) => return Err(AllocError),
         Err(_) => return Ok(false),
@@ -159,50 +206,74 @@ fn has_image(alloc: Global, bundle: &[u8], image: &[u8]) -> Result<bool, AllocEr
     }
 }
 
+// Whether the files of a bundle are.
+fn has_image(alloc: Global, bundle: &[u8], image: &[u8]) -> Result<bool, AllocError>
+    requires { length bundle.now ≤ MAX_BUNDLE }
+    ensures { IfOk result (λ has. has ≡ true → HasImage image.now bundle.now) }
+{
+    let bundle = read_bundle(alloc, bundle)?;
+    define_image(alloc, &bundle.folder, image)
+}
+
+/// What is printed for an image whose jobs can't be printed as job files, so that they define it again.
+pub(crate) fn no_files<R: Eprint + AllocGlobal>(rt: &R, image: &str) -> Result<Printed, AllocError>
+    ensures { IfOk result (IsUnusable image.now) }
+{
+    say(rt, image, "its jobs can't be printed as job files");
+    cannot_use(rt.alloc(), image)
+}
+
 // What is printed for a table with this image, in the file with this path.
-fn show_table(
-    alloc: Global,
+fn show_table<R: Eprint + AllocGlobal>(
+    rt: &R,
     table: &Table,
     bytes: &[u8],
     image: &str,
 ) -> Result<Printed, AllocError>
     ensures { IfOk result (λ made. ShowsImage bytes.now made ⊎ IsUnusable image.now made) }
 {
-    let folder = job_files(alloc, table)?;
-    let text = bundle_of(alloc, &folder)?;
+    let folder = job_files(rt.alloc(), table)?;
+    let text = bundle_of(rt.alloc(), &folder)?;
     if text.len() > MAX_BUNDLE {
-        return cannot_use(alloc, image);
+        return no_files(rt, image);
     }
-    if has_image(alloc, text.as_slice(), bytes)? {
+    if has_image(rt.alloc(), text.as_slice(), bytes)? {
         let text = Items::new(text);
         Ok(Printed {
             text,
             status: ExitStatus::Done,
         })
     } else {
-        cannot_use(alloc, image)
+        no_files(rt, image)
     }
 }
 
 // What is printed for the bytes of an image, in the file with this path.
-fn show_bytes(alloc: Global, bytes: &[u8], image: &str) -> Result<Printed, AllocError>
+fn show_bytes<R: Eprint + AllocGlobal>(
+    rt: &R,
+    bytes: &[u8],
+    image: &str,
+) -> Result<Printed, AllocError>
     ensures { IfOk result (λ made. ShowsImage bytes.now made
         ⊎ (IsUnusable image.now made ⊎ IsRefusedImage made)) }
 {
-    match Table::from_bytes(alloc, bytes) {
-        Ok(table) => show_table(alloc, &table, bytes, image),
+    match Table::from_bytes(rt.alloc(), bytes) {
+        Ok(table) => show_table(rt, &table, bytes, image),
         Err(ImageError::Memory) => Err(AllocError),
-        Err(error) => image_refused(alloc, error),
+        Err(error) => image_refused(rt.alloc(), error),
     }
 }
 
 /// What is printed for an image: the files that define its jobs, as a bundle. They are compiled again, and printed only if that gives
 /// the bytes of the image.
-pub fn show_image<R: Files + AllocGlobal>(rt: &R, image: &str) -> Result<Printed, AllocError>
+pub fn show_image<R: Files + Eprint + AllocGlobal>(
+    rt: &R,
+    image: &str,
+) -> Result<Printed, AllocError>
     ensures { IfOk result (ShowsFile image.now) }
 {
     match read_bytes(rt, image)? {
-        Some(bytes) => show_bytes(rt.alloc(), bytes.as_slice(), image),
+        Some(bytes) => show_bytes(rt, bytes.as_slice(), image),
         None => cannot_use(rt.alloc(), image),
     }
 }

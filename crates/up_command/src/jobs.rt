@@ -3,9 +3,10 @@ ghost use Rattle.std.specs.Prelude.{◌≡◌, IfOk, None};
 
 use crate::image::read_bytes;
 use crate::walk::{WalkError, walk};
+use crate::why::{say, say_error};
 use std::alloc::{AllocError, Global};
 use std::fs;
-use std::io::ErrorKind;
+use std::io::{Eprint, ErrorKind};
 use std::rt::Files;
 use up_conf::Folder;
 use up_image::{CompileError, ImageError, Table, compile};
@@ -69,7 +70,7 @@ fn image_jobs(alloc: Global, bytes: &[u8]) -> Result<Jobs, AllocError> {
     }
 }
 
-fn read_folder<R: Files + AllocGlobal + Clone + Drop>(
+fn read_folder<R: Files + Eprint + AllocGlobal + Clone + Drop>(
     rt: &R,
     dir: &str,
 ) -> Result<Jobs, AllocError> {
@@ -84,7 +85,7 @@ fn read_folder<R: Files + AllocGlobal + Clone + Drop>(
     }
 }
 
-fn read_image<R: Files + AllocGlobal>(rt: &R, image: &str) -> Result<Jobs, AllocError> {
+fn read_image<R: Files + Eprint + AllocGlobal>(rt: &R, image: &str) -> Result<Jobs, AllocError> {
     match read_bytes(rt, image)? {
         Some(bytes) => image_jobs(rt.alloc(), bytes.as_slice()),
         None => no_run(cannot_use(rt.alloc(), image)),
@@ -92,18 +93,22 @@ fn read_image<R: Files + AllocGlobal>(rt: &R, image: &str) -> Result<Jobs, Alloc
 }
 
 /// Reads the jobs of a run: what the path names is a folder of job files, or the file of an image.
-pub(crate) fn read_jobs<R: Files + AllocGlobal + Clone + Drop>(
+pub(crate) fn read_jobs<R: Files + Eprint + AllocGlobal + Clone + Drop>(
     rt: &R,
     source: &str,
 ) -> Result<Jobs, AllocError> {
     match fs::metadata(rt, source) {
         Ok(found) if found.is_dir() => read_folder(rt, source),
         Ok(found) if found.is_file() => read_image(rt, source),
-        Ok(_) => no_run(cannot_use(rt.alloc(), source)),
+        Ok(_) => {
+            say(rt, source, "it is no folder and no regular file");
+            no_run(cannot_use(rt.alloc(), source))
+        }
         Err(error) => {
             if error.kind() == ErrorKind::OutOfMemory {
                 return Err(AllocError);
             }
+            say_error(rt, source, &error);
             no_run(cannot_use(rt.alloc(), source))
         }
     }

@@ -1,13 +1,11 @@
 //! How long a run pauses between rounds.
-ghost use Rattle.std.specs.Prelude.{◌≡◌, ◌≤◌, ◌<◌, true, false};
+ghost use Rattle.std.specs.Prelude.{◌≡◌, ◌≤◌, ◌<◌, ◌+◌, ◌/◌, true, false};
+ghost use Rattle.up_command.specs.declared.pace.TheConstants.{FIRST_PAUSE, GROWTH, SHORT_PAUSES};
 
 use up_daemon::{Passed, Round};
 
 /// The longest pause of a run that is not told another, in milliseconds.
 pub(crate) const MOST_PAUSE: u64 = 10;
-
-/// After so many quiet rounds the pause grows by a millisecond.
-const ROUNDS_PER_STEP: u64 = 16;
 
 /// So many pauses after something happened are short.
 const SHORT_PAUSES: u64 = 8;
@@ -15,11 +13,20 @@ const SHORT_PAUSES: u64 = 8;
 /// How long a short pause is, in microseconds.
 pub(crate) const SHORT_PAUSE: u64 = 100;
 
+/// The first pause after the short ones, in microseconds.
+const FIRST_PAUSE: u64 = 1_000;
+
+/// Each further pause is longer by this part of the one before, in whole milliseconds. So no pause is longer than a millisecond and a twelfth
+/// of the time for which nothing has happened.
+const GROWTH: u64 = 16;
+
 /// How long a run pauses: a moment right after something happened, and longer the longer nothing does.
 #[derive(Clone, Copy)]
 pub(crate) struct Pace {
     // how many rounds did nothing since one did something
     quiet: u64,
+    // the next pause that isn't short, in microseconds
+    next: u64,
     // the longest pause, in milliseconds; 0 for none
     most: u64,
 }
@@ -27,21 +34,40 @@ pub(crate) struct Pace {
 impl Pace {
     /// A run that has just begun, with a longest pause in milliseconds; with 0 it never pauses.
     pub(crate) fn new(most: u64) -> Self
-        ensures { (result.quiet ≡ 0) × (result.most ≡ most) }
+        ensures { (result.quiet ≡ 0) × (result.next ≡ FIRST_PAUSE) × (result.most ≡ most) }
     {
-        Pace { quiet: 0, most }
+        Pace {
+            quiet: 0,
+            next: FIRST_PAUSE,
+            most,
+        }
+    }
+
+    // The pause after the next one, in microseconds.
+    fn longer(&self) -> u64
+        ensures same { self.now.quiet < SHORT_PAUSES → result ≡ self.now.next }
+        ensures most { result ≤ self.now.next + self.now.next / GROWTH }
+        ensures least { self.now.next ≤ result }
+    {
+        if self.quiet < SHORT_PAUSES || self.next / 1_000 >= self.most {
+            return self.next;
+        }
+        self.next.saturating_add(self.next / GROWTH)
     }
 
     /// A round was over, and did nothing or something.
     pub(crate) fn note(&mut self, idle: bool)
         ensures most { self.new.most ≡ self.old.most }
-        ensures busy { idle ≡ false → self.new.quiet ≡ 0 }
+        ensures busy { idle ≡ false → (self.new.quiet ≡ 0) × (self.new.next ≡ FIRST_PAUSE) }
         ensures idle { idle ≡ true → 0 < self.new.quiet }
+        ensures grows { idle ≡ true → self.new.next ≤ self.old.next + self.old.next / GROWTH }
     {
         if idle {
+            self.next = self.longer();
             self.quiet = self.quiet.saturating_add(1);
         } else {
             self.quiet = 0;
+            self.next = FIRST_PAUSE;
         }
     }
 
@@ -54,8 +80,7 @@ impl Pace {
         if self.quiet == 0 {
             return 0;
         }
-        let wanted = 1 + self.quiet / ROUNDS_PER_STEP;
-        wanted.min(self.most)
+        (self.next / 1_000).max(1).min(self.most)
     }
 
     /// Whether to pause now for a tenth of a millisecond instead.

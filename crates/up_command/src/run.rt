@@ -1,11 +1,17 @@
 //! Runs jobs: their processes are real, and clients ask at a socket.
 
 use crate::answer::print;
+use crate::failures::say_failures;
+use crate::head::log_head;
 use crate::jobs::read_jobs;
+use crate::outlet::Outlet;
 use crate::pace::{Pace, SHORT_PAUSE, is_idle};
-use crate::teller::{Teller, Telling, log_head};
+use crate::record::open_file;
+use crate::socket::say_no_socket;
+use crate::teller::{Teller, Telling};
+use crate::why::say_error;
 use std::alloc::{AllocError, Global};
-use std::fs::File;
+use std::fs::{OpenFile, remove_file};
 use std::io::{Eprint, Write};
 use std::net::Net;
 use std::process::Processes;
@@ -14,7 +20,7 @@ use std::time::Duration;
 use std::{io, thread};
 use up_daemon::{Daemon, Door, SocketFault, UnixDoor};
 use up_engine::Engine;
-use up_host::{Host, RealHost};
+use up_host::RealHost;
 use up_image::Table;
 use up_model::{Event, ExitStatus, Input};
 use up_replay::cannot_use;
@@ -30,6 +36,13 @@ pub struct Rounds {
     pub count: u32,
     /// The longest pause after a round that did nothing, in milliseconds; 0 for none.
     pub most_pause: u64,
+}
+
+// How a run goes on from round to round: how long it pauses, and whether nothing is said of jobs that fail.
+#[derive(Drop)]
+struct Going {
+    pace: Pace,
+    quiet: bool,
 }
 
 // The environment of each process of a run, before that of its job.
@@ -100,36 +113,46 @@ fn rest<R: Clock>(rt: &R, door: &mut UnixDoor, pace: &Pace) {
 }
 
 // One round, what is told of it, and the pause after it if it did nothing. False if it was refused.
-fn round<R: Clock + Print + Eprint + AllocGlobal, H: Host, W: Write + Drop>(
+fn round<R, W>(
     rt: &R,
     daemon: &mut Daemon,
-    (host, door): (&mut H, &mut UnixDoor),
-    pace: &mut Pace,
+    (host, door): (&mut RealHost<R>, &mut UnixDoor),
+    going: &mut Going,
     teller: &mut Teller<W>,
-) -> bool {
+) -> bool
+where
+    R: Processes + Clock + Print + Eprint + AllocGlobal,
+    W: Write + OpenFile + Drop,
+{
     let Ok(round) = daemon.round(host, door) else {
         return false;
     };
     let idle = is_idle(&round, door.happened());
     teller.tell(rt, rt.alloc(), &round, idle);
+    if !going.quiet && !idle {
+        say_failures(rt, &round, host.refusals());
+    }
     drop(round);
-    pace.note(idle);
-    rest(rt, door, pace);
+    going.pace.note(idle);
+    rest(rt, door, &going.pace);
     true
 }
 
 // The rounds, until they are over or one is refused, and the status.
-fn all_rounds<R: Clock + Print + Eprint + AllocGlobal, H: Host, W: Write + Drop>(
+fn all_rounds<R, W>(
     rt: &R,
     daemon: &mut Daemon,
-    host: &mut H,
-    door: &mut UnixDoor,
-    rounds: Rounds,
+    (host, door): (&mut RealHost<R>, &mut UnixDoor),
+    count: u32,
+    mut going: Going,
     teller: &mut Teller<W>,
-) -> ExitStatus {
-    let mut pace = Pace::new(rounds.most_pause);
-    for _ in 0..rounds.count {
-        if !round(rt, daemon, (host, door), &mut pace, teller) {
+) -> ExitStatus
+where
+    R: Processes + Clock + Print + Eprint + AllocGlobal,
+    W: Write + OpenFile + Drop,
+{
+    for _ in 0..count {
+        if !round(rt, daemon, (host, door), &mut going, teller) {
             return ExitStatus::Memory;
         }
     }
@@ -142,7 +165,7 @@ fn unusable(rt: &(impl Print + AllocGlobal), path: &str) -> io::Result<ExitStatu
 }
 
 // A daemon over jobs, with the first inputs in the record.
-fn first_daemon<R: Eprint + AllocGlobal, W: Write + Drop>(
+fn first_daemon<R: Eprint + AllocGlobal, W: Write + OpenFile + Drop>(
     rt: &R,
     table: Table,
     teller: &mut Teller<W>,
@@ -160,103 +183,115 @@ fn first_daemon<R: Eprint + AllocGlobal, W: Write + Drop>(
 }
 
 // The rounds of a daemon with the system's processes, and the status.
-fn serve_with<R: Processes + Clock + Print + Eprint + AllocGlobal + Clone + Drop, W: Write + Drop>(
+fn serve_with<
+    R: Processes + Clock + Print + Eprint + AllocGlobal + Clone + Drop,
+    W: Write + OpenFile + Drop,
+>(
     rt: &R,
     daemon: &mut Daemon,
     door: &mut UnixDoor,
-    rounds: Rounds,
+    (rounds, quiet): (Rounds, bool),
     teller: &mut Teller<W>,
 ) -> io::Result<ExitStatus> {
-    let Ok(mut host) = RealHost::new(rt.alloc(), rt.clone()?) else {
-        return unusable(rt, "the clock");
+    let mut host = match RealHost::new(rt.alloc(), rt.clone()?) {
+        Ok(host) => host,
+        Err(error) => {
+            say_error(rt, "the clock", &error);
+            return unusable(rt, "the clock");
+        }
     };
-    let status = all_rounds(rt, daemon, &mut host, door, rounds, teller);
+    let going = Going {
+        pace: Pace::new(rounds.most_pause),
+        quiet,
+    };
+    let status = all_rounds(rt, daemon, (&mut host, door), rounds.count, going, teller);
     teller.finish(rt);
     drop(host);
     Ok(status)
 }
 
 // The rounds over jobs with the system's processes, and the status.
-fn serve<R: Processes + Clock + Print + Eprint + AllocGlobal + Clone + Drop, W: Write + Drop>(
+fn serve<
+    R: Processes + Clock + Print + Eprint + AllocGlobal + Clone + Drop,
+    W: Write + OpenFile + Drop,
+>(
     rt: &R,
     table: Table,
     door: &mut UnixDoor,
-    rounds: Rounds,
+    (rounds, quiet): (Rounds, bool),
     teller: &mut Teller<W>,
 ) -> io::Result<ExitStatus> {
     let mut daemon = first_daemon(rt, table, teller)?;
-    let served = serve_with(rt, &mut daemon, door, rounds, teller);
+    let served = serve_with(rt, &mut daemon, door, (rounds, quiet), teller);
     drop(daemon);
     served
 }
 
 // What is said of a socket that isn't made, and the status.
-fn no_socket(
-    rt: &(impl Print + AllocGlobal),
+fn no_socket<R: Files + Net + Print + Eprint + AllocGlobal>(
+    rt: &R,
     socket: &str,
     fault: SocketFault,
 ) -> io::Result<ExitStatus> {
-    match fault {
-        SocketFault::Memory => Ok(ExitStatus::Memory),
-        _ => unusable(rt, socket),
+    if fault == SocketFault::Memory {
+        return Ok(ExitStatus::Memory);
     }
+    say_no_socket(rt, socket, fault);
+    unusable(rt, socket)
 }
 
-// The rounds over jobs, with a socket that is made before the first.
-fn run_table<R, W: Write + Drop>(
+// What tells of a run, once its files are there; or the path of one that can't be made.
+fn teller_of<'a, R: Files + Net + Eprint + AllocGlobal>(
+    rt: &R,
+    source: &str,
+    telling: Telling<'a>,
+) -> Result<Result<Teller<R::File>, &'a str>, AllocError> {
+    let head = log_head(rt.alloc(), source, telling.log.unwrap_or("-"), SEARCHED)?;
+    let Some(log) = open_file(rt, telling.log, telling.over) else {
+        drop(head);
+        return Ok(Err(telling.log.unwrap_or("-")));
+    };
+    let Some(told) = open_file(rt, telling.tell, telling.over) else {
+        drop(head);
+        drop(log);
+        return Ok(Err(telling.tell.unwrap_or("-")));
+    };
+    let verbose = telling.verbose.then(|| Outlet::new(rt, rt.alloc()));
+    Ok(Ok(Teller::new(verbose, told, log, head)))
+}
+
+// The rounds over jobs, once the files to which they are told are there. Without them there is no run, and the socket that was made goes.
+fn record_run<R>(
     rt: &R,
     table: Table,
-    socket: &str,
+    door: &mut UnixDoor,
+    (source, socket): (&str, &str),
     rounds: Rounds,
-    teller: &mut Teller<W>,
+    telling: Telling,
 ) -> io::Result<ExitStatus>
 where
     R: Files + Net + Processes + Clock + Print + Eprint + AllocGlobal + Clone + Drop,
 {
-    match UnixDoor::bind(rt, rt.alloc(), socket) {
-        Ok(mut door) => {
-            let served = serve(rt, table, &mut door, rounds, teller);
-            drop(door);
+    match teller_of(rt, source, telling) {
+        Ok(Ok(mut teller)) => {
+            let served = serve(rt, table, door, (rounds, telling.quiet), &mut teller);
+            drop(teller);
             served
         }
-        Err(fault) => {
+        Ok(Err(path)) => {
             drop(table);
-            no_socket(rt, socket, fault)
+            let _ = remove_file(rt, socket);
+            unusable(rt, path)
         }
-    }
-}
-
-// The file of a record, which is emptied; none if it can't be made.
-fn open_log<R: Files>(rt: &R, log: Option<&str>) -> Option<Option<R::File>> {
-    match log {
-        Some(path) => match File::create(rt, path) {
-            Ok(file) => Some(Some(file)),
-            Err(_) => None,
-        },
-        None => Some(None),
-    }
-}
-
-// What tells of a run, once the file of its record is there; none if that can't be made.
-fn teller_of<R: Files + AllocGlobal>(
-    rt: &R,
-    source: &str,
-    telling: Telling,
-) -> Result<Option<Teller<R::File>>, AllocError> {
-    let Some(file) = open_log(rt, telling.log) else {
-        return Ok(None);
-    };
-    let path = telling.log.unwrap_or("-");
-    match log_head(rt.alloc(), source, path, SEARCHED) {
-        Ok(head) => Ok(Some(Teller::new(telling.verbose, file, head))),
         Err(refused) => {
-            drop(file);
-            Err(refused)
+            drop(table);
+            let _ = remove_file(rt, socket);
+            Err(io::Error::from(refused))
         }
     }
 }
 
-// The run over jobs, once the file of its record is there.
+// The run over jobs, with a socket that is made before anything is recorded: a second run at it changes no record.
 fn run_jobs<R>(
     rt: &R,
     table: Table,
@@ -267,19 +302,15 @@ fn run_jobs<R>(
 where
     R: Files + Net + Processes + Clock + Print + Eprint + AllocGlobal + Clone + Drop,
 {
-    match teller_of(rt, source, telling) {
-        Ok(Some(mut teller)) => {
-            let served = run_table(rt, table, socket, rounds, &mut teller);
-            drop(teller);
+    match UnixDoor::bind(rt, rt.alloc(), socket) {
+        Ok(mut door) => {
+            let served = record_run(rt, table, &mut door, (source, socket), rounds, telling);
+            drop(door);
             served
         }
-        Ok(None) => {
+        Err(fault) => {
             drop(table);
-            unusable(rt, telling.log.unwrap_or("-"))
-        }
-        Err(refused) => {
-            drop(table);
-            Err(io::Error::from(refused))
+            no_socket(rt, socket, fault)
         }
     }
 }

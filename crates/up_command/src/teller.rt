@@ -1,9 +1,14 @@
-//! What a run tells of its rounds: on standard output, and in a record.
+//! What a run tells of its rounds: on standard output, in a file, and in a record.
 ghost use Rattle.std.specs.Prelude.{◌≡◌, ◌++◌, OnOk};
 ghost use Rattle.std.specs.List.{flat_map};
 ghost use Rattle.up_replay.specs.Lines.{output_lines};
 
+use crate::outlet::Outlet;
+use crate::unsaid::unsaid;
+use crate::why::Reason;
 use std::alloc::{AllocError, Global};
+use std::fmt::Display;
+use std::fs::OpenFile;
 use std::io;
 use std::io::{Eprint, Write};
 use up_daemon::Round;
@@ -19,17 +24,27 @@ const MOST_WAITING: usize = 65_536;
 pub struct Telling<'a> {
     /// Whether standard output gets the lines that a replay prints.
     pub verbose: bool,
+    /// Whether nothing is said of jobs that fail.
+    pub quiet: bool,
+    /// The path of a file that gets the lines that a replay prints, if there is one.
+    pub tell: Option<&'a str>,
     /// The path of the record, if one is kept.
     pub log: Option<&'a str>,
+    /// Whether files of these paths that are there are written over.
+    pub over: bool,
 }
 
 /// Tells of a run's rounds.
 #[derive(Drop)]
 pub(crate) struct Teller<W> {
-    // whether standard output gets the lines of what rounds gave
-    verbose: bool,
+    // standard output, if it gets the lines of what rounds gave
+    verbose: Option<Outlet>,
+    // the file that gets them, until it can't be written
+    told: Option<W>,
     // the file of the record, until it ends
     log: Option<W>,
+    // how many bytes of whole rounds the record has
+    written: u64,
     // the lines of the record that are not written yet
     waiting: Vec<u8>,
 }
@@ -44,68 +59,49 @@ fn push_gave(text: &mut Vec<u8>, gave: &[Items<Output>]) -> Result<(), AllocErro
     Ok(())
 }
 
-// Prints bytes, and answers whether that went well.
-fn print_bytes<R: Print>(rt: &R, bytes: &[u8]) -> bool {
-    if bytes.is_empty() {
-        return true;
-    }
-    let mut writer = io::writer(rt);
-    if writer.write_all(bytes).is_err() {
-        return false;
-    }
-    writer.flush().is_ok()
-}
-
-// Prints the lines of what a round gave, and answers whether that went well.
-fn print_gave<R: Print>(rt: &R, alloc: Global, gave: &[Items<Output>]) -> bool {
-    let mut text: Vec<u8> = Vec::new(alloc);
-    match push_gave(&mut text, gave) {
-        Ok(()) => print_bytes(rt, text.as_slice()),
-        Err(_) => false,
+// Says that lines which were told were read by nobody.
+fn say_lost<R: Eprint>(rt: &R, lost: u64) {
+    if lost > 0 {
+        let _ = eprintln!(rt; "initd: {lost} lines of what happens are lost: nobody read them");
     }
 }
 
-// The bytes of a path as a comment may have them: it has no end of a line.
-fn push_path(text: &mut Vec<u8>, path: &str) -> Result<(), AllocError> {
-    for byte in path.as_bytes() {
-        text.push(if *byte == b'\n' { b'?' } else { *byte })?;
-    }
-    Ok(())
-}
-
-/// The comment with which a record begins: the command that replays it.
-pub(crate) fn log_head(
-    alloc: Global,
-    source: &str,
-    log: &str,
-    path: &str,
-) -> Result<Vec<u8>, AllocError> {
-    let mut text: Vec<u8> = Vec::new(alloc);
-    text.extend_from_slice(b"# initd replay ")?;
-    push_path(&mut text, source)?;
-    text.extend_from_slice(b" ")?;
-    push_path(&mut text, log)?;
-    text.extend_from_slice(b" --env PATH=")?;
-    push_path(&mut text, path)?;
-    text.extend_from_slice(b"\n")?;
-    Ok(text)
-}
-
-impl<W: Write + Drop> Teller<W> {
+impl<W: Write + OpenFile + Drop> Teller<W> {
     /// Tells of a run. The record, if one is kept, begins with these lines.
-    pub(crate) fn new(verbose: bool, log: Option<W>, head: Vec<u8>) -> Self {
+    pub(crate) fn new(
+        verbose: Option<Outlet>,
+        told: Option<W>,
+        log: Option<W>,
+        head: Vec<u8>,
+    ) -> Self {
         Teller {
             verbose,
+            told,
             log,
+            written: 0,
             waiting: head,
         }
     }
 
     // Says why the record ends, and ends it.
-    fn end_record<R: Eprint>(&mut self, rt: &R, why: &str) {
+    fn end_record<R: Eprint, D: Display + Drop>(&mut self, rt: &R, why: D) {
         self.log = None;
         self.waiting.clear();
         let _ = eprintln!(rt; "initd: the record ends: {why}");
+    }
+
+    // Ends a record that the system refused to write, and says why. It is cut back to its last whole round.
+    fn end_unwritten<R: Eprint>(&mut self, rt: &R, error: &io::Error) {
+        let is_whole = match &self.log {
+            Some(log) => log.set_len(self.written).is_ok(),
+            None => true,
+        };
+        self.end_record(rt, Reason(*error));
+        if !is_whole {
+            let _ = eprintln!(rt;
+                "initd: the record's last line may be half a line: it can't be cut off"
+            );
+        }
     }
 
     // Writes the lines that wait.
@@ -113,31 +109,48 @@ impl<W: Write + Drop> Teller<W> {
         let Some(log) = &mut self.log else {
             return;
         };
-        let written = log.write_all(self.waiting.as_slice());
-        self.waiting.clear();
-        if written.is_err() {
-            self.end_record(rt, "it can't be written");
+        match log.write_all(self.waiting.as_slice()) {
+            Ok(()) => {
+                self.written = self.written.saturating_add(self.waiting.len() as u64);
+                self.waiting.clear();
+            }
+            Err(error) => self.end_unwritten(rt, &error),
         }
     }
 
-    // Adds the lines of inputs to those that wait, and answers whether a script can have them.
-    fn keep(&mut self, alloc: Global, inputs: &[Input]) -> Result<bool, AllocError> {
-        match script_lines(alloc, inputs)? {
-            Some(lines) => {
-                self.waiting.extend_from_slice(lines.as_slice())?;
-                Ok(true)
-            }
-            None => Ok(false),
+    // Adds the lines of inputs to those that wait, up to the first that no statement can say, which is returned.
+    fn keep<'a>(
+        &mut self,
+        alloc: Global,
+        inputs: &'a [Input],
+    ) -> Result<Option<&'a Input>, AllocError> {
+        if let Some(lines) = script_lines(alloc, inputs)? {
+            self.waiting.extend_from_slice(lines.as_slice())?;
+            return Ok(None);
         }
+        for one in inputs.chunks(1) {
+            match script_lines(alloc, one)? {
+                Some(lines) => self.waiting.extend_from_slice(lines.as_slice())?,
+                None => return Ok(one.first()),
+            }
+        }
+        Ok(None)
+    }
+
+    // Adds the comment that the record ends with, since no statement can say an input.
+    fn keep_unsaid(&mut self, alloc: Global, input: &Input) -> Result<(), AllocError> {
+        let what = unsaid(alloc, input)?;
+        let line = format!(in alloc; "# The record ends: no step says what came next: {what}\n")?;
+        self.waiting.extend_from_slice(line.as_bytes())
     }
 
     // Says in the record that it ends, and ends it.
-    fn end_early<R: Eprint>(&mut self, rt: &R) {
-        let _ = self
-            .waiting
-            .extend_from_slice(b"# The record ends: no step says what came next.\n");
+    fn end_early<R: Eprint>(&mut self, rt: &R, alloc: Global, input: &Input) {
+        let _ = self.keep_unsaid(alloc, input);
         self.write_waiting(rt);
-        self.end_record(rt, "no step of a script says what came next");
+        if self.log.is_some() {
+            self.end_record(rt, "no step of a script says what came next");
+        }
     }
 
     /// Records inputs, and writes the record as far as it goes if they were more than a reading of the clock.
@@ -146,13 +159,56 @@ impl<W: Write + Drop> Teller<W> {
             return;
         }
         match self.keep(alloc, inputs) {
-            Ok(true) => {
+            Ok(None) => {
                 if !idle || self.waiting.len() >= MOST_WAITING {
                     self.write_waiting(rt);
                 }
             }
-            Ok(false) => self.end_early(rt),
+            Ok(Some(input)) => self.end_early(rt, alloc, input),
             Err(_) => self.end_record(rt, "out of memory"),
+        }
+    }
+
+    // Writes lines to the file that gets them.
+    fn write_told<R: Eprint>(&mut self, rt: &R, text: &[u8]) {
+        let Some(told) = &mut self.told else {
+            return;
+        };
+        if let Err(error) = told.write_all(text) {
+            let why = Reason(error);
+            self.told = None;
+            let _ = eprintln!(rt; "initd: what happens is told to no file any more: {why}");
+        }
+    }
+
+    // Prints lines, or those that wait.
+    fn print<R: Print + Eprint>(&mut self, rt: &R, text: &[u8]) {
+        let Some(outlet) = &mut self.verbose else {
+            return;
+        };
+        match outlet.tell(rt, text) {
+            Ok(()) => say_lost(rt, outlet.take_lost()),
+            Err(error) => {
+                let why = Reason(error);
+                self.verbose = None;
+                let _ = eprintln!(rt; "initd: what happens is told no more: {why}");
+            }
+        }
+    }
+
+    // Tells what a round gave.
+    fn tell_gave<R: Print + Eprint>(&mut self, rt: &R, alloc: Global, gave: &[Items<Output>]) {
+        let mut text: Vec<u8> = Vec::new(alloc);
+        match push_gave(&mut text, gave) {
+            Ok(()) => {
+                self.write_told(rt, text.as_slice());
+                self.print(rt, text.as_slice());
+            }
+            Err(_) => {
+                self.told = None;
+                self.verbose = None;
+                let _ = eprintln!(rt; "initd: what happens is told no more: out of memory");
+            }
         }
     }
 
@@ -165,14 +221,17 @@ impl<W: Write + Drop> Teller<W> {
         idle: bool,
     ) {
         self.note(rt, alloc, round.fed.as_slice(), idle);
-        if self.verbose && !print_gave(rt, alloc, round.gave.as_slice()) {
-            self.verbose = false;
-            let _ = eprintln!(rt; "initd: what happens is told no more: it can't be written");
+        if self.told.is_some() || self.verbose.is_some() {
+            self.tell_gave(rt, alloc, round.gave.as_slice());
         }
     }
 
-    /// The run is over: what waits of the record is written.
-    pub(crate) fn finish<R: Eprint>(&mut self, rt: &R) {
+    /// The run is over: what waits of the record is written, and what nobody read is lost.
+    pub(crate) fn finish<R: Print + Eprint>(&mut self, rt: &R) {
         self.write_waiting(rt);
+        self.print(rt, &[]);
+        if let Some(outlet) = &self.verbose {
+            say_lost(rt, outlet.unread());
+        }
     }
 }

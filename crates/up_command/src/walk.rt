@@ -4,8 +4,9 @@ ghost use Rattle.std.specs.IoError.{error_kind};
 ghost use Rattle.up_command.specs.declared.walk.TheConstants.{MAX_READ};
 ghost use Rattle.up_command.specs.Walk.{path_in, is_source, level_of, below, MayAdd, TakesPath, Keeps, IsWalked, Names, NamesDeep, NamesSource, MayFail};
 
+use crate::why::{say, say_error};
 use std::alloc::{AllocError, Global};
-use std::io::{ErrorKind, Read};
+use std::io::{Eprint, ErrorKind, Read};
 use std::rt::Files;
 use std::{fs, io};
 use up_conf::{Folder, job_name, overridden_name};
@@ -19,6 +20,15 @@ const MAX_ENTRIES: usize = 65_536;
 
 /// One byte more than a job file has, by which its reader sees that it is too long.
 const MAX_READ: usize = 1_048_577;
+
+/// Why a job file isn't read that is there.
+const NO_FILE: &str = "it is called as a job file, and is no regular file";
+
+/// Why a folder isn't read with its subfolders.
+const TOO_DEEP: &str = "a folder in it lies more than 64 levels deep";
+
+/// Why a folder isn't read with all that it has.
+const TOO_MANY: &str = "it has more than 65536 entries, with those of its subfolders";
 
 /// Why a folder isn't read.
 #[derive(Debug, Drop)]
@@ -66,15 +76,24 @@ fn unusable(alloc: Global, path: &str) -> WalkError
     }
 }
 
-// What an error of the system says of this path.
-fn refused(alloc: Global, error: io::Error, path: &str) -> WalkError
+// The same, once it is said why.
+fn unusable_since<R: Eprint + AllocGlobal>(rt: &R, path: &str, why: &str) -> WalkError
+    ensures { Names path.now result }
+{
+    say(rt, path, why);
+    unusable(rt.alloc(), path)
+}
+
+// What an error of the system at `place` says of this path.
+fn refused<R: Eprint + AllocGlobal>(rt: &R, error: io::Error, place: &str, path: &str) -> WalkError
     ensures named { Names path.now result }
     ensures memory { error_kind error ≡ ErrorKind.OutOfMemory → result ≡ WalkError.Memory }
 {
     if error.kind() == ErrorKind::OutOfMemory {
         WalkError::Memory
     } else {
-        unusable(alloc, path)
+        say_error(rt, place, &error);
+        unusable(rt.alloc(), path)
     }
 }
 
@@ -108,8 +127,16 @@ pub fn read_file<R: Files + AllocGlobal>(rt: &R, path: &str, most: usize) -> io:
     Ok(bytes)
 }
 
+// Whether an error isn't that of one file that could be passed over: too many links are met also where a folder lies in itself.
+fn is_of_folder(error: &io::Error) -> bool {
+    matches!(
+        error.kind(),
+        ErrorKind::FilesystemLoop | ErrorKind::OutOfMemory
+    )
+}
+
 // The bytes of a job file; none of another file. A pipe or a device is no file that could be read whole.
-fn read_source<R: Files + AllocGlobal>(
+fn read_source<R: Files + Eprint + AllocGlobal>(
     rt: &R,
     whole: &str,
     path: &str,
@@ -125,17 +152,17 @@ fn read_source<R: Files + AllocGlobal>(
         return Ok(None);
     }
     if !is_file {
-        return Err(unusable(rt.alloc(), whole));
+        return Err(unusable_since(rt, whole, NO_FILE));
     }
     match read_file(rt, whole, MAX_READ) {
         Ok(bytes) => Ok(Some(bytes)),
-        Err(error) => Err(refused(rt.alloc(), error, whole)),
+        Err(error) => Err(refused(rt, error, whole, whole)),
     }
 }
 
 impl Found {
     // Keeps a file that stands for a job or an override.
-    fn take_file<R: Files + AllocGlobal>(
+    fn take_file<R: Files + Eprint + AllocGlobal>(
         &mut self,
         rt: &R,
         whole: &str,
@@ -157,9 +184,9 @@ impl Found {
     }
 
     // Keeps a folder to be listed, unless it lies too deep.
-    fn take_folder(
+    fn take_folder<R: Eprint + AllocGlobal>(
         &mut self,
-        alloc: Global,
+        rt: &R,
         dir: &str,
         mut path: String,
         depth: u32,
@@ -172,7 +199,7 @@ impl Found {
         ensures entries { self.new.entries ≡ self.old.entries }
     {
         if depth >= MAX_DEPTH {
-            return Err(unusable(alloc, dir));
+            return Err(unusable_since(rt, dir, TOO_DEEP));
         }
         path.push_str("/")?;
         let level = Level {
@@ -184,7 +211,7 @@ impl Found {
     }
 
     // Takes what has this path below the folder, in a folder that lies so deep.
-    fn take_path<R: Files + AllocGlobal>(
+    fn take_path<R: Files + Eprint + AllocGlobal>(
         &mut self,
         rt: &R,
         dir: &str,
@@ -199,19 +226,19 @@ impl Found {
     {
         let whole = path_below(rt.alloc(), dir, path.as_str())?;
         match fs::metadata(rt, whole.as_str()) {
-            Ok(found) if found.is_dir() => self.take_folder(rt.alloc(), dir, path, depth),
+            Ok(found) if found.is_dir() => self.take_folder(rt, dir, path, depth),
             Ok(found) => self.take_file(rt, whole.as_str(), path, found.is_file()),
             Err(error) if is_source(path.as_str()) => {
-                Err(refused(rt.alloc(), error, whole.as_str()))
+                Err(refused(rt, error, whole.as_str(), whole.as_str()))
             }
-            // A link to nothing, or what went since the folder was listed: by its name no job file.
-            Err(error) if error.kind() == ErrorKind::NotFound => Ok(()),
-            Err(error) => Err(refused(rt.alloc(), error, dir)),
+            Err(error) if is_of_folder(&error) => Err(refused(rt, error, whole.as_str(), dir)),
+            // By its name no job file: a link to nothing, what may not be looked at, or what went meanwhile.
+            Err(_) => Ok(()),
         }
     }
 
     // Takes what has this name in a folder.
-    fn take_entry<R: Files + AllocGlobal>(
+    fn take_entry<R: Files + Eprint + AllocGlobal>(
         &mut self,
         rt: &R,
         dir: &str,
@@ -229,7 +256,7 @@ impl Found {
         ensures counted { OnOk result (self.new.entries ≡ self.old.entries + 1) }
     {
         if self.entries >= MAX_ENTRIES {
-            return Err(unusable(rt.alloc(), dir));
+            return Err(unusable_since(rt, dir, TOO_MANY));
         }
         let mut path = String::from_str(rt.alloc(), level.path.as_str())?;
         path.push_str(name)?;
@@ -239,7 +266,7 @@ impl Found {
     }
 
     // Takes all that a folder has.
-    fn list<R: Files + AllocGlobal + Clone + Drop>(
+    fn list<R: Files + Eprint + AllocGlobal + Clone + Drop>(
         &mut self,
         rt: &R,
         dir: &str,
@@ -252,12 +279,12 @@ impl Found {
         let whole = path_below(rt.alloc(), dir, level.path.as_str())?;
         let entries = match fs::read_dir(rt, whole.as_str()) {
             Ok(entries) => entries,
-            Err(error) => return Err(refused(rt.alloc(), error, dir)),
+            Err(error) => return Err(refused(rt, error, whole.as_str(), dir)),
         };
         for entry in entries {
             match entry {
                 Ok(entry) => self.take_entry(rt, dir, level, entry.file_name())?,
-                Err(error) => return Err(refused(rt.alloc(), error, dir)),
+                Err(error) => return Err(refused(rt, error, whole.as_str(), dir)),
             }
         }
         Ok(())
@@ -266,13 +293,16 @@ impl Found {
 
 /// Reads the job files and overrides of a folder and of its subfolders. Symbolic links are followed. A folder that can't be listed, that
 /// has too many entries or too deep a subfolder, and a name that is no text, make `dir` unusable.
-pub fn walk<R: Files + AllocGlobal + Clone + Drop>(rt: &R, dir: &str) -> Result<Folder, WalkError>
+pub fn walk<R: Files + Eprint + AllocGlobal + Clone + Drop>(
+    rt: &R,
+    dir: &str,
+) -> Result<Folder, WalkError>
     ensures walked { IfOk result IsWalked }
     ensures refused { IfErr result (MayFail dir.now) }
 {
     // No path names no folder; joined with a slash it would be the root.
     if dir.is_empty() {
-        return Err(unusable(rt.alloc(), dir));
+        return Err(unusable_since(rt, dir, "an empty path names no folder"));
     }
     let mut found = Found {
         folder: Folder::new(rt.alloc()),
@@ -291,5 +321,5 @@ pub fn walk<R: Files + AllocGlobal + Clone + Drop>(rt: &R, dir: &str) -> Result<
             None => return Ok(found.folder),
         }
     }
-    Err(unusable(rt.alloc(), dir))
+    Err(unusable_since(rt, dir, TOO_MANY))
 }

@@ -19,7 +19,7 @@ IsOfSystem Empty = ⊥
 IsOfSystem TooLong = ⊥
 IsOfSystem Exists = ⊤
 IsOfSystem Memory = ⊤
-IsOfSystem Unusable = ⊤
+IsOfSystem (Unusable kind) = ⊤
 
 -- why a socket at this path is refused: by the path, and only if nothing is wrong with that by the system
 abbrev pub SaysWhy : List ℕ → SocketFault → Type 0

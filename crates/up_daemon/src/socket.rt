@@ -5,13 +5,14 @@ ghost use Rattle.up_daemon.specs.Sockets.{path_refusal, IsOfSystem};
 use mio::net::UnixListener;
 use std::alloc::Global;
 use std::fs::{
-    DirBuilder, Files, Permissions, hard_link, remove_dir, remove_file, set_permissions,
+    DirBuilder, Files, Permissions, hard_link, metadata, remove_dir, remove_file, set_permissions,
     symlink_metadata,
 };
 use std::io;
 use std::io::ErrorKind;
 use std::net::Net;
-use std::os::unix::fs::{DirBuilderExt, PermissionsExt};
+use std::os::unix::fs::{DirBuilderExt, FileTypeExt, MetadataExt, PermissionsExt};
+use std::os::unix::net::UnixStream;
 use thiserror::Error;
 
 /// Why a socket can't be made.
@@ -21,13 +22,14 @@ pub enum SocketFault {
     Empty,
     #[error("the socket's path is too long")]
     TooLong,
-    /// The path is there, or the folder `PATH.new` beside it, in which the socket is made.
+    /// The path is there, or something at `PATH.new` that isn't the folder of a start that was ended.
     #[error("the socket exists")]
     Exists,
     #[error("no memory is left")]
     Memory,
+    /// The system refused it with an error of this kind.
     #[error("the socket's path can't be used")]
-    Unusable,
+    Unusable(ErrorKind),
 }
 
 /// The most bytes of a path: the system allows 107 (unix(7)), and the socket is made six bytes below it.
@@ -53,7 +55,7 @@ fn refusal_of(error: &io::Error) -> SocketFault
     match error.kind() {
         ErrorKind::AlreadyExists => SocketFault::Exists,
         ErrorKind::OutOfMemory => SocketFault::Memory,
-        _ => SocketFault::Unusable,
+        kind => SocketFault::Unusable(kind),
     }
 }
 
@@ -63,6 +65,50 @@ fn listen_inside<R: Files + Net>(rt: &R, inner: &str, path: &str) -> io::Result<
     set_permissions(rt, inner, Permissions::from_mode(0o600))?;
     hard_link(rt, inner, path)?;
     Ok(listener)
+}
+
+// Whether a path is that of a folder of this process's user that nobody else can enter.
+fn is_own_folder(rt: &impl Files, folder: &str) -> bool {
+    match (symlink_metadata(rt, folder), metadata(rt, "/proc/self")) {
+        (Ok(found), Ok(own)) => {
+            found.is_dir()
+                && found.permissions().mode() % 0o1000 == 0o700
+                && found.uid() == own.uid()
+        }
+        _ => false,
+    }
+}
+
+// Whether nobody listens at a path: nothing is there, or a socket that refuses to be connected to.
+fn is_deserted<R: Files + Net>(rt: &R, inner: &str) -> bool {
+    match symlink_metadata(rt, inner) {
+        Ok(found) if found.file_type().is_socket() => match UnixStream::connect(rt, inner) {
+            Ok(_) => false,
+            Err(error) => error.kind() == ErrorKind::ConnectionRefused,
+        },
+        Ok(_) => false,
+        Err(error) => error.kind() == ErrorKind::NotFound,
+    }
+}
+
+// Makes the folder of a socket. One that a start of this user left which was ended is made anew; it has nothing but that socket.
+fn make_folder<R: Files + Net>(rt: &R, folder: &str, inner: &str) -> io::Result<()> {
+    let mut builder = DirBuilder::new();
+    builder.mode(0o700);
+    let Err(error) = builder.create(rt, folder) else {
+        return Ok(());
+    };
+    if error.kind() != ErrorKind::AlreadyExists
+        || !is_own_folder(rt, folder)
+        || !is_deserted(rt, inner)
+    {
+        return Err(error);
+    }
+    let _ = remove_file(rt, inner);
+    if remove_dir(rt, folder).is_err() {
+        return Err(error);
+    }
+    builder.create(rt, folder)
 }
 
 // Makes a socket in a folder that nobody else can enter, which goes afterwards.
@@ -76,9 +122,7 @@ fn listen_through<R: Files + Net>(
     if symlink_metadata(rt, path).is_ok() {
         return Err(io::Error::from(ErrorKind::AlreadyExists));
     }
-    let mut builder = DirBuilder::new();
-    builder.mode(0o700);
-    builder.create(rt, folder)?;
+    make_folder(rt, folder, inner)?;
     let listener = listen_inside(rt, inner, path);
     let _ = remove_file(rt, inner);
     let _ = remove_dir(rt, folder);

@@ -114,8 +114,9 @@ fn open<R: Files + Net>(rt: &R, alloc: Global, path: &str) -> Result<UnixDoor, S
     ensures connected { IfOk result (λ door. (client : ℕ) → has_client door.clients client ≡ false) }
 {
     let listener = listen(rt, alloc, path)?;
-    let Ok(poll) = Poll::new(rt) else {
-        return Err(SocketFault::Unusable);
+    let poll = match Poll::new(rt) {
+        Ok(poll) => poll,
+        Err(error) => return Err(SocketFault::Unusable(error.kind())),
     };
     let Ok(events) = Events::with_capacity(alloc, MOST_EVENTS) else {
         return Err(SocketFault::Memory);
@@ -128,15 +129,19 @@ fn open<R: Files + Net>(rt: &R, alloc: Global, path: &str) -> Result<UnixDoor, S
         clients: Slab::new(alloc),
         journal: Journal::new(alloc),
     };
-    if door.watch().is_err() {
-        return Err(SocketFault::Unusable);
+    match door.watch() {
+        Ok(()) => Ok(door),
+        Err(error) => {
+            drop(door);
+            Err(SocketFault::Unusable(error.kind()))
+        }
     }
-    Ok(door)
 }
 
 impl UnixDoor {
     /// A door at a path where nothing is yet. Its socket can be used by its owner alone. Refused for an empty path, one of more
-    /// than 101 bytes, and one that exists; it is not removed when the door goes.
+    /// than 101 bytes, and one that exists; it is not removed when the door goes. The folder `PATH.new` in which it is made is taken
+    /// over from a start of the same user that was ended.
     pub fn bind<R: Files + Net>(rt: &R, alloc: Global, path: &str) -> Result<Self, SocketFault>
         ensures refused { IfErr result (λ fault. SaysWhy path.now fault) }
         ensures usable { OnOk result (path_refusal path.now ≡ None) }

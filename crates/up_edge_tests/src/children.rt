@@ -1,6 +1,7 @@
 //! Real children.
 use crate::orders::{order_in, path_of, same, shell, who};
 use std::alloc::Global;
+use std::io::ErrorKind;
 use std::test::Fail;
 use std::time::{Duration, Instant};
 use std::{fs, io, thread};
@@ -118,15 +119,29 @@ fn is_refused(rt: &HostRuntime, host: &mut System, case: &Refused) -> Result<boo
     Ok(refused)
 }
 
+// Whether the host keeps why each was refused: nothing is there, nothing is there, it may not be executed or is no program, it may not
+// be executed, and it names nothing.
+fn are_kept(host: &System) -> bool {
+    let refusals = host.refusals();
+    let missing = refusals
+        .iter()
+        .filter(|refusal| refusal.error.kind() == ErrorKind::NotFound)
+        .count();
+    refusals.len() == 5 && missing == 3
+}
+
 fn try_refused(rt: &HostRuntime, host: &mut System) -> Result<(), Fail> {
     for case in REFUSED {
         same(case.name, is_refused(rt, host, case)?, true)?;
     }
+    same("the reasons are kept", are_kept(host), true)?;
     same(
         "entries and faults",
         (host.happened().len(), host.faults()),
         (0, 5),
     )?;
+    host.clear_record();
+    same("the reasons go with the record", host.refusals().len(), 0)?;
     same("no child is left", is_childless(rt)?, true)
 }
 

@@ -1,9 +1,10 @@
 //! Real sockets.
 use crate::orders::{path_of, same};
 use mio::net::UnixStream;
-use std::fs::{metadata, remove_file};
+use std::fs::{DirBuilder, metadata, remove_dir, remove_file};
 use std::io::{ErrorKind, Read, Write};
-use std::os::unix::fs::PermissionsExt;
+use std::os::unix::fs::{DirBuilderExt, PermissionsExt};
+use std::os::unix::net::UnixListener;
 use std::test::Fail;
 use std::time::{Duration, Instant};
 use up_daemon::{Door, DoorFault, SocketFault, UnixDoor};
@@ -71,7 +72,7 @@ fn a_path_that_is_empty_or_too_long_or_there_is_refused(rt: HostRuntime) -> Resu
     assert_eq!(rt; refusal(&rt, "/tmp"), Some(SocketFault::Exists));
     assert_eq!(rt;
         refusal(&rt, "/no/such/folder/s"),
-        Some(SocketFault::Unusable)
+        Some(SocketFault::Unusable(ErrorKind::NotFound))
     );
     Ok(())
 }
@@ -279,4 +280,33 @@ fn try_pause(rt: &HostRuntime, door: &mut UnixDoor, path: &str) -> Result<(), Fa
 #[test]
 fn a_pause_ends_when_a_client_or_a_byte_comes(rt: HostRuntime) -> Result<(), Fail> {
     with_door(&rt, "pause", try_pause)
+}
+
+// Whether a door is made beside the folder that a start left which was ended, and the folder goes.
+fn takes_over(rt: &HostRuntime, path: &str) -> Result<bool, Fail> {
+    let folder = format!(in rt.alloc(); "{path}.new")?;
+    let inner = format!(in rt.alloc(); "{path}.new/s")?;
+    let mut builder = DirBuilder::new();
+    builder.mode(0o700);
+    builder.create(rt, folder.as_str())?;
+    drop(UnixListener::bind(rt, inner.as_str())?);
+    let made = refusal(rt, path);
+    remove_file(rt, path)?;
+    Ok(made.is_none() && metadata(rt, folder.as_str()).is_err())
+}
+
+// Whether somebody else's folder is left as it is.
+fn leaves(rt: &HostRuntime, path: &str) -> Result<bool, Fail> {
+    let folder = format!(in rt.alloc(); "{path}.new")?;
+    DirBuilder::new().create(rt, folder.as_str())?;
+    let refused = refusal(rt, path) == Some(SocketFault::Exists);
+    remove_dir(rt, folder.as_str())?;
+    Ok(refused)
+}
+
+#[test]
+fn what_a_killed_start_left_is_taken_over(rt: HostRuntime) -> Result<(), Fail> {
+    let path = path_of(&rt, "left")?;
+    same("it is taken over", takes_over(&rt, path.as_str())?, true)?;
+    same("no other is", leaves(&rt, path.as_str())?, true)
 }

@@ -18,5 +18,5 @@ pub use fault::HostFault;
 pub use happened::Happened;
 pub use host::Host;
 pub use journal::Journal;
-pub use real::RealHost;
+pub use real::{RealHost, Refusal};
 pub use script::{Script, ScriptHost};

@@ -13,6 +13,7 @@ use crate::host::Host;
 use crate::journal::Journal;
 use std::alloc::Global;
 use std::io;
+use std::io::ErrorKind;
 use std::process::{Child, Command, OpenProcess, Processes};
 use std::rt::Clock;
 use std::time::Instant;
@@ -21,6 +22,15 @@ use up_stanza::signal_name;
 
 /// The signal that no process can ignore (signal(7)).
 const KILL: u8 = 9;
+
+/// A process that the system refused to start.
+#[derive(Drop)]
+pub struct Refusal {
+    pub who: Who,
+    pub process: Process,
+    /// The system's reason.
+    pub error: io::Error,
+}
 
 /// A host over the system's processes and its clock, which starts at 0.
 #[derive(Drop)]
@@ -34,21 +44,28 @@ pub struct RealHost<R: Processes> {
     // where the next look at the children begins
     next: usize,
     journal: Journal<Happened>,
+    refusals: Vec<Refusal>,
 }
 
 // Starts the process of an order.
-fn started<R: Processes>(system: &R, alloc: Global, order: &Order) -> Option<Child<R::Started>> {
+fn started<R: Processes>(
+    system: &R,
+    alloc: Global,
+    order: &Order,
+) -> io::Result<Child<R::Started>> {
     match command_of(alloc, order) {
         Ok(Some(command)) => started_by(system, command),
-        Ok(None) | Err(_) => None,
+        // An order without words names no program.
+        Ok(None) => Err(io::Error::from(ErrorKind::NotFound)),
+        Err(refused) => Err(io::Error::from(refused)),
     }
 }
 
 // Starts the process of a command.
-fn started_by<R: Processes>(system: &R, mut command: Command) -> Option<Child<R::Started>> {
+fn started_by<R: Processes>(system: &R, mut command: Command) -> io::Result<Child<R::Started>> {
     let child = command.spawn(system);
     drop(command);
-    child.ok()
+    child
 }
 
 // Starts a shell that sends the signal.
@@ -60,7 +77,7 @@ fn kill_by_shell<R: Processes>(
 ) -> Option<Child<R::Started>> {
     let name = signal_name(signal)?;
     match kill_command(alloc, name, pid) {
-        Ok(command) => started_by(system, command),
+        Ok(command) => started_by(system, command).ok(),
         Err(_) => None,
     }
 }
@@ -90,7 +107,29 @@ impl<R: Processes> RealHost<R> {
             helpers: Vec::new(alloc),
             next: 0,
             journal: Journal::new(alloc),
+            refusals: Vec::new(alloc),
         })
+    }
+
+    // Keeps why the system refused an order, if there is memory for it.
+    fn note_refusal(&mut self, order: &Order, error: io::Error)
+        ensures children { self.new.children ≡ self.old.children }
+        ensures journal { self.new.journal ≡ self.old.journal }
+    {
+        let Ok(who) = order.who.copy() else {
+            return;
+        };
+        let refusal = Refusal {
+            who,
+            process: order.process,
+            error,
+        };
+        let _ = self.refusals.push(refusal);
+    }
+
+    /// The starts that the system refused since the record was emptied, oldest first. One for which there was no memory is left out.
+    pub fn refusals(&self) -> &[Refusal] {
+        self.refusals.as_slice()
     }
 
     // Starts the process of an order as one more child.
@@ -105,8 +144,13 @@ impl<R: Processes> RealHost<R> {
         let Ok(who) = order.who.copy() else {
             return None;
         };
-        let Some(child) = started(&self.system, self.alloc, order) else {
-            return None;
+        let child = match started(&self.system, self.alloc, order) {
+            Ok(child) => child,
+            Err(error) => {
+                drop(who);
+                self.note_refusal(order, error);
+                return None;
+            }
         };
         let pid = child.id();
         let running = Running {
@@ -276,5 +320,6 @@ impl<R: Processes + Clock> Host for RealHost<R> {
 
     fn clear_record(&mut self) {
         self.journal.clear();
+        self.refusals.clear();
     }
 }

@@ -12,7 +12,7 @@ enum Wanted {
 
 type Case = (&'static [&'static str], Wanted);
 
-static ASKED: [Case; 9] = [
+static ASKED: [Case; 10] = [
     (&["initd"], Wanted::Asked(Asked::Bundle)),
     (
         &["initd", "check", "jobs"],
@@ -25,21 +25,21 @@ static ASKED: [Case; 9] = [
     (
         &["initd", "replay", "jobs/", "a script"],
         Wanted::Asked(Asked::Replay {
-            dir: "jobs/",
+            source: "jobs/",
             script: "a script",
         }),
     ),
     (
         &["initd", "replay", "check", "replay"],
         Wanted::Asked(Asked::Replay {
-            dir: "check",
+            source: "check",
             script: "replay",
         }),
     ),
     (
         &["initd", "replay", "a", "b", "--env", "A=1", "--env", "A="],
         Wanted::Asked(Asked::Replay {
-            dir: "a",
+            source: "a",
             script: "b",
         }),
     ),
@@ -77,7 +77,38 @@ static ASKED: [Case; 9] = [
             },
             telling: Telling {
                 verbose: true,
+                quiet: false,
+                tell: None,
                 log: Some("r"),
+                over: false,
+            },
+        }),
+    ),
+    (
+        &[
+            "initd",
+            "run",
+            "--quiet",
+            "jobs",
+            "s",
+            "--tell=t",
+            "--record-over",
+            "--pause",
+            "0",
+        ],
+        Wanted::Asked(Asked::Run {
+            source: "jobs",
+            socket: "s",
+            rounds: Rounds {
+                count: 4_294_967_295,
+                most_pause: 0,
+            },
+            telling: Telling {
+                verbose: false,
+                quiet: true,
+                tell: Some("t"),
+                log: None,
+                over: true,
             },
         }),
     ),

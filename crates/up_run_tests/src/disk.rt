@@ -3,7 +3,7 @@ use crate::walk::{below, expect, make_file, scratch, text_of};
 use std::test::Fail;
 use std::{fs, io};
 use up_command::answer::answer;
-use up_command::{Asked, check_dir, replay_dir};
+use up_command::{Asked, check_dir, compile_dir, replay_dir, replay_image, replay_source};
 use up_replay::Printed;
 use up_text::Env;
 
@@ -110,13 +110,52 @@ fn a_folder_is_replayed(rt: HostRuntime) -> Result<(), Fail> {
     Ok(())
 }
 
+// Whether a replay over the image of a folder prints this, by its path and as what it is, and over the folder too.
+fn replays_alike(rt: &HostRuntime, dir: &str, wanted: (&str, u8)) -> Result<bool, Fail> {
+    let image = below(rt, dir, "jobs.image")?;
+    let image = image.as_str();
+    let script = below(rt, dir, "up.script")?;
+    let script = script.as_str();
+    let stored = compile_dir(rt, dir, image)?;
+    let over_image = replay_image(rt, image, Env::new(rt.alloc()), script)?;
+    let over_file = replay_source(rt, image, Env::new(rt.alloc()), script)?;
+    let over_folder = replay_source(rt, dir, Env::new(rt.alloc()), script)?;
+    Ok(
+        stored.status.number() == 0
+            && is_printed(rt, dir, &over_image, wanted)?
+            && is_printed(rt, dir, &over_file, wanted)?
+            && is_printed(rt, dir, &over_folder, wanted)?,
+    )
+}
+
+#[test]
+fn an_image_is_replayed(rt: HostRuntime) -> Result<(), Fail> {
+    let dir = scratch(&rt, "image")?;
+    make_files(&rt, dir.as_str(), REPLAYS[1].0)?;
+    let wanted = (REPLAYS[1].1, REPLAYS[1].2);
+    expect(
+        replays_alike(&rt, dir.as_str(), wanted)?,
+        "the image's jobs are replayed",
+        0,
+    )?;
+    fs::remove_dir_all(&rt, dir.as_str())?;
+    Ok(())
+}
+
 fn answers(rt: &HostRuntime, dir: &str) -> Result<bool, Fail> {
     make_file(rt, dir, "a.conf", b"exec x\n")?;
     make_file(rt, dir, "up.script", b"turn 0\n")?;
     let script = below(rt, dir, "up.script")?;
     let script = script.as_str();
     let checked = answer(rt, Asked::Check { dir }, Env::new(rt.alloc()))?;
-    let replayed = answer(rt, Asked::Replay { dir, script }, Env::new(rt.alloc()))?;
+    let replayed = answer(
+        rt,
+        Asked::Replay {
+            source: dir,
+            script,
+        },
+        Env::new(rt.alloc()),
+    )?;
     Ok(checked.number() == 0 && replayed.number() == 2)
 }
 

@@ -1,8 +1,9 @@
 //! Folders of which the system refuses something.
 use std::alloc::{Allocator, Global};
+use std::fmt::Display;
 use std::fs::{Files, Metadata, OpenFile, OpenOptions};
 use std::io;
-use std::io::{ErrorKind, Read, Seek, SeekFrom, Write};
+use std::io::{Eprint, ErrorKind, Read, Seek, SeekFrom, Write};
 use up_command::WalkError;
 use up_command::walk::walk;
 
@@ -41,6 +42,16 @@ impl Alloc for Fake {
 
     fn alloc(&self) -> Global {
         self.alloc
+    }
+}
+
+impl Eprint for Fake {
+    fn eprint<D: Display + Drop>(&self, _value: D) -> io::Result<()> {
+        Ok(())
+    }
+
+    fn eprintln<D: Display + Drop>(&self, _value: D) -> io::Result<()> {
+        Ok(())
     }
 }
 
@@ -188,12 +199,11 @@ fn finds(fake: &Fake, dir: &str, found: &Found) -> bool {
 }
 
 // What fails, the names in the folder, and the path that is named.
-static FAILURES: [(At, &[u8], &str); 8] = [
+static FAILURES: [(At, &[u8], &str); 7] = [
     (At::List, b"a.conf\0", "etc"),
     (At::Name, b"a.conf\0", "etc"),
     (At::Look, b"a.conf\0", "etc/a.conf"),
     (At::Look, b"a.override\0", "etc/a.override"),
-    (At::Look, b"a\0", "etc"),
     (At::Open, b"a.conf\0", "etc/a.conf"),
     (At::Read, b"a.conf\0", "etc/a.conf"),
     (At::Nothing, b"a.conf\0\xff\0", "etc"),
@@ -221,7 +231,7 @@ fn a_failure_is_named(rt: HostRuntime) {
 }
 
 // Names, whether they are those of files, what fails, the folder, and what a walk finds. The path of no folder is empty.
-static PIPES: [(&[u8], bool, At, &str, Found); 4] = [
+static PIPES: [(&[u8], bool, At, &str, Found); 5] = [
     (
         b"a\0a.conf\0",
         false,
@@ -232,6 +242,7 @@ static PIPES: [(&[u8], bool, At, &str, Found); 4] = [
     (b"a\0a.conf\0", true, At::Nothing, "/", Found::Files(1)),
     (b"a\0a.conf\0", true, At::Nothing, "", Found::Unusable("")),
     (b"a\0b.txt\0", true, At::Open, "/", Found::Files(0)),
+    (b"a\0b.txt\0", true, At::Look, "/", Found::Files(0)),
 ];
 
 #[test]

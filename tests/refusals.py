@@ -1,0 +1,210 @@
+"""What the built programs refuse and what they say then, and that nothing is lost by it."""
+import os
+import pathlib
+import re
+import resource
+import signal
+import socket
+import stat
+import subprocess
+import time
+
+from harness import INITCTL, INITD, Run, check, initd, initd_said, wait_for, write
+
+SLEEPER = {"clock.conf": "start on startup\nexec sleep 1000\n"}
+
+
+def unusable(path, why, named=None):
+    """What initd prints on each output when a path can't be used, and its status."""
+    return f"initd: cannot use {path}\n", f"initd: {named or path}: {why}\n", 3
+
+
+def a_device(work):
+    """A device that it is no harm to lose: one of our own, or one that we couldn't replace."""
+    own = work / "null"
+    try:
+        os.mknod(own, stat.S_IFCHR | 0o600, os.makedev(1, 3))
+    except OSError:
+        return pathlib.Path("/dev/null")
+    return own
+
+
+def an_image_that_replaces_nothing(work, folder):
+    link, pipe, there = work / "link.image", work / "pipe.image", work / "there.image"
+    link.symlink_to(work / "elsewhere.image")
+    os.mkfifo(pipe)
+    check("compile to a link", initd_said("compile", folder, link), unusable(link, "it is a symbolic link, and isn't replaced"))
+    check("the link is still there", link.is_symlink() and not link.exists(), True)
+    check("compile to a pipe", initd_said("compile", folder, pipe), unusable(pipe, "it is no regular file, and isn't replaced"))
+    check("the pipe is still there", pipe.is_fifo(), True)
+    check("compile to a folder", initd_said("compile", folder, folder), unusable(folder, "it is a folder, and isn't replaced"))
+    device = a_device(work)
+    check("compile to a device", initd_said("compile", folder, device), unusable(device, "it is no regular file, and isn't replaced"))
+    check("the device is still there", stat.S_ISCHR(os.stat(device).st_mode), True)
+    output = pathlib.Path("/dev/stdout")
+    check("compile to the standard output", initd_said("compile", folder, output), unusable(output, "it is a symbolic link, and isn't replaced"))
+    away = work / "no" / "image"
+    check("compile to no folder", initd_said("compile", folder, away), unusable(away, "No such file or directory"))
+    there.write_text("an older one")
+    check("compile over a file", initd("compile", folder, there), ("1 jobs, 0 faults\n", 0))
+    check("the file is an image", initd("show", there)[1], 0)
+    left = work / "there.image.new"
+    left.write_text("half")
+    why = "it is there, left by a compile that was ended or in use by another: remove it"
+    check("compile beside a left-over", initd_said("compile", folder, there), unusable(there, why, left))
+    check("the left-over is as it was", left.read_text(), "half")
+
+
+def a_record_that_is_there(work, folder):
+    record = work / "kept.record"
+    run = Run(work, "kept", folder, "--record", record)
+    try:
+        wait_for(lambda: run.pid("clock"))
+        before = record.read_text()
+        why = "it is there, and somebody listens at it"
+        second = initd_said("run", folder, run.socket, "--record", record, "--record-over")
+        check("a second run at a socket", second, unusable(run.socket, why))
+        check("the record of the first goes on", record.read_text().startswith(before), True)
+    finally:
+        run.end()
+    kept = record.read_text()
+    why = "it is there, and nobody listens at it any more: remove it"
+    check("a run at a socket that was left", initd_said("run", folder, run.socket), unusable(run.socket, why))
+    other = work / "other.socket"
+    why = "it is there; with --record-over it is written over"
+    check("a run over a record", initd_said("run", folder, other, "--record", record), unusable(record, why))
+    check("no socket is left of it", other.exists(), False)
+    check("the record is as it was", record.read_text(), kept)
+    write(work / "idle", {"a.conf": "exec /bin/true\n"})
+    ended = initd_said("run", work / "idle", other, "--record", record, "--record-over", "--rounds", "2")
+    check("a run that may write over a record", ended, ("", "", 0))
+    check("the record is that of the last run", ("spawned clock" in kept, "spawned clock" in record.read_text()), (True, False))
+    other.unlink()
+    away = work / "no" / "record"
+    check("a record in no folder", initd_said("run", folder, other, "--record", away), unusable(away, "No such file or directory"))
+    check("no socket is left of that", other.exists(), False)
+
+
+def sockets_that_cant_be_made(work, folder):
+    idle = work / "idle"
+    path = work / "folder"
+    path.mkdir()
+    check("a folder for a socket", initd_said("run", idle, path), unusable(path, "it is there, and is no socket"))
+    away = work / "no" / "socket"
+    check("a socket in no folder", initd_said("run", idle, away), unusable(away, "No such file or directory"))
+    long = work / ("s" * 102)
+    check("a long path", initd_said("run", idle, long), unusable(long, "a socket's path has at most 101 bytes"))
+    check("an empty path", initd_said("run", idle, ""), unusable("", "an empty path names no socket"))
+    path = work / "left.socket"
+    left = work / "left.socket.new"
+    left.mkdir(0o700)
+    there = socket.socket(socket.AF_UNIX)
+    there.bind(str(left / "s"))
+    there.close()
+    check("a run beside what a killed start left", initd_said("run", idle, path, "--rounds", "2"), ("", "", 0))
+    check("nothing is left beside it", left.exists(), False)
+    path.unlink()
+    left.mkdir(0o700)
+    (left / "s").write_text("")
+    why = "it is there, and isn't the folder that an init of yours left: remove it"
+    check("a run beside something else", initd_said("run", idle, path, "--rounds", "2"), unusable(path, why, left))
+    check("which is as it was", (left / "s").exists() and not path.exists(), True)
+
+
+def sources_that_cant_be_read(work):
+    folder = work / "odd"
+    write(folder, {"a.conf": "exec /bin/true\n"})
+    (folder / "nowhere").symlink_to("/no/such/file")
+    check("a link to nothing is passed over", initd_said("check", folder), ("1 jobs, 0 faults\n", "", 0))
+    link = folder / "round"
+    link.symlink_to("round")
+    check("a link to itself is not", initd_said("check", folder), unusable(folder, "Too many levels of symbolic links", link))
+    link.unlink()
+    job = folder / "x.conf"
+    job.symlink_to("/no/such/file")
+    check("a job file that is a link to nothing", initd_said("check", folder), unusable(job, "No such file or directory"))
+    job.unlink()
+    os.mkfifo(job)
+    check("a pipe as a job file", initd_said("check", folder), unusable(job, "it is called as a job file, and is no regular file"))
+    missing = work / "missing"
+    check("no folder", initd_said("run", missing, work / "s"), unusable(missing, "No such file or directory"))
+    check("no image", initd_said("show", missing), unusable(missing, "No such file or directory"))
+    check("no script", initd_said("replay", work / "idle", missing), unusable(missing, "No such file or directory"))
+    check("a device as jobs", initd_said("run", "/dev/null", work / "s"), unusable("/dev/null", "it is no folder and no regular file"))
+
+
+def small_files():
+    """What a process can't go past is a size of files: a write is cut short there, as on a full disk."""
+    signal.signal(signal.SIGXFSZ, signal.SIG_IGN)
+    resource.setrlimit(resource.RLIMIT_FSIZE, (4000, 4000))
+
+
+def a_record_on_a_full_disk(work, folder):
+    record = work / "full.record"
+    how = {"stdout": subprocess.DEVNULL, "preexec_fn": small_files}
+    run = Run(work, "full", folder, "--record", record, **how)
+    try:
+        for number in range(200):
+            run.ask("emit", "--no-wait", f"event-{number}", "A=" + "x" * 30)
+        check("the run goes on", run.ask("version")[1], 0)
+    finally:
+        run.end()
+    check("the record ended", run.err.read_text(), "initd: the record ends: File too large\n")
+    text = record.read_text()
+    check("the record ends with a whole line", text.endswith("\n") and len(text) > 3000, True)
+    replayed = initd("replay", folder, record)
+    check("the record is replayed", replayed[1], 0)
+    rounds = re.findall(r"^request (\d+) ", text, flags=re.M)
+    check("each request in it has its answer", replayed[0].count("reply "), len(rounds))
+
+
+def little_memory():
+    resource.setrlimit(resource.RLIMIT_DATA, (6_000_000, 6_000_000))
+
+
+def out_of_memory(work):
+    script = work / "long.script"
+    script.write_text("emit A B=1\n" * 200_000)
+    found = initd_said("replay", work / "idle", script, preexec_fn=little_memory)
+    check("little memory", found, ("", "initd: out of memory\n", 4))
+
+
+def words_of_a_client(work):
+    def said(*words):
+        made = subprocess.run([INITCTL, "--socket", work / "s", *words], capture_output=True, text=True, timeout=30)
+        return made.stderr, made.returncode
+
+    check("a bad variable", said("start", "a", "A=1", "b"), ("initctl: Bad word: b\n", 1))
+    check("a bad key", said("start", "a", "1=2"), ("initctl: Bad word: 1=2\n", 1))
+    check("a bad name", said("emit", "a b"), ("initctl: Bad word: a b\n", 1))
+    check("a large request", said("emit", "a", "A=" + "x" * 70_000), ("initctl: Request too large\n", 1))
+    text, status = said("start", "--socket", "x", "web")
+    check("an option that stands too late", ("'--socket PATH' stands before the command" in text, "-- --socket" in text, status), (True, False, 2))
+
+
+def pauses(work):
+    """The pauses of an idle run grow to the longest within the time that OPERATING.md says."""
+    record = work / "pace.record"
+    run = Run(work, "pace", work / "idle", "--pause", "100", "--record", record)
+    try:
+        time.sleep(4)
+        run.ask("emit", "--no-wait", "x")
+    finally:
+        run.end()
+    clocks = [int(word) for word in re.findall(r"^clock (\d+)$", record.read_text(), flags=re.M)]
+    gaps = [(old, new - old) for old, new in zip(clocks, clocks[1:])]
+    check("pauses begin short", max(gap for old, gap in gaps if old < clocks[0] + 20) <= 10, True)
+    check("pauses grow to the longest", any(gap >= 95 for old, gap in gaps if old < clocks[0] + 3_000), True)
+
+
+def all_of(work):
+    folder = work / "sleeper"
+    write(folder, SLEEPER)
+    an_image_that_replaces_nothing(work, folder)
+    a_record_that_is_there(work, folder)
+    sockets_that_cant_be_made(work, folder)
+    sources_that_cant_be_read(work)
+    a_record_on_a_full_disk(work, folder)
+    out_of_memory(work)
+    words_of_a_client(work)
+    pauses(work)
