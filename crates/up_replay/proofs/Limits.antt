@@ -1,5 +1,5 @@
 -- What is printed depends on no more than one byte past the most that a bundle has.
-use Rattle.std.proofs.Common.{◌≡◌, ℕ, ◌<◌, ◌≤◌, false, List, length, take, nat_le, length-take, arith, refl, ap, ⊎_elim, subst, ◌∙◌, Option, Some, None, codes}
+use Rattle.std.proofs.Common.{◌≡◌, ℕ, ◌<◌, ◌≤◌, false, List, length, take, nat_le, length-take, arith, refl, ap, ⊎_elim, subst, inl, ◌∙◌, Option, Some, None, codes}
 use Rattle.std.specs.Prelude.{IfSome}
 use Rattle.std.specs.Io.KnownBytes.{Appends}
 use Rattle.std.proofs.lemmas.Bool.{cases_lt}
@@ -9,7 +9,8 @@ use Rattle.up_conf.specs.declared.report.Fault.{Fault}
 use Rattle.up_replay.specs.declared.printed.Printed.{Printed}
 use Rattle.up_replay.specs.Bundle.{files_of, lines_of}
 use Rattle.up_replay.specs.Folders.{prints, unusable}
-use Rattle.up_replay.specs.Replay.{bundle_printed, Prints, Replays}
+use Rattle.up_replay.specs.Replay.{bundle_printed, Prints, Replayed, IsCutOff, Replays}
+use Rattle.up_replay.specs.Writing.{IsBegun}
 use Rattle.up_replay.proofs.Reports.{any_report}
 use Rattle.up_model.specs.ExitStatuses.{status_number}
 use Rattle.up_model.specs.declared.exit_status.ExitStatus.{ExitStatus}
@@ -44,7 +45,7 @@ prints_long bytes made more is =
     record { report = any.0; is = any.1; same = is ∙ rw (long _ more) refl }
 
 replayed_whole : (all bytes : List ℕ) (made : Printed) (status : ExitStatus) (old new : Option (List ℕ)) → bytes ≡ take 67108865 all → Prints bytes made
-    → (status_number status < 3 → (status ≡ made.status) × Appends old new made.text) → Replays all (status_number status) old new
+    → (status_number status < 3 → (status ≡ made.status) × Appends old new made.text) → status_number status < 3 → Replayed all (status_number status) old new
 replayed_whole all bytes made status old new front had wrote below =
     let whole = prints_take all made (subst (λ b. Prints b made) front had) in
     let written = wrote below in
@@ -55,8 +56,21 @@ replayed_whole all bytes made status old new front had wrote below =
       text = subst (λ text. Appends old new text) (ap (λ (m : Printed). m.text) whole.same) written.1;
     }
 
+cut_off : (all bytes : List ℕ) (made : Printed) (old new : Option (List ℕ)) → bytes ≡ take 67108865 all → Prints bytes made
+    → IsBegun old new made.text → IsCutOff all old new
+cut_off all bytes made old new front had begun =
+    let whole = prints_take all made (subst (λ b. Prints b made) front had) in
+    inl (whole.report, whole.is, subst (λ text. IsBegun old new text) (ap (λ (m : Printed). m.text) whole.same) begun)
+
 -- what was written for a reader's bytes, if these are known
 pub replayed_known : (known : Option (List ℕ)) (bytes : List ℕ) (made : Printed) (status : ExitStatus) (old new : Option (List ℕ)) → IfSome known (λ all. bytes ≡ take 67108865 all) → Prints bytes made
-    → (status_number status < 3 → (status ≡ made.status) × Appends old new made.text) → IfSome known (λ all. Replays all (status_number status) old new)
-replayed_known None bytes made status old new front had wrote = tt
-replayed_known (Some all) bytes made status old new front had wrote = replayed_whole all bytes made status old new front had wrote
+    → (status_number status < 3 → (status ≡ made.status) × Appends old new made.text) → IsBegun old new made.text
+    → IfSome known (λ all. Replays all (status_number status) old new)
+replayed_known None bytes made status old new front had wrote begun = tt
+replayed_known (Some all) bytes made status old new front had wrote begun =
+    (replayed_whole all bytes made status old new front had wrote, λ three. cut_off all bytes made old new front had begun)
+
+-- nothing is promised of a status past 3
+pub refused_known : (known : Option (List ℕ)) (status : ℕ) (old new : Option (List ℕ)) → 3 < status → IfSome known (λ all. Replays all status old new)
+refused_known None status old new past = tt
+refused_known (Some all) status old new past = ((λ below. absurd (omega (arith, past, below))), λ same. absurd (omega (arith, past, same)))

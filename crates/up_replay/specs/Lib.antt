@@ -12,5 +12,7 @@ pub mod Requests
 pub mod Script
 -- The steps of a script.
 pub mod ScriptSteps
+-- What is written as far as a writer takes it.
+pub mod Writing
 -- What a replay prints, and its status.
 pub mod Replay

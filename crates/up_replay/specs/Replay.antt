@@ -1,5 +1,5 @@
 -- What a replay prints, and its status.
-use Rattle.std.specs.Prelude.{◌≡◌, ℕ, ◌<◌, nat_le, List, [], ◌++◌, length, Option, None, Some, Result, Ok, Err, if◌then◌else◌, codes}
+use Rattle.std.specs.Prelude.{◌≡◌, ◌⊎◌, ℕ, ◌<◌, nat_le, List, [], ◌++◌, length, Option, None, Some, Result, Ok, Err, if◌then◌else◌, codes}
 use Rattle.up_replay.specs.declared.replay.TheConstants.{MAX_BUNDLE}
 use Rattle.std.specs.List.{flat_map}
 use Rattle.std.specs.Fmt.{decimal}
@@ -18,6 +18,7 @@ use Rattle.up_replay.specs.Bundle.{lines_of, files_of, bad_line, script_line, sc
 use Rattle.up_replay.specs.Folders.{fault_line, refusal_line, unusable, prints, status_of, compile_outcome}
 use Rattle.up_replay.specs.Lines.{step_lines}
 use Rattle.up_replay.specs.ScriptSteps.{script_inputs}
+use Rattle.up_replay.specs.Writing.{IsBegun}
 
 -- the line of a bad step of the script with this name
 unfoldable pub bad_step_line : List ℕ → ℕ → List ℕ
@@ -74,5 +75,12 @@ pub record Replayed (bytes : List ℕ) (status : ℕ) (old new : Option (List �
   pub ends : status ≡ status_number (bundle_printed report bytes).status
   pub text : Appends old new (bundle_printed report bytes).text
 
+-- What was written is the beginning of what is printed for the bundle, or of the line that says that it can't be used.
+abbrev pub IsCutOff : List ℕ → Option (List ℕ) → Option (List ℕ) → Type 0
+IsCutOff bytes old new =
+    ((report : List Fault) × IsReport (files_of (lines_of bytes)) report × IsBegun old new (bundle_printed report bytes).text)
+    ⊎ IsBegun old new (unusable (codes "-"))
+
+-- A status of 3 needs no cause, but nothing else is written then.
 abbrev pub Replays : List ℕ → ℕ → Option (List ℕ) → Option (List ℕ) → Type 0
-Replays bytes status old new = status < 3 → Replayed bytes status old new
+Replays bytes status old new = (status < 3 → Replayed bytes status old new) × (status ≡ 3 → IsCutOff bytes old new)

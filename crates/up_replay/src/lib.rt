@@ -13,6 +13,7 @@ mod same;
 pub mod script;
 mod variables;
 mod words;
+mod writes;
 
 pub use bundle::{Bundle, read_bundle};
 pub use inputs::script_lines;

@@ -6,10 +6,11 @@ ghost use Rattle.std.specs.Io.KnownBytes.{Appends};
 ghost use Rattle.up_model.specs.Answers.{answers};
 ghost use Rattle.up_model.specs.ExitStatuses.{status_number};
 ghost use Rattle.up_model.specs.declared.exit_status.ExitStatus.TheVariants.{Unusable};
-ghost use Rattle.up_replay.specs.Folders.{fault_line};
+ghost use Rattle.up_replay.specs.Folders.{fault_line, unusable};
 ghost use Rattle.up_replay.specs.Lines.{step_lines};
 ghost use Rattle.up_replay.specs.Replay.{bad_step_line, play_output, replay_output, unless_bad, Plays, Prints, Replays};
 ghost use Rattle.up_replay.specs.ScriptSteps.{script_inputs};
+ghost use Rattle.up_replay.specs.Writing.{IsBegun};
 
 use crate::bundle::{Bundle, read_bundle};
 use crate::check::compile_outcome;
@@ -17,6 +18,7 @@ use crate::lines::{push, push_decimal, push_step};
 use crate::printed::{Printed, cannot_use, push_faults, refused, status_of};
 use crate::reread::reread;
 use crate::script::script_inputs;
+use crate::writes::write_bytes;
 use std::alloc::{AllocError, Global};
 use std::io;
 use std::io::{ErrorKind, Read, Write};
@@ -191,23 +193,27 @@ fn read_all<R: Read>(alloc: Global, reader: &mut R) -> io::Result<Vec<u8>>
     Ok(bytes)
 }
 
-/// Writes what is printed, and returns the status: `Unusable` if it can't be written.
+/// Writes what is printed, and returns the status: `Unusable` if it can't be written, and then only the first bytes were.
 pub fn write_printed<W: Write>(writer: &mut W, made: &Printed) -> ExitStatus
     ensures written { status_number result < 3 → (result ≡ made.now.status)
         × Appends (W.contents writer.old) (W.contents writer.new) made.now.text }
     ensures status { (result ≡ made.now.status) ⊎ (result ≡ Unusable) }
+    ensures begun { IsBegun (W.contents writer.old) (W.contents writer.new) made.now.text }
 {
-    match writer.write_all(made.text.as_slice()) {
-        Ok(()) => made.status,
-        Err(_) => ExitStatus::Unusable,
+    if write_bytes(writer, made.text.as_slice()) {
+        made.status
+    } else {
+        ExitStatus::Unusable
     }
 }
 
 // Says that the bundle can't be read, and returns the status.
+#[tactic(auto, unfolding(crate::specs::Folders::unusable))]
 fn write_unreadable<W: Write>(writer: &mut W) -> ExitStatus
-    ensures { result ≡ Unusable }
+    ensures status { result ≡ Unusable }
+    ensures begun { IsBegun (W.contents writer.old) (W.contents writer.new) (unusable (codes "-")) }
 {
-    let _ = writer.write_all(b"initd: cannot use -\n");
+    let _ = write_bytes(writer, b"initd: cannot use -\n");
     ExitStatus::Unusable
 }
 
