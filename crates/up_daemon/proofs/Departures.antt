@@ -1,6 +1,5 @@
 -- No client is closed without a cause.
-use Rattle.std.proofs.Common.{◌≡◌, sym, ◌∙◌, ◌++◌, ◌∷◌, ◌≤◌, ◌+◌, ◌⊎◌, ◌==◌, [], ℕ, suc, Bool, List, Option, None, Some, length, take, refl, ap, inl, inr, arith, if◌then◌else◌}
-use Rattle.std.specs.Prelude.{⊤}
+use Rattle.std.proofs.Common.{◌≡◌, sym, ◌∙◌, ◌++◌, ◌∷◌, ◌≤◌, ◌+◌, ◌⊎◌, [], ℕ, suc, List, None, Some, length, take, refl, ap, inl, inr, arith}
 use Rattle.std.specs.List.{AllByRecursion}
 use Rattle.std.proofs.lemmas.List.{append-nil, length-append}
 use Rattle.up_host.specs.Calls.{Calls, with_entry, with_failure}
@@ -10,10 +9,10 @@ use Rattle.up_model.specs.Requests.{RequestValue}
 use Rattle.up_model.specs.declared.request.Answer.{Answer}
 use Rattle.up_daemon.specs.Connected.{count_of}
 use Rattle.up_daemon.specs.Counting.{faults_after}
-use Rattle.up_daemon.specs.Departing.{Cause, SendsNoMore, BreaksFrame, CallFails, Departure, departed, failed_for, calls_failed, IsEntry, IsCause, IsCaused, let_in, closed_in, Departs}
+use Rattle.up_daemon.specs.Departing.{Cause, SendsNoMore, BreaksFrame, CallFails, Departure, departed, failed_for, calls_failed, IsEntry, IsCause, IsCaused, let_in, closed_in}
 use Rattle.up_daemon.specs.Exchanges.{IsAmong}
 use Rattle.up_daemon.specs.Laws.{ClosesForCause}
-use Rattle.up_daemon.specs.Peers.{Peer, newcomer, heard, asked, answered, numbers_of, IsEntered, IsQueued}
+use Rattle.up_daemon.specs.Peers.{Peer, newcomer, heard, answered, numbers_of, IsEntered, IsQueued}
 use Rattle.up_daemon.specs.declared.passed.Passed.{Passed}
 use Rattle.up_daemon.specs.declared.passed.Passed.TheVariants as passed
 use Rattle.up_daemon.specs.Rounds.{Reaches, Opens, ReadsClock, ClockFails, FindsEnd, FindsNone, PollFails, LetsIn, NobodyWaits, AcceptFails, IsFull, PassesOver, FindsNothing, FindsBytes, FindsFault, FindsLast, ReadFails, Closes, ClosesUnrecorded, HasRead, Enters, HasServed, TakesTurn, HasTurned, NothingWaits, Writes, WriteFails, Starts, StartFails, Signals, SignalFails, PassesEvent, Replies}

@@ -1,5 +1,5 @@
 -- Who is closed in a round, and why.
-use Rattle.std.specs.Prelude.{⊤, ◌≡◌, ◌≤◌, ◌⊎◌, ◌+◌, ◌++◌, ℕ, List, [], ◌∷◌, Option, None, Some, length, map}
+use Rattle.std.specs.Prelude.{⊤, ◌≡◌, ◌≤◌, ◌⊎◌, ◌+◌, ◌++◌, ℕ, List, [], ◌∷◌, None, Some, length, map}
 use Rattle.std.specs.List.{AllByRecursion}
 use Rattle.up_wire.specs.Frames.{Bytes}
 use Rattle.up_daemon.specs.Connected.{count_of}
