@@ -1,4 +1,5 @@
 """What a run tells: why jobs failed, its lines to a file and to a pipe that nobody reads, its record, and how it is stopped in order."""
+import contextlib
 import os
 import re
 import signal
@@ -92,6 +93,10 @@ def nobody_reads(work, folder):
                 read += os.read(reader, 65_536)
             except BlockingIOError:
                 time.sleep(0.01)
+        # What the pipe still has.
+        with contextlib.suppress(BlockingIOError):
+            while more := os.read(reader, 65_536):
+                read += more
         said = run.err.read_text()
         check("lost lines are counted", bool(re.fullmatch(r"initd: \d+ lines of what happens are lost: nobody read them\n", said)), True)
         check("the others are whole", read.endswith(b"\n") and len(read) > 500_000, True)
