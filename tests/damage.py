@@ -6,17 +6,19 @@ An image is either refused, with one of the five refusals that images have, or i
 closed, or heard no more. Run as a program it tries each other value of each byte, each length, and so many
 images with two bytes changed at random (10,000 if no number is given), from a seed that it prints.
 """
+import os
 import pathlib
 import random
 import re
 import shutil
 import socket
+import subprocess
 import sys
 import tempfile
 
-from harness import Run, check, counts, initd, initd_said, unpack, write
+from harness import INITD, Run, check, counts, initd, write
 
-REFUSALS = re.compile(r"initd: (30 BadMagic|31 BadVersion|32 Truncated|33 Trailing|34 BadTable)\n")
+REFUSALS = re.compile(rb"initd: (30 BadMagic|31 BadVersion|32 Truncated|33 Trailing|34 BadTable)\n")
 
 # The image of one service, and of a folder with every field used.
 SMALL = bytes.fromhex(
@@ -44,19 +46,24 @@ class Trial:
 
     def give(self, data, name):
         self.image.write_bytes(data)
-        printed, said, status = initd_said("show", self.image)
+        # Bytes, since a text's line ends would be changed.
+        made = subprocess.run([INITD, "show", self.image], capture_output=True, timeout=60)
+        printed, status = made.stdout, made.returncode
         if status == 3 and REFUSALS.fullmatch(printed):
             self.refused += 1
             return
         shutil.rmtree(self.folder, ignore_errors=True)
-        self.folder.mkdir()
-        unpack(printed, self.folder)
+        for part in re.split(rb"^%file ", printed, flags=re.M)[1:]:
+            path, text = part.split(b"\n", 1)
+            whole = self.folder / os.fsdecode(path)
+            whole.parent.mkdir(parents=True, exist_ok=True)
+            whole.write_bytes(text)
         self.again.unlink(missing_ok=True)
         made = initd("compile", self.folder, self.again)[1]
         if status == 0 and made == 0 and self.again.read_bytes() == data:
             self.read += 1
         else:
-            self.wrong.append((name, status, printed[:80], said[:80]))
+            self.wrong.append((name, status, printed[:80]))
 
 
 def replaced(data, values, count=None):
