@@ -52,18 +52,24 @@ class Trial:
         if status == 3 and REFUSALS.fullmatch(printed):
             self.refused += 1
             return
+        if status == 0 and self.is_given_by(printed, data):
+            self.read += 1
+        else:
+            self.wrong.append((name, status, printed[:80]))
+
+    def is_given_by(self, printed, data):
+        """Whether the files that were printed give the image. A path that no disk has, as `/.conf`, can be in a bundle alone: it has no fault there."""
+        parts = [part.split(b"\n", 1) for part in re.split(rb"^%file ", printed, flags=re.M)[1:]]
+        if any(step in (b"", b".", b"..") for path, _ in parts for step in path.split(b"/")):
+            return subprocess.run([INITD], input=printed + b"%script\n", capture_output=True, timeout=60).returncode == 0
         shutil.rmtree(self.folder, ignore_errors=True)
-        for part in re.split(rb"^%file ", printed, flags=re.M)[1:]:
-            path, text = part.split(b"\n", 1)
+        for path, text in parts:
             whole = self.folder / os.fsdecode(path)
             whole.parent.mkdir(parents=True, exist_ok=True)
             whole.write_bytes(text)
         self.again.unlink(missing_ok=True)
         made = initd("compile", self.folder, self.again)[1]
-        if status == 0 and made == 0 and self.again.read_bytes() == data:
-            self.read += 1
-        else:
-            self.wrong.append((name, status, printed[:80]))
+        return made == 0 and self.again.read_bytes() == data
 
 
 def replaced(data, values, count=None):
