@@ -11,6 +11,9 @@ use Rattle.up_text.specs.declared.expansion.Expanded.TheVariants as expanded
 use Rattle.up_value.specs.declared.fault.TextFault.TheVariants.{BadExpansion}
 use Rattle.up_text.specs.Expanding.{Gives}
 use Rattle.up_text.specs.Expansion.{Expansion, Expands, Lacks, Malformed}
+use Rattle.up_book.specs.Keeps.{AreDistinct}
+use Rattle.up_book.proofs.Keyed.{nth-get}
+use Rattle.up_book.proofs.Outgoing.{named-there}
 use Rattle.up_engine.proofs.OutputLemmas.{jobs_left}
 
 -- the settings from one on
@@ -41,6 +44,13 @@ environment_there base environments jobs name i job within here called left are 
     sym left ∙ jobs_left jobs name i job within ∙ ap (λ j. if bytes_eq j.name name then Some j else job_named name (drop (i + 1) jobs)) (sym here)
     ∙ ap (λ (b : Bool). if b then Some job else job_named name (drop (i + 1) jobs)) called in
     ap (λ x. unwrap_or x base) found ∙ sym (ap (env_by_job base) named)
+
+-- the environment of the job at an index
+pub environment_by_index : (base : Bindings) (environments : List Bindings) (jobs : List JobDef) (i : ℕ) (job : JobDef) → environments ≡ map (job_env base) jobs → AreDistinct jobs → slice_get jobs i ≡ Some job
+    → unwrap_or (slice_get environments i) base ≡ env_by_job base (job_named job.name jobs)
+environment_by_index base environments jobs i job are distinct there =
+    let found : slice_get environments i ≡ Some (job_env base job) = ap (λ xs. slice_get xs i) are ∙ slice_get-map (job_env base) jobs i ∙ ap (option_map (job_env base)) there in
+    ap (λ x. unwrap_or x base) found ∙ sym (ap (env_by_job base) (named-there i jobs job (nth-get i jobs ∙ there) distinct))
 
 -- what a call that expands a text says of its expansion
 pub gives_text : (e : Expansion) (name : Bytes) → Gives e (Ok (expanded.Text name)) → Some name ≡ text_of e

@@ -278,7 +278,7 @@ fn start_by<B: Book>(
         → map (B.event_place book.old c) holders ≡ map Some events → B.event_place book.old c k ≡ Some j
         → B.event_place book.new (model.start_by setup.now job.now events c ++ c) k ≡ Some j) }
 {
-    let base = setup.environment(&job.name);
+    let base = setup.environment_at(index);
     let environment = events_env(alloc, base, book, holders.as_slice())?;
     match instance_name(alloc, job, &environment)? {
         Some(name) => {
@@ -338,7 +338,7 @@ pub(crate) fn offer_start<B: Book>(
         → B.event_place book.old c event ≡ Some e → B.event_place book.old c k ≡ Some j
         → B.event_place book.new (model.start_offer setup.now job.now e c ++ c) k ≡ Some j) }
 {
-    let holds = book.offer_start(index, job, setup.environment(&job.name), event)?;
+    let holds = book.offer_start(index, job, setup.environment_at(index), event)?;
     if holds {
         start_fires(alloc, setup, book, index, job)?;
     }

@@ -3,6 +3,7 @@ ghost use Rattle.std.specs.Prelude.{◌≡◌, map, None, Some, slice_get, unwra
 ghost use Rattle.std.specs.Option.{option_copied};
 ghost use Rattle.std.specs.Str.{bytes_eq};
 ghost use Rattle.up_book.specs.Keeps.{AreDistinct};
+ghost use Rattle.up_conf.specs.declared.job.JobDef.{JobDef as JobDefValue};
 ghost use Rattle.up_book.specs.Keys.{job_at, name_at};
 ghost use Rattle.up_model.specs.Configuration.{job_named};
 ghost use Rattle.up_model.specs.Environments.{with_value, setting_value, with_settings, job_env, env_by_job, env_of_job};
@@ -180,6 +181,15 @@ impl Setup {
         ensures none { IfNone result (job_named name.now self.now.jobs ≡ None) }
     {
         find_job(self.table.as_slice(), name)
+    }
+
+    /// The environment of the job at this index.
+    pub(crate) fn environment_at(&self, index: usize) -> &Env
+        ensures { (job : JobDefValue) → job_at self.now index ≡ Some job
+            → result.now ≡ env_of_job self.now job.name }
+    {
+        self.names_differ();
+        environment_at(&self.base, self.environments.as_slice(), index)
     }
 
     /// The environment of the job of this name.

@@ -6,4 +6,4 @@ returns-in_ok-start_called-in-Some-clause-events g c c' events k j s named held 
     let config = c.args.setup.now in
     let environment = c.in_ok-environment.ensures Stepping config c' events s (rw c.as_slice.ensures held) in
     let done = rw c.as_str.ensures at (c.in_ok-start_called-in-Some.ensures.events config c' events k j s named held event) in
-    rw (← c.environment-base.ensures, ← environment, ← c.in_ok-name.ensures, c.in-Some.is) done
+    rw (← c.environment_at-base.ensures c.args.job.now named, ← environment, ← c.in_ok-name.ensures, c.in-Some.is) done
