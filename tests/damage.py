@@ -111,7 +111,7 @@ def tried(work, name, changes):
     trial = Trial(work)
     for what, data in changes:
         trial.give(data, what)
-    check(f"damage: {name}: {trial.refused:,} refused, {trial.read:,} read; answered otherwise", trial.wrong[:3], [])
+    check(f"damage: {name}: {trial.refused:,} refused, {trial.read:,} read, no other answer", trial.wrong[:3], [])
 
 
 # A request `start a`, and one with variables.
@@ -171,18 +171,17 @@ def answer_to(data):
 
 
 def got(path, data, wanted):
-    """What a client gets that sends this; one that should get nothing yet ends its side first."""
+    """What a client gets that sends this: nothing yet, if it gets its end only once it has ended its own side."""
     with socket.socket(socket.AF_UNIX) as peer:
-        peer.settimeout(5)
         peer.connect(str(path))
         peer.sendall(data)
-        if wanted == "nothing yet":
-            peer.shutdown(socket.SHUT_WR)
         try:
-            found = peer.recv(65_536)
+            peer.settimeout(0.05 if wanted == "nothing yet" else 5)
+            return "an answer" if peer.recv(65_536) else "its end"
         except TimeoutError:
-            return "nothing"
-    return "an answer" if found else wanted if wanted != "an answer" else "its end"
+            peer.settimeout(5)
+            peer.shutdown(socket.SHUT_WR)
+            return "nothing yet" if peer.recv(65_536) == b"" else "an answer"
 
 
 def frames(work, values):
@@ -198,7 +197,7 @@ def frames(work, values):
             if got(run.socket, sent, wanted) != wanted:
                 wrong.append((what, wanted))
         told = ", ".join(f"{count:,} got {what}" for what, count in sorted(answers.items()))
-        check(f"damage: {name}: {told}; answered otherwise", wrong[:3], [])
+        check(f"damage: {name}: {told}, no other answer", wrong[:3], [])
     check("damage: the init goes on", run.ask("version"), ("init (upstart profile 1)\n", 0))
     run.end()
 
