@@ -72,7 +72,7 @@ both-false : (b d : Bool) → b ≡ false → (b && d) ≡ false
 both-false true d h = absurd cc
 both-false false d h = refl
 
-speaks-not : (job : Bytes) (who : Who) (i : ℕ) (c : Chronicle) (x : Instance) → instance_named who c ≡ Some i → IsKnown job c x → place_named x.name (instances_of job c) ≡ Some x.place → (x.place == i) ≡ false
+pub speaks-not : (job : Bytes) (who : Who) (i : ℕ) (c : Chronicle) (x : Instance) → instance_named who c ≡ Some i → IsKnown job c x → place_named x.name (instances_of job c) ≡ Some x.place → (x.place == i) ≡ false
     → (its p : Process) → speaks_of (made_at x.place c) p who its ≡ false
 speaks-not job who i c x named known single apart its p = rw known.1 (both-false (same_who who (called job x.name)) (same_process its p) (one-named job who i c x named single apart))
 

@@ -42,5 +42,7 @@ pub mod Keyed
 pub mod Moved
 pub mod Holdings
 pub mod Runs
+pub mod Deaf
+pub mod NextHearers
 pub mod Ledgers
 pub mod Acting

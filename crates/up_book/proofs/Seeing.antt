@@ -118,7 +118,7 @@ forgets-seen book after config c e f spares new same follow spoilt clock_same re
       reading = reading ∙ f.reading ∙ sym clock_same;
     }
 
-offered-spares : (config : Configuration) (c : Chronicle) (x : Expression) (e : ℕ) → Spares config c (Offered x e)
+pub offered-spares : (config : Configuration) (c : Chronicle) (x : Expression) (e : ℕ) → Spares config c (Offered x e)
 offered-spares config c x e = record { spares = λ job y older. spared config job (Offered x e) c y refl older; instances = λ job. refl }
 
 fired-spares : (config : Configuration) (c : Chronicle) (x : Expression) (ts : List ℕ) → Spares config c (Fired x ts)
@@ -128,7 +128,7 @@ if-apart : {X : Type 0} (b : Bool) (x y : X) → b ≡ false → (if b then x el
 if-apart true x y h = absurd cc
 if-apart false x y h = refl
 
-offered-seen : (config : Configuration) (c : Chronicle) (own : Expression) (e : ℕ) → SeenBy config c (Offered own e) own
+pub offered-seen : (config : Configuration) (c : Chronicle) (own : Expression) (e : ℕ) → SeenBy config c (Offered own e) own
 offered-seen config c own e = record { instances = λ job. refl; others = λ x apart. if-apart (seen.same_expression own x) _ _ apart }
 
 fired-seen : (config : Configuration) (c : Chronicle) (own : Expression) (ts : List ℕ) → SeenBy config c (Fired own ts) own
@@ -156,7 +156,7 @@ stop-of places config c zero at (i ∷ its) (d ∷ jobs) j job k x there found i
     (subst (λ (z : JobDef). InstancesRemember places config z c j.instances (instances_of z.name c)) own (subst (λ (z : JobInstances). InstancesRemember places config d c z.instances (instances_of d.name c)) mine r.0))
 stop-of places config c (suc place) at (i ∷ its) (d ∷ jobs) j job k x there found in_jobs here r = stop-of places config c place at its jobs j job k x there found in_jobs here r.1
 
-stop-known : (book : Past) (config : Configuration) (c : Chronicle) (key : InstanceKey) (i : ℕ) (t : There (place_of book.events (queue c)) book.instances config c key i) → Forgets book config c
+pub stop-known : (book : Past) (config : Configuration) (c : Chronicle) (key : InstanceKey) (i : ℕ) (t : There (place_of book.events (queue c)) book.instances config c key i) → Forgets book config c
     → Remembers (place_of book.events (queue c)) t.kept.stop_on t.job.stop_on (seen.seen config (StopOn t.its.place) c)
 stop-known book config c key i t f = by_job (nth key.job book.instances) refl t.found
   where
@@ -254,7 +254,7 @@ forgets-fired-stop book after config c key i t trigger firing ts f fires does st
         (λ other. rw (events, does, starts) (counted other)) reading
 
 -- what the `start on` of a job remembers before
-start-of : (places : Places) (config : Configuration) (c : Chronicle) (place : ℕ) (ts : List (Option (List Mark))) (jobs : List JobDef) (job : JobDef) → nth place jobs ≡ Some job → StartsRemember places config c ts jobs
+pub start-of : (places : Places) (config : Configuration) (c : Chronicle) (place : ℕ) (ts : List (Option (List Mark))) (jobs : List JobDef) (job : JobDef) → nth place jobs ≡ Some job → StartsRemember places config c ts jobs
     → (Remembers places (trigger_in place ts) job.start_on (seen.seen config (StartOn job.name) c)) × (nth place ts ≡ Some (trigger_in place ts))
 start-of places config c place [] [] job there r = absurd cc
 start-of places config c place [] (d ∷ jobs) job there r = absurd r

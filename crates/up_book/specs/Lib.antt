@@ -36,6 +36,8 @@ pub mod Requesting
 pub mod Asking
 -- What a step that isn't over has asked for, and what its request acted on.
 pub mod Steps
+-- Which jobs hear of an event.
+pub mod Hearers
 -- What an offer and a firing make of a trigger.
 pub mod Hearing
 -- Which places of the chronicle the keys of a book stand for.

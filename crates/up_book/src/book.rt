@@ -2,16 +2,19 @@
 ghost use Rattle.std.specs.Prelude.{◌≡◌, ◌≤◌, ℕ, true, false, List, ◌∷◌, ◌++◌, [], map, length, Option, None, Some, is_some, option_map, OnOk, IfOk, IfSome};
 ghost use Rattle.std.specs.Option.{option_copied, option_map_or};
 ghost use Rattle.up_book.specs.declared.holders.Holders.{Holders as HoldersValue};
+ghost use Rattle.up_book.specs.Hearers.{IsNextHearer};
 ghost use Rattle.up_book.specs.Keeps.{is_waiting};
 ghost use Rattle.up_book.specs.Keys.{Mode, Resting, Stepping, SpeaksOf, held_as, request_place, job_at, name_at, instance_at, instance_place};
 ghost use Rattle.up_book.specs.Regular.{called};
 ghost use Rattle.up_book.specs.Turning.{turn_at};
 ghost use Rattle.up_conf.specs.declared.job.JobDef.{JobDef as JobValue};
+ghost use Rattle.up_job.specs.declared.instance_key.InstanceKey.{InstanceKey as KeyValue};
+ghost use Rattle.up_marks.specs.Skipping.{names_event};
 ghost use Rattle.up_model.specs.declared.event_id.EventId.{EventId as EventIdValue};
 ghost use Rattle.up_model.specs.declared.input.Input.{Input as InputValue};
 ghost use Rattle.up_model.specs.declared.state.Goal.TheVariants.{Stop as goal_stop};
 ghost use Rattle.up_model.specs.declared.state.State.TheVariants as entered;
-ghost use Rattle.up_model.specs.Chronicle.{Chronicle};
+ghost use Rattle.up_model.specs.Chronicle.{Chronicle, Expression as ExpressionValue};
 ghost use Rattle.up_model.specs.Chronicle as entry;
 ghost use Rattle.up_model.specs.Clock as clock;
 ghost use Rattle.up_model.specs.Configuration.{Configuration, job_named};
@@ -25,6 +28,7 @@ ghost use Rattle.up_model.specs.Readings as read;
 ghost use Rattle.up_model.specs.Replies as replies;
 ghost use Rattle.up_model.specs.Seen as seen;
 ghost use Rattle.up_model.specs.Values.{Bytes};
+ghost use Rattle.up_model.proofs.NameLaws.{Singles};
 ghost use Rattle.up_text.specs.Scripts.{is_filled};
 
 use crate::holders::Holders;
@@ -355,6 +359,29 @@ pub trait Book: Drop {
             → stands self.old Stepping config c
             → job_at config index ≡ Some job.now → instance_named (called job.now.name name.now) c ≡ None
             → event_place self.old c k ≡ Some j → event_place self.new (entry.Made job.now.name name.now ∷ c) k ≡ Some j) };
+
+    /// The first job, from an index of the table on, with an expression that names an event. Takes no memory.
+    fn next_hearer(&self, event: EventId, from: usize) -> Option<usize>
+        ensures next { (config : Configuration) (c : Chronicle) (e : ℕ) → stands self.now Stepping config c
+            → event_place self.now c event ≡ Some e → IsNextHearer config (read.event_at e c) from result }
+        ensures later { IfSome result (λ next. from ≤ next) };
+
+    /// No two instances of a job have one name. Does nothing.
+    fn names_differ(&self)
+        ensures { (mode : Mode) (config : Configuration) (c : Chronicle) → stands self.now mode config c → Singles c };
+
+    /// An offer to an expression that doesn't name the event leaves a book as it is. Does nothing.
+    fn passes_by(&self)
+        ensures start { (config : Configuration) (c : Chronicle) (n : ℕ) (job : JobValue) (e : ℕ)
+            → stands self.now Stepping config c → job_at config n ≡ Some job
+            → names_event job.start_on (read.event_at e c) ≡ false
+            → stands self.now Stepping config (entry.Offered (entry.StartOn job.name) e ∷ c) }
+        ensures stop { (config : Configuration) (c : Chronicle) (key : KeyValue) (job : JobValue) (i e : ℕ)
+            → stands self.now Stepping config c → instance_place config c key ≡ Some i
+            → job_at config key.job ≡ Some job → names_event job.stop_on (read.event_at e c) ≡ false
+            → stands self.now Stepping config (entry.Offered (entry.StopOn i) e ∷ c) }
+        ensures events { (c : Chronicle) (x : ExpressionValue) (e : ℕ) (k : EventIdValue)
+            → event_place self.now (entry.Offered x e ∷ c) k ≡ event_place self.now c k };
 
     /// An event is offered to the `stop on` of an instance; returns whether that is true then.
     fn offer_stop(

@@ -14,6 +14,7 @@ ghost use Rattle.up_model.specs.Replies.{request_instance, status_if};
 ghost use Rattle.up_model.specs.Values.{Bindings};
 
 use crate::book::Book;
+use crate::hearers::next_job;
 use crate::holders::{Holders, holders_by};
 use crate::orders::{order_of, signal_of};
 use crate::past::Past;
@@ -371,6 +372,17 @@ impl Book for Ledger {
         self.step.make(key)?;
         Ok(key)
     }
+
+    fn next_hearer(&self, event: EventId, from: usize) -> Option<usize> {
+        match self.past.event_at(event) {
+            Some(event) => next_job(&self.index, &event.name, from),
+            None => None,
+        }
+    }
+
+    fn names_differ(&self) {}
+
+    fn passes_by(&self) {}
 
     fn offer_stop(
         &mut self,

@@ -2,6 +2,7 @@
 #![tactic(auto)]
 
 mod book;
+mod hearers;
 mod hearing;
 mod holders;
 mod holding;

@@ -12,7 +12,7 @@ use Rattle.up_model.specs.declared.failure.Verdict.TheVariants as verdict
 use Rattle.up_model.specs.declared.input.Input.{Input}
 use Rattle.up_model.specs.declared.input.Input.TheVariants as input
 use Rattle.up_model.specs.declared.state.Goal.TheVariants.{Stop}
-use Rattle.up_model.specs.Chronicle.{Chronicle, Entry, Given, Handled, Finished, Aimed, Failed, Signalled}
+use Rattle.up_model.specs.Chronicle.{Chronicle, Entry, Given, Queued, Handled, Finished, Offered, Aimed, Failed, Signalled, Outside}
 use Rattle.up_model.specs.Clock.{all_overdue, kill, killing}
 use Rattle.up_model.specs.Commands.{outcome_of, entries_of}
 use Rattle.up_model.specs.Configuration.{Configuration, job_named}
@@ -42,6 +42,7 @@ use Rattle.up_engine.proofs.Resting.{move-about, all-settled}
 abbrev pub TakesNone : Entry → Type 0
 TakesNone (Given given) = ⊥
 TakesNone (Handled event) = ⊥
+TakesNone (Offered x event) = ⊥
 TakesNone entry = Unit {0}
 
 offers-same : (e : Entry) (c : Chronicle) → TakesNone e → offering (e ∷ c) ≡ offering c
@@ -114,25 +115,36 @@ abbrev pub IsTaking : Configuration → Input → Chronicle → Type 0
 IsTaking config input.Turn c = TakesUp (turn_event config (queue.queue c) c)
 IsTaking config other c = ⊥
 
-pub effect-offers : (config : Configuration) (given : Input) (c : Chronicle) → (IsTaking config given c → ⊥) → offering (effect config given c ++ c) ≡ None
+-- the effect of an input that takes no event up, and the input before it
+pub record Effect (config : Configuration) (given : Input) (c : Chronicle) : Type 0 where
+  pub entries : List Entry
+  pub whole : effect config given c ≡ entries ++ Given given ∷ []
+  pub none : AllByRecursion TakesNone entries
+
+pub effect-of : (config : Configuration) (given : Input) (c : Chronicle) → (IsTaking config given c → ⊥) → Effect config given c
 unfolding effect
-effect-offers config (input.Emit event) c none = refl
-effect-offers config (input.Request id request) c none =
+effect-of config (input.Emit event) c none = record { entries = Queued (Outside (length c)) event ∷ []; whole = refl; none = (tt, tt) }
+effect-of config (input.Request id request) c none =
     let d : Chronicle = Given (input.Request id request) ∷ c in
-    begins (entries_of (length c) (outcome_of config (length c) request d)) (input.Request id request) c (outcome-all TakesNone allows (λ job name. tt) config (length c) request d)
-effect-offers config (input.Spawned who process pid) c none = refl
-effect-offers config (input.Refused who process) c none =
+    record { entries = entries_of (length c) (outcome_of config (length c) request d); whole = refl; none = outcome-all TakesNone allows (λ job name. tt) config (length c) request d }
+effect-of config (input.Spawned who process pid) c none = record { entries = []; whole = refl; none = tt }
+effect-of config (input.Refused who process) c none =
     let d : Chronicle = Given (input.Refused who process) ∷ c in
-    begins (end_of (job_named who.job config.jobs) (instance_named who c) process end.Refused d) (input.Refused who process) c
-    (end_of-none (job_named who.job config.jobs) (instance_named who c) process end.Refused d)
-effect-offers config (input.Ended who process how) c none =
+    record { entries = end_of (job_named who.job config.jobs) (instance_named who c) process end.Refused d; whole = refl; none = end_of-none (job_named who.job config.jobs) (instance_named who c) process end.Refused d }
+effect-of config (input.Ended who process how) c none =
     let d : Chronicle = Given (input.Ended who process how) ∷ c in
-    begins (end_of (job_named who.job config.jobs) (instance_named who c) process (end.Ended how) d) (input.Ended who process how) c
-    (end_of-none (job_named who.job config.jobs) (instance_named who c) process (end.Ended how) d)
-effect-offers config (input.Clock reading) c none =
-    begins (killing (all_overdue config.jobs (Given (input.Clock reading) ∷ c))) (input.Clock reading) c (killing-none (all_overdue config.jobs (Given (input.Clock reading) ∷ c)))
-effect-offers config input.Turn c none =
-    begins (turn_of (turn_event config (queue.queue c) c) (Given input.Turn ∷ c)) input.Turn c (turn-none (turn_event config (queue.queue c) c) (Given input.Turn ∷ c) none)
+    record { entries = end_of (job_named who.job config.jobs) (instance_named who c) process (end.Ended how) d; whole = refl; none = end_of-none (job_named who.job config.jobs) (instance_named who c) process (end.Ended how) d }
+effect-of config (input.Clock reading) c none =
+    let kills = all_overdue config.jobs (Given (input.Clock reading) ∷ c) in
+    record { entries = killing kills; whole = refl; none = killing-none kills }
+effect-of config input.Turn c none =
+    let event = turn_event config (queue.queue c) c in
+    record { entries = turn_of event (Given input.Turn ∷ c); whole = refl; none = turn-none event (Given input.Turn ∷ c) none }
+
+pub effect-offers : (config : Configuration) (given : Input) (c : Chronicle) → (IsTaking config given c → ⊥) → offering (effect config given c ++ c) ≡ None
+effect-offers config given c none =
+    let its = effect-of config given c none in
+    ap (λ es. offering (es ++ c)) its.whole ∙ begins its.entries given c its.none
 
 -- a turn that finishes an event, or finds none, takes none up
 pub turn-finishes : (config : Configuration) (c : Chronicle) (e : ℕ) (handled : Bool) → turn_event config (queue.queue c) c ≡ Some (queue.live_at e handled) → handled ≡ true
@@ -182,7 +194,7 @@ answered-once (Some request) c is =
     ap (λ o. answering_hurried (unless_answered o d) d) (asked-is (asked c) request c is)
     ∙ ap (λ (b : Bool). answering_hurried (if (if b then true else was_answered request c) then None else Some request) d) (eq-eqb request request refl)
 
-stay-entries : (i : ℕ) (jobs : List JobDef) (es c : List Entry) → AllByRecursion (About i) es → Stay i jobs c → Stay i jobs (es ++ c)
+pub stay-entries : (i : ℕ) (jobs : List JobDef) (es c : List Entry) → AllByRecursion (About i) es → Stay i jobs c → Stay i jobs (es ++ c)
 stay-entries i jobs [] c all stay = stay
 stay-entries i jobs (e ∷ es) c all stay = stay-entry i jobs e (es ++ c) all.0 (stay-entries i jobs es c all.1 stay)
 

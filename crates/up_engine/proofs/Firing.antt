@@ -35,7 +35,7 @@ state-same q i e c is apart = refl
 
 restarted-same : (q i : ℕ) (e : Entry) (c : Chronicle) → About i e → (q == i) ≡ false → was_restarted q (e ∷ c) ≡ was_restarted q c
 restarted-same q i (Entered j entered) c is apart = rw is (rw (other_way i q apart) refl)
-restarted-same q i (Restarted j its) c is apart = absurd is
+restarted-same q i (Restarted j its) c is apart = rw is (rw (other_way i q apart) refl)
 restarted-same q i e c is apart = refl
 
 blocker-same : (q i : ℕ) (e : Entry) (c : Chronicle) → About i e → (q == i) ≡ false → blocker q (e ∷ c) ≡ blocker q c

@@ -34,6 +34,10 @@ use Rattle.up_book.proofs.One.{IsKnown, known-all, called, none-of-others, apart
 use Rattle.up_job.specs.Lists.{nth}
 use Rattle.up_engine.specs.Offering.{Asked, OfStop, OfStart}
 use Rattle.up_engine.specs.Settling.{settle_one, settle_each, settle_all, hear_stops, hear_start, hear, hear_all, ListsAfter}
+use Rattle.up_book.proofs.Keyed.{nth-get}
+use Rattle.up_engine.specs.Unfired.{NoneHolds}
+use Rattle.up_engine.proofs.Unfired.{none-stop, none-start, none-one}
+use Rattle.up_engine.proofs.Acts.{Fires, releases, stop-of, start-all}
 use Rattle.up_engine.proofs.Effects.{one-same, each-same, settled-rested}
 use Rattle.up_engine.proofs.Firing.{IsHandling, IsAt}
 use Rattle.up_engine.proofs.Handling.{all_stops, all_asked, all-apart, taken-up, handled-all}
@@ -95,79 +99,19 @@ settle-others n job x c made other apart =
 known-in : (job : JobDef) (front back : List Instance) (x : Instance) (c : Chronicle) → instances_of job.name c ≡ front ++ x ∷ back → made_at x.place c ≡ Some (called job.name x.name)
 known-in job front back x c list = (all-middle (IsKnown job.name c) front x back (subst (AllByRecursion (IsKnown job.name c)) list (known-all job.name c))).1
 
-asked-others : (job : JobDef) (jobs : List JobDef) (c d : Chronicle) → AllByRecursion (λ other. bytes_eq other.name job.name ≡ false) jobs → KeepsOthers job c d → all_asked jobs d ≡ all_asked jobs c
+pub asked-others : (job : JobDef) (jobs : List JobDef) (c d : Chronicle) → AllByRecursion (λ other. bytes_eq other.name job.name ≡ false) jobs → KeepsOthers job c d → all_asked jobs d ≡ all_asked jobs c
 asked-others job [] c d apart keeps = refl
 asked-others job (other ∷ jobs) c d apart keeps =
     ap (λ its. all_stops other its ++ (OfStart other ∷ all_asked jobs d)) (keeps other apart.0)
     ∙ ap (λ rest. all_stops other (instances_of other.name c) ++ (OfStart other ∷ rest)) (asked-others job jobs c d apart.1 keeps)
 
 -- places of lists
-nth-middle : {X : Type 0} (front : List X) (x : X) (back : List X) → nth (length front) (front ++ x ∷ back) ≡ Some x
+pub nth-middle : {X : Type 0} (front : List X) (x : X) (back : List X) → nth (length front) (front ++ x ∷ back) ≡ Some x
 nth-middle [] x back = refl
 nth-middle (y ∷ front) x back = nth-middle front x back
 
--- a kind that all entries of an offer and of a firing are of, but for an instance that is made
-record Fires (P : Entry → Type 0) : Type 0 where
-  pub offered : (x : Expression) (event : ℕ) → P (Offered x event)
-  pub fired : (x : Expression) (its : List ℕ) → P (Fired x its)
-  pub aimed : (i : ℕ) (aim : Goal) (environment : Bindings) (its : List ℕ) → P (Aimed i aim environment its)
-  pub released : (i : ℕ) (failed : Bool) → P (Released i failed)
-  pub replied : (request : ℕ) (answer : Answer) → P (Replied request answer)
-
-releases : (P : Entry → Type 0) → Fires P → (i : ℕ) (c : Chronicle) → AllByRecursion P (releasing i false c)
-releases P of i c = releasing-all P of.replied i false (of.released i false) c
-
-stop-of : (P : Entry → Type 0) → Fires P → (config : Configuration) (job : JobDef) (i e : ℕ) (c : Chronicle) → AllByRecursion P (stop_offer config job i e c)
-stop-of P of config job i e c =
-    all-append P (entries_if (holds job.stop_on (seen config (StopOn i) d)) (stop_by i events f ++ Fired (StopOn i) events ∷ [])) (Offered (StopOn i) e ∷ [])
-    (all-if P (holds job.stop_on (seen config (StopOn i) d)) (stop_by i events f ++ Fired (StopOn i) events ∷ [])
-    (all-append P (stop_by i events f) (Fired (StopOn i) events ∷ [])
-    (all-if P (is_start (goal i f)) (stop_of i (stopped_by (events_at events f)) events f) (of.aimed i Stop (stopped_by (events_at events f)) events, releases P of i f)) (of.fired (StopOn i) events, tt)))
-    (of.offered (StopOn i) e, tt)
-  where
-    d : Chronicle
-    d = Offered (StopOn i) e ∷ c
-
-    events : List ℕ
-    events = taken job.stop_on (seen config (StopOn i) d)
-
-    f : Chronicle
-    f = Fired (StopOn i) events ∷ d
-
-start-of : (P : Entry → Type 0) → Fires P → (who : Who) → P (Made who.job who.instance) → (environment : Bindings) (its : List ℕ) (o : Option ℕ) (c : Chronicle) → AllByRecursion P (start_of who environment its o c)
-start-of P of who made environment its None c =
-    all-if P (nat_lt (length (instances_of who.job c)) max_instances) (Aimed (length c) Start environment its ∷ Made who.job who.instance ∷ []) (of.aimed (length c) Start environment its, (made, tt))
-start-of P of who made environment its (Some p) c =
-    all-if P (not (is_start (goal p c))) (Aimed p Start environment its ∷ releasing p false c) (of.aimed p Start environment its, releases P of p c)
-
-start-who : (P : Entry → Type 0) → Fires P → (job : Bytes) → ((name : Bytes) → P (Made job name)) → (name : Option Bytes) (environment : Bindings) (its : List ℕ) (c : Chronicle)
-    → AllByRecursion P (start_who environment its (who_called job name) c)
-start-who P of job made None environment its c = tt
-start-who P of job made (Some name) environment its c =
-    let who : Who = record { job = job; instance = name } in
-    start-of P of who (made name) (events_of.with_instance who environment) its (instance_named who c) c
-
-start-all : (P : Entry → Type 0) → Fires P → (config : Configuration) (job : JobDef) → ((name : Bytes) → P (Made job.name name)) → (e : ℕ) (c : Chronicle) → AllByRecursion P (start_offer config job e c)
-start-all P of config job made e c =
-    all-append P (entries_if (holds job.start_on (seen config x d)) (start_by config job events f ++ Fired x events ∷ [])) (Offered x e ∷ [])
-    (all-if P (holds job.start_on (seen config x d)) (start_by config job events f ++ Fired x events ∷ [])
-    (all-append P (start_by config job events f) (Fired x events ∷ []) (start-who P of job.name made (instance_name job (start_env config job events f)) (start_env config job events f) events f) (of.fired x events, tt)))
-    (of.offered x e, tt)
-  where
-    x : Expression
-    x = StartOn job.name
-
-    d : Chronicle
-    d = Offered x e ∷ c
-
-    events : List ℕ
-    events = taken job.start_on (seen config x d)
-
-    f : Chronicle
-    f = Fired x events ∷ d
-
 stands-fires : Fires StandsStill
-stands-fires = record { offered = λ x event. tt; fired = λ x its. tt; aimed = λ i aim environment its. tt; released = λ i failed. tt; replied = λ request answer. tt }
+stands-fires = record { offered = λ x event. tt; acts = record { fired = λ x its. tt; aimed = λ i aim environment its. tt; released = λ i failed. tt; replied = λ request answer. tt } }
 
 -- an offer to a `stop on` leaves all lists
 pub stop-lists : (config : Configuration) (job : JobDef) (i e : ℕ) (c : Chronicle) (name : Bytes) → instances_of name (stop_offer config job i e c ++ c) ≡ instances_of name c
@@ -178,6 +122,7 @@ pub record Heard (config : Configuration) (e : ℕ) (job : JobDef) (left : List 
   pub handling : IsHandling config.jobs e left d
   pub others : KeepsOthers job c d
   pub same : rested config d ≡ rested config c
+  pub untrue : NoneHolds config c → NoneHolds config d
 
 few-moves : (i : ℕ) (c : Chronicle) → moves_at i c ≤ 5
 few-moves i c = omega (arith, moves-few (goal i c) (state_of i c) (is_some (blocker i c)))
@@ -185,7 +130,7 @@ few-moves i c = omega (arith, moves-few (goal i c) (state_of i c) (is_some (bloc
 stops-heard : (config : Configuration) (e : ℕ) (done : List JobDef) (job : JobDef) (todo : List JobDef) (front its : List Instance) (left : List Asked) (c : Chronicle) → AreDistinct config.jobs
     → config.jobs ≡ done ++ job ∷ todo → IsHandling config.jobs e (all_stops job its ++ left) c → AreApart (all_stops job its ++ left) → instances_of job.name c ≡ front ++ its
     → Heard config e job left c (hear_stops config job its e c)
-stops-heard config e done job todo front [] left c distinct split h apart list = record { handling = h; others = λ other apart. refl; same = refl }
+stops-heard config e done job todo front [] left c distinct split h apart list = record { handling = h; others = λ other apart. refl; same = refl; untrue = λ none. none }
 stops-heard config e done job todo front (x ∷ its) left c distinct split h apart list =
     goes-on stays_or_not (λ front list. stops-heard config e done job todo front its left f distinct split one.0 apart.1 list)
   where
@@ -213,6 +158,12 @@ stops-heard config e done job todo front (x ∷ its) left c distinct split h apa
     others =
         others-then job c d f (λ other apart. stop-lists config job x.place e c other.name) (settle-others 5 job x d (known-in job front its x d list_d))
 
+    known : IsKnown job.name c x
+    known = all-middle (IsKnown job.name c) front x its (subst (AllByRecursion (IsKnown job.name c)) list (known-all job.name c))
+
+    untrue : NoneHolds config c → NoneHolds config f
+    untrue none = none-one 5 config job x d (none-stop config job (length done) x.place e x.name c distinct (sym (nth-get (length done) config.jobs) ∙ there) known.0 known.1 none)
+
     stays_or_not : (front : List Instance) × (instances_of job.name f ≡ front ++ its)
     stays_or_not = by_case (settle-lists 5 job x d).stays (settle-lists 5 job x d).lists
       where
@@ -227,7 +178,7 @@ stops-heard config e done job todo front (x ∷ its) left c distinct split h apa
         → Heard config e job left c (hear_stops config job its e f)
     goes-on after again =
         let rest = again after.0 after.1 in
-        record { handling = rest.handling; others = others-then job c f (hear_stops config job its e f) others rest.others; same = rest.same ∙ same }
+        record { handling = rest.handling; others = others-then job c f (hear_stops config job its e f) others rest.others; same = rest.same ∙ same; untrue = λ none. rest.untrue (untrue none) }
 
 -- an offer to a `start on` leaves the lists of other jobs
 abbrev MakesOf : Bytes → Entry → Type 0
@@ -244,7 +195,7 @@ makes-others job k apart e c is = refl
 start-others : (config : Configuration) (job : JobDef) (e : ℕ) (c : Chronicle) → KeepsOthers job c (start_offer config job e c ++ c)
 start-others config job e c other apart =
     same-append (instances_of other.name) (MakesOf job.name) (makes-others job.name other.name (apart-back other.name job.name apart)) (start_offer config job e c) c
-    (start-all (MakesOf job.name) (record { offered = λ x event. tt; fired = λ x its. tt; aimed = λ i aim environment its. tt; released = λ i failed. tt; replied = λ request answer. tt }) config job (λ name. refl) e c)
+    (start-all (MakesOf job.name) (record { offered = λ x event. tt; acts = record { fired = λ x its. tt; aimed = λ i aim environment its. tt; released = λ i failed. tt; replied = λ request answer. tt } }) config job (λ name. refl) e c)
 
 -- the instance that it starts stands in its job's list
 record StandsIn (p : ℕ) (its : List Instance) : Type 0 where
@@ -293,7 +244,7 @@ started-of who environment its (Some q) c p is some = by_case (not (is_start (go
     es = Aimed q Start environment its ∷ releasing q false c
 
     same : instances_of who.job (es ++ c) ≡ instances_of who.job c
-    same = same-append (instances_of who.job) StandsStill (still-instances who.job) es c (tt, releases StandsStill stands-fires q c)
+    same = same-append (instances_of who.job) StandsStill (still-instances who.job) es c (tt, releases StandsStill stands-fires.acts q c)
 
     by_case : (b : Bool) → (if b then Some q else None) ≡ Some p → StandsIn p (instances_of who.job (entries_if b es ++ c))
     by_case true some =
@@ -335,11 +286,11 @@ started-stands config job e c p some = by_case (holds job.start_on (seen config 
     by_case false some = absurd cc
 
 -- instances that rest settle at once
-each-still : (job : JobDef) (its : List Instance) (c : Chronicle) → Rest job its c → settle_each job its c ≡ c
+pub each-still : (job : JobDef) (its : List Instance) (c : Chronicle) → Rest job its c → settle_each job its c ≡ c
 each-still job [] c rest = refl
 each-still job (x ∷ its) c rest = ap (settle_each job its) (one-stays 5 job x c rest.0) ∙ each-still job its c rest.1
 
-each-append : (job : JobDef) (xs ys : List Instance) (c : Chronicle) → settle_each job (xs ++ ys) c ≡ settle_each job ys (settle_each job xs c)
+pub each-append : (job : JobDef) (xs ys : List Instance) (c : Chronicle) → settle_each job (xs ++ ys) c ≡ settle_each job ys (settle_each job xs c)
 each-append job [] ys c = refl
 each-append job (x ∷ xs) ys c = each-append job xs ys (settle_one 5 job x c)
 
@@ -347,7 +298,7 @@ stay-middle : (i : ℕ) (done : List JobDef) (job : JobDef) (todo : List JobDef)
 stay-middle i [] job todo c stay = stay.0
 stay-middle i (first ∷ done) job todo c stay = stay-middle i done job todo c stay.1
 
-stay-rest : (i : ℕ) (job : JobDef) (its : List Instance) (c : Chronicle) → StayIn i job its c → count i its ≡ 0 → Rest job its c
+pub stay-rest : (i : ℕ) (job : JobDef) (its : List Instance) (c : Chronicle) → StayIn i job its c → count i its ≡ 0 → Rest job its c
 stay-rest i job [] c all none = tt
 stay-rest i job (x ∷ its) c all none = by_case (x.place == i) refl none (stay-rest i job its c all.1)
   where
@@ -355,18 +306,18 @@ stay-rest i job (x ∷ its) c all none = by_case (x.place == i) refl none (stay-
     by_case true same none rest = absurd (omega (arith, none))
     by_case false differs none rest = (all.0 differs, rest (omega (arith, none)))
 
-handling-rest : (config : Configuration) (e : ℕ) (done : List JobDef) (job : JobDef) (todo : List JobDef) (left : List Asked) (c : Chronicle) → config.jobs ≡ done ++ job ∷ todo
+pub handling-rest : (config : Configuration) (e : ℕ) (done : List JobDef) (job : JobDef) (todo : List JobDef) (left : List Asked) (c : Chronicle) → config.jobs ≡ done ++ job ∷ todo
     → IsHandling config.jobs e left c → Rest job (instances_of job.name c) c
 handling-rest config e done job todo left c split h =
     let stay : Stay (length c) (done ++ job ∷ todo) c = subst (λ js. Stay (length c) js c) split (h.still (length c)) in
     let none : count (length c) (instances_of job.name c) ≡ 0 = omega (arith, instances-exist (length c) job.name c, count-older (length c) (length c) (all_instances c) (all_instances-older c) (omega arith)) in
     stay-rest (length c) job (instances_of job.name c) c (stay-middle (length c) done job todo c stay) none
 
-all-front : {X : Type 0} (P : X → Type 0) (xs ys : List X) → AllByRecursion P (xs ++ ys) → AllByRecursion P xs
+pub all-front : {X : Type 0} (P : X → Type 0) (xs ys : List X) → AllByRecursion P (xs ++ ys) → AllByRecursion P xs
 all-front P [] ys all = tt
 all-front P (x ∷ xs) ys all = (all.0, all-front P xs ys all.1)
 
-all-back : {X : Type 0} (P : X → Type 0) (xs ys : List X) → AllByRecursion P (xs ++ ys) → AllByRecursion P ys
+pub all-back : {X : Type 0} (P : X → Type 0) (xs ys : List X) → AllByRecursion P (xs ++ ys) → AllByRecursion P ys
 all-back P [] ys all = all
 all-back P (x ∷ xs) ys all = all-back P xs ys all.1
 
@@ -387,10 +338,13 @@ start-heard config e done job todo left c distinct split h apart = by_case (star
     others : KeepsOthers job c d
     others = start-others config job e c
 
+    untrue : NoneHolds config c → NoneHolds config d
+    untrue none = none-start config job (length done) e c distinct (sym (nth-get (length done) config.jobs) ∙ ap (nth (length done)) split ∙ nth-middle done job todo) none
+
     none : IsHandling config.jobs e left d → Heard config e job left c (settle_each job its d)
     none handling =
         let still : settle_each job its d ≡ d = each-still job its d (handling-rest config e done job todo left d split handling) in
-        subst (Heard config e job left c) (sym still) (record { handling = handling; others = others; same = same })
+        subst (Heard config e job left c) (sym still) (record { handling = handling; others = others; same = same; untrue = untrue })
 
     one : (front back : List Instance) (x : Instance) → its ≡ front ++ x ∷ back → IsAt x.place config.jobs e left d → Heard config e job left c (settle_each job its d)
     one front back x list at =
@@ -407,7 +361,7 @@ start-heard config e done job todo left c distinct split h apart = by_case (star
         let whole : settle_each job its d ≡ f =
         ap (λ xs. settle_each job xs d) list ∙ each-append job front (x ∷ back) d ∙ ap (λ g. settle_each job back (settle_one 5 job x g)) (each-still job front d rest_front) ∙ each-still job back f rest_back in
         subst (Heard config e job left c) (sym whole)
-        (record { handling = moved.0; others = others-then job c d f others (settle-others 5 job x d (known-in job front back x d list)); same = moved.1 ∙ same })
+        (record { handling = moved.0; others = others-then job c d f others (settle-others 5 job x d (known-in job front back x d list)); same = moved.1 ∙ same; untrue = λ holds. none-one 5 config job x d (untrue holds) })
       where
         back-rests : (b : Bool) (front back : List Instance) (x : Instance) → its ≡ front ++ x ∷ back → ListsAfter b x d (settle_one 5 job x d)
             → Rest job (instances_of job.name (settle_one 5 job x d)) (settle_one 5 job x d) → Rest job back (settle_one 5 job x d)
@@ -428,7 +382,7 @@ apart-back-part [] ys apart = apart
 apart-back-part (x ∷ xs) ys apart = apart-back-part xs ys apart.1
 
 -- a job hears of the event
-job-heard : (config : Configuration) (e : ℕ) (done : List JobDef) (job : JobDef) (todo : List JobDef) (c : Chronicle) → AreDistinct config.jobs → config.jobs ≡ done ++ job ∷ todo
+pub job-heard : (config : Configuration) (e : ℕ) (done : List JobDef) (job : JobDef) (todo : List JobDef) (c : Chronicle) → AreDistinct config.jobs → config.jobs ≡ done ++ job ∷ todo
     → IsHandling config.jobs e (all_asked (job ∷ todo) c) c → AreApart (all_asked (job ∷ todo) c) → Heard config e job (all_asked todo c) c (hear config job e c)
 job-heard config e done job todo c distinct split h apart =
     let its = instances_of job.name c in
@@ -436,22 +390,22 @@ job-heard config e done job todo c distinct split h apart =
     let stops = stops-heard config e done job todo [] its left c distinct split h apart refl in
     let d = hear_stops config job its e c in
     let start = start-heard config e done job todo (all_asked todo c) d distinct split stops.handling (apart-back-part (all_stops job its) left apart).0 in
-    record { handling = start.handling; others = others-then job c d (hear_start config job e d) stops.others start.others; same = start.same ∙ stops.same }
+    record { handling = start.handling; others = others-then job c d (hear_start config job e d) stops.others start.others; same = start.same ∙ stops.same; untrue = λ none. start.untrue (stops.untrue none) }
 
-distinct-after : (done jobs : List JobDef) → AreDistinct (done ++ jobs) → AreDistinct jobs
+pub distinct-after : (done jobs : List JobDef) → AreDistinct (done ++ jobs) → AreDistinct jobs
 distinct-after [] jobs distinct = distinct
 distinct-after (first ∷ done) jobs distinct = distinct-after done jobs distinct.1
 
 jobs-heard : (config : Configuration) (e : ℕ) (done jobs : List JobDef) (c : Chronicle) → AreDistinct config.jobs → config.jobs ≡ done ++ jobs → IsHandling config.jobs e (all_asked jobs c) c
-    → IsHandling config.jobs e [] (hear_all config jobs e c) × (rested config (hear_all config jobs e c) ≡ rested config c)
-jobs-heard config e done [] c distinct split h = (h, refl)
+    → IsHandling config.jobs e [] (hear_all config jobs e c) × (rested config (hear_all config jobs e c) ≡ rested config c) × (NoneHolds config c → NoneHolds config (hear_all config jobs e c))
+jobs-heard config e done [] c distinct split h = (h, refl, λ none. none)
 jobs-heard config e done (job ∷ jobs) c distinct split h =
     let mine : AreDistinct (job ∷ jobs) = distinct-after done (job ∷ jobs) (subst AreDistinct split distinct) in
     let one = job-heard config e done job jobs c distinct split h (all-apart (job ∷ jobs) c mine) in
     let d = hear config job e c in
     let handling : IsHandling config.jobs e (all_asked jobs d) d = subst (λ left. IsHandling config.jobs e left d) (sym (asked-others job jobs c d mine.0 one.others)) one.handling in
     let rest = jobs-heard config e (done ++ job ∷ []) jobs d distinct (split ∙ sym (append_assoc done (job ∷ []) jobs)) handling in
-    (rest.0, rest.1 ∙ one.same)
+    (rest.0, rest.1 ∙ one.same, λ none. rest.2 (one.untrue none))
 
 -- no input is given meanwhile
 abbrev pub GivesNone : Entry → Type 0
@@ -459,7 +413,7 @@ GivesNone (Given given) = ⊥
 GivesNone entry = Unit {0}
 
 gives-fires : Fires GivesNone
-gives-fires = record { offered = λ x event. tt; fired = λ x its. tt; aimed = λ i aim environment its. tt; released = λ i failed. tt; replied = λ request answer. tt }
+gives-fires = record { offered = λ x event. tt; acts = record { fired = λ x its. tt; aimed = λ i aim environment its. tt; released = λ i failed. tt; replied = λ request answer. tt } }
 
 pub asked-same : (e : Entry) (c : Chronicle) → GivesNone e → asked (e ∷ c) ≡ asked c
 asked-same (Given given) c is = absurd is
@@ -492,23 +446,28 @@ pub none-moves : (config : Configuration) (c : Chronicle) → due config c ≡ [
 unfolding due
 none-moves config c none = or-nil-first (move_first config.jobs c) (or_else (offer_next config (offering c) c) (answering_last c)) none
 
+-- what is left to hear of an event that was just taken up: all
+pub all-left : (config : Configuration) (e : ℕ) (c : Chronicle) → due config c ≡ [] → IsHandling config.jobs e (all_asked config.jobs (Handled e ∷ Given Turn ∷ c)) (Handled e ∷ Given Turn ∷ c)
+all-left config e c none =
+    subst (λ left. IsHandling config.jobs e left (Handled e ∷ Given Turn ∷ c)) (sym (asked-taken config.jobs e c)) (taken-up config.jobs e c (none-moves config c none))
+
 -- so the step is done when all have heard of it
 pub heard-rested : (config : Configuration) (e : ℕ) (c : Chronicle) → AreDistinct config.jobs → due config c ≡ []
-    → hear_all config config.jobs e (Handled e ∷ Given Turn ∷ c) ≡ rested config (Handled e ∷ Given Turn ∷ c)
+    → (hear_all config config.jobs e (Handled e ∷ Given Turn ∷ c) ≡ rested config (Handled e ∷ Given Turn ∷ c))
+    × (NoneHolds config (Handled e ∷ Given Turn ∷ c) → NoneHolds config (hear_all config config.jobs e (Handled e ∷ Given Turn ∷ c)))
 heard-rested config e c distinct none =
     let d : Chronicle = Handled e ∷ Given Turn ∷ c in
     let f = hear_all config config.jobs e d in
-    let taken : IsHandling config.jobs e (all_asked config.jobs d) d = subst (λ left. IsHandling config.jobs e left d) (sym (asked-taken config.jobs e c)) (taken-up config.jobs e c (none-moves config c none)) in
-    let all = jobs-heard config e [] config.jobs d distinct refl taken in
+    let all = jobs-heard config e [] config.jobs d distinct refl (all-left config e c none) in
     let unasked : asked f ≡ None = asked-heard config config.jobs e d in
     let quiet : answering_last f ≡ [] = ap (λ o. answering_hurried (unless_answered o f) f) unasked in
-    sym (handled-all config e f all.0 quiet).1 ∙ all.1
+    (sym (handled-all config e f all.0 quiet).1 ∙ all.1, all.2)
 
 -- what is after an input that takes an event up, and after any other
 pub after-taken : (config : Configuration) (given : Input) (c : Chronicle) (e : ℕ) → AreDistinct config.jobs → due config c ≡ [] → effect config given c ++ c ≡ Handled e ∷ Given Turn ∷ c
     → hear_all config config.jobs e (Handled e ∷ Given Turn ∷ c) ≡ after config c given
 unfolding after
-after-taken config given c e distinct none same = heard-rested config e c distinct none ∙ ap (rested config) (sym same)
+after-taken config given c e distinct none same = (heard-rested config e c distinct none).0 ∙ ap (rested config) (sym same)
 
 pub after-other : (config : Configuration) (given : Input) (c : Chronicle) → AreDistinct config.jobs → offering (effect config given c ++ c) ≡ None
     → answering_last (settle_all config.jobs (effect config given c ++ c)) ++ settle_all config.jobs (effect config given c ++ c) ≡ after config c given

@@ -14,6 +14,7 @@ use Rattle.up_book.proofs.Giving.{forgets-turn}
 use Rattle.up_book.proofs.Ledgers.{stood}
 use Rattle.up_engine.specs.declared.engine.Engine.{Engine}
 use Rattle.up_engine.specs.Stands.{Stands}
+use Rattle.up_engine.proofs.Unfired.{none-entry}
 use Rattle.up_engine.proofs.Quiet.{idle-due, after-quiet}
 
 turn-same : (config : Configuration) (lives : List Live) (c : Chronicle) → turn_event config lives (Given Turn ∷ c) ≡ turn_event config lives c
@@ -33,7 +34,7 @@ idle-stands engine config c s none = record {
   up = s.up;
   setup = s.setup;
   past = stood engine.book Resting config (Given Turn ∷ c) (forgets-turn engine.book.past config c s.past.past) s.past.index tt;
-  rested = subst (λ d. due config d ≡ []) (idle-effect config c none) (idle-due config c none s.rested);
+  rest = record { rested = subst (λ d. due config d ≡ []) (idle-effect config c none) (idle-due config c none s.rest.rested); untrue = none-entry config (Given Turn) c tt s.rest.untrue };
 }
 
 -- so the engine stands for as many of them as there are, and none asks for anything
@@ -43,7 +44,7 @@ unfolding is_expected answers after_all outputs_of
 idle-turns engine config c zero s none = (s, refl)
 idle-turns engine config c (suc count) s none =
     let d : Chronicle = Given Turn ∷ c in
-    let same = idle-after config c none s.rested in
+    let same = idle-after config c none s.rest.rested in
     let rest = idle-turns engine config d count (idle-stands engine config c s none) (turn-same config (queue c) c ∙ none) in (
       subst (λ f. Stands engine config (after_all config f (replicate count Turn))) (sym same) rest.0,
       ap (λ f. Gave (outputs_of config f) ∷ answers config f (replicate count Turn)) same ∙ ap (λ steps. Gave [] ∷ steps) rest.1,

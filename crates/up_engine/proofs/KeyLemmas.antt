@@ -29,6 +29,17 @@ job_there config jobs n job same within here = ap (λ js. slice_get js n) (sym s
 pub job_name : (config : Configuration) (n : ℕ) (job : JobDef) → job_at config n ≡ Some job → name_at config n ≡ Some job.name
 job_name config n job there = ap (option_map (λ (its : JobDef). its.name)) there
 
+-- what is found in a list is within it
+pub within : {X : Type 0} (xs : List X) (n : ℕ) (x : X) → slice_get xs n ≡ Some x → n < length xs
+within [] n x found = absurd cc
+within (y ∷ xs) zero x found = omega arith
+within (y ∷ xs) (suc n) x found =
+    let rest = within xs n x found in
+    omega (arith, rest)
+
+pub one-some : {X : Type 0} (x y : X) → Some x ≡ Some y → x ≡ y
+one-some x y same = cc
+
 -- an instance at an index, and those after it
 pub record InstanceThere (config : Configuration) (c : Chronicle) (key : InstanceKey) (instances : List Instance) : Type 0 where
   pub instance : Instance

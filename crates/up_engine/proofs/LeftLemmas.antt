@@ -1,5 +1,5 @@
 -- What is left to be ordered, in an engine that is sound.
-use Rattle.std.proofs.Common.{◌≡◌, ◌≤◌, ◌+◌, true, List, [], ◌∷◌, refl, ap}
+use Rattle.std.proofs.Common.{◌≡◌, ◌≤◌, ◌+◌, true, List}
 use Rattle.std.proofs.Math.Logic.{∥∥₁_elim}
 use Rattle.std.specs.Coded.{le_prop}
 use Rattle.up_book.proofs.LeftKept.{left-kept}
@@ -9,35 +9,23 @@ use Rattle.up_book.specs.Ledgers.{Stands}
 use Rattle.up_book.specs.Lefts.{left_of_jobs}
 use Rattle.up_book.specs.declared.ledger.Ledger.{Ledger}
 use Rattle.up_engine.specs.Sound.{Rests}
-use Rattle.up_conf.specs.declared.job.JobDef.{JobDef}
+use Rattle.up_engine.specs.Unfired.{IsAtRest}
+use Rattle.up_engine.proofs.Untrue.{rest-after}
 use Rattle.up_model.specs.declared.input.Input.{Input}
 use Rattle.up_model.specs.declared.output.Output.{Output}
 use Rattle.up_model.specs.Answers.{after}
 use Rattle.up_model.specs.Chronicle.{Chronicle}
 use Rattle.up_model.specs.Configuration.{Configuration}
-use Rattle.up_model.specs.Due.{due}
 use Rattle.up_model.specs.Left.{left, is_calm, spawns}
-use Rattle.up_model.specs.Moves.{move_first}
 use Rattle.up_model.specs.Outputs.{outputs_of}
-use Rattle.up_model.specs.Predicates.{or_else}
 use Rattle.up_model.specs.Queue.{queue}
 use Rattle.up_model.proofs.LeftLaws.{spends}
-use Rattle.up_model.proofs.Settling.{after_rests}
-
--- nothing is due before anything has happened
-none-moves : (jobs : List JobDef) → move_first jobs [] ≡ []
-none-moves [] = refl
-none-moves (job ∷ jobs) = none-moves jobs
-
-pub rests-first : (config : Configuration) → due config [] ≡ []
-unfolding due
-rests-first config = ap (λ es. or_else es []) (none-moves config.jobs)
 
 -- a sound book stays sound by a step
 pub sound_after : (config : Configuration) (old new : Ledger) (given : Input) → ∥ Rests config old ∥₁
-    → ((c : Chronicle) → Stands old Resting config c → due config c ≡ [] → Stands new Resting config (after config c given)) → ∥ Rests config new ∥₁
+    → ((c : Chronicle) → Stands old Resting config c → IsAtRest config c → Stands new Resting config (after config c given)) → ∥ Rests config new ∥₁
 sound_after config old new given sound steps =
-    ∥∥₁_elim sound squash₁ (λ rests. ∣ (after config rests.0 given, steps rests.0 rests.1 rests.2, after_rests config rests.0 given) ∣₁)
+    ∥∥₁_elim sound squash₁ (λ rests. ∣ (after config rests.0 given, steps rests.0 rests.1 rests.2, rest-after config given rests.0 rests.1.past.lives.distinct rests.2) ∣₁)
 
 -- what is left by what is kept is what the chronicle says
 pub left_told : (config : Configuration) (book : Ledger) (c : Chronicle) → Stands book Resting config c → left_of_jobs book.past.instances ≡ left c
@@ -45,8 +33,8 @@ left_told config book c s = left-kept (place_of book.past.events (queue c)) book
 
 -- and the step leaves fewer processes to be ordered, by those that it orders
 pub left_after : (config : Configuration) (old new : Ledger) (given : Input) (outputs : List Output) → is_calm given ≡ true → ∥ Rests config old ∥₁
-    → ((c : Chronicle) → Stands old Resting config c → due config c ≡ [] → Stands new Resting config (after config c given))
-    → ((c : Chronicle) → Stands old Resting config c → due config c ≡ [] → outputs ≡ outputs_of config (after config c given))
+    → ((c : Chronicle) → Stands old Resting config c → IsAtRest config c → Stands new Resting config (after config c given))
+    → ((c : Chronicle) → Stands old Resting config c → IsAtRest config c → outputs ≡ outputs_of config (after config c given))
     → left_of_jobs new.past.instances + spawns outputs ≤ left_of_jobs old.past.instances
 left_after config old new given outputs calm sound steps gives =
     ∥∥₁_elim sound le_prop (λ rests. rw (left_told config new (after config rests.0 given) (steps rests.0 rests.1 rests.2), left_told config old rests.0 rests.1, gives rests.0 rests.1 rests.2) (spends config rests.0 given calm))

@@ -11,7 +11,6 @@ pub mod MoveLemmas
 pub mod OutputLemmas
 pub mod SetupLemmas
 pub mod RunLemmas
-pub mod LeftLemmas
 pub mod IsolationLemmas
 pub mod Moving
 pub mod Offering
@@ -23,9 +22,15 @@ pub mod Handling
 pub mod Measure
 pub mod Settled
 pub mod Resting
+pub mod Acts
 pub mod Effects
+pub mod Unfired
 pub mod Hearing
+pub mod Untrue
+pub mod LeftLemmas
 pub mod Quiet
 pub mod IdleLemmas
 pub mod Positions
+pub mod Unheard
+pub mod Alone
 pub mod Repeating

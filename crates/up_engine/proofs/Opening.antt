@@ -3,7 +3,7 @@ use Rattle.std.proofs.Common.{◌≡◌, ℕ, ◌<◌, ◌==◌, Bool, true, fal
 use Rattle.std.specs.List.{AllByRecursion}
 use Rattle.up_conf.specs.declared.job.JobDef.{JobDef}
 use Rattle.up_model.specs.declared.state.State.TheVariants as state
-use Rattle.up_model.specs.Chronicle.{Chronicle, Entry, Expression, Given, Queued, Handled, Offered, Fired, Made, Aimed, Released, Entered, Ordered, Signalled, Replied, Entering, StartOn, StopOn}
+use Rattle.up_model.specs.Chronicle.{Chronicle, Entry, Expression, Given, Queued, Handled, Offered, Fired, Made, Aimed, Restarted, Released, Failed, Respawned, Entered, Ordered, Signalled, Replied, Entering, StartOn, StopOn}
 use Rattle.up_model.specs.Instances.{Instance, is_before, with_instance, without_instance, instances_of}
 use Rattle.up_model.specs.Offers.{is_newborn, is_open, offering}
 use Rattle.up_model.specs.Seen.{was_offered}
@@ -12,12 +12,15 @@ use Rattle.up_model.proofs.Places.{older-other}
 use Rattle.up_engine.specs.Offering.{open_stops, open_start, open_all}
 use Rattle.up_book.proofs.One.{IsKnown, known-all}
 
--- an entry of a firing or a move that concerns an instance, beside the offer itself
+-- an entry of a firing, a move or an effect that concerns an instance, beside the offer itself
 abbrev pub About : ℕ → Entry → Type 0
 About i (Queued (Entering j entered) event) = j ≡ i
 About i (Fired x taken) = Unit {0}
 About i (Aimed j aim environment its) = j ≡ i
 About i (Released j failed) = Unit {0}
+About i (Restarted j its) = j ≡ i
+About i (Failed j failure) = j ≡ i
+About i (Respawned j moment) = j ≡ i
 About i (Entered j entered) = j ≡ i
 About i (Ordered j process) = j ≡ i
 About i (Signalled j signal by_timer) = Unit {0}

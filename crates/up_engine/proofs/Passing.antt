@@ -31,7 +31,7 @@ stays job x c none = by_case (may_leave job x.place c) none
         absurd cc
     by_case false h = refl
 
-over-offered : (job : JobDef) (i : ℕ) (wait : Wait) (c : Chronicle) (x : Expression) (event : ℕ) → is_over job i wait (Offered x event ∷ c) ≡ is_over job i wait c
+pub over-offered : (job : JobDef) (i : ℕ) (wait : Wait) (c : Chronicle) (x : Expression) (event : ℕ) → is_over job i wait (Offered x event ∷ c) ≡ is_over job i wait c
 over-offered job i ForStart c x event = refl
 over-offered job i ForEvent c x event = refl
 over-offered job i (ForAnswer its) c x event = refl

@@ -29,7 +29,7 @@ get-middle : (front : List Instance) (x : Instance) (rest : List Instance) → s
 get-middle [] x rest = refl
 get-middle (y ∷ front) x rest = get-middle front x rest
 
-drop-front : (front rest : List Instance) → drop (length front) (front ++ rest) ≡ rest
+pub drop-front : (front rest : List Instance) → drop (length front) (front ++ rest) ≡ rest
 drop-front [] rest = refl
 drop-front (y ∷ front) rest = drop-front front rest
 

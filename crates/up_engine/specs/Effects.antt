@@ -1,8 +1,10 @@
 -- What the effect of an input hands on.
 use Rattle.std.specs.Prelude.{◌≡◌, ℕ, List, [], ◌∷◌, ◌++◌, Option, None, Some}
-use Rattle.up_book.specs.Keys.{instance_place}
+use Rattle.up_book.specs.Keys.{job_at, instance_at, instance_place}
+use Rattle.up_conf.specs.declared.job.JobDef.{JobDef}
 use Rattle.up_engine.specs.declared.due.Concern.{Concern}
-use Rattle.up_engine.specs.declared.due.Concern.TheVariants.{Nobody, Event, Anybody}
+use Rattle.up_engine.specs.declared.due.Concern.TheVariants.{Nobody, Instance as Instance', Event, Anybody}
+use Rattle.up_engine.specs.Settling.{settle_one, settle_all}
 use Rattle.up_job.specs.declared.instance_key.InstanceKey.{InstanceKey}
 use Rattle.up_model.specs.declared.event_id.EventId.{EventId}
 use Rattle.up_model.specs.declared.failure.Verdict.{Verdict}
@@ -11,6 +13,7 @@ use Rattle.up_model.specs.declared.input.Input.TheVariants.{Turn}
 use Rattle.up_model.specs.Chronicle.{Chronicle, Entry, Given, Handled}
 use Rattle.up_model.specs.Configuration.{Configuration}
 use Rattle.up_model.specs.Due.{due, effect}
+use Rattle.up_model.specs.Instances.{Instance}
 use Rattle.up_model.specs.Judgement.{carry_out}
 use Rattle.up_model.specs.Offers.{offering}
 
@@ -20,10 +23,25 @@ Judges config None does c = does ≡ []
 Judges config (Some found) does c = (i : ℕ) × ((instance_place config c found.0 ≡ Some i)
     × (does ≡ carry_out i found.1 c))
 
--- whom the effect of an input concerns: nobody, so that nothing is due after it if nothing was before; those that hear of an event, which
--- it takes up; or whoever may move
+-- the instance of a key alone may move, and no event is taken up
+pub record IsAlone (key : InstanceKey) (config : Configuration) (c : Chronicle) : Type 0 where
+  pub job : JobDef
+  pub its : Instance
+  pub in_table : job_at config key.job ≡ Some job
+  pub there : instance_at config c key ≡ Some its
+  pub settles : settle_all config.jobs c ≡ settle_one 5 job its c
+  pub unasked : offering c ≡ None
+
+-- whom the effect of an input concerns, if nothing was due before it: nobody, so that nothing is due after it; an instance; those that
+-- hear of an event, which it takes up; or whoever may move
 abbrev pub Concerns : (Chronicle → EventId → Option ℕ) → Concern → Configuration → Input → Chronicle → Type 0
 Concerns places Nobody config given c = due config c ≡ [] → due config (effect config given c ++ c) ≡ []
+Concerns places (Instance' key) config given c = due config c ≡ [] → IsAlone key config (effect config given c ++ c)
 Concerns places (Event key) config given c = (e : ℕ) × (effect config given c ++ c ≡ Handled e ∷ Given Turn ∷ c)
     × (places (Handled e ∷ Given Turn ∷ c) key ≡ Some e)
 Concerns places Anybody config given c = offering (effect config given c ++ c) ≡ None
+
+-- whom the answer for a process concerns, or its end, by the key of its instance
+abbrev pub concern_of : Option InstanceKey → Concern
+concern_of None = Anybody
+concern_of (Some key) = Instance' key

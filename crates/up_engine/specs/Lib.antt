@@ -1,5 +1,9 @@
 -- The refusals of an engine.
 pub mod Faults
+-- Which jobs don't hear of an event.
+pub mod Unheard
+-- That no expression in force is true: one that comes true fires in the same step.
+pub mod Unfired
 -- What the effect of an input hands on.
 pub mod Effects
 -- What the code of requests hands on.

@@ -1,15 +1,15 @@
 -- What the book of an engine is at rest.
-use Rattle.std.specs.Prelude.{◌≡◌, Bool, false, []}
+use Rattle.std.specs.Prelude.{◌≡◌, Bool, false}
+use Rattle.up_engine.specs.Unfired.{IsAtRest}
 use Rattle.up_book.specs.Keys.{Resting}
 use Rattle.up_book.specs.Ledgers.{Stands}
 use Rattle.up_book.specs.declared.ledger.Ledger.{Ledger}
 use Rattle.up_model.specs.Chronicle.{Chronicle}
 use Rattle.up_model.specs.Configuration.{Configuration}
-use Rattle.up_model.specs.Due.{due}
 
 -- the book stands for a chronicle after which nothing is left to do
 abbrev pub Rests : Configuration → Ledger → Type 0
-Rests config book = (c : Chronicle) × Stands book Resting config c × (due config c ≡ [])
+Rests config book = (c : Chronicle) × Stands book Resting config c × IsAtRest config c
 
 -- so it does, unless a step on it ran out of memory
 abbrev pub IsSound : (down : Bool) → Configuration → Ledger → Type 0

@@ -11,7 +11,8 @@ use Rattle.up_model.specs.declared.step.Step.{Step}
 use Rattle.up_model.specs.Answers.{after, is_expected, answer, next, answers, after_all}
 use Rattle.up_model.specs.Chronicle.{Chronicle}
 use Rattle.up_model.specs.Configuration.{Configuration}
-use Rattle.up_model.specs.Due.{due, turn_event}
+use Rattle.up_engine.specs.Unfired.{IsAtRest}
+use Rattle.up_model.specs.Due.{turn_event}
 use Rattle.up_model.specs.Left.{spawns}
 use Rattle.up_model.specs.Outputs.{outputs_of}
 use Rattle.up_model.specs.Queue.{queue}
@@ -24,8 +25,8 @@ pub record Stands (engine : Engine) (config : Configuration) (c : Chronicle) : T
   pub up : engine.down ≡ false
   pub setup : engine.setup ≡ config
   pub past : BookStands engine.book Resting config c
-  -- nothing is left to do
-  pub rested : due config c ≡ []
+  -- nothing is left to do, and no expression is true that hasn't fired
+  pub rest : IsAtRest config c
 
 -- the engine is down
 abbrev pub IsDown : Engine → Type 0

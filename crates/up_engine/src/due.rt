@@ -1,7 +1,7 @@
 //! What is due, the effect of an input, and whether it is expected.
 ghost use Rattle.std.specs.Prelude.{◌≡◌, ℕ, false, List, ◌∷◌, [], ◌++◌, map, Option, Some, option_map, IfOk, OnOk};
 ghost use Rattle.up_book.specs.Keys.{Mode, Resting, Stepping, instance_place};
-ghost use Rattle.up_engine.specs.Effects.{Concerns};
+ghost use Rattle.up_engine.specs.Effects.{Concerns, concern_of};
 ghost use Rattle.up_model.specs.declared.input.Input.TheVariants as given_as;
 ghost use Rattle.up_book.specs.Turning.{is_finish};
 ghost use Rattle.up_model.specs.Answers as answer;
@@ -29,6 +29,8 @@ use up_model::{End, Event, EventId, How, Input, Process, Who};
 pub(crate) enum Concern {
     /// No instance, so that none may move.
     Nobody,
+    /// The instance of this key.
+    Instance(InstanceKey),
     /// The jobs that hear of this event.
     Event(EventId),
     /// Any instance that may move.
@@ -92,14 +94,35 @@ fn take_event<B: Book>(book: &mut B, event: Event) -> Result<(), AllocError>
     Ok(())
 }
 
+// Whom the answer for a process concerns, or its end: its instance, if that exists.
+fn concern_of(on: Option<InstanceKey>) -> Concern
+    ensures { result ≡ concern_of on }
+{
+    match on {
+        Some(key) => Concern::Instance(key),
+        None => Concern::Anybody,
+    }
+}
+
 #[tactic(auto, unfolding(up_model::specs::Due::effect))]
-fn take_spawn<B: Book>(setup: &Setup, book: &mut B, who: Who, process: Process, pid: u32)
-    ensures { (c : Chronicle) → B.stands book.old Resting setup.now c
+fn take_spawn<B: Book>(
+    setup: &Setup,
+    book: &mut B,
+    who: Who,
+    process: Process,
+    pid: u32,
+) -> Concern
+    ensures after { (c : Chronicle) → B.stands book.old Resting setup.now c
         → B.stands book.new Stepping setup.now
         (model.effect setup.now (given_as.Spawned who process pid) c ++ c) }
+    ensures concerns { (c : Chronicle) → B.stands book.old Resting setup.now c
+        → Concerns (B.event_place book.new) result setup.now (given_as.Spawned who process pid) c }
 {
+    setup.names_differ();
+    book.names_differ();
     let on = find(setup, book, &who);
     book.given(&Input::Spawned { who, process, pid }, on);
+    concern_of(on)
 }
 
 #[tactic(auto, unfolding(up_model::specs::Due::effect), using(crate::proofs::Entries::one_last))]
@@ -108,17 +131,21 @@ fn take_refusal<B: Book>(
     book: &mut B,
     who: Who,
     process: Process,
-) -> Result<(), AllocError>
-    ensures { OnOk result ((c : Chronicle) → B.stands book.old Resting setup.now c
+) -> Result<Concern, AllocError>
+    ensures after { OnOk result ((c : Chronicle) → B.stands book.old Resting setup.now c
         → B.stands book.new Stepping setup.now
         (model.effect setup.now (given_as.Refused who process) c ++ c)) }
+    ensures concerns { IfOk result (λ concern. (c : Chronicle) → B.stands book.old Resting setup.now c
+        → Concerns (B.event_place book.new) concern setup.now (given_as.Refused who process) c) }
 {
+    setup.names_differ();
+    book.names_differ();
     let its = who.copy()?;
     let on = find(setup, book, &who);
     book.given(&Input::Refused { who, process }, on);
     let verdict_on_end = verdict_on(setup, book, &its, process, End::Refused);
     conclude(book, verdict_on_end)?;
-    Ok(())
+    Ok(concern_of(on))
 }
 
 #[tactic(auto, unfolding(up_model::specs::Due::effect), using(crate::proofs::Entries::one_last))]
@@ -128,17 +155,21 @@ fn take_end<B: Book>(
     who: Who,
     process: Process,
     how: How,
-) -> Result<(), AllocError>
-    ensures { OnOk result ((c : Chronicle) → B.stands book.old Resting setup.now c
+) -> Result<Concern, AllocError>
+    ensures after { OnOk result ((c : Chronicle) → B.stands book.old Resting setup.now c
         → B.stands book.new Stepping setup.now
         (model.effect setup.now (given_as.Ended who process how) c ++ c)) }
+    ensures concerns { IfOk result (λ concern. (c : Chronicle) → B.stands book.old Resting setup.now c
+        → Concerns (B.event_place book.new) concern setup.now (given_as.Ended who process how) c) }
 {
+    setup.names_differ();
+    book.names_differ();
     let its = who.copy()?;
     let on = find(setup, book, &who);
     book.given(&Input::Ended { who, process, how }, on);
     let verdict_on_end = verdict_on(setup, book, &its, process, End::Ended(how));
     conclude(book, verdict_on_end)?;
-    Ok(())
+    Ok(concern_of(on))
 }
 
 // The event that tells that another was spoilt, if it was.
@@ -277,16 +308,16 @@ pub(crate) fn act<B: Book>(
             Ok(Concern::Anybody)
         }
         Input::Spawned { who, process, pid } => {
-            take_spawn(setup, book, who, process, pid);
-            Ok(Concern::Anybody)
+            let concern = take_spawn(setup, book, who, process, pid);
+            Ok(concern)
         }
         Input::Refused { who, process } => {
-            take_refusal(setup, book, who, process)?;
-            Ok(Concern::Anybody)
+            let concern = take_refusal(setup, book, who, process)?;
+            Ok(concern)
         }
         Input::Ended { who, process, how } => {
-            take_end(setup, book, who, process, how)?;
-            Ok(Concern::Anybody)
+            let concern = take_end(setup, book, who, process, how)?;
+            Ok(concern)
         }
         Input::Clock(reading) => {
             take_reading(alloc, setup, book, reading)?;

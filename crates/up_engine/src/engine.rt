@@ -3,6 +3,7 @@ ghost use Rattle.std.specs.Prelude.{◌≡◌, List, ℕ, true, false, Ok, Err, 
 ghost use Rattle.up_book.specs.Keys.{Resting};
 ghost use Rattle.up_engine.specs.Requests.{answer_of};
 ghost use Rattle.up_engine.specs.Sound.{IsSound};
+ghost use Rattle.up_engine.specs.Unfired.{IsAtRest};
 ghost use Rattle.up_model.specs.Answers as answer;
 ghost use Rattle.up_model.specs.Chronicle.{Chronicle};
 ghost use Rattle.up_model.specs.Commands as commands;
@@ -48,10 +49,10 @@ fn step_book<B: Book>(
     given: Input,
 ) -> Result<Vec<Output>, AllocError>
     ensures after { OnOk result ((c : Chronicle) → B.stands book.old Resting setup.now c
-        → due.due setup.now c ≡ []
+        → IsAtRest setup.now c
         → B.stands book.new Resting setup.now (answer.after setup.now c given)) }
     ensures outputs { IfOk result (λ outputs. (c : Chronicle) → B.stands book.old Resting setup.now c
-        → due.due setup.now c ≡ []
+        → IsAtRest setup.now c
         → outputs.items ≡ outputs_of setup.now (answer.after setup.now c given)) }
 {
     run_step(alloc, setup, book, given)?;

@@ -1,10 +1,16 @@
 //! How each job hears of the event that a turn takes up.
-ghost use Rattle.std.specs.Prelude.{◌≡◌, ℕ, ◌++◌, Some, IfOk, OnOk};
+ghost use Rattle.std.specs.Prelude.{◌≡◌, ◌≤◌, ◌<◌, ℕ, ◌++◌, ◌∷◌, [], length, Some, IfOk, IfSome, MatchOption, OnOk};
 ghost use Rattle.up_model.specs.declared.event_id.EventId.{EventId as EventIdValue};
 ghost use Rattle.up_book.specs.Keys.{Mode, Stepping, job_at, instance_at};
 ghost use Rattle.up_engine.specs.Settling.{settle_one, ListsAfter};
 ghost use Rattle.up_engine.specs.Settling as settling;
+ghost use Rattle.up_engine.specs.Unfired.{NoneHolds};
+ghost use Rattle.up_engine.specs.Unheard.{AreUnheard};
+ghost use Rattle.up_model.specs.declared.input.Input.TheVariants as given_as;
 ghost use Rattle.up_model.specs.Chronicle.{Chronicle};
+ghost use Rattle.up_model.specs.Chronicle as entry;
+ghost use Rattle.up_model.specs.Due.{due};
+ghost use Rattle.up_model.specs.Readings.{event_at};
 ghost use Rattle.up_model.specs.Instances.{Instance, instances_of};
 ghost use Rattle.up_model.specs.Offers as model;
 
@@ -124,20 +130,55 @@ fn hear<B: Book>(
     Ok(())
 }
 
-/// Each job hears of the event, one after another.
+// The first job from an index of the table on that hears of the event, with its index.
+fn next_hearer<'a, B: Book>(
+    setup: &'a Setup,
+    book: &B,
+    event: EventId,
+    from: usize,
+) -> Option<(usize, &'a JobDef)>
+    ensures next { (c : Chronicle) (e : ℕ) → B.stands book.now Stepping setup.now c
+        → B.event_place book.now c event ≡ Some e
+        → MatchOption result (AreUnheard setup.now (event_at e c) from (length setup.now.jobs))
+        (λ found. (job_at setup.now found.0 ≡ Some found.1.now)
+        × AreUnheard setup.now (event_at e c) from found.0) }
+    ensures within { IfSome result (λ found. (from ≤ found.0) × (found.0 < length setup.now.jobs)
+        × (found.0 < 18446744073709551615)) }
+{
+    let jobs = setup.jobs();
+    match book.next_hearer(event, from) {
+        Some(index) => {
+            if index < jobs.len() {
+                Some((index, &jobs[index]))
+            } else {
+                None
+            }
+        }
+        None => None,
+    }
+}
+
+/// Each job hears of the event that a turn takes up, one after another. The jobs that don't name it are passed by: what they remember of
+/// it is nothing.
 pub(crate) fn hear_all<B: Book>(
     alloc: Global,
     setup: &Setup,
     book: &mut B,
-    jobs: &[JobDef],
     event: EventId,
 ) -> Result<(), AllocError>
-    ensures { OnOk result ((c : Chronicle) (e : ℕ) → jobs.now ≡ setup.now.jobs
-        → B.stands book.old Stepping setup.now c → B.event_place book.old c event ≡ Some e
-        → B.stands book.new Stepping setup.now (settling.hear_all setup.now jobs.now e c)) }
+    ensures { OnOk result ((c : Chronicle) (e : ℕ) → due setup.now c ≡ [] → NoneHolds setup.now c
+        → B.stands book.old Stepping setup.now (entry.Handled e ∷ entry.Given given_as.Turn ∷ c)
+        → B.event_place book.old (entry.Handled e ∷ entry.Given given_as.Turn ∷ c) event ≡ Some e
+        → B.stands book.new Stepping setup.now
+        (settling.hear_all setup.now setup.now.jobs e (entry.Handled e ∷ entry.Given given_as.Turn ∷ c))) }
 {
-    for (index, job) in jobs.iter().enumerate() {
+    setup.names_differ();
+    let mut from = 0;
+    'hearers: while let Some((index, job)) = next_hearer(setup, book, event, from) {
+        book.passes_by();
         hear(alloc, setup, book, index, job, event)?;
+        from = index + 1;
     }
+    book.passes_by();
     Ok(())
 }

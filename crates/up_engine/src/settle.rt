@@ -1,12 +1,13 @@
 //! What is due is done until nothing is.
 ghost use Rattle.std.specs.Prelude.{◌≡◌, ℕ, [], ◌++◌, Some, OnOk};
 ghost use Rattle.up_model.specs.declared.event_id.EventId.{EventId as EventIdValue};
-ghost use Rattle.up_book.specs.Keys.{Mode, Resting, Stepping, job_at};
+ghost use Rattle.up_book.specs.Keys.{Mode, Resting, Stepping, job_at, instance_at};
 ghost use Rattle.up_engine.specs.Settling as settling;
+ghost use Rattle.up_engine.specs.Unfired.{IsAtRest};
 ghost use Rattle.up_model.specs.Answers as answer;
 ghost use Rattle.up_model.specs.Chronicle.{Chronicle};
-ghost use Rattle.up_model.specs.Due.{due};
-ghost use Rattle.up_model.specs.Instances.{instances_of};
+ghost use Rattle.up_conf.specs.declared.job.JobDef.{JobDef as JobValue};
+ghost use Rattle.up_model.specs.Instances.{Instance, instances_of};
 ghost use Rattle.up_model.specs.Replies.{answering_last};
 
 use crate::due::{Concern, act};
@@ -73,6 +74,27 @@ fn settle<B: Book>(alloc: Global, setup: &Setup, book: &mut B) -> Result<(), All
     Ok(())
 }
 
+// Moves one instance on, and answers the client of this step if it doesn't wait.
+fn settle_alone<B: Book>(
+    alloc: Global,
+    setup: &Setup,
+    book: &mut B,
+    key: InstanceKey,
+) -> Result<(), AllocError>
+    ensures { OnOk result ((c : Chronicle) (job : JobValue) (its : Instance) → B.stands book.old Stepping setup.now c
+        → job_at setup.now key.job ≡ Some job → instance_at setup.now c key ≡ Some its
+        → B.stands book.new Stepping setup.now (answering_last (settling.settle_one 5 job its c)
+        ++ settling.settle_one 5 job its c)) }
+{
+    let jobs = setup.jobs();
+    if key.job >= jobs.len() {
+        return Ok(());
+    }
+    moves(alloc, setup, book, &jobs[key.job], key)?;
+    book.reply_last()?;
+    Ok(())
+}
+
 /// Takes an input in, and then does what is due until nothing is. Nothing was due before.
 #[tactic(auto, unfolding(up_model::specs::Answers::after))]
 pub(crate) fn run_step<B: Book>(
@@ -81,13 +103,14 @@ pub(crate) fn run_step<B: Book>(
     book: &mut B,
     input: Input,
 ) -> Result<(), AllocError>
-    ensures { OnOk result ((c : Chronicle) → B.stands book.old Resting setup.now c → due setup.now c ≡ []
+    ensures { OnOk result ((c : Chronicle) → B.stands book.old Resting setup.now c → IsAtRest setup.now c
         → B.stands book.new Stepping setup.now (answer.after setup.now c input)) }
 {
     setup.names_differ();
     match act(alloc, setup, book, input)? {
         Concern::Nobody => {}
-        Concern::Event(event) => hear_all(alloc, setup, book, setup.jobs(), event)?,
+        Concern::Instance(key) => settle_alone(alloc, setup, book, key)?,
+        Concern::Event(event) => hear_all(alloc, setup, book, event)?,
         Concern::Anybody => settle(alloc, setup, book)?,
     }
     Ok(())

@@ -8,17 +8,5 @@ returns-in_ok-take_event-in-Emit-clause-concerns g c c' s = rw c.in-Emit.is (eve
 pub returns-in_ok-take_request-in-Request-clause-concerns : goal.returns-in_ok-take_request-in-Request-clause-concerns
 returns-in_ok-take_request-in-Request-clause-concerns g c c' s = rw c.in-Request.is (effect-offers c.args.setup.now _ c' (λ no. no))
 
-pub returns-in_ok-take_refusal-in-Refused-clause-concerns : goal.returns-in_ok-take_refusal-in-Refused-clause-concerns
-returns-in_ok-take_refusal-in-Refused-clause-concerns g c c' s = rw c.in-Refused.is (effect-offers c.args.setup.now _ c' (λ no. no))
-
-pub returns-in_ok-take_end-in-Ended-clause-concerns : goal.returns-in_ok-take_end-in-Ended-clause-concerns
-returns-in_ok-take_end-in-Ended-clause-concerns g c c' s = rw c.in-Ended.is (effect-offers c.args.setup.now _ c' (λ no. no))
-
 pub returns-in_ok-take_reading-in-Clock-clause-concerns : goal.returns-in_ok-take_reading-in-Clock-clause-concerns
 returns-in_ok-take_reading-in-Clock-clause-concerns g c c' s = rw c.in-Clock.is (reading-due c.args.setup.now _ c' (effect-offers c.args.setup.now _ c' (λ no. no)))
-
-pub returns-in-Spawned-clause-after : goal.returns-in-Spawned-clause-after
-returns-in-Spawned-clause-after g c c' s = rw c.in-Spawned.is (c.take_spawn.ensures c' s)
-
-pub returns-in-Spawned-clause-concerns : goal.returns-in-Spawned-clause-concerns
-returns-in-Spawned-clause-concerns g c c' s = rw c.in-Spawned.is (effect-offers c.args.setup.now _ c' (λ no. no))

@@ -1,28 +1,40 @@
-use Rattle.std.proofs.Common.{◌∙◌, ap, refl, arith}
-use Rattle.std.proofs.lemmas.List.{drop_all}
-use Rattle.up_engine.specs.Settling.{hear, hear_all}
-use Rattle.up_engine.proofs.KeyLemmas.{job_there}
-use Rattle.up_engine.proofs.Positions.{jobs-from}
+use Rattle.std.proofs.Common.{◌∷◌, length, arith}
+use Rattle.up_book.specs.Keys.{Stepping}
+use Rattle.up_engine.specs.Settling.{hear}
+use Rattle.up_engine.proofs.Unheard.{PassesBy, HeardTo, heard-none, heard-one, heard-last, passed-to}
+use Rattle.up_model.specs.declared.input.Input.TheVariants.{Turn}
+use Rattle.up_model.specs.Chronicle.{Chronicle, Given, Handled}
 use Rattle.up_engine.proofs.hear.hear_all.Goals as goal
 
-pub loop-index-init : goal.loop-index-init
-loop-index-init g c c' e are s event = (c', s, event, refl)
+pub hearers-init : goal.hearers-init
+hearers-init g c = record {
+  within = omega arith;
+  heard = λ c' e none untrue stood known. heard-none (g.B.Book.stands c.args.book.now Stepping c.args.setup.now) (g.B.Book.event_place c.args.book.now) c.args.setup.now e c.args.event c' none untrue stood known;
+}
 
-pub loop-index-preserved : goal.loop-index-preserved
-loop-index-preserved g c c' e are s event =
-    let config = c.args.setup.now in
-    let job = c.index-jobs-index.result in
-    let so_far = c.loop-index.invariant c' e are s event in
-    let named = job_there config c.args.jobs.now c.loop-index.index job are c.loop-index-test.true c.index-jobs-index.is in
-    let d = hear config job e so_far.0 in (
-      d,
-      c.in_ok-hear.ensures.after so_far.0 e so_far.1 named so_far.2,
-      c.in_ok-hear.ensures.events so_far.0 e c.args.event e so_far.1 named so_far.2 so_far.2,
-      so_far.3 ∙ ap (λ js. hear_all config js e so_far.0) (jobs-from c.args.jobs.now c.loop-index.index job c.loop-index-test.true c.index-jobs-index.is),
-    )
+pub hearers-preserved : goal.hearers-preserved
+hearers-preserved g c = record {
+  within = omega (arith, c.in-Some.ensures.within.1);
+  heard = λ c' e none untrue stood known.
+      let config = c.args.setup.now in
+      let event = c.args.event in
+      let stands = g.B.Book.stands c.hearers.book Stepping config in
+      let places = g.B.Book.event_place c.hearers.book in
+      let h = c.hearers.invariant.heard c' e none untrue stood known in
+      let next = c.in-Some.ensures.next h.d e h.stood h.known in
+      let by : PassesBy stands places config = record { start = c.passes_by.ensures.start config; stop = c.passes_by.ensures.stop config; events = c.passes_by.ensures.events } in
+      let to = passed-to stands places config by c.names_differ.ensures e event c.hearers.from c.in-Some.index (Handled e ∷ Given Turn ∷ c') c.in-Some.ensures.within.0 (omega (arith, c.in-Some.ensures.within.1)) h next.1 in
+      heard-one stands (g.B.Book.stands c.hear.new.book Stepping config) places (g.B.Book.event_place c.hear.new.book) config e event c.in-Some.index c.in-Some.job.now (Handled e ∷ Given Turn ∷ c') c.names_differ.ensures next.0 to
+      (c.in_ok-hear.ensures.after to.d e to.stood next.0 to.known) (c.in_ok-hear.ensures.events to.d e event e to.stood next.0 to.known to.known);
+}
 
 pub returns : goal.returns
-returns g c c' e are s event =
+returns g c c' e none untrue stood known =
     let config = c.args.setup.now in
-    let so_far = c.loop-index.invariant c' e are s event in
-    rw (so_far.3 ∙ ap (λ js. hear_all config js e so_far.0) (drop_all c.loop-index.index c.args.jobs.now (omega arith))) so_far.1
+    let event = c.args.event in
+    let stands = g.B.Book.stands c.hearers.book Stepping config in
+    let places = g.B.Book.event_place c.hearers.book in
+    let h = c.hearers.invariant.heard c' e none untrue stood known in
+    let by : PassesBy stands places config = record { start = c.passes_by-2.ensures.start config; stop = c.passes_by-2.ensures.stop config; events = c.passes_by-2.ensures.events } in
+    heard-last stands places config e event (Handled e ∷ Given Turn ∷ c')
+    (passed-to stands places config by c.names_differ.ensures e event c.hearers.from (length config.jobs) (Handled e ∷ Given Turn ∷ c') c.hearers.invariant.within (omega arith) h (c.in_default.ensures.next h.d e h.stood h.known))

@@ -1,11 +1,19 @@
-use Rattle.std.proofs.Common.{◌≡◌, Some, ℕ, drop}
+use Rattle.std.proofs.Common.{◌≡◌, ◌≤◌, ◌-◌, Some, ℕ, [], ◌∷◌, length}
 use Rattle.up_book.specs.Keys.{Stepping}
-use Rattle.up_engine.specs.Settling.{hear_all}
-use Rattle.up_model.specs.Chronicle.{Chronicle}
+use Rattle.up_engine.specs.Unfired.{NoneHolds}
+use Rattle.up_engine.proofs.Unheard.{HeardTo}
+use Rattle.up_model.specs.declared.input.Input.TheVariants.{Turn}
+use Rattle.up_model.specs.Chronicle.{Chronicle, Given, Handled}
+use Rattle.up_model.specs.Due.{due}
 use Rattle.up_engine.proofs.hear.hear_all.Given as goal
 
--- the jobs from here on are still to hear of the event
-abbrev pub invariant-loop-index : goal.invariant-loop-index
-invariant-loop-index g l =
-    (c : Chronicle) (e : ℕ) → l.jobs ≡ l.setup.jobs → g.B.Book.stands l.fn.book Stepping l.setup c → g.B.Book.event_place l.fn.book c l.event ≡ Some e
-    → (d : Chronicle) × (g.B.Book.stands l.book Stepping l.setup d) × (g.B.Book.event_place l.book d l.event ≡ Some e) × (hear_all l.setup l.jobs e c ≡ hear_all l.setup (drop l.index l.jobs) e d)
+-- the jobs before this one have heard of the event, or were passed by
+abbrev pub invariant-hearers : goal.invariant-hearers
+invariant-hearers g l = record {
+  within : l.from ≤ length l.setup.jobs;
+  heard : (c : Chronicle) (e : ℕ) → due l.setup c ≡ [] → NoneHolds l.setup c → g.B.Book.stands l.fn.book Stepping l.setup (Handled e ∷ Given Turn ∷ c) → g.B.Book.event_place l.fn.book (Handled e ∷ Given Turn ∷ c) l.event ≡ Some e
+      → HeardTo (g.B.Book.stands l.book Stepping l.setup) (g.B.Book.event_place l.book) l.setup e l.event l.from (Handled e ∷ Given Turn ∷ c);
+}
+
+abbrev pub decreases-hearers : goal.decreases-hearers
+decreases-hearers g l = length l.setup.jobs - l.from

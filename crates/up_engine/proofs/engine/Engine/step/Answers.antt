@@ -2,8 +2,8 @@ use Rattle.std.proofs.Common.{◌≡◌, ◌∙◌, sym, refl, ap, []}
 use Rattle.up_book.specs.Keys.{Resting}
 use Rattle.up_engine.proofs.TurnLemmas.{turn_told}
 use Rattle.up_engine.proofs.LeftLemmas.{left_after, sound_after}
-use Rattle.up_model.specs.Due.{due}
-use Rattle.up_model.proofs.Settling.{after_rests}
+use Rattle.up_engine.specs.Unfired.{IsAtRest}
+use Rattle.up_engine.proofs.Untrue.{rest-after}
 use Rattle.up_engine.proofs.engine.Engine.step.Goals as goal
 
 pub returns-then-not-expects-clause-meaning : goal.returns-then-not-expects-clause-meaning
@@ -22,10 +22,10 @@ returns-in-Err-clause-meaning c config c' s = (
 pub returns-in-Ok-clause-meaning : goal.returns-in-Ok-clause-meaning
 returns-in-Ok-clause-meaning c config c' s =
     let past = rw (sym s.setup) at s.past in
-    let rested : due c.args.self.now.setup c' ≡ [] = ap (λ conf. due conf c') s.setup ∙ s.rested in (
+    let rest : IsAtRest c.args.self.now.setup c' = rw (sym s.setup) at s.rest in (
       sym (c.expects.ensures config c' s) ∙ c.if-not-expects.false,
-      rw (sym s.setup) (c.in-Ok.ensures.outputs c' past rested),
-      record { up = refl; setup = s.setup; past = rw (sym s.setup) (c.in-Ok.ensures.after c' past rested); rested = after_rests config c' c.args.given },
+      rw (sym s.setup) (c.in-Ok.ensures.outputs c' past rest),
+      record { up = refl; setup = s.setup; past = rw (sym s.setup) (c.in-Ok.ensures.after c' past rest); rest = rest-after config c.args.given c' s.past.past.lives.distinct s.rest },
     )
 
 pub returns-in-Ok-clause-left : goal.returns-in-Ok-clause-left
