@@ -1,15 +1,14 @@
 //! An expression, kept as its nodes.
-ghost use Rattle.std.specs.Prelude.{◌≡◌, ◌<◌, IfErr, IfOk};
+ghost use Rattle.std.specs.Prelude.{◌≡◌, ◌≤◌, IfOk};
 ghost use Rattle.up_expr.specs.Flat.{IsFlat, size};
 ghost use Rattle.up_expr.specs.TreeCode.{tree_in};
 ghost use Rattle.up_expr.specs.Trees.{tree_of};
-ghost use Rattle.up_expr.specs.declared.flat.FlatFault.TheVariants.{ImageTooLarge};
 ghost use Rattle.up_expr.specs.declared.flat.TheConstants.{MAX_NODES};
 
 use crate::branch::Branch;
 use crate::copies::copy_nodes;
 use crate::expr::Expr;
-use crate::flat::{FlatFault, flatten};
+use crate::flat::flatten;
 use crate::node::Nodes;
 use std::alloc::{AllocError, Global};
 use std::marker::Model;
@@ -35,10 +34,10 @@ impl Model for Condition {
 }
 
 impl Condition {
-    /// The condition that an expression states. Refused with `ImageTooLarge` only if it has more than 4,095 nodes.
-    pub fn new(alloc: Global, expr: &Expr) -> Result<Self, FlatFault>
-        ensures made { IfOk result (λ made. made ≡ tree_of expr.now) }
-        ensures refused { IfErr result (λ fault. fault ≡ ImageTooLarge → MAX_NODES < size (tree_of expr.now)) }
+    /// The condition that an expression states.
+    pub fn new(alloc: Global, expr: &Expr) -> Result<Self, AllocError>
+        requires { size (tree_of expr.now) ≤ MAX_NODES }
+        ensures { IfOk result (λ made. made ≡ tree_of expr.now) }
     {
         let nodes = flatten(alloc, expr)?;
         Ok(Condition { nodes })

@@ -25,7 +25,7 @@ pub use builder::Builder;
 pub use condition::Condition;
 pub use expr::{Expr, Leaf, Test};
 pub use fault::ExprFault;
-pub use flat::{FlatFault, flatten};
+pub use flat::flatten;
 pub use leaf::leaf_matches;
 pub use node::{Node, Nodes};
 pub use parse::parse_expr;

@@ -15,7 +15,6 @@ ghost use Rattle.up_expr.specs.declared.fault.ExprFault.TheVariants.{Memory};
 use crate::condition::Condition;
 use crate::expr::Expr;
 use crate::fault::ExprFault;
-use crate::flat::FlatFault;
 use crate::operand::read_leaf;
 use crate::parsed::Parsed;
 use crate::symbol::{is_and, is_close, is_open, is_operator, leaf_len};
@@ -232,11 +231,8 @@ fn lay(alloc: Global, tree: &Parsed) -> Result<Condition, ExprFault>
     ensures laid { IfOk result (λ condition. condition ≡ tree.now) }
     ensures refused { IfErr result (λ fault. fault ≡ Memory) }
 {
-    match Condition::new(alloc, tree.expr()) {
-        Ok(condition) => Ok(condition),
-        Err(FlatFault::Memory) => Err(ExprFault::Memory),
-        Err(FlatFault::ImageTooLarge) => unreachable!(),
-    }
+    let condition = Condition::new(alloc, tree.expr())?;
+    Ok(condition)
 }
 
 /// The expression that the tokens write (init(5), `start on`). Refused with `Memory` only if they write one, and with any other fault

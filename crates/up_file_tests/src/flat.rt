@@ -1,4 +1,8 @@
 //! Expressions that are made by hand, and their nodes.
+ghost use Rattle.std.specs.Prelude.{◌≡◌, IfOk};
+ghost use Rattle.up_expr.specs.Flat.{size};
+ghost use Rattle.up_expr.specs.Trees.{tree_of};
+
 use crate::expr::is_written;
 use std::alloc::{AllocError, Global};
 use std::test::Fail;
@@ -13,13 +17,17 @@ fn leaf_of(alloc: Global, event: &str) -> Result<Leaf, Fail> {
     })
 }
 
-fn boxed_leaf(alloc: Global, event: &str) -> Result<Box<Expr>, Fail> {
+fn boxed_leaf(alloc: Global, event: &str) -> Result<Box<Expr>, Fail>
+    ensures { IfOk result (λ leaf. size (tree_of leaf.value) ≡ 1) }
+{
     let leaf = leaf_of(alloc, event)?;
     Ok(Box::new(alloc, Expr::Leaf(leaf))?)
 }
 
 // The expression `a and (b or c)`.
-fn expr_of(alloc: Global) -> Result<Expr, Fail> {
+fn expr_of(alloc: Global) -> Result<Expr, Fail>
+    ensures { IfOk result (λ expr. size (tree_of expr) ≡ 5) }
+{
     let either = Expr::Or(boxed_leaf(alloc, "b")?, boxed_leaf(alloc, "c")?);
     let right = Box::new(alloc, either)?;
     Ok(Expr::And(boxed_leaf(alloc, "a")?, right))
@@ -61,7 +69,9 @@ fn shows(alloc: Global, condition: &Condition, said: &[&str], tree: &str) -> Res
     Ok(say(alloc, condition.nodes(), said)? && is_written(alloc, condition, tree)?)
 }
 
-fn is_made(alloc: Global, expr: &Expr) -> Result<bool, Fail> {
+fn is_made(alloc: Global, expr: &Expr) -> Result<bool, Fail>
+    requires { size (tree_of expr.now) ≡ 5 }
+{
     let condition = Condition::new(alloc, expr)?;
     shows(alloc, &condition, SAID, TREE)
 }

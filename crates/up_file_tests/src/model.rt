@@ -184,5 +184,7 @@ const COMMANDS: &'static [(Command, &'static str)] = &[
 fn commands(rt: HostRuntime) {
     for (command, name) in COMMANDS {
         assert_eq!(rt; command.name(), *name);
+        assert!(rt; Command::from_name(name) == Some(*command), "{name}");
     }
+    assert!(rt; Command::from_name("stopped").is_none());
 }

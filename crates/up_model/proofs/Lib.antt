@@ -14,3 +14,4 @@ pub mod NameLaws
 pub mod MainLaws
 pub mod LeftSums
 pub mod LeftLaws
+pub mod CommandLaws

@@ -1,4 +1,5 @@
-use Rattle.std.specs.Prelude.{ℕ, Bool, true, false, ◌&&◌, ◌||◌, List, [], ◌++◌, codes, if◌then◌else◌}
+use Rattle.std.specs.Prelude.{ℕ, Bool, true, false, ◌&&◌, ◌||◌, List, [], ◌∷◌, ◌++◌, Option, find, codes, if◌then◌else◌}
+use Rattle.std.specs.Str.{bytes_eq}
 use Rattle.up_text.specs.Names.{is_name}
 use Rattle.up_model.specs.declared.request.Command.{Command}
 use Rattle.up_model.specs.declared.request.Command.TheVariants as command
@@ -14,6 +15,17 @@ command_name command.Emit = codes "emit"
 command_name command.Reload = codes "reload"
 command_name command.ReloadConfiguration = codes "reload-configuration"
 command_name command.Version = codes "version"
+
+-- the commands, in the order in which help lists them
+abbrev pub commands : List Command
+commands =
+    command.Start ∷ command.Stop ∷ command.Restart ∷ command.Status ∷ command.Reload ∷ command.Emit
+    ∷ command.List
+    ∷ command.ReloadConfiguration ∷ command.Version ∷ []
+
+-- the command of a name
+abbrev pub command_named : List ℕ → Option Command
+command_named name = find (λ its. bytes_eq name (command_name its)) commands
 
 -- whether a client may choose not to wait for the answer (initctl(8), `--no-wait`)
 abbrev pub may_wait : Command → Bool

@@ -1,5 +1,5 @@
-//! Laws: what holds of every run, whatever the jobs are and whatever is given.
-ghost use Rattle.std.specs.Prelude.{ℕ, ◌≡◌, ◌≤◌, true, length, List, []};
+//! Laws: what holds of the names of commands, and of every run, whatever the jobs are and whatever is given.
+ghost use Rattle.std.specs.Prelude.{ℕ, ◌≡◌, ◌≤◌, true, length, List, [], Some};
 ghost use Rattle.up_model.specs.Answers.{after, after_all};
 ghost use Rattle.up_model.specs.Blocks.{AreFound, IsLone, IsPatient};
 ghost use Rattle.up_model.specs.Chronicle.{Chronicle};
@@ -8,7 +8,16 @@ ghost use Rattle.up_model.specs.Due.{due};
 ghost use Rattle.up_model.specs.Laws.{AreByAge, finished_times, handled_times, IsOrderly};
 ghost use Rattle.up_model.specs.Left.{is_calm, Spends};
 ghost use Rattle.up_model.specs.Queue.{queue};
+ghost use Rattle.up_model.specs.Requests.{command_name, command_named};
 ghost use Rattle.up_model.specs.declared.input.Input.{Input};
+ghost use Rattle.up_model.specs.declared.request.Command.{Command};
+
+/// A command is found by its name, and by no other word.
+pub fn named_once()
+    ensures found { (command : Command) → command_named (command_name command) ≡ Some command }
+    ensures own { (name : List ℕ) (command : Command) → command_named name ≡ Some command
+        → name ≡ command_name command }
+{}
 
 /// What is due always runs out: after an input nothing is due.
 pub fn rest()

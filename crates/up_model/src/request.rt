@@ -2,7 +2,7 @@
 ghost use Rattle.std.specs.Prelude.{◌≡◌, IfOk, Some, None, if◌then◌else◌};
 ghost use Rattle.std.specs.List.{list_all};
 ghost use Rattle.up_text.specs.Names.{is_name, is_name_byte};
-ghost use Rattle.up_model.specs.Requests.{command_name, may_wait, is_alone, is_request};
+ghost use Rattle.up_model.specs.Requests.{command_name, command_named, may_wait, is_alone, is_request};
 
 use std::alloc::AllocError;
 use std::marker::Model;
@@ -37,6 +37,24 @@ impl Command {
             Command::Reload => "reload",
             Command::ReloadConfiguration => "reload-configuration",
             Command::Version => "version",
+        }
+    }
+
+    /// The command of this name, if there is one.
+    pub fn from_name(name: &str) -> Option<Self>
+        ensures { result ≡ command_named name.now }
+    {
+        match name {
+            "start" => Some(Command::Start),
+            "stop" => Some(Command::Stop),
+            "restart" => Some(Command::Restart),
+            "status" => Some(Command::Status),
+            "reload" => Some(Command::Reload),
+            "emit" => Some(Command::Emit),
+            "list" => Some(Command::List),
+            "reload-configuration" => Some(Command::ReloadConfiguration),
+            "version" => Some(Command::Version),
+            _ => None,
         }
     }
 

@@ -3,25 +3,10 @@ use Rattle.std.specs.Str.{bytes_eq}
 use Rattle.up_model.specs.declared.input.Input.{Input}
 use Rattle.up_model.specs.declared.input.Input.TheVariants as input
 use Rattle.up_model.specs.declared.request.Command.{Command}
-use Rattle.up_model.specs.declared.request.Command.TheVariants as command
 use Rattle.up_model.specs.declared.request.Request.{Request}
-use Rattle.up_model.specs.Requests.{may_wait, is_alone}
+use Rattle.up_model.specs.Requests.{command_named, may_wait, is_alone}
 use Rattle.up_conf.specs.Numbers.{number_in}
 use Rattle.up_replay.specs.Variables.{vars_of, name_in}
-
--- a command by its name
-abbrev pub command_of : List ℕ → Option Command
-command_of name =
-    if bytes_eq name (codes "start") then Some command.Start
-    else (if bytes_eq name (codes "stop") then Some command.Stop
-    else (if bytes_eq name (codes "restart") then Some command.Restart
-    else (if bytes_eq name (codes "status") then Some command.Status
-    else (if bytes_eq name (codes "list") then Some command.List
-    else (if bytes_eq name (codes "emit") then Some command.Emit
-    else (if bytes_eq name (codes "reload") then Some command.Reload
-    else (if bytes_eq name (codes "reload-configuration") then Some command.ReloadConfiguration
-    else (if bytes_eq name (codes "version") then Some command.Version
-    else None))))))))
 
 -- whether the words begin with `--no-wait`
 abbrev pub begins_no_wait : List (List ℕ) → Bool
@@ -64,4 +49,4 @@ request_of [] = None
 request_of (id ∷ []) = None
 request_of (id ∷ name ∷ words) =
     option_and_then (λ number. option_map (input.Request number)
-    (option_and_then (request_by words) (command_of name))) (number_in 0 18446744073709551615 id)
+    (option_and_then (request_by words) (command_named name))) (number_in 0 18446744073709551615 id)

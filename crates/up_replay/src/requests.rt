@@ -1,39 +1,13 @@
 //! Reads the requests of a script.
 ghost use Rattle.std.specs.Prelude.{◌≡◌, ◌||◌, true, false, IfOk};
 ghost use Rattle.up_model.specs.Requests.{may_wait, is_alone};
-ghost use Rattle.up_replay.specs.Requests.{command_of, begins_no_wait, alone, with_name, with_words, request_by, request_of};
+ghost use Rattle.up_replay.specs.Requests.{begins_no_wait, alone, with_name, with_words, request_by, request_of};
 
 use crate::variables::{name_of, vars_of};
 use std::alloc::{AllocError, Global};
 use up_conf::number_in;
 use up_model::{Command, Input, Request};
 use up_text::{Env, Text};
-
-fn command_of(name: &Text) -> Option<Command>
-    ensures { result ≡ command_of name.now }
-{
-    if name.is("start") {
-        Some(Command::Start)
-    } else if name.is("stop") {
-        Some(Command::Stop)
-    } else if name.is("restart") {
-        Some(Command::Restart)
-    } else if name.is("status") {
-        Some(Command::Status)
-    } else if name.is("list") {
-        Some(Command::List)
-    } else if name.is("emit") {
-        Some(Command::Emit)
-    } else if name.is("reload") {
-        Some(Command::Reload)
-    } else if name.is("reload-configuration") {
-        Some(Command::ReloadConfiguration)
-    } else if name.is("version") {
-        Some(Command::Version)
-    } else {
-        None
-    }
-}
 
 fn begins_no_wait(words: &[Text]) -> bool
     ensures { result ≡ begins_no_wait words.now }
@@ -137,7 +111,7 @@ pub(crate) fn request_of(alloc: Global, words: &[Text]) -> Result<Option<Input>,
     let Some(id) = number_in(0, u64::MAX, id.as_str()) else {
         return Ok(None);
     };
-    let Some(command) = command_of(name) else {
+    let Some(command) = Command::from_name(name.as_str()) else {
         return Ok(None);
     };
     match request_by(alloc, words, command)? {

@@ -1,28 +1,16 @@
 -- The request that a command's words are.
-use Rattle.std.specs.Prelude.{◌≡◌, ◌==◌, ◌&&◌, ℕ, Bool, false, not, nat_lt, find, List, [], ◌∷◌, length, Option, None, Some, option_and_then, unwrap_or, codes, if◌then◌else◌, Result, Ok, Err}
+use Rattle.std.specs.Prelude.{◌≡◌, ◌==◌, ◌&&◌, ℕ, Bool, false, not, nat_lt, List, [], ◌∷◌, length, Option, None, Some, option_and_then, unwrap_or, codes, if◌then◌else◌, Result, Ok, Err}
 use Rattle.std.specs.List.{position_or_len, before_first, after_first}
 use Rattle.std.specs.Option.{option_map_or}
 use Rattle.std.specs.Str.{bytes_eq}
 use Rattle.clap.specs.Words.{Row, first_of, all_of, one_of}
 use Rattle.up_text.specs.Names.{is_key, is_value}
 use Rattle.up_text.specs.Bindings.{set_in}
-use Rattle.up_model.specs.Requests.{RequestValue, command_name, is_request}
+use Rattle.up_model.specs.Requests.{RequestValue, command_named, is_request}
 use Rattle.up_model.specs.declared.request.Command.{Command}
-use Rattle.up_model.specs.declared.request.Command.TheVariants as command
 use Rattle.up_wire.specs.declared.fault.WireFault.{WireFault}
 use Rattle.up_wire.specs.declared.fault.WireFault.TheVariants.{FrameTooLarge, BadFrame, BadWord, Memory}
 use Rattle.up_wire.specs.Frames.{Bytes, Variables}
-
--- the commands, in the order in which help lists them
-abbrev pub commands : List Command
-commands =
-    command.Start ∷ command.Stop ∷ command.Restart ∷ command.Status ∷ command.Reload ∷ command.Emit
-    ∷ command.List
-    ∷ command.ReloadConfiguration ∷ command.Version ∷ []
-
--- the command of a word
-abbrev pub command_named : Bytes → Option Command
-command_named word = find (λ its. bytes_eq word (command_name its)) commands
 
 -- the sign between a key and its value
 unfoldable pub is_equals : ℕ → Bool

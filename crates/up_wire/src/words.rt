@@ -2,30 +2,13 @@
 ghost use Rattle.std.specs.Prelude.{◌≡◌, [], map, not, nat_lt, length, true, false, MatchOption};
 ghost use Rattle.std.specs.List.{position_or_len, before_first, after_first};
 ghost use Rattle.clap.specs.Words.{found_of, rows_of, subcommand_rows_of};
-ghost use Rattle.up_wire.specs.Words.{command_named, is_equals, with_binding, with_word, with_words, request_with, is_set, text_in, request_in, request_matched, Makes, Sets};
+ghost use Rattle.up_wire.specs.Words.{is_equals, with_binding, with_word, with_words, request_with, is_set, text_in, request_in, request_matched, Makes, Sets};
 
 use crate::fault::WireFault;
 use clap::ArgMatches;
 use std::alloc::Global;
 use up_model::{Command, Request};
 use up_text::{Env, Text, TextFault};
-
-fn command_named(word: &str) -> Option<Command>
-    ensures { result ≡ command_named word.now }
-{
-    match word {
-        "start" => Some(Command::Start),
-        "stop" => Some(Command::Stop),
-        "restart" => Some(Command::Restart),
-        "status" => Some(Command::Status),
-        "reload" => Some(Command::Reload),
-        "emit" => Some(Command::Emit),
-        "list" => Some(Command::List),
-        "reload-configuration" => Some(Command::ReloadConfiguration),
-        "version" => Some(Command::Version),
-        _ => None,
-    }
-}
 
 // The key and the value of a word KEY=VALUE.
 fn cut(word: &str) -> Option<(&str, &str)>
@@ -123,7 +106,7 @@ pub fn request_of(alloc: Global, matches: &ArgMatches) -> Result<Request, WireFa
     let Some((word, given)) = matches.subcommand() else {
         return Err(WireFault::BadWord);
     };
-    match command_named(word) {
+    match Command::from_name(word) {
         Some(command) => request_in(alloc, command, given),
         None => Err(WireFault::BadWord),
     }
