@@ -4,6 +4,7 @@ mod chain;
 mod clock;
 mod expressions;
 mod instances;
+mod memory;
 mod processes;
 mod requests;
 mod restarts;
@@ -13,9 +14,9 @@ use std::alloc::{AllocError, Global};
 use std::process::Abort;
 use std::test::Fail;
 use up_conf::Folder;
-use up_engine::{Engine, Run, StepError};
+use up_engine::{Engine, StepError};
 use up_image::{CompileError, Table, compile};
-use up_model::{Answer, Command, Event, How, Input, Order, Output, Process, Request, Step, Who};
+use up_model::{Answer, Command, Event, How, Input, Order, Output, Process, Request, Who};
 use up_text::{Env, Items, Name, Text, TextFault};
 
 /// Why a row couldn't be tried: memory was refused, or its file or a name isn't readable.
@@ -55,6 +56,8 @@ pub(crate) enum Given {
     SpawnedIn(&'static str, u32),
     /// A start of the job `zz`, which isn't there.
     Start(u64),
+    /// A start of the job `a` with these variables, whose client waits.
+    StartWith(u64, &'static [(&'static str, &'static str)]),
     Clock(u64),
 }
 
@@ -82,7 +85,7 @@ const SPAWN_TRUE: &'static str =
 pub(crate) const SPAWN_D: &'static str =
     "spawn a() Main [/bin/d ] in / silent=false UPSTART_EVENTS=go UPSTART_JOB=a UPSTART_INSTANCE=; ";
 
-const START_FILE: &'static str = "start on startup\nexec /bin/true x\n";
+pub(crate) const START_FILE: &'static str = "start on startup\nexec /bin/true x\n";
 
 const EMPTY_FOLDER: [Row; 3] = [
     (Given::Emit("startup"), "", 1, true),
@@ -90,7 +93,7 @@ const EMPTY_FOLDER: [Row; 3] = [
     (Given::Turn, "", 0, false),
 ];
 
-const STARTUP: [Row; 8] = [
+pub(crate) const STARTUP: [Row; 8] = [
     (Given::Emit("startup"), "", 1, true),
     (Given::Turn, STARTING, 2, true),
     (Given::Turn, "", 2, true),
@@ -133,7 +136,7 @@ const STRANGER: [Row; 9] = [
 ];
 
 // After the failure what started the job is spoilt, which is told when it finishes.
-const REQUESTS: [Row; 14] = [
+pub(crate) const REQUESTS: [Row; 14] = [
     (
         Given::Start(7),
         "reply 7 ok=false Unknown job: zz; ",
@@ -215,9 +218,9 @@ fn var(alloc: Global, key: &str, value: &str) -> Result<Env, Untried> {
     Ok(vars)
 }
 
-fn start(alloc: Global, id: u64) -> Result<Input, Untried> {
-    let name = Text::from_str(alloc, "zz")?;
-    match Request::new(Command::Start, true, name, Env::new(alloc)) {
+fn start(alloc: Global, id: u64, job: &str, vars: Env) -> Result<Input, Untried> {
+    let name = Text::from_str(alloc, job)?;
+    match Request::new(Command::Start, true, name, vars) {
         Some(request) => Ok(Input::Request { id, request }),
         None => Err(Untried),
     }
@@ -250,7 +253,8 @@ fn input(alloc: Global, given: Given) -> Result<Input, Untried> {
         Given::SpawnedIn(instance, pid) => spawned(alloc, instance, Process::Main, pid),
         Given::RefusedAs(process) => refused(alloc, process),
         Given::EndedAs(process, how) => ended(alloc, process, how),
-        Given::Start(id) => start(alloc, id),
+        Given::Start(id) => start(alloc, id, "zz", Env::new(alloc)),
+        Given::StartWith(id, pairs) => start(alloc, id, "a", environment(alloc, pairs)?),
         Given::Clock(reading) => Ok(Input::Clock(reading)),
     }
 }
@@ -260,7 +264,7 @@ fn push(inputs: &mut Vec<Input>, input: Input) -> Result<(), AllocError> {
     Ok(())
 }
 
-fn inputs(alloc: Global, rows: &[Row]) -> Result<Vec<Input>, Untried> {
+pub(crate) fn inputs(alloc: Global, rows: &[Row]) -> Result<Vec<Input>, Untried> {
     let mut inputs = Vec::with_capacity(alloc, rows.len())?;
     for (given, _, _, _) in rows {
         let input = input(alloc, *given)?;
@@ -320,7 +324,7 @@ fn show(text: &mut String, output: &Output) -> Result<(), AllocError> {
     }
 }
 
-fn shown(alloc: Global, outputs: &[Output]) -> Result<String, Untried> {
+pub(crate) fn shown(alloc: Global, outputs: &[Output]) -> Result<String, Untried> {
     let mut text = String::new(alloc);
     for output in outputs {
         show(&mut text, output)?;
@@ -450,107 +454,5 @@ pub(crate) fn check_cases(rt: &impl Abort, alloc: Global, cases: &[Case]) -> Res
 #[test]
 fn worked_rows(rt: HostRuntime) -> Result<(), Fail> {
     check_cases(&rt, rt.alloc(), &CASES)?;
-    Ok(())
-}
-
-// What came of a run of the row `startup`. Where memory is refused in its midst, its steps are the first of the row's, and the engine
-// is down; if it is refused before, nothing has happened.
-#[derive(Clone, Copy, Debug, PartialEq, Eq)]
-enum Outcome {
-    Whole,
-    Refused,
-    Otherwise,
-}
-
-fn is_step(alloc: Global, step: &Step, outputs: &str) -> Result<bool, Untried> {
-    match step {
-        Step::Gave(gave) => {
-            let text = shown(alloc, gave.as_slice())?;
-            Ok(text.as_str() == outputs)
-        }
-        Step::NotExpected => Ok(false),
-    }
-}
-
-// Whether the steps are the first of the rows.
-fn are_steps(alloc: Global, steps: &[Step], rows: &[Row]) -> Result<bool, Untried> {
-    for (step, row) in steps.iter().zip(rows) {
-        if !is_step(alloc, step, row.1)? {
-            return Ok(false);
-        }
-    }
-    Ok(steps.len() <= rows.len())
-}
-
-// Whether an engine has the live events and the turn that the rows leave.
-fn is_left(engine: &Engine, rows: &[Row]) -> bool {
-    match rows.last() {
-        Some(row) => engine.live_events() == row.2 && engine.has_turn() == row.3,
-        None => engine.live_events() == 0 && !engine.has_turn(),
-    }
-}
-
-fn is_down(engine: &mut Engine) -> bool {
-    matches!(engine.step(Input::Turn), Err(StepError::Down))
-}
-
-fn came_of(
-    alloc: Global,
-    engine: &mut Engine,
-    run: &Run,
-    rows: &[Row],
-) -> Result<Outcome, Untried> {
-    let steps = run.steps.as_slice();
-    let count = steps.len().min(rows.len());
-    if !are_steps(alloc, steps, rows)? || !is_left(engine, &rows[..count]) {
-        return Ok(Outcome::Otherwise);
-    }
-    if !run.down && count == rows.len() {
-        return Ok(Outcome::Whole);
-    }
-    if run.down && count < rows.len() && is_down(engine) {
-        return Ok(Outcome::Refused);
-    }
-    Ok(Outcome::Otherwise)
-}
-
-fn run_with(alloc: Global, engine: &mut Engine, rows: &[Row]) -> Result<Outcome, Untried> {
-    let inputs = inputs(alloc, rows)?;
-    match engine.run(inputs) {
-        Ok(run) => came_of(alloc, engine, &run, rows),
-        Err(StepError::Memory) if is_left(engine, &[]) => Ok(Outcome::Refused),
-        Err(_) => Ok(Outcome::Otherwise),
-    }
-}
-
-static RUN: Case = Case {
-    name: "startup",
-    files: &[("a.conf", START_FILE)],
-    base: &[],
-    rows: &STARTUP,
-};
-
-fn run_case(alloc: Global, case: &Case) -> Result<Outcome, Untried> {
-    let mut engine = engine(alloc, case.files, case.base)?;
-    run_with(alloc, &mut engine, case.rows)
-}
-
-#[test]
-fn always_memory(rt: HostRuntime) -> Result<(), Fail> {
-    assert_eq!(rt; run_case(rt.alloc(), &RUN)?, Outcome::Whole);
-    Ok(())
-}
-
-// The same if an allocation fails: `rt try --test --fail-alloc N -- engine::memory_refused`. It passes also if the row's
-// inputs, its table or the texts to compare were refused memory.
-#[test]
-fn memory_refused(rt: HostRuntime) -> Result<(), Fail> {
-    let told = match run_case(rt.alloc(), &RUN) {
-        Ok(Outcome::Whole) => "memory sufficed",
-        Ok(Outcome::Refused) => "the run was refused memory",
-        Ok(Outcome::Otherwise) => return Err(Fail::new("the run is not as the row says")),
-        Err(_) => "the test was refused memory",
-    };
-    println!(rt; "{told}")?;
     Ok(())
 }

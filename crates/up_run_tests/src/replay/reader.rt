@@ -1,53 +1,13 @@
-//! Whole job files: what runs, overrides, and checks of folders.
+//! Checks of folders.
 use crate::engine::add_file;
 use crate::replay::distribution::{BUNDLE, REPORT};
-use crate::replay::{Case, Topic, check_printed, check_topics};
+use crate::replay::check_printed;
 use std::alloc::{AllocError, Global};
 use std::process::Abort;
 use std::test::Fail;
 use up_conf::Folder;
 use up_replay::check::check;
 use up_replay::read_bundle;
-
-const INVALID_OVERRIDE: Case = Case {
-    bundle: b"%file a.conf\nstart on go\nexec /bin/d\n%file a.override\nmanual\nbogus x\n%script\nemit go\nturn\n",
-    printed: "a.override:2: 1 UnknownStanza\nevent starting JOB=\"a\" INSTANCE=\"\"\n",
-    status: 1,
-};
-
-const MANUAL_OVERRIDE: Case = Case {
-    bundle: b"%file a.conf\nstart on go\nexec /bin/d\n%file a.override\nmanual\n%file b.override\nnonsense\n%script\nemit go\nturn 2\n",
-    printed: "",
-    status: 0,
-};
-
-const WORDS: Case = Case {
-    bundle: b"%file a.conf\nstart on go\nexec /bin/a b#c\n%script\nemit go\nturn 3\n",
-    printed: "event starting JOB=\"a\" INSTANCE=\"\"\nspawn a main \"/bin/a\" \"b\"\n  UPSTART_EVENTS=\"go\"\n  UPSTART_JOB=\"a\"\n  UPSTART_INSTANCE=\"\"\n",
-    status: 0,
-};
-
-const SHELL: Case = Case {
-    bundle: b"%file a.conf\nstart on go\nexec /bin/e \"a  b\" # c\n%script\nemit go\nturn 3\n",
-    printed: "event starting JOB=\"a\" INSTANCE=\"\"\nspawn a main \"/bin/sh\" \"-e\" \"-c\" \"exec /bin/e \\\"a  b\\\"\"\n  UPSTART_EVENTS=\"go\"\n  UPSTART_JOB=\"a\"\n  UPSTART_INSTANCE=\"\"\n",
-    status: 0,
-};
-
-const SCRIPT: Case = Case {
-    bundle: b"%file a.conf\nstart on go\nscript\n\techo 'a' # b\nend script # done\nconsole none\nchdir /tmp\n%script\nemit go\nturn 3\n",
-    printed: "event starting JOB=\"a\" INSTANCE=\"\"\nspawn a main \"/bin/sh\" \"-e\" \"-c\" \"\\techo 'a' # b\\n\"\n  UPSTART_EVENTS=\"go\"\n  UPSTART_JOB=\"a\"\n  UPSTART_INSTANCE=\"\"\n",
-    status: 0,
-};
-
-static TOPICS: [Topic; 2] = [
-    ("overrides", &[INVALID_OVERRIDE, MANUAL_OVERRIDE]),
-    ("commands", &[WORDS, SHELL, SCRIPT]),
-];
-
-#[test]
-fn job_files(rt: HostRuntime) {
-    check_topics(&rt, &TOPICS);
-}
 
 // A check of a folder prints this, with this status.
 fn check_folder(
