@@ -25,7 +25,11 @@ fn whole_if(is_so: bool) -> Came {
 type Spot = (&'static str, u32, u8);
 
 /// The files of a folder with the faults that are reported, and how many jobs there are.
-type Case = (&'static [(&'static str, &'static [u8])], &'static [Spot], usize);
+type Case = (
+    &'static [(&'static str, &'static [u8])],
+    &'static [Spot],
+    usize,
+);
 
 /// A job file with a fault beside a good one.
 const FAULTY: &'static [(&'static str, &'static [u8])] = &[
@@ -39,11 +43,7 @@ static FOLDERS: [Case; 5] = [
     (STARTUP, &[], 1),
     (BOTH, &[], 1),
     (MANY, &[], 2),
-    (
-        FAULTY,
-        &[("a.override", 2, 1), ("b.conf", 2, 2)],
-        1,
-    ),
+    (FAULTY, &[("a.override", 2, 1), ("b.conf", 2, 2)], 1),
 ];
 
 fn is_fault(fault: &Fault, spot: &Spot) -> bool {

@@ -4,7 +4,8 @@
 //! `rt try --test --fail-alloc N -- engine::memory` refuses the Nth request; `bench/faults` goes through all of them with the built tests.
 use crate::engine::clock::RESPAWN_LIMIT;
 use crate::engine::{
-    Case, Given, REQUESTS, Row, START_FILE, STARTED, STARTING, STARTUP, Untried, engine, inputs, shown,
+    Case, Given, REQUESTS, Row, START_FILE, STARTED, STARTING, STARTUP, Untried, engine, inputs,
+    shown,
 };
 use std::alloc::Global;
 use std::test::Fail;
@@ -86,10 +87,7 @@ static CASES: [Case; 5] = [
     },
     Case {
         name: "instance_names",
-        files: &[(
-            "a.conf",
-            "start on go\ninstance $TTY\nexec /bin/g\n",
-        )],
+        files: &[("a.conf", "start on go\ninstance $TTY\nexec /bin/g\n")],
         base: &[],
         rows: &INSTANCE_NAMES,
     },
@@ -177,11 +175,7 @@ fn came_of(
     Ok(Outcome::Otherwise)
 }
 
-fn run_once(
-    alloc: Global,
-    engine: &mut Engine,
-    rows: &[Row],
-) -> Result<Option<Outcome>, Untried> {
+fn run_once(alloc: Global, engine: &mut Engine, rows: &[Row]) -> Result<Option<Outcome>, Untried> {
     let inputs = inputs(alloc, rows)?;
     match engine.run(inputs) {
         Ok(run) => {
@@ -215,7 +209,12 @@ fn run_case(alloc: Global, case: &Case) -> Result<Outcome, Untried> {
 #[test]
 fn always_memory(rt: HostRuntime) -> Result<(), Fail> {
     for case in &CASES {
-        assert_eq!(rt; run_case(rt.alloc(), case)?, Outcome::Whole, "{}", case.name);
+        assert_eq!(rt;
+            run_case(rt.alloc(), case)?,
+            Outcome::Whole,
+            "{}",
+            case.name
+        );
     }
     Ok(())
 }

@@ -1,7 +1,7 @@
 //! Checks of folders.
 use crate::engine::add_file;
-use crate::replay::distribution::{BUNDLE, REPORT};
 use crate::replay::check_printed;
+use crate::replay::distribution::{BUNDLE, REPORT};
 use std::alloc::{AllocError, Global};
 use std::process::Abort;
 use std::test::Fail;
