@@ -201,25 +201,32 @@ static CASES: [Case; 5] = [
     },
 ];
 
+// Both values, unless one of them couldn't be made. The other is dropped here, where the prover knows of it no more than its type's name.
+fn both<A: Drop, E: Drop, B: Drop, F: Drop>(
+    first: Result<A, E>,
+    second: Result<B, F>,
+) -> Result<(A, B), Untried> {
+    match first {
+        Ok(first) => match second {
+            Ok(second) => Ok((first, second)),
+            Err(_) => Err(Untried),
+        },
+        Err(_) => Err(Untried),
+    }
+}
+
 fn who(alloc: Global, instance: &str) -> Result<Who, Untried> {
-    let job = Name::new(alloc, "a")?;
-    let instance = Text::from_str(alloc, instance)?;
+    let (job, instance) = both(Name::new(alloc, "a"), Text::from_str(alloc, instance))?;
     Ok(Who { job, instance })
 }
 
-fn event(alloc: Global, name: &str, vars: Env) -> Result<Input, Untried> {
-    let name = Name::new(alloc, name)?;
+fn event(alloc: Global, name: &str, pairs: &[(&str, &str)]) -> Result<Input, Untried> {
+    let (name, vars) = both(Name::new(alloc, name), environment(alloc, pairs))?;
     Ok(Input::Emit(Event { name, vars }))
 }
 
-fn var(alloc: Global, key: &str, value: &str) -> Result<Env, Untried> {
-    let mut vars = Env::new(alloc);
-    vars.set(key, value)?;
-    Ok(vars)
-}
-
-fn start(alloc: Global, id: u64, job: &str, vars: Env) -> Result<Input, Untried> {
-    let name = Text::from_str(alloc, job)?;
+fn start(alloc: Global, id: u64, job: &str, pairs: &[(&str, &str)]) -> Result<Input, Untried> {
+    let (name, vars) = both(Text::from_str(alloc, job), environment(alloc, pairs))?;
     match Request::new(Command::Start, true, name, vars) {
         Some(request) => Ok(Input::Request { id, request }),
         None => Err(Untried),
@@ -243,8 +250,8 @@ fn ended(alloc: Global, process: Process, how: How) -> Result<Input, Untried> {
 
 fn input(alloc: Global, given: Given) -> Result<Input, Untried> {
     match given {
-        Given::Emit(name) => event(alloc, name, Env::new(alloc)),
-        Given::EmitWith(name, key, value) => event(alloc, name, var(alloc, key, value)?),
+        Given::Emit(name) => event(alloc, name, &[]),
+        Given::EmitWith(name, key, value) => event(alloc, name, &[(key, value)]),
         Given::Turn => Ok(Input::Turn),
         Given::Spawned(pid) => spawned(alloc, "", Process::Main, pid),
         Given::Refused => refused(alloc, Process::Main),
@@ -253,8 +260,8 @@ fn input(alloc: Global, given: Given) -> Result<Input, Untried> {
         Given::SpawnedIn(instance, pid) => spawned(alloc, instance, Process::Main, pid),
         Given::RefusedAs(process) => refused(alloc, process),
         Given::EndedAs(process, how) => ended(alloc, process, how),
-        Given::Start(id) => start(alloc, id, "zz", Env::new(alloc)),
-        Given::StartWith(id, pairs) => start(alloc, id, "a", environment(alloc, pairs)?),
+        Given::Start(id) => start(alloc, id, "zz", &[]),
+        Given::StartWith(id, pairs) => start(alloc, id, "a", pairs),
         Given::Clock(reading) => Ok(Input::Clock(reading)),
     }
 }
@@ -264,13 +271,22 @@ fn push(inputs: &mut Vec<Input>, input: Input) -> Result<(), AllocError> {
     Ok(())
 }
 
-pub(crate) fn inputs(alloc: Global, rows: &[Row]) -> Result<Vec<Input>, Untried> {
-    let mut inputs = Vec::with_capacity(alloc, rows.len())?;
+fn push_all(alloc: Global, inputs: &mut Vec<Input>, rows: &[Row]) -> Result<(), Untried> {
     for (given, _, _, _) in rows {
-        let input = input(alloc, *given)?;
-        push(&mut inputs, input)?;
+        push(inputs, input(alloc, *given)?)?;
     }
-    Ok(inputs)
+    Ok(())
+}
+
+pub(crate) fn inputs(alloc: Global, rows: &[Row]) -> Result<Vec<Input>, Untried> {
+    let mut inputs: Vec<Input> = Vec::new(alloc);
+    match push_all(alloc, &mut inputs, rows) {
+        Ok(()) => Ok(inputs),
+        Err(untried) => {
+            drop(inputs);
+            Err(untried)
+        }
+    }
 }
 
 fn show_env(text: &mut String, env: &Env) -> Result<(), AllocError> {
@@ -335,7 +351,11 @@ pub(crate) fn shown(alloc: Global, outputs: &[Output]) -> Result<String, Untried
 // What a step answers, as a row writes it.
 fn answer_shown(alloc: Global, answer: Result<Vec<Output>, StepError>) -> Result<String, Untried> {
     match answer {
-        Ok(outputs) => shown(alloc, outputs.as_slice()),
+        Ok(outputs) => {
+            let text = shown(alloc, outputs.as_slice());
+            drop(outputs);
+            text
+        }
         Err(fault) => {
             let printed = format!(in alloc; "{} {fault}", fault.number())?;
             Ok(printed)
@@ -355,26 +375,46 @@ pub(crate) fn add_file(
     folder.add(path, Items::new(bytes))
 }
 
-fn folder(alloc: Global, files: &[(&str, &str)]) -> Result<Folder, AllocError> {
-    let mut folder = Folder::new(alloc);
+fn add_files(alloc: Global, folder: &mut Folder, files: &[(&str, &str)]) -> Result<(), AllocError> {
     for (path, text) in files {
-        add_file(alloc, &mut folder, path, text.as_bytes())?;
+        add_file(alloc, folder, path, text.as_bytes())?;
     }
-    Ok(folder)
+    Ok(())
 }
 
-fn table(alloc: Global, files: &[(&str, &str)]) -> Result<Table, Untried> {
-    let folder = folder(alloc, files)?;
-    let (table, _) = compile(alloc, &folder)?;
+fn compiled(alloc: Global, folder: &Folder) -> Result<Table, Untried> {
+    let (table, report) = compile(alloc, folder)?;
+    drop(report);
     Ok(table)
+}
+
+// Large values are dropped by a call, here and below: the prover would go through each field of what a scope drops.
+fn table(alloc: Global, files: &[(&str, &str)]) -> Result<Table, Untried> {
+    let mut folder = Folder::new(alloc);
+    let table = match add_files(alloc, &mut folder, files) {
+        Ok(()) => compiled(alloc, &folder),
+        Err(_) => Err(Untried),
+    };
+    drop(folder);
+    table
+}
+
+fn set_all(env: &mut Env, pairs: &[(&str, &str)]) -> Result<(), TextFault> {
+    for (key, value) in pairs {
+        env.set(key, value)?;
+    }
+    Ok(())
 }
 
 fn environment(alloc: Global, pairs: &[(&str, &str)]) -> Result<Env, Untried> {
     let mut env = Env::new(alloc);
-    for (key, value) in pairs {
-        env.set(key, value)?;
+    match set_all(&mut env, pairs) {
+        Ok(()) => Ok(env),
+        Err(_) => {
+            drop(env);
+            Err(Untried)
+        }
     }
-    Ok(env)
 }
 
 // The engine of a folder with these files and this base environment.
@@ -383,10 +423,8 @@ pub(crate) fn engine(
     files: &[(&str, &str)],
     pairs: &[(&str, &str)],
 ) -> Result<Engine, Untried> {
-    let table = table(alloc, files)?;
-    let base = environment(alloc, pairs)?;
-    let engine = Engine::new(alloc, table, base)?;
-    Ok(engine)
+    let (table, base) = both(table(alloc, files), environment(alloc, pairs))?;
+    Ok(Engine::new(alloc, table, base)?)
 }
 
 /// A step gives what its row says.
@@ -420,16 +458,9 @@ fn check_rows(
 
 fn check_case(rt: &impl Abort, alloc: Global, case: &Case) -> Result<(), Untried> {
     let mut engine = engine(alloc, case.files, case.base)?;
-    check_rows(rt, alloc, &mut engine, case.name, case.rows)
-}
-
-// The engine of a folder with this job file alone.
-fn engine_of(alloc: Global, file: &str) -> Result<Engine, Untried> {
-    let mut folder = Folder::new(alloc);
-    add_file(alloc, &mut folder, "a.conf", file.as_bytes())?;
-    let (table, _) = compile(alloc, &folder)?;
-    let engine = Engine::new(alloc, table, Env::new(alloc))?;
-    Ok(engine)
+    let checked = check_rows(rt, alloc, &mut engine, case.name, case.rows);
+    drop(engine);
+    checked
 }
 
 /// The rows of a folder with this job file alone.
@@ -440,8 +471,10 @@ pub(crate) fn check_file(
     file: &str,
     rows: &[Row],
 ) -> Result<(), Untried> {
-    let mut engine = engine_of(alloc, file)?;
-    check_rows(rt, alloc, &mut engine, name, rows)
+    let mut engine = engine(alloc, &[("a.conf", file)], &[])?;
+    let checked = check_rows(rt, alloc, &mut engine, name, rows);
+    drop(engine);
+    checked
 }
 
 pub(crate) fn check_cases(rt: &impl Abort, alloc: Global, cases: &[Case]) -> Result<(), Untried> {
