@@ -75,10 +75,9 @@ fn compiles(alloc: Global, folder: &Folder, spots: &[Spot], jobs: usize) -> Came
 
 // What comes of a folder. If it couldn't be filled nothing was tried.
 fn compiles_case(alloc: Global, case: &Case) -> Came {
-    let (files, spots, jobs) = case;
-    match folder_of(alloc, files) {
+    match folder_of(alloc, case.0) {
         Ok(folder) => {
-            let came = compiles(alloc, &folder, spots, *jobs);
+            let came = compiles(alloc, &folder, case.1, case.2);
             drop(folder);
             came
         }

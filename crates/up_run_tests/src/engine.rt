@@ -201,8 +201,8 @@ static CASES: [Case; 5] = [
     },
 ];
 
-// Both values, unless one of them couldn't be made. The other is dropped here, where the prover knows of it no more than its type's name.
-fn both<A: Drop, E: Drop, B: Drop, F: Drop>(
+/// Both values, unless one of them couldn't be made. The other is dropped here, where the prover knows of it no more than its type's name.
+pub(crate) fn both<A: Drop, E: Drop, B: Drop, F: Drop>(
     first: Result<A, E>,
     second: Result<B, F>,
 ) -> Result<(A, B), Untried> {
@@ -406,7 +406,7 @@ fn set_all(env: &mut Env, pairs: &[(&str, &str)]) -> Result<(), TextFault> {
     Ok(())
 }
 
-fn environment(alloc: Global, pairs: &[(&str, &str)]) -> Result<Env, Untried> {
+pub(crate) fn environment(alloc: Global, pairs: &[(&str, &str)]) -> Result<Env, Untried> {
     let mut env = Env::new(alloc);
     match set_all(&mut env, pairs) {
         Ok(()) => Ok(env),

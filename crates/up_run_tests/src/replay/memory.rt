@@ -17,9 +17,9 @@ struct Wanted {
 
 impl Write for Wanted {
     fn write(&mut self, buf: &[u8]) -> io::Result<usize> {
-        match self.left.strip_prefix(buf) {
-            Some(left) => self.left = left,
-            None => self.is_other = true,
+        match self.left.split_at_checked(buf.len()) {
+            Some((front, left)) if front == buf => self.left = left,
+            _ => self.is_other = true,
         }
         Ok(buf.len())
     }

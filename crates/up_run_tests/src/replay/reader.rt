@@ -19,6 +19,7 @@ fn check_folder(
 ) -> Result<(), AllocError> {
     let made = check(alloc, folder)?;
     check_printed(rt, (made.text.as_slice(), made.status.number()), wanted, of);
+    drop(made);
     Ok(())
 }
 
@@ -62,8 +63,9 @@ fn check_steps(rt: &impl Abort, alloc: Global, folder: &mut Folder) -> Result<()
 #[test]
 fn checks(rt: HostRuntime) -> Result<(), Fail> {
     let mut folder = Folder::new(rt.alloc());
-    check_steps(&rt, rt.alloc(), &mut folder)?;
-    Ok(())
+    let checked = check_steps(&rt, rt.alloc(), &mut folder);
+    drop(folder);
+    Ok(checked?)
 }
 
 // A count of files, what a check of their folder prints, and the status.
@@ -90,8 +92,9 @@ fn check_counts(rt: &impl Abort, alloc: Global, folder: &mut Folder) -> Result<(
 #[test]
 fn checks_of_many_files(rt: HostRuntime) -> Result<(), Fail> {
     let mut folder = Folder::new(rt.alloc());
-    check_counts(&rt, rt.alloc(), &mut folder)?;
-    Ok(())
+    let checked = check_counts(&rt, rt.alloc(), &mut folder);
+    drop(folder);
+    Ok(checked?)
 }
 
 // The folder of the example; `None` if its text is too long to be read.
@@ -107,8 +110,10 @@ fn distribution(alloc: Global) -> Result<Option<Folder>, AllocError> {
 fn a_distribution_is_checked(rt: HostRuntime) -> Result<(), Fail> {
     match distribution(rt.alloc())? {
         Some(folder) => {
-            check_folder(&rt, rt.alloc(), &folder, (REPORT, 1), ("distribution", 0))?;
-            Ok(())
+            let wanted = (REPORT, 1);
+            let checked = check_folder(&rt, rt.alloc(), &folder, wanted, ("distribution", 0));
+            drop(folder);
+            Ok(checked?)
         }
         None => Err(Fail::new("the text is too long")),
     }
