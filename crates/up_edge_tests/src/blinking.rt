@@ -13,10 +13,12 @@ pub(crate) struct Blinking {
     pub(crate) blinks: bool,
 }
 
+type Real = <HostRuntime as Processes>::Started;
+
 /// A real process.
 #[derive(Drop)]
 pub(crate) struct Seen {
-    child: Child<<HostRuntime as Processes>::Started>,
+    child: Child<Real>,
     blinks: bool,
 }
 
