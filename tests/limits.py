@@ -104,7 +104,7 @@ def bundles():
 def queues():
     """32,768 events that haven't finished are the last with which a client may add one; a job has 1,024 instances."""
     for count, answer in ((32_767, 'reply 1 ok ""\n'), (32_768, 'reply 1 failed "Too many events"\n')):
-        script = "emit X\n" * count + "request 1 emit --no-wait Y\n"
+        script = "emit X\n" * count + "request 1 emit --no-wait Y\nemit Y\n"
         check(f"limits: {count:,} events", initd(stdin=f"%script\n{script}"), (answer, 0))
     script = "".join(f"request {i} start --no-wait g TTY={i}\n" for i in range(1, 1_026))
     printed, status = initd(stdin=f"%file g.conf\ninstance $TTY\nexec /bin/d\n%script\n{script}")

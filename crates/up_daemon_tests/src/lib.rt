@@ -8,6 +8,8 @@ mod doors;
 #[cfg(test)]
 mod hosts;
 #[cfg(test)]
+mod leaving;
+#[cfg(test)]
 mod stage;
 #[cfg(test)]
 mod waiting;

@@ -56,6 +56,11 @@ fn emit_go(alloc: Global, engine: &mut Engine) -> Result<(), Fail> {
     Ok(())
 }
 
+// A daemon of this job, to which nothing has happened.
+fn idle_daemon(alloc: Global, file: &str) -> Result<Daemon, Fail> {
+    Ok(Daemon::new(alloc, engine(alloc, file)?))
+}
+
 // A daemon of the job, to which the event `go` has happened.
 fn daemon(alloc: Global) -> Result<Daemon, Fail> {
     let mut engine = engine(alloc, ON_GO)?;
@@ -87,8 +92,12 @@ fn both<A: Drop, B: Drop>(
     Ok((first, second))
 }
 
-fn scene_of(alloc: Global, host: ScriptHost, door: ScriptDoor) -> Result<Scene, Fail> {
-    match daemon(alloc) {
+fn scene_of(
+    daemon: Result<Daemon, Fail>,
+    host: ScriptHost,
+    door: ScriptDoor,
+) -> Result<Scene, Fail> {
+    match daemon {
         Ok(daemon) => Ok(Scene { daemon, host, door }),
         Err(fail) => {
             drop(host);
@@ -105,18 +114,36 @@ pub(crate) fn make_scene(
     door: Result<ScriptDoor, AllocError>,
 ) -> Result<Scene, Fail> {
     match both(host, door) {
-        Ok((host, door)) => scene_of(alloc, host, door),
+        Ok((host, door)) => scene_of(daemon(alloc), host, door),
         Err(refused) => Err(Fail::from(refused)),
     }
 }
 
-/// The end of the job's main process by a status.
-pub(crate) fn exit(alloc: Global, status: u8) -> Result<End, AllocError> {
+/// A daemon of this job, to which nothing has happened, with this host and this door.
+pub(crate) fn make_idle_scene(
+    alloc: Global,
+    file: &str,
+    host: Result<ScriptHost, AllocError>,
+    door: Result<ScriptDoor, AllocError>,
+) -> Result<Scene, Fail> {
+    match both(host, door) {
+        Ok((host, door)) => scene_of(idle_daemon(alloc, file), host, door),
+        Err(refused) => Err(Fail::from(refused)),
+    }
+}
+
+/// The end of a process of the job by a status.
+pub(crate) fn exit_of(alloc: Global, process: Process, status: u8) -> Result<End, AllocError> {
     let Ok(job) = Name::new(alloc, "a") else {
         return Err(AllocError);
     };
     let instance = Text::from_str(alloc, "")?;
-    Ok((Who { job, instance }, Process::Main, How::Exit(status)))
+    Ok((Who { job, instance }, process, How::Exit(status)))
+}
+
+/// The end of the job's main process by a status.
+pub(crate) fn exit(alloc: Global, status: u8) -> Result<End, AllocError> {
+    exit_of(alloc, Process::Main, status)
 }
 
 /// A host whose processes have these numbers, and whose polls find these ends.

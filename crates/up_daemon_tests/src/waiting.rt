@@ -16,8 +16,8 @@ const STOPPED: &[u8] = b"\0\0\0\x0f\0a stop/waiting";
 // on; its end is found, and the client is answered; nothing is left.
 static ROUNDS: [Passing; 4] = [(1, 0, 0), (0, 0, 0), (0, 0, 0), (0, 19, 0)];
 
-// Whether the first bytes that were written in the last round are these.
-fn has_written(door: &ScriptDoor, bytes: &[u8]) -> bool {
+/// Whether the first bytes that were written in the last round are these.
+pub(crate) fn has_written(door: &ScriptDoor, bytes: &[u8]) -> bool {
     for entry in door.happened() {
         if let Passed::Wrote(_, taken) = entry {
             return taken.as_slice() == bytes;

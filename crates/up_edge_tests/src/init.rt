@@ -1,4 +1,5 @@
 //! A daemon over real children and a real socket.
+use crate::blinking::Blinking;
 use crate::orders::{path_of, same};
 use mio::net::UnixStream;
 use std::alloc::Global;
@@ -30,7 +31,7 @@ const STOPPED_M: &[u8] = b"\0\0\0\x0f\0m stop/waiting";
 #[derive(Drop)]
 struct Init {
     daemon: Daemon,
-    host: RealHost<HostRuntime>,
+    host: RealHost<Blinking>,
     door: UnixDoor,
 }
 
@@ -79,8 +80,10 @@ fn daemon_of(alloc: Global, file: &str) -> Result<Daemon, Fail> {
     Ok(Daemon::new(alloc, engine))
 }
 
-fn host_of(rt: &HostRuntime) -> Result<RealHost<HostRuntime>, Fail> {
-    Ok(RealHost::new(rt.alloc(), rt.clone()?)?)
+// A host of which the first look at each process may fail.
+fn host_of(rt: &HostRuntime, blinks: bool) -> Result<RealHost<Blinking>, Fail> {
+    let system = rt.clone()?;
+    Ok(RealHost::new(rt.alloc(), Blinking { system, blinks })?)
 }
 
 fn door_of(rt: &HostRuntime, socket: &str) -> Result<UnixDoor, Fail> {
@@ -91,7 +94,7 @@ fn door_of(rt: &HostRuntime, socket: &str) -> Result<UnixDoor, Fail> {
 fn init_over(
     alloc: Global,
     file: &str,
-    host: RealHost<HostRuntime>,
+    host: RealHost<Blinking>,
     door: UnixDoor,
 ) -> Result<Init, Fail> {
     match daemon_of(alloc, file) {
@@ -104,8 +107,8 @@ fn init_over(
     }
 }
 
-fn init_of(rt: &HostRuntime, socket: &str, file: &str) -> Result<Init, Fail> {
-    let host = host_of(rt)?;
+fn init_of(rt: &HostRuntime, socket: &str, file: &str, blinks: bool) -> Result<Init, Fail> {
+    let host = host_of(rt, blinks)?;
     match door_of(rt, socket) {
         Ok(door) => init_over(rt.alloc(), file, host, door),
         Err(fail) => {
@@ -192,8 +195,8 @@ fn try_clients(rt: &HostRuntime, init: &mut Init, socket: &str) -> Result<(), Fa
     tried
 }
 
-fn try_init(rt: &HostRuntime, socket: &str, file: &str) -> Result<(), Fail> {
-    let mut init = init_of(rt, socket, file)?;
+fn try_init(rt: &HostRuntime, socket: &str, file: &str, blinks: bool) -> Result<(), Fail> {
+    let mut init = init_of(rt, socket, file, blinks)?;
     let tried = try_clients(rt, &mut init, socket);
     drop(init);
     tried
@@ -204,12 +207,21 @@ fn remove(rt: &HostRuntime, path: &str) {
     let _ = remove_file(rt, path).is_ok();
 }
 
+fn try_at(rt: &HostRuntime, (socket, file): (&str, &str), blinks: bool) -> Result<(), Fail> {
+    let socket = path_of(rt, socket)?;
+    let file = path_of(rt, file)?;
+    let tried = try_init(rt, socket.as_str(), file.as_str(), blinks);
+    remove(rt, socket.as_str());
+    remove(rt, file.as_str());
+    tried
+}
+
 #[test]
 fn a_task_that_waits_for_another_keeps_no_client_waiting(rt: HostRuntime) -> Result<(), Fail> {
-    let socket = path_of(&rt, "init")?;
-    let file = path_of(&rt, "made")?;
-    let tried = try_init(&rt, socket.as_str(), file.as_str());
-    remove(&rt, socket.as_str());
-    remove(&rt, file.as_str());
-    tried
+    try_at(&rt, ("init", "made"), false)
+}
+
+#[test]
+fn a_poll_that_fails_keeps_no_client_waiting(rt: HostRuntime) -> Result<(), Fail> {
+    try_at(&rt, ("blinking", "made-blinking"), true)
 }

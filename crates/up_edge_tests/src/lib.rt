@@ -2,6 +2,8 @@
 #![tactic(auto)]
 
 #[cfg(test)]
+mod blinking;
+#[cfg(test)]
 mod children;
 #[cfg(test)]
 mod faults;

@@ -60,6 +60,18 @@ fn add_files(
     Ok(())
 }
 
+/// A folder with these files.
+pub(crate) fn folder_of(alloc: Global, files: &[(&str, &[u8])]) -> Result<Folder, AllocError> {
+    let mut folder = Folder::new(alloc);
+    match add_files(alloc, &mut folder, files) {
+        Ok(()) => Ok(folder),
+        Err(refused) => {
+            drop(folder);
+            Err(refused)
+        }
+    }
+}
+
 /// The table of a folder.
 pub(crate) fn compiled(alloc: Global, folder: &Folder) -> Result<Table, Fail> {
     let (table, report) = compile(alloc, folder)?;
@@ -69,13 +81,14 @@ pub(crate) fn compiled(alloc: Global, folder: &Folder) -> Result<Table, Fail> {
 
 // Large values are dropped by a call, here and below: the prover would go through each field of what a scope drops.
 pub(crate) fn table_of(alloc: Global, files: &[(&str, &[u8])]) -> Result<Table, Fail> {
-    let mut folder = Folder::new(alloc);
-    let table = match add_files(alloc, &mut folder, files) {
-        Ok(()) => compiled(alloc, &folder),
+    match folder_of(alloc, files) {
+        Ok(folder) => {
+            let table = compiled(alloc, &folder);
+            drop(folder);
+            table
+        }
         Err(refused) => Err(Fail::from(refused)),
-    };
-    drop(folder);
-    table
+    }
 }
 
 pub(crate) fn image_of(alloc: Global, files: &[(&str, &[u8])]) -> Result<Vec<u8>, Fail> {

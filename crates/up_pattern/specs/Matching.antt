@@ -8,6 +8,7 @@ use Rattle.up_pattern.specs.declared.pattern.Part.TheVariants as part
 use Rattle.up_pattern.specs.declared.pattern.SetEnd.{SetEnd}
 use Rattle.up_pattern.specs.declared.pattern.SetEnd.TheVariants as ending
 use Rattle.up_pattern.specs.declared.pattern.Reading.{Reading}
+use Rattle.up_pattern.specs.declared.pattern.Memo.{Memo}
 use Rattle.up_pattern.specs.declared.pattern.Outcome.{Outcome}
 use Rattle.up_pattern.specs.declared.pattern.Outcome.TheVariants as outcome
 use Rattle.up_pattern.specs.Pattern.{symbols, is_close, is_dash, byte_of, body, is_closed, has_class, ranges, Item, Run, Any, Only, Among, Never, Class, is_class, lone_item, more, all_items, admits_byte}
@@ -121,6 +122,14 @@ item_of_part (part.Only byte) = Only byte
 item_of_part (part.Among inverted set) = Among inverted (ranges (body (symbols set.now)))
 item_of_part part.Never = Never
 item_of_part part.Class = Class
+
+-- an item of a text, with what stands after it and what is known of bytes
+pub record Kept (unclosed : ℕ) (text : List ℕ) (memo : Memo) : Type 0 where
+  pub item : drop memo.index (all_items text) ≡ item_of_part memo.part ∷ all_items memo.rest.now
+  pub settled : Settled unclosed memo.rest.now
+  pub shorter : memo.index + length memo.rest.now < length text
+  pub room : length memo.known ≡ 256
+  pub knows : Knows memo.known (item_of_part memo.part)
 
 -- an item of which this text may be a part was read
 pub record MeansItem (item : Item) (text : List ℕ) (reading : Reading) : Type 0 where

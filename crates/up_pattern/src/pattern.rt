@@ -1,9 +1,10 @@
 //! Patterns over bytes, by fnmatch(3).
-ghost use Rattle.std.specs.Prelude.{◌≡◌, ◌<◌, ◌≤◌, ◌≢◌, ◌&&◌, nat_le, [], ◌∷◌, length, false, MatchOption, IfSome, None, replicate};
+ghost use Rattle.std.specs.Prelude.{◌≡◌, ◌<◌, ◌≤◌, ◌+◌, drop, ◌≢◌, ◌&&◌, nat_le, [], ◌∷◌, length, false, MatchOption, IfSome, None, replicate};
+ghost use Rattle.std.specs.Option.{ForSome};
 ghost use Rattle.up_pattern.specs.declared.pattern.Symbol.TheVariants.{Bare};
 ghost use Rattle.up_pattern.specs.Pattern.{symbols, is_bare, is_class_mark, is_not, is_open, is_close, byte_of, body, inner, ranges, is_among, lone_item, set_item, more, all_items, admits_byte, is_class, supported, glob};
 ghost use Rattle.up_pattern.specs.Lists.{begins};
-ghost use Rattle.up_pattern.specs.Matching.{First, items_match, EndsSo, IsFlat, MeansItem, RunGives, SearchGives, Settled, IsEnd, Knows, TakesNone, TakesOne, range_end, item_of_part, is_run, star_from, unclosed_width};
+ghost use Rattle.up_pattern.specs.Matching.{First, Kept, items_match, EndsSo, IsFlat, MeansItem, RunGives, SearchGives, Settled, IsEnd, Knows, TakesNone, TakesOne, range_end, item_of_part, is_run, star_from, unclosed_width};
 
 pub mod laws;
 
@@ -40,6 +41,23 @@ struct Reading<'a> {
     part: Part<'a>,
     rest: &'a [u8],
     ahead: bool,
+}
+
+/// A set as it was read: the item of this index among those of a text, what stands after it, and whether it is known to admit each byte.
+#[derive(Clone, Copy)]
+struct Memo<'a> {
+    index: usize,
+    part: Part<'a>,
+    rest: &'a [u8],
+    known: [Option<bool>; 256],
+}
+
+/// A text of which at most so many bytes stand after the last `]`, and whose sets have no class.
+#[derive(Clone, Copy)]
+struct Segment<'a> {
+    text: &'a [u8],
+    unclosed: usize,
+    ghost settled: { Settled unclosed text.now },
 }
 
 /// What the items up to the next run of any bytes come to: they are the last and match, they fail, or this is left after the run.
@@ -335,48 +353,6 @@ fn is_class(part: &Part) -> bool
     }
 }
 
-// What stands after the first byte, if the item admits it.
-fn take_byte<'b>(part: &Part, bytes: &'b [u8]) -> Option<&'b [u8]>
-    ensures { MatchOption result (TakesNone (item_of_part part.now) bytes.now)
-        (λ beyond. TakesOne (item_of_part part.now) bytes.now beyond.now) }
-{
-    match bytes.split_first() {
-        Some((byte, beyond)) => {
-            if admits(part, *byte) {
-                Some(beyond)
-            } else {
-                None
-            }
-        }
-        None => None,
-    }
-}
-
-// Takes one byte for each item up to a run of any bytes.
-#[tactic(auto, using(crate::proofs::Matches::takings))]
-fn take_items<'a, 'b>(text: &'a [u8], unclosed: usize, bytes: &'b [u8]) -> Outcome<'a, 'b>
-    requires { Settled unclosed text.now }
-    ensures { RunGives unclosed result text.now bytes.now }
-{
-    let mut rest = text;
-    let mut left = bytes;
-    'items: while let Some(reading) = read_settled(rest, unclosed) {
-        rest = reading.rest;
-        if is_run(&reading.part) {
-            return Outcome::Run { rest, left };
-        }
-        match take_byte(&reading.part, left) {
-            Some(beyond) => left = beyond,
-            None => return Outcome::Fails,
-        }
-    }
-    if left.is_empty() {
-        Outcome::Matches
-    } else {
-        Outcome::Fails
-    }
-}
-
 // Of no byte is known yet whether an item admits it.
 fn nothing_known() -> [Option<bool>; 256]
     ensures { result ≡ replicate 256 None }
@@ -403,6 +379,163 @@ fn recall(known: &mut [Option<bool>], part: &Part, byte: u8) -> bool
     }
 }
 
+// How many bytes a set has with its `]`, and none for any other item. Which set is kept changes how long a match takes, never its answer.
+fn set_width(part: &Part, rest: &[u8]) -> usize {
+    match part {
+        Part::Among { set, .. } => set.len().saturating_sub(rest.len()),
+        Part::Run => 0,
+        Part::Any => 0,
+        Part::Only(_) => 0,
+        Part::Never => 0,
+        Part::Class => 0,
+    }
+}
+
+// The item of this index, with which the rest of the text begins: as it is kept, or else as it is read.
+fn read_kept<'a>(
+    memo: &Option<Memo<'a>>,
+    segment: &Segment<'a>,
+    index: usize,
+    rest: &'a [u8],
+) -> Option<Reading<'a>>
+    requires kept { ForSome memo.now (Kept segment.now.unclosed segment.now.text.now) }
+    requires place { all_items rest.now ≡ drop index (all_items segment.now.text.now) }
+    requires settled { Settled segment.now.unclosed rest.now }
+    requires shorter { index + length rest.now ≤ length segment.now.text.now }
+    ensures none { MatchOption result (all_items rest.now ≡ []) (λ reading. all_items rest.now
+        ≡ item_of_part reading.part ∷ all_items reading.rest.now) }
+    ensures settled { IfSome result (λ reading. Settled segment.now.unclosed reading.rest.now) }
+    ensures shorter { IfSome result (λ reading. index + length reading.rest.now
+        < length segment.now.text.now) }
+{
+    if let Some(kept) = memo {
+        if kept.index == index {
+            return Some(Reading {
+                part: kept.part,
+                rest: kept.rest,
+                ahead: true,
+            });
+        }
+    }
+    read_settled(rest, segment.unclosed)
+}
+
+// How many bytes the set has that is kept, and none where none is.
+fn kept_width(memo: &Option<Memo<'_>>) -> usize {
+    match memo {
+        Some(kept) => set_width(&kept.part, kept.rest),
+        None => 0,
+    }
+}
+
+// Keeps a set that is longer than the one that is kept.
+fn keep<'a>(memo: &mut Option<Memo<'a>>, segment: &Segment<'a>, index: usize, reading: &Reading<'a>)
+    requires kept { ForSome memo.old (Kept segment.now.unclosed segment.now.text.now) }
+    requires place { drop index (all_items segment.now.text.now) ≡ item_of_part reading.now.part
+        ∷ all_items reading.now.rest.now }
+    requires settled { Settled segment.now.unclosed reading.now.rest.now }
+    requires shorter { index + length reading.now.rest.now < length segment.now.text.now }
+    ensures { ForSome memo.new (Kept segment.now.unclosed segment.now.text.now) }
+{
+    if kept_width(memo) < set_width(&reading.part, reading.rest) {
+        *memo = Some(Memo {
+            index,
+            part: reading.part,
+            rest: reading.rest,
+            known: nothing_known(),
+        });
+    }
+}
+
+// Whether the item of this index, which was read so, admits the byte.
+fn admits_kept<'a>(
+    memo: &mut Option<Memo<'a>>,
+    segment: &Segment<'a>,
+    index: usize,
+    reading: &Reading<'a>,
+    byte: u8,
+) -> bool
+    requires kept { ForSome memo.old (Kept segment.now.unclosed segment.now.text.now) }
+    requires place { drop index (all_items segment.now.text.now) ≡ item_of_part reading.now.part
+        ∷ all_items reading.now.rest.now }
+    requires settled { Settled segment.now.unclosed reading.now.rest.now }
+    requires shorter { index + length reading.now.rest.now < length segment.now.text.now }
+    ensures answer { result ≡ admits_byte (item_of_part reading.now.part) byte }
+    ensures kept { ForSome memo.new (Kept segment.now.unclosed segment.now.text.now) }
+{
+    if let Some(kept) = memo {
+        if kept.index == index {
+            return recall(&mut kept.known, &kept.part, byte);
+        }
+    }
+    keep(memo, segment, index, reading);
+    admits(&reading.part, byte)
+}
+
+// What stands after the first byte, if the item of this index admits it.
+fn take_byte<'a, 'b>(
+    memo: &mut Option<Memo<'a>>,
+    segment: &Segment<'a>,
+    index: usize,
+    reading: &Reading<'a>,
+    bytes: &'b [u8],
+) -> Option<&'b [u8]>
+    requires kept { ForSome memo.old (Kept segment.now.unclosed segment.now.text.now) }
+    requires place { drop index (all_items segment.now.text.now) ≡ item_of_part reading.now.part
+        ∷ all_items reading.now.rest.now }
+    requires settled { Settled segment.now.unclosed reading.now.rest.now }
+    requires shorter { index + length reading.now.rest.now < length segment.now.text.now }
+    ensures taken { MatchOption result (TakesNone (item_of_part reading.now.part) bytes.now)
+        (λ beyond. TakesOne (item_of_part reading.now.part) bytes.now beyond.now) }
+    ensures kept { ForSome memo.new (Kept segment.now.unclosed segment.now.text.now) }
+{
+    match bytes.split_first() {
+        Some((byte, beyond)) => {
+            if admits_kept(memo, segment, index, reading, *byte) {
+                Some(beyond)
+            } else {
+                None
+            }
+        }
+        None => None,
+    }
+}
+
+// Takes one byte for each item up to a run of any bytes.
+#[tactic(auto, using(crate::proofs::Matches::takings))]
+fn take_items<'a, 'b>(
+    memo: &mut Option<Memo<'a>>,
+    segment: &Segment<'a>,
+    bytes: &'b [u8],
+) -> Outcome<'a, 'b>
+    requires { ForSome memo.old (Kept segment.now.unclosed segment.now.text.now) }
+    ensures gives { RunGives segment.now.unclosed result segment.now.text.now bytes.now }
+    ensures kept { ForSome memo.new (Kept segment.now.unclosed segment.now.text.now) }
+{
+    let mut index = 0;
+    let mut rest = segment.text;
+    let mut left = bytes;
+    'items: while let Some(reading) = read_kept(memo, segment, index, rest) {
+        if is_run(&reading.part) {
+            return Outcome::Run {
+                rest: reading.rest,
+                left,
+            };
+        }
+        match take_byte(memo, segment, index, &reading, left) {
+            Some(beyond) => left = beyond,
+            None => return Outcome::Fails,
+        }
+        rest = reading.rest;
+        index += 1;
+    }
+    if left.is_empty() {
+        Outcome::Matches
+    } else {
+        Outcome::Fails
+    }
+}
+
 // Looks for the first place at which this item, and the items of the text after it, go on up to the next run. The item stands after a run,
 // so it is read once and not again at each place.
 fn search<'a, 'b>(part: &Part, text: &'a [u8], unclosed: usize, bytes: &'b [u8]) -> Outcome<'a, 'b>
@@ -411,10 +544,12 @@ fn search<'a, 'b>(part: &Part, text: &'a [u8], unclosed: usize, bytes: &'b [u8])
     ensures { SearchGives unclosed result (item_of_part part.now) text.now bytes.now }
 {
     let mut known = nothing_known();
+    let mut memo = None;
+    let segment = Segment { text, unclosed };
     let mut left = bytes;
     'places: while let Some((byte, beyond)) = left.split_first() {
         if recall(&mut known, part, *byte) {
-            match take_items(text, unclosed, beyond) {
+            match take_items(&mut memo, &segment, beyond) {
                 Outcome::Matches => return Outcome::Matches,
                 Outcome::Fails => {}
                 Outcome::Run { rest, left } => return Outcome::Run { rest, left },
@@ -478,7 +613,11 @@ pub fn glob(pattern: &[u8], bytes: &[u8]) -> bool
         return false;
     }
     let unclosed = unclosed_length(pattern);
-    match take_items(pattern, unclosed, bytes) {
+    let segment = Segment {
+        text: pattern,
+        unclosed,
+    };
+    match take_items(&mut None, &segment, bytes) {
         Outcome::Matches => true,
         Outcome::Fails => false,
         Outcome::Run { rest, left } => matches_end(rest, unclosed, left),

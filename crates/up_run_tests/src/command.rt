@@ -151,24 +151,44 @@ fn strings(alloc: Global, words: &[&str]) -> Result<Vec<String>, AllocError> {
 
 fn asks(alloc: Global, words: &[String], asked: &Asked) -> bool {
     match read_words(alloc, words) {
-        Ok((found, _)) => found == *asked,
-        Err(_) => false,
+        Ok((found, env)) => {
+            drop(env);
+            found == *asked
+        }
+        Err(error) => {
+            drop(error);
+            false
+        }
     }
 }
 
 // The status of a command line that is refused.
 fn refusal(rt: &HostRuntime, words: &[String]) -> Option<u8> {
     match read_words(rt.alloc(), words) {
-        Ok(_) => None,
-        Err(error) => Some(print_refusal(rt, &error).number()),
+        Ok(read) => {
+            drop(read);
+            None
+        }
+        Err(error) => {
+            let status = print_refusal(rt, &error).number();
+            drop(error);
+            Some(status)
+        }
     }
 }
 
 // The text of a command line that is refused.
 fn refusal_text(alloc: Global, words: &[String]) -> Result<Option<String>, AllocError> {
     match read_words(alloc, words) {
-        Ok(_) => Ok(None),
-        Err(error) => Ok(Some(format!(in alloc; "{error}")?)),
+        Ok(read) => {
+            drop(read);
+            Ok(None)
+        }
+        Err(error) => {
+            let text = format!(in alloc; "{error}");
+            drop(error);
+            Ok(Some(text?))
+        }
     }
 }
 

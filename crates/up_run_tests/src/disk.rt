@@ -17,28 +17,33 @@ fn make_files(rt: &HostRuntime, dir: &str, files: &[(&str, &[u8])]) -> io::Resul
     Ok(())
 }
 
+// Whether this was printed. What was is dropped by a call: the prover would go through each field of what a scope drops.
 fn is_printed(
     rt: &HostRuntime,
     dir: &str,
-    made: &Printed,
+    made: Printed,
     (printed, status): (&str, u8),
 ) -> io::Result<bool> {
-    let text = text_of(rt, dir, printed)?;
-    Ok(made.text.as_slice() == text.as_bytes() && made.status.number() == status)
+    let is_so = match text_of(rt, dir, printed) {
+        Ok(text) => Ok(made.text.as_slice() == text.as_bytes() && made.status.number() == status),
+        Err(error) => Err(error),
+    };
+    drop(made);
+    is_so
 }
 
 // Whether a check of what lies in a folder prints this, with this status.
 fn checks(rt: &HostRuntime, dir: &str, path: &str, wanted: (&str, u8)) -> Result<bool, Fail> {
     let checked = below(rt, dir, path)?;
     let made = check_dir(rt, checked.as_str())?;
-    Ok(is_printed(rt, dir, &made, wanted)?)
+    Ok(is_printed(rt, dir, made, wanted)?)
 }
 
 // Whether a replay of the folder's script prints this, with this status.
 fn replays(rt: &HostRuntime, dir: &str, wanted: (&str, u8)) -> Result<bool, Fail> {
     let script = below(rt, dir, "up.script")?;
     let made = replay_dir(rt, dir, Env::new(rt.alloc()), script.as_str())?;
-    Ok(is_printed(rt, dir, &made, wanted)?)
+    Ok(is_printed(rt, dir, made, wanted)?)
 }
 
 static CHECKS: [Step; 3] = [
@@ -110,22 +115,28 @@ fn a_folder_is_replayed(rt: HostRuntime) -> Result<(), Fail> {
     Ok(())
 }
 
+// Whether a folder is compiled without a fault.
+fn is_stored(rt: &HostRuntime, dir: &str, image: &str) -> Result<bool, Fail> {
+    let stored = compile_dir(rt, dir, image)?;
+    let is_so = stored.status.number() == 0;
+    drop(stored);
+    Ok(is_so)
+}
+
 // Whether a replay over the image of a folder prints this, by its path and as what it is, and over the folder too.
 fn replays_alike(rt: &HostRuntime, dir: &str, wanted: (&str, u8)) -> Result<bool, Fail> {
     let image = below(rt, dir, "jobs.image")?;
     let image = image.as_str();
     let script = below(rt, dir, "up.script")?;
     let script = script.as_str();
-    let stored = compile_dir(rt, dir, image)?;
+    let stored = is_stored(rt, dir, image)?;
     let over_image = replay_image(rt, image, Env::new(rt.alloc()), script)?;
+    let over_image = is_printed(rt, dir, over_image, wanted)?;
     let over_file = replay_source(rt, image, Env::new(rt.alloc()), script)?;
+    let over_file = is_printed(rt, dir, over_file, wanted)?;
     let over_folder = replay_source(rt, dir, Env::new(rt.alloc()), script)?;
-    Ok(
-        stored.status.number() == 0
-            && is_printed(rt, dir, &over_image, wanted)?
-            && is_printed(rt, dir, &over_file, wanted)?
-            && is_printed(rt, dir, &over_folder, wanted)?,
-    )
+    let over_folder = is_printed(rt, dir, over_folder, wanted)?;
+    Ok(stored && over_image && over_file && over_folder)
 }
 
 #[test]

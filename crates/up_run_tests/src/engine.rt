@@ -4,6 +4,7 @@ mod chain;
 mod clock;
 mod expressions;
 mod instances;
+mod memory;
 mod processes;
 mod requests;
 mod restarts;
@@ -13,9 +14,9 @@ use std::alloc::{AllocError, Global};
 use std::process::Abort;
 use std::test::Fail;
 use up_conf::Folder;
-use up_engine::{Engine, Run, StepError};
+use up_engine::{Engine, StepError};
 use up_image::{CompileError, Table, compile};
-use up_model::{Answer, Command, Event, How, Input, Order, Output, Process, Request, Step, Who};
+use up_model::{Answer, Command, Event, How, Input, Order, Output, Process, Request, Who};
 use up_text::{Env, Items, Name, Text, TextFault};
 
 /// Why a row couldn't be tried: memory was refused, or its file or a name isn't readable.
@@ -55,6 +56,8 @@ pub(crate) enum Given {
     SpawnedIn(&'static str, u32),
     /// A start of the job `zz`, which isn't there.
     Start(u64),
+    /// A start of the job `a` with these variables, whose client waits.
+    StartWith(u64, &'static [(&'static str, &'static str)]),
     Clock(u64),
 }
 
@@ -82,7 +85,7 @@ const SPAWN_TRUE: &'static str =
 pub(crate) const SPAWN_D: &'static str =
     "spawn a() Main [/bin/d ] in / silent=false UPSTART_EVENTS=go UPSTART_JOB=a UPSTART_INSTANCE=; ";
 
-const START_FILE: &'static str = "start on startup\nexec /bin/true x\n";
+pub(crate) const START_FILE: &'static str = "start on startup\nexec /bin/true x\n";
 
 const EMPTY_FOLDER: [Row; 3] = [
     (Given::Emit("startup"), "", 1, true),
@@ -90,7 +93,7 @@ const EMPTY_FOLDER: [Row; 3] = [
     (Given::Turn, "", 0, false),
 ];
 
-const STARTUP: [Row; 8] = [
+pub(crate) const STARTUP: [Row; 8] = [
     (Given::Emit("startup"), "", 1, true),
     (Given::Turn, STARTING, 2, true),
     (Given::Turn, "", 2, true),
@@ -133,7 +136,7 @@ const STRANGER: [Row; 9] = [
 ];
 
 // After the failure what started the job is spoilt, which is told when it finishes.
-const REQUESTS: [Row; 14] = [
+pub(crate) const REQUESTS: [Row; 14] = [
     (
         Given::Start(7),
         "reply 7 ok=false Unknown job: zz; ",
@@ -198,26 +201,33 @@ static CASES: [Case; 5] = [
     },
 ];
 
+/// Both values, unless one of them couldn't be made. The other is dropped here, where the prover knows of it no more than its type's name.
+pub(crate) fn both<A: Drop, E: Drop, B: Drop, F: Drop>(
+    first: Result<A, E>,
+    second: Result<B, F>,
+) -> Result<(A, B), Untried> {
+    match first {
+        Ok(first) => match second {
+            Ok(second) => Ok((first, second)),
+            Err(_) => Err(Untried),
+        },
+        Err(_) => Err(Untried),
+    }
+}
+
 fn who(alloc: Global, instance: &str) -> Result<Who, Untried> {
-    let job = Name::new(alloc, "a")?;
-    let instance = Text::from_str(alloc, instance)?;
+    let (job, instance) = both(Name::new(alloc, "a"), Text::from_str(alloc, instance))?;
     Ok(Who { job, instance })
 }
 
-fn event(alloc: Global, name: &str, vars: Env) -> Result<Input, Untried> {
-    let name = Name::new(alloc, name)?;
+fn event(alloc: Global, name: &str, pairs: &[(&str, &str)]) -> Result<Input, Untried> {
+    let (name, vars) = both(Name::new(alloc, name), environment(alloc, pairs))?;
     Ok(Input::Emit(Event { name, vars }))
 }
 
-fn var(alloc: Global, key: &str, value: &str) -> Result<Env, Untried> {
-    let mut vars = Env::new(alloc);
-    vars.set(key, value)?;
-    Ok(vars)
-}
-
-fn start(alloc: Global, id: u64) -> Result<Input, Untried> {
-    let name = Text::from_str(alloc, "zz")?;
-    match Request::new(Command::Start, true, name, Env::new(alloc)) {
+fn start(alloc: Global, id: u64, job: &str, pairs: &[(&str, &str)]) -> Result<Input, Untried> {
+    let (name, vars) = both(Text::from_str(alloc, job), environment(alloc, pairs))?;
+    match Request::new(Command::Start, true, name, vars) {
         Some(request) => Ok(Input::Request { id, request }),
         None => Err(Untried),
     }
@@ -240,8 +250,8 @@ fn ended(alloc: Global, process: Process, how: How) -> Result<Input, Untried> {
 
 fn input(alloc: Global, given: Given) -> Result<Input, Untried> {
     match given {
-        Given::Emit(name) => event(alloc, name, Env::new(alloc)),
-        Given::EmitWith(name, key, value) => event(alloc, name, var(alloc, key, value)?),
+        Given::Emit(name) => event(alloc, name, &[]),
+        Given::EmitWith(name, key, value) => event(alloc, name, &[(key, value)]),
         Given::Turn => Ok(Input::Turn),
         Given::Spawned(pid) => spawned(alloc, "", Process::Main, pid),
         Given::Refused => refused(alloc, Process::Main),
@@ -250,7 +260,8 @@ fn input(alloc: Global, given: Given) -> Result<Input, Untried> {
         Given::SpawnedIn(instance, pid) => spawned(alloc, instance, Process::Main, pid),
         Given::RefusedAs(process) => refused(alloc, process),
         Given::EndedAs(process, how) => ended(alloc, process, how),
-        Given::Start(id) => start(alloc, id),
+        Given::Start(id) => start(alloc, id, "zz", &[]),
+        Given::StartWith(id, pairs) => start(alloc, id, "a", pairs),
         Given::Clock(reading) => Ok(Input::Clock(reading)),
     }
 }
@@ -260,13 +271,22 @@ fn push(inputs: &mut Vec<Input>, input: Input) -> Result<(), AllocError> {
     Ok(())
 }
 
-fn inputs(alloc: Global, rows: &[Row]) -> Result<Vec<Input>, Untried> {
-    let mut inputs = Vec::with_capacity(alloc, rows.len())?;
+fn push_all(alloc: Global, inputs: &mut Vec<Input>, rows: &[Row]) -> Result<(), Untried> {
     for (given, _, _, _) in rows {
-        let input = input(alloc, *given)?;
-        push(&mut inputs, input)?;
+        push(inputs, input(alloc, *given)?)?;
     }
-    Ok(inputs)
+    Ok(())
+}
+
+pub(crate) fn inputs(alloc: Global, rows: &[Row]) -> Result<Vec<Input>, Untried> {
+    let mut inputs: Vec<Input> = Vec::new(alloc);
+    match push_all(alloc, &mut inputs, rows) {
+        Ok(()) => Ok(inputs),
+        Err(untried) => {
+            drop(inputs);
+            Err(untried)
+        }
+    }
 }
 
 fn show_env(text: &mut String, env: &Env) -> Result<(), AllocError> {
@@ -320,7 +340,7 @@ fn show(text: &mut String, output: &Output) -> Result<(), AllocError> {
     }
 }
 
-fn shown(alloc: Global, outputs: &[Output]) -> Result<String, Untried> {
+pub(crate) fn shown(alloc: Global, outputs: &[Output]) -> Result<String, Untried> {
     let mut text = String::new(alloc);
     for output in outputs {
         show(&mut text, output)?;
@@ -331,7 +351,11 @@ fn shown(alloc: Global, outputs: &[Output]) -> Result<String, Untried> {
 // What a step answers, as a row writes it.
 fn answer_shown(alloc: Global, answer: Result<Vec<Output>, StepError>) -> Result<String, Untried> {
     match answer {
-        Ok(outputs) => shown(alloc, outputs.as_slice()),
+        Ok(outputs) => {
+            let text = shown(alloc, outputs.as_slice());
+            drop(outputs);
+            text
+        }
         Err(fault) => {
             let printed = format!(in alloc; "{} {fault}", fault.number())?;
             Ok(printed)
@@ -351,26 +375,46 @@ pub(crate) fn add_file(
     folder.add(path, Items::new(bytes))
 }
 
-fn folder(alloc: Global, files: &[(&str, &str)]) -> Result<Folder, AllocError> {
-    let mut folder = Folder::new(alloc);
+fn add_files(alloc: Global, folder: &mut Folder, files: &[(&str, &str)]) -> Result<(), AllocError> {
     for (path, text) in files {
-        add_file(alloc, &mut folder, path, text.as_bytes())?;
+        add_file(alloc, folder, path, text.as_bytes())?;
     }
-    Ok(folder)
+    Ok(())
 }
 
-fn table(alloc: Global, files: &[(&str, &str)]) -> Result<Table, Untried> {
-    let folder = folder(alloc, files)?;
-    let (table, _) = compile(alloc, &folder)?;
+fn compiled(alloc: Global, folder: &Folder) -> Result<Table, Untried> {
+    let (table, report) = compile(alloc, folder)?;
+    drop(report);
     Ok(table)
 }
 
-fn environment(alloc: Global, pairs: &[(&str, &str)]) -> Result<Env, Untried> {
-    let mut env = Env::new(alloc);
+// Large values are dropped by a call, here and below: the prover would go through each field of what a scope drops.
+fn table(alloc: Global, files: &[(&str, &str)]) -> Result<Table, Untried> {
+    let mut folder = Folder::new(alloc);
+    let table = match add_files(alloc, &mut folder, files) {
+        Ok(()) => compiled(alloc, &folder),
+        Err(_) => Err(Untried),
+    };
+    drop(folder);
+    table
+}
+
+fn set_all(env: &mut Env, pairs: &[(&str, &str)]) -> Result<(), TextFault> {
     for (key, value) in pairs {
         env.set(key, value)?;
     }
-    Ok(env)
+    Ok(())
+}
+
+pub(crate) fn environment(alloc: Global, pairs: &[(&str, &str)]) -> Result<Env, Untried> {
+    let mut env = Env::new(alloc);
+    match set_all(&mut env, pairs) {
+        Ok(()) => Ok(env),
+        Err(_) => {
+            drop(env);
+            Err(Untried)
+        }
+    }
 }
 
 // The engine of a folder with these files and this base environment.
@@ -379,10 +423,8 @@ pub(crate) fn engine(
     files: &[(&str, &str)],
     pairs: &[(&str, &str)],
 ) -> Result<Engine, Untried> {
-    let table = table(alloc, files)?;
-    let base = environment(alloc, pairs)?;
-    let engine = Engine::new(alloc, table, base)?;
-    Ok(engine)
+    let (table, base) = both(table(alloc, files), environment(alloc, pairs))?;
+    Ok(Engine::new(alloc, table, base)?)
 }
 
 /// A step gives what its row says.
@@ -416,16 +458,9 @@ fn check_rows(
 
 fn check_case(rt: &impl Abort, alloc: Global, case: &Case) -> Result<(), Untried> {
     let mut engine = engine(alloc, case.files, case.base)?;
-    check_rows(rt, alloc, &mut engine, case.name, case.rows)
-}
-
-// The engine of a folder with this job file alone.
-fn engine_of(alloc: Global, file: &str) -> Result<Engine, Untried> {
-    let mut folder = Folder::new(alloc);
-    add_file(alloc, &mut folder, "a.conf", file.as_bytes())?;
-    let (table, _) = compile(alloc, &folder)?;
-    let engine = Engine::new(alloc, table, Env::new(alloc))?;
-    Ok(engine)
+    let checked = check_rows(rt, alloc, &mut engine, case.name, case.rows);
+    drop(engine);
+    checked
 }
 
 /// The rows of a folder with this job file alone.
@@ -436,8 +471,10 @@ pub(crate) fn check_file(
     file: &str,
     rows: &[Row],
 ) -> Result<(), Untried> {
-    let mut engine = engine_of(alloc, file)?;
-    check_rows(rt, alloc, &mut engine, name, rows)
+    let mut engine = engine(alloc, &[("a.conf", file)], &[])?;
+    let checked = check_rows(rt, alloc, &mut engine, name, rows);
+    drop(engine);
+    checked
 }
 
 pub(crate) fn check_cases(rt: &impl Abort, alloc: Global, cases: &[Case]) -> Result<(), Untried> {
@@ -450,107 +487,5 @@ pub(crate) fn check_cases(rt: &impl Abort, alloc: Global, cases: &[Case]) -> Res
 #[test]
 fn worked_rows(rt: HostRuntime) -> Result<(), Fail> {
     check_cases(&rt, rt.alloc(), &CASES)?;
-    Ok(())
-}
-
-// What came of a run of the row `startup`. Where memory is refused in its midst, its steps are the first of the row's, and the engine
-// is down; if it is refused before, nothing has happened.
-#[derive(Clone, Copy, Debug, PartialEq, Eq)]
-enum Outcome {
-    Whole,
-    Refused,
-    Otherwise,
-}
-
-fn is_step(alloc: Global, step: &Step, outputs: &str) -> Result<bool, Untried> {
-    match step {
-        Step::Gave(gave) => {
-            let text = shown(alloc, gave.as_slice())?;
-            Ok(text.as_str() == outputs)
-        }
-        Step::NotExpected => Ok(false),
-    }
-}
-
-// Whether the steps are the first of the rows.
-fn are_steps(alloc: Global, steps: &[Step], rows: &[Row]) -> Result<bool, Untried> {
-    for (step, row) in steps.iter().zip(rows) {
-        if !is_step(alloc, step, row.1)? {
-            return Ok(false);
-        }
-    }
-    Ok(steps.len() <= rows.len())
-}
-
-// Whether an engine has the live events and the turn that the rows leave.
-fn is_left(engine: &Engine, rows: &[Row]) -> bool {
-    match rows.last() {
-        Some(row) => engine.live_events() == row.2 && engine.has_turn() == row.3,
-        None => engine.live_events() == 0 && !engine.has_turn(),
-    }
-}
-
-fn is_down(engine: &mut Engine) -> bool {
-    matches!(engine.step(Input::Turn), Err(StepError::Down))
-}
-
-fn came_of(
-    alloc: Global,
-    engine: &mut Engine,
-    run: &Run,
-    rows: &[Row],
-) -> Result<Outcome, Untried> {
-    let steps = run.steps.as_slice();
-    let count = steps.len().min(rows.len());
-    if !are_steps(alloc, steps, rows)? || !is_left(engine, &rows[..count]) {
-        return Ok(Outcome::Otherwise);
-    }
-    if !run.down && count == rows.len() {
-        return Ok(Outcome::Whole);
-    }
-    if run.down && count < rows.len() && is_down(engine) {
-        return Ok(Outcome::Refused);
-    }
-    Ok(Outcome::Otherwise)
-}
-
-fn run_with(alloc: Global, engine: &mut Engine, rows: &[Row]) -> Result<Outcome, Untried> {
-    let inputs = inputs(alloc, rows)?;
-    match engine.run(inputs) {
-        Ok(run) => came_of(alloc, engine, &run, rows),
-        Err(StepError::Memory) if is_left(engine, &[]) => Ok(Outcome::Refused),
-        Err(_) => Ok(Outcome::Otherwise),
-    }
-}
-
-static RUN: Case = Case {
-    name: "startup",
-    files: &[("a.conf", START_FILE)],
-    base: &[],
-    rows: &STARTUP,
-};
-
-fn run_case(alloc: Global, case: &Case) -> Result<Outcome, Untried> {
-    let mut engine = engine(alloc, case.files, case.base)?;
-    run_with(alloc, &mut engine, case.rows)
-}
-
-#[test]
-fn always_memory(rt: HostRuntime) -> Result<(), Fail> {
-    assert_eq!(rt; run_case(rt.alloc(), &RUN)?, Outcome::Whole);
-    Ok(())
-}
-
-// The same if an allocation fails: `rt try --test --fail-alloc N -- engine::memory_refused`. It passes also if the row's
-// inputs, its table or the texts to compare were refused memory.
-#[test]
-fn memory_refused(rt: HostRuntime) -> Result<(), Fail> {
-    let told = match run_case(rt.alloc(), &RUN) {
-        Ok(Outcome::Whole) => "memory sufficed",
-        Ok(Outcome::Refused) => "the run was refused memory",
-        Ok(Outcome::Otherwise) => return Err(Fail::new("the run is not as the row says")),
-        Err(_) => "the test was refused memory",
-    };
-    println!(rt; "{told}")?;
     Ok(())
 }

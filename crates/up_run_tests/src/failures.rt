@@ -192,7 +192,11 @@ impl Found {
 
 fn finds(fake: &Fake, dir: &str, found: &Found) -> bool {
     match walk(fake, dir) {
-        Ok(folder) => found.is_count(folder.as_slice().len()),
+        Ok(folder) => {
+            let is_count = found.is_count(folder.as_slice().len());
+            drop(folder);
+            is_count
+        }
         Err(WalkError::Unusable(path)) => found.is_path(path.as_str()),
         Err(WalkError::Memory) => matches!(found, Found::Memory),
     }

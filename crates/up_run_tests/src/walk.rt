@@ -83,7 +83,11 @@ fn has_all(files: &[File], all: &[(&str, &[u8])]) -> bool {
 // Whether a walk finds these files and no other.
 fn finds_files(rt: &HostRuntime, dir: &str, all: &[(&str, &[u8])]) -> bool {
     match walk(rt, dir) {
-        Ok(folder) => has_all(folder.as_slice(), all),
+        Ok(folder) => {
+            let has = has_all(folder.as_slice(), all);
+            drop(folder);
+            has
+        }
         Err(_) => false,
     }
 }
@@ -92,7 +96,11 @@ fn finds_files(rt: &HostRuntime, dir: &str, all: &[(&str, &[u8])]) -> bool {
 fn is_unusable(rt: &HostRuntime, dir: &str, path: &str) -> bool {
     match walk(rt, dir) {
         Err(WalkError::Unusable(found)) => found.is(path),
-        Ok(_) | Err(WalkError::Memory) => false,
+        Ok(folder) => {
+            drop(folder);
+            false
+        }
+        Err(WalkError::Memory) => false,
     }
 }
 

@@ -6,6 +6,8 @@ mod cases;
 #[cfg(test)]
 mod frames;
 #[cfg(test)]
+mod memory;
+#[cfg(test)]
 mod peers;
 #[cfg(test)]
 mod statuses;

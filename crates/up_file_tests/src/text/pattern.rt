@@ -1,5 +1,6 @@
 //! Patterns.
 use crate::text::fnmatch_table::ROWS;
+use std::alloc::Global;
 use std::test::Fail;
 use up_text::{glob, supported};
 
@@ -418,6 +419,35 @@ const UNSUPPORTED: &'static [&'static [u8]] = &[
     b"[a[b[:",
 ];
 
+// Sets behind the item after a star: of those up to the next star the longest is kept while the text is gone through.
+static SETS_BEHIND_A_STAR: [Case; 5] = [
+    Case {
+        pattern: b"*?[ab]c",
+        matched: &[b"xac", b"aabc", b"xcxbc", b"ccac"],
+        other: &[b"ac", b"xxc", b"xacx", b"bc"],
+    },
+    Case {
+        pattern: b"*x[a-c][!de]*[fg]",
+        matched: &[b"xbbf", b"xxaag", b"xaxbbxf"],
+        other: &[b"xbdf", b"xbf", b"xabh"],
+    },
+    Case {
+        pattern: b"*[ab][a-f]z",
+        matched: &[b"adz", b"aaadz", b"bbz"],
+        other: &[b"az", b"dbz", b"adzz"],
+    },
+    Case {
+        pattern: b"*?[abc][a-cx]?",
+        matched: &[b"aabc", b"xxbxb", b"aaabbb"],
+        other: &[b"abc", b"xdxb", b"aadb"],
+    },
+    Case {
+        pattern: b"*?[a][bc]*?[de][f]",
+        matched: &[b"xabxdf", b"aacaaef", b"xabxabxef"],
+        other: &[b"abxdf", b"xabdf", b"xabxdfx"],
+    },
+];
+
 // Whether a pattern matches all of these texts, or none of them.
 fn are_all(pattern: &[u8], texts: &[&[u8]], matched: bool) -> bool {
     for text in texts {
@@ -509,6 +539,11 @@ fn brackets_before_colons() -> Result<(), Fail> {
     check(BRACKETS_BEFORE_COLONS)
 }
 
+#[test]
+fn sets_behind_a_star() -> Result<(), Fail> {
+    check(&SETS_BEHIND_A_STAR)
+}
+
 const SHORT_TEXTS: &'static [&'static [u8]] = &[b"", b"[", b":", b"a", b"x", b"b", b"xa."];
 
 // A pattern that isn't supported matches nothing, itself neither.
@@ -555,15 +590,25 @@ fn unclosed_sets_are_passed_once(rt: HostRuntime) -> Result<(), Fail> {
     Ok(())
 }
 
-// To read the item after the star at each byte again would be quadratic too.
+// Whether a pattern of this start, so many bytes and this end matches nothing of a text of as many other bytes.
+fn matches_nothing(
+    alloc: Global,
+    (start, byte, end): (&[u8], u8, &[u8]),
+    other: u8,
+) -> Result<bool, Fail> {
+    let mut pattern: Vec<u8> = Vec::new(alloc);
+    pattern.extend_from_slice(start)?;
+    pattern.extend_from_slice(vec![in alloc; byte; 50_000]?.as_slice())?;
+    pattern.extend_from_slice(end)?;
+    let text = vec![in alloc; other; 50_000]?;
+    Ok(supported(pattern.as_slice()) && !glob(pattern.as_slice(), text.as_slice()))
+}
+
+// To read the item after the star, or a set behind it, at each byte again would be quadratic too.
 #[test]
-fn unclosed_sets_after_a_star(rt: HostRuntime) -> Result<(), Fail> {
-    let mut pattern: Vec<u8> = Vec::new(rt.alloc());
-    pattern.push(b'*')?;
-    let brackets = vec![in rt.alloc(); b'['; 50_000]?;
-    pattern.extend_from_slice(brackets.as_slice())?;
-    let text = vec![in rt.alloc(); b'a'; 50_000]?;
-    assert!(rt; supported(pattern.as_slice()));
-    assert!(rt; !glob(pattern.as_slice(), text.as_slice()));
+fn sets_after_a_star_are_passed_once(rt: HostRuntime) -> Result<(), Fail> {
+    assert!(rt; matches_nothing(rt.alloc(), (b"*", b'[', b""), b'a')?);
+    assert!(rt; matches_nothing(rt.alloc(), (b"*[", b'a', b"]c"), b'b')?);
+    assert!(rt; matches_nothing(rt.alloc(), (b"*?[", b'a', b"]c"), b'b')?);
     Ok(())
 }

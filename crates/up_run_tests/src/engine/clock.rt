@@ -64,7 +64,7 @@ const NORMAL_EXIT: [Row; 11] = [
 ];
 
 // The third end within five seconds is one too many.
-const RESPAWN_LIMIT: [Row; 28] = [
+pub(crate) const RESPAWN_LIMIT: [Row; 28] = [
     (Given::Emit("go"), "", 1, true),
     (Given::Turn, STARTING, 2, true),
     (Given::Turn, "", 2, true),

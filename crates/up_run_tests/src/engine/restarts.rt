@@ -5,6 +5,7 @@ use crate::engine::{
 use std::alloc::Global;
 use std::process::Abort;
 use std::test::Fail;
+use up_engine::Engine;
 use up_model::How;
 
 const STOPPED: &'static str = "stopped JOB=a INSTANCE= RESULT=ok; ";
@@ -96,13 +97,19 @@ static CYCLE: [Row; 8] = [
 
 static STARTUP: Row = (Given::Emit("startup"), "", 1, true);
 
-fn check_cycle(rt: &impl Abort, alloc: Global) -> Result<(), Untried> {
-    let mut engine = engine(alloc, RESTARTING, &[])?;
-    check_row(rt, alloc, &mut engine, &STARTUP, ("self_restarting_job", 0))?;
+fn check_turns(rt: &impl Abort, alloc: Global, engine: &mut Engine) -> Result<(), Untried> {
+    check_row(rt, alloc, engine, &STARTUP, ("self_restarting_job", 0))?;
     for (turn, row) in CYCLE.iter().cycle().take(50).enumerate() {
-        check_row(rt, alloc, &mut engine, row, ("self_restarting_job", turn))?;
+        check_row(rt, alloc, engine, row, ("self_restarting_job", turn))?;
     }
     Ok(())
+}
+
+fn check_cycle(rt: &impl Abort, alloc: Global) -> Result<(), Untried> {
+    let mut engine = engine(alloc, RESTARTING, &[])?;
+    let checked = check_turns(rt, alloc, &mut engine);
+    drop(engine);
+    checked
 }
 
 #[test]

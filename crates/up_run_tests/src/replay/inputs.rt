@@ -1,9 +1,10 @@
 //! The lines of inputs.
+use crate::engine::{both, environment};
 use std::alloc::{AllocError, Global};
 use std::test::Fail;
 use up_model::{Command, Input, Request};
 use up_replay::{script_inputs, script_lines};
-use up_text::{Env, Text};
+use up_text::Text;
 
 // A script in the form in which inputs are written, with each kind of input.
 static SCRIPT: &str =
@@ -17,7 +18,9 @@ fn lines_of(alloc: Global, script: &[u8]) -> Result<Option<Items>, AllocError> {
     let Ok(inputs) = script_inputs(alloc, script, 1)? else {
         return Ok(None);
     };
-    script_lines(alloc, inputs.as_slice())
+    let lines = script_lines(alloc, inputs.as_slice());
+    drop(inputs);
+    lines
 }
 
 type Items = up_text::Items<u8>;
@@ -35,20 +38,35 @@ fn inputs_are_written_as_they_are_read(rt: HostRuntime) -> Result<(), Fail> {
     Ok(())
 }
 
-fn request(alloc: Global, name: &str, value: &str) -> Result<Vec<Input>, Fail> {
-    let mut vars = Env::new(alloc);
-    vars.set("K", value)?;
-    let mut inputs: Vec<Input> = Vec::new(alloc);
-    if let Some(request) = Request::new(Command::Start, true, Text::from_str(alloc, name)?, vars) {
+fn push_request(
+    alloc: Global,
+    inputs: &mut Vec<Input>,
+    name: &str,
+    value: &str,
+) -> Result<(), Fail> {
+    let (name, vars) = both(
+        Text::from_str(alloc, name),
+        environment(alloc, &[("K", value)]),
+    )?;
+    if let Some(request) = Request::new(Command::Start, true, name, vars) {
         inputs.push(Input::Request { id: 1, request })?;
     }
-    Ok(inputs)
+    Ok(())
+}
+
+fn has_lines(alloc: Global, inputs: &[Input]) -> Result<bool, Fail> {
+    Ok(script_lines(alloc, inputs)?.is_some())
 }
 
 // Whether a script has a line for a request for this job with this value.
 fn is_written(alloc: Global, name: &str, value: &str) -> Result<bool, Fail> {
-    let inputs = request(alloc, name, value)?;
-    Ok(script_lines(alloc, inputs.as_slice())?.is_some())
+    let mut inputs: Vec<Input> = Vec::new(alloc);
+    let has = match push_request(alloc, &mut inputs, name, value) {
+        Ok(()) => has_lines(alloc, inputs.as_slice()),
+        Err(fail) => Err(fail),
+    };
+    drop(inputs);
+    has
 }
 
 // A line feed in quotes is read as a blank, and a name that is written as an option is read as one.

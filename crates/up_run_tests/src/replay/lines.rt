@@ -1,9 +1,10 @@
 //! The lines of outputs.
+use crate::engine::{Untried, both, environment};
 use std::alloc::{AllocError, Global};
 use std::test::Fail;
 use up_model::{Answer, Event, Order, Output, Process, Who};
 use up_replay::push_output;
-use up_text::{Env, Items, Name, Text};
+use up_text::{Items, Name, Text};
 
 // An output, as a case writes it.
 enum Sent {
@@ -48,11 +49,9 @@ static WORDS: [&str; 3] = ["/bin/x", "\"a\\b\nc\td\u{e9}'\r", ""];
 
 static VARS: [(&str, &str); 2] = [("B", "1\n2"), ("A", "")];
 
-fn who(alloc: Global, instance: &str) -> Result<Who, Fail> {
-    Ok(Who {
-        job: Name::new(alloc, "a")?,
-        instance: Text::from_str(alloc, instance)?,
-    })
+fn who(alloc: Global, instance: &str) -> Result<Who, Untried> {
+    let (job, instance) = both(Name::new(alloc, "a"), Text::from_str(alloc, instance))?;
+    Ok(Who { job, instance })
 }
 
 fn keep(words: &mut Vec<Text>, word: Text) -> Result<(), AllocError> {
@@ -60,28 +59,28 @@ fn keep(words: &mut Vec<Text>, word: Text) -> Result<(), AllocError> {
     Ok(())
 }
 
-fn words(alloc: Global) -> Result<Items<Text>, Fail> {
-    let mut words: Vec<Text> = Vec::new(alloc);
+fn keep_all(alloc: Global, words: &mut Vec<Text>) -> Result<(), AllocError> {
     for word in &WORDS {
-        let word = Text::from_str(alloc, *word)?;
-        keep(&mut words, word)?;
+        keep(words, Text::from_str(alloc, *word)?)?;
     }
-    Ok(Items::new(words))
+    Ok(())
 }
 
-fn vars(alloc: Global, pairs: &[(&str, &str)]) -> Result<Env, Fail> {
-    let mut vars = Env::new(alloc);
-    for (key, value) in pairs {
-        vars.set(key, value)?;
+fn words(alloc: Global) -> Result<Items<Text>, AllocError> {
+    let mut words: Vec<Text> = Vec::new(alloc);
+    match keep_all(alloc, &mut words) {
+        Ok(()) => Ok(Items::new(words)),
+        Err(refused) => {
+            drop(words);
+            Err(refused)
+        }
     }
-    Ok(vars)
 }
 
-fn order(alloc: Global) -> Result<Output, Fail> {
-    let who = who(alloc, "i j")?;
-    let argv = words(alloc)?;
-    let dir = Text::from_str(alloc, "/")?;
-    let env = vars(alloc, &VARS)?;
+fn order(alloc: Global) -> Result<Output, Untried> {
+    let first = both(who(alloc, "i j"), words(alloc));
+    let second = both(Text::from_str(alloc, "/"), environment(alloc, &VARS));
+    let ((who, argv), (dir, env)) = both(first, second)?;
     Ok(Output::Spawn(Order {
         who,
         process: Process::PreStart,
@@ -92,13 +91,12 @@ fn order(alloc: Global) -> Result<Output, Fail> {
     }))
 }
 
-fn event(alloc: Global, pairs: &[(&str, &str)]) -> Result<Output, Fail> {
-    let name = Name::new(alloc, "go")?;
-    let vars = vars(alloc, pairs)?;
+fn event(alloc: Global, pairs: &[(&str, &str)]) -> Result<Output, Untried> {
+    let (name, vars) = both(Name::new(alloc, "go"), environment(alloc, pairs))?;
     Ok(Output::Emitted(Event { name, vars }))
 }
 
-fn output(alloc: Global, sent: &Sent) -> Result<Output, Fail> {
+fn output(alloc: Global, sent: &Sent) -> Result<Output, Untried> {
     match sent {
         Sent::Start => order(alloc),
         Sent::Signal(signal) => Ok(Output::Signal {
@@ -123,9 +121,11 @@ fn has_lines(alloc: Global, output: &Output, lines: &str) -> Result<bool, AllocE
     Ok(text.as_slice() == lines.as_bytes())
 }
 
-fn is_case(alloc: Global, sent: &Sent, lines: &str) -> Result<bool, Fail> {
+fn is_case(alloc: Global, sent: &Sent, lines: &str) -> Result<bool, Untried> {
     let output = output(alloc, sent)?;
-    Ok(has_lines(alloc, &output, lines)?)
+    let has = has_lines(alloc, &output, lines);
+    drop(output);
+    Ok(has?)
 }
 
 #[test]

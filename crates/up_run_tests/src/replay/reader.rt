@@ -1,53 +1,13 @@
-//! Whole job files: what runs, overrides, and checks of folders.
+//! Checks of folders.
 use crate::engine::add_file;
+use crate::replay::check_printed;
 use crate::replay::distribution::{BUNDLE, REPORT};
-use crate::replay::{Case, Topic, check_printed, check_topics};
 use std::alloc::{AllocError, Global};
 use std::process::Abort;
 use std::test::Fail;
 use up_conf::Folder;
 use up_replay::check::check;
 use up_replay::read_bundle;
-
-const INVALID_OVERRIDE: Case = Case {
-    bundle: b"%file a.conf\nstart on go\nexec /bin/d\n%file a.override\nmanual\nbogus x\n%script\nemit go\nturn\n",
-    printed: "a.override:2: 1 UnknownStanza\nevent starting JOB=\"a\" INSTANCE=\"\"\n",
-    status: 1,
-};
-
-const MANUAL_OVERRIDE: Case = Case {
-    bundle: b"%file a.conf\nstart on go\nexec /bin/d\n%file a.override\nmanual\n%file b.override\nnonsense\n%script\nemit go\nturn 2\n",
-    printed: "",
-    status: 0,
-};
-
-const WORDS: Case = Case {
-    bundle: b"%file a.conf\nstart on go\nexec /bin/a b#c\n%script\nemit go\nturn 3\n",
-    printed: "event starting JOB=\"a\" INSTANCE=\"\"\nspawn a main \"/bin/a\" \"b\"\n  UPSTART_EVENTS=\"go\"\n  UPSTART_JOB=\"a\"\n  UPSTART_INSTANCE=\"\"\n",
-    status: 0,
-};
-
-const SHELL: Case = Case {
-    bundle: b"%file a.conf\nstart on go\nexec /bin/e \"a  b\" # c\n%script\nemit go\nturn 3\n",
-    printed: "event starting JOB=\"a\" INSTANCE=\"\"\nspawn a main \"/bin/sh\" \"-e\" \"-c\" \"exec /bin/e \\\"a  b\\\"\"\n  UPSTART_EVENTS=\"go\"\n  UPSTART_JOB=\"a\"\n  UPSTART_INSTANCE=\"\"\n",
-    status: 0,
-};
-
-const SCRIPT: Case = Case {
-    bundle: b"%file a.conf\nstart on go\nscript\n\techo 'a' # b\nend script # done\nconsole none\nchdir /tmp\n%script\nemit go\nturn 3\n",
-    printed: "event starting JOB=\"a\" INSTANCE=\"\"\nspawn a main \"/bin/sh\" \"-e\" \"-c\" \"\\techo 'a' # b\\n\"\n  UPSTART_EVENTS=\"go\"\n  UPSTART_JOB=\"a\"\n  UPSTART_INSTANCE=\"\"\n",
-    status: 0,
-};
-
-static TOPICS: [Topic; 2] = [
-    ("overrides", &[INVALID_OVERRIDE, MANUAL_OVERRIDE]),
-    ("commands", &[WORDS, SHELL, SCRIPT]),
-];
-
-#[test]
-fn job_files(rt: HostRuntime) {
-    check_topics(&rt, &TOPICS);
-}
 
 // A check of a folder prints this, with this status.
 fn check_folder(
@@ -59,6 +19,7 @@ fn check_folder(
 ) -> Result<(), AllocError> {
     let made = check(alloc, folder)?;
     check_printed(rt, (made.text.as_slice(), made.status.number()), wanted, of);
+    drop(made);
     Ok(())
 }
 
@@ -102,8 +63,9 @@ fn check_steps(rt: &impl Abort, alloc: Global, folder: &mut Folder) -> Result<()
 #[test]
 fn checks(rt: HostRuntime) -> Result<(), Fail> {
     let mut folder = Folder::new(rt.alloc());
-    check_steps(&rt, rt.alloc(), &mut folder)?;
-    Ok(())
+    let checked = check_steps(&rt, rt.alloc(), &mut folder);
+    drop(folder);
+    Ok(checked?)
 }
 
 // A count of files, what a check of their folder prints, and the status.
@@ -130,8 +92,9 @@ fn check_counts(rt: &impl Abort, alloc: Global, folder: &mut Folder) -> Result<(
 #[test]
 fn checks_of_many_files(rt: HostRuntime) -> Result<(), Fail> {
     let mut folder = Folder::new(rt.alloc());
-    check_counts(&rt, rt.alloc(), &mut folder)?;
-    Ok(())
+    let checked = check_counts(&rt, rt.alloc(), &mut folder);
+    drop(folder);
+    Ok(checked?)
 }
 
 // The folder of the example; `None` if its text is too long to be read.
@@ -147,8 +110,10 @@ fn distribution(alloc: Global) -> Result<Option<Folder>, AllocError> {
 fn a_distribution_is_checked(rt: HostRuntime) -> Result<(), Fail> {
     match distribution(rt.alloc())? {
         Some(folder) => {
-            check_folder(&rt, rt.alloc(), &folder, (REPORT, 1), ("distribution", 0))?;
-            Ok(())
+            let wanted = (REPORT, 1);
+            let checked = check_folder(&rt, rt.alloc(), &folder, wanted, ("distribution", 0));
+            drop(folder);
+            Ok(checked?)
         }
         None => Err(Fail::new("the text is too long")),
     }

@@ -1,4 +1,4 @@
-//! Streams that fail, and the limits of a bundle.
+//! Streams that fail.
 use crate::replay::check;
 use std::alloc::Global;
 use std::io;
@@ -6,10 +6,10 @@ use std::io::{ErrorKind, Read, Write};
 use std::process::Abort;
 use up_replay::replay::replay;
 
-const STARTUP: &[u8] =
+pub(crate) const STARTUP: &'static [u8] =
     b"%file a.conf\nstart on startup\nexec /bin/true x\n%script\nemit startup\nturn\nturn\nturn\nspawned a \"\" main 100\nturn\nturn 2\n";
 
-const PRINTED: &str =
+pub(crate) const PRINTED: &'static str =
     "event starting JOB=\"a\" INSTANCE=\"\"\nspawn a main \"/bin/true\" \"x\"\n  UPSTART_EVENTS=\"startup\"\n  UPSTART_JOB=\"a\"\n  UPSTART_INSTANCE=\"\"\nevent started JOB=\"a\" INSTANCE=\"\"\n";
 
 const UNREADABLE: &str = "initd: cannot use -\n";
@@ -123,43 +123,4 @@ fn writer_fails(rt: HostRuntime) {
     for room in 0..PRINTED.len() {
         assert!(rt; is_cut(rt.alloc(), room), "with room for {room} bytes");
     }
-}
-
-// A bundle of this start and so many empty lines after it.
-fn check_long(
-    rt: &(impl Abort + AllocGlobal),
-    start: &[u8],
-    count: u64,
-    wanted: (&str, u8),
-    name: &str,
-) {
-    let mut reader = start.chain(io::repeat(b'\n').take(count));
-    check(rt, &mut reader, wanted, (name, 0));
-}
-
-#[test]
-fn million_turns(rt: HostRuntime) {
-    check_long(&rt, b"%script\nturn 1000000\n", 0, ("", 0), "million_turns");
-}
-
-#[test]
-fn greatest_bundle(rt: HostRuntime) {
-    check_long(
-        &rt,
-        b"%script\n",
-        67_108_864 - 8,
-        ("", 0),
-        "greatest_bundle",
-    );
-}
-
-#[test]
-fn bundle_too_long(rt: HostRuntime) {
-    check_long(
-        &rt,
-        b"%script\n",
-        67_108_864 - 7,
-        (UNREADABLE, 3),
-        "bundle_too_long",
-    );
 }

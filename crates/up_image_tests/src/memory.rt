@@ -1,0 +1,213 @@
+//! Calls of which a request for memory may be refused: each answers as with ample memory, or that memory ran out.
+//!
+//! `rt try --test --fail-alloc N -- memory` refuses the Nth request; `bench/faults` goes through all of them with the built tests.
+use crate::folders::{
+    BOTH, EMPTY_IMAGE, MANY, STARTUP, STARTUP_IMAGE, again, folder_of, image_of, refusal,
+};
+use std::alloc::Global;
+use std::test::Fail;
+use up_conf::{Fault, Folder, Report};
+use up_image::{CompileError, ImageError, Table, compile};
+
+// What came of a call.
+#[derive(Clone, Copy, Debug, PartialEq, Eq)]
+enum Came {
+    Whole,
+    Refused,
+    Otherwise,
+}
+
+fn whole_if(is_so: bool) -> Came {
+    if is_so { Came::Whole } else { Came::Otherwise }
+}
+
+/// A faulty file: its path, its line and the number of its fault.
+type Spot = (&'static str, u32, u8);
+
+/// The files of a folder with the faults that are reported, and how many jobs there are.
+type Case = (
+    &'static [(&'static str, &'static [u8])],
+    &'static [Spot],
+    usize,
+);
+
+/// A job file with a fault beside a good one.
+const FAULTY: &'static [(&'static str, &'static [u8])] = &[
+    ("b.conf", b"exec /bin/b\nsetuid root\n"),
+    ("a.conf", b"start on A and B\nexec /bin/d\n"),
+    ("a.override", b"manual\nbogus x\n"),
+];
+
+static FOLDERS: [Case; 5] = [
+    (&[], &[], 0),
+    (STARTUP, &[], 1),
+    (BOTH, &[], 1),
+    (MANY, &[], 2),
+    (FAULTY, &[("a.override", 2, 1), ("b.conf", 2, 2)], 1),
+];
+
+fn is_fault(fault: &Fault, spot: &Spot) -> bool {
+    (fault.path.as_str(), fault.line, fault.code.number()) == *spot
+}
+
+fn are_faults(report: &Report, spots: &[Spot]) -> bool {
+    let faults = report.as_slice();
+    faults.len() == spots.len()
+        && faults
+            .iter()
+            .zip(spots)
+            .all(|(fault, spot)| is_fault(fault, spot))
+}
+
+// What comes of a folder with these faults and so many jobs.
+fn compiles(alloc: Global, folder: &Folder, spots: &[Spot], jobs: usize) -> Came {
+    match compile(alloc, folder) {
+        Ok((table, report)) => {
+            let is_so = table.len() == jobs && are_faults(&report, spots);
+            drop(table);
+            drop(report);
+            whole_if(is_so)
+        }
+        Err(CompileError::Memory) => Came::Refused,
+        Err(_) => Came::Otherwise,
+    }
+}
+
+// What comes of a folder. If it couldn't be filled nothing was tried.
+fn compiles_case(alloc: Global, case: &Case) -> Came {
+    match folder_of(alloc, case.0) {
+        Ok(folder) => {
+            let came = compiles(alloc, &folder, case.1, case.2);
+            drop(folder);
+            came
+        }
+        Err(_) => Came::Refused,
+    }
+}
+
+// What comes of the image of a table.
+fn writes(alloc: Global, table: &Table, image: &[u8]) -> Came {
+    match table.to_bytes(alloc) {
+        Ok(bytes) => whole_if(bytes.as_slice() == image),
+        Err(ImageError::Memory) => Came::Refused,
+        Err(_) => Came::Otherwise,
+    }
+}
+
+// What comes of an image that is good: a table whose image it is.
+fn reads(alloc: Global, image: &[u8]) -> Came {
+    match Table::from_bytes(alloc, image) {
+        Ok(table) => {
+            let came = writes(alloc, &table, image);
+            drop(table);
+            came
+        }
+        Err(ImageError::Memory) => Came::Refused,
+        Err(_) => Came::Otherwise,
+    }
+}
+
+static IMAGES: [&[u8]; 2] = [STARTUP_IMAGE, EMPTY_IMAGE];
+
+// What comes of an image that is refused so.
+fn refuses(alloc: Global, image: &[u8], wanted: ImageError) -> Came {
+    match refusal(alloc, image) {
+        Some(ImageError::Memory) => Came::Refused,
+        error => whole_if(error == Some(wanted)),
+    }
+}
+
+// How an image is damaged: what stands before its end, what after it, and why it is refused then.
+static DAMAGED: [(usize, &[u8], ImageError); 4] = [
+    (0, b"", ImageError::Truncated),
+    (111, b"", ImageError::Truncated),
+    (112, b"\0", ImageError::Trailing),
+    (111, b"\x02", ImageError::BadTable),
+];
+
+fn damaged(alloc: Global, len: usize, end: &[u8]) -> Result<Vec<u8>, Fail> {
+    let front = STARTUP_IMAGE.get(..len).unwrap_or(STARTUP_IMAGE);
+    let mut bytes = Vec::from_slice(alloc, front)?;
+    bytes.extend_from_slice(end)?;
+    Ok(bytes)
+}
+
+// What comes of a damaged image. If it couldn't be made nothing was tried.
+fn refuses_case(alloc: Global, case: &(usize, &[u8], ImageError)) -> Came {
+    match damaged(alloc, case.0, case.1) {
+        Ok(bytes) => refuses(alloc, bytes.as_slice(), case.2),
+        Err(_) => Came::Refused,
+    }
+}
+
+// What comes of the image of a folder with every stanza, read and written again.
+fn comes_of_many(alloc: Global) -> Came {
+    match image_of(alloc, MANY) {
+        Ok(image) => match again(alloc, image.as_slice()) {
+            Ok(bytes) => whole_if(bytes.as_slice() == image.as_slice()),
+            Err(ImageError::Memory) => Came::Refused,
+            Err(_) => Came::Otherwise,
+        },
+        Err(_) => Came::Refused,
+    }
+}
+
+// What came of all of them: whether each was whole, and whether one came otherwise.
+#[derive(Clone, Copy, Debug, PartialEq, Eq)]
+struct Sum {
+    all_whole: bool,
+    any_otherwise: bool,
+}
+
+impl Sum {
+    fn add(&mut self, came: Came) {
+        self.all_whole = self.all_whole && came == Came::Whole;
+        self.any_otherwise = self.any_otherwise || came == Came::Otherwise;
+    }
+}
+
+fn nothing_yet() -> Sum {
+    Sum {
+        all_whole: true,
+        any_otherwise: false,
+    }
+}
+
+fn of_folders(alloc: Global) -> Sum {
+    let mut sum = nothing_yet();
+    for case in &FOLDERS {
+        sum.add(compiles_case(alloc, case));
+    }
+    sum
+}
+
+fn of_images(alloc: Global) -> Sum {
+    let mut sum = nothing_yet();
+    for image in &IMAGES {
+        sum.add(reads(alloc, image));
+    }
+    sum.add(comes_of_many(alloc));
+    sum
+}
+
+fn of_damaged(alloc: Global) -> Sum {
+    let mut sum = nothing_yet();
+    for case in &DAMAGED {
+        sum.add(refuses_case(alloc, case));
+    }
+    sum
+}
+
+#[test]
+fn always_memory(rt: HostRuntime) {
+    assert!(rt; of_folders(rt.alloc()).all_whole, "of folders");
+    assert!(rt; of_images(rt.alloc()).all_whole, "of images");
+    assert!(rt; of_damaged(rt.alloc()).all_whole, "of damaged images");
+}
+
+#[test]
+fn memory_refused(rt: HostRuntime) {
+    assert!(rt; !of_folders(rt.alloc()).any_otherwise, "of folders");
+    assert!(rt; !of_images(rt.alloc()).any_otherwise, "of images");
+    assert!(rt; !of_damaged(rt.alloc()).any_otherwise, "of damaged images");
+}
