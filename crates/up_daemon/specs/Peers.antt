@@ -44,9 +44,13 @@ is_ready peer = is_none peer.unanswered && nat_lt 0 (length peer.waiting)
 abbrev pub is_waiting : Peer → Bool
 is_waiting peer = is_some peer.unanswered || nat_lt 0 (length peer.waiting) || nat_lt 0 (length peer.answers)
 
+-- it has this number, and waits for something
+abbrev pub waits : ℕ → Peer → Bool
+waits number peer = (peer.number == number) && is_waiting peer
+
 -- some client with this number waits for something
-abbrev pub waits : ℕ → List Peer → Bool
-waits number peers = list_any (λ (peer : Peer). peer.number == number && is_waiting peer) peers
+abbrev pub one_waits : ℕ → List Peer → Bool
+one_waits number peers = list_any (waits number) peers
 
 -- a client that has just come
 abbrev pub newcomer : ℕ → Peer
