@@ -43,6 +43,11 @@ def write(folder, files):
         whole.write_text(text)
 
 
+def without_comments(told):
+    """What a run told without the calls that failed, which no replay makes."""
+    return "".join(line for line in told.splitlines(keepends=True) if not line.startswith("# "))
+
+
 def unpack(bundle, folder):
     """Writes the files of a bundle."""
     for part in re.split(r"^%file ", bundle, flags=re.M)[1:]:

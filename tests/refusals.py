@@ -1,4 +1,5 @@
 """What the built programs refuse and what they say then, and that nothing is lost by it."""
+import fcntl
 import os
 import pathlib
 import re
@@ -111,6 +112,55 @@ def sockets_that_cant_be_made(work, folder):
     check("which is as it was", (left / "s").exists() and not path.exists(), True)
 
 
+def starts_at_once(work):
+    """Of inits that start at one path in the same moment one wins, also beside what a killed start left, and nothing is left of the others."""
+    idle = work / "idle"
+    path = work / "race.socket"
+    left = work / "race.socket.new"
+    for number in range(12):
+        if number % 2:
+            left.mkdir(0o700)
+            with socket.socket(socket.AF_UNIX) as there:
+                there.bind(str(left / "s"))
+        how = {"stdout": subprocess.PIPE, "stderr": subprocess.PIPE, "stdin": subprocess.DEVNULL, "text": True}
+        started = [subprocess.Popen([INITD, "run", idle, path], **how) for _ in range(6)]
+        wait_for(lambda: sum(child.poll() is not None for child in started) == 5)
+        living = [child for child in started if child.poll() is None]
+        ended = [child for child in started if child.poll() is not None]
+        made = subprocess.run([INITCTL, "--socket", path, "version"], capture_output=True, text=True, timeout=30)
+        found = (len(living), made.returncode, left.exists())
+        for child in living:
+            child.kill()
+        said = [child.communicate() for child in started if child in ended]
+        whole = all(out == f"initd: cannot use {path}\n" and err.startswith(f"initd: {path}") for out, err in said)
+        if (*found, whole) != (1, 0, False, True):
+            break
+        path.unlink()
+    check("of inits that start at once one wins", (number, *found, whole), (11, 1, 0, False, True))
+    path.unlink(missing_ok=True)
+    left.mkdir(0o700)
+    held = os.open(left, os.O_RDONLY)
+    fcntl.flock(held, fcntl.LOCK_EX)
+    why = "another init is being started at it"
+    check("a run beside another start", initd_said("run", idle, path, "--rounds", "2"), unusable(path, why))
+    check("whose folder stays", left.exists(), True)
+    os.close(held)
+    check("a run after it", initd_said("run", idle, path, "--rounds", "2"), ("", "", 0))
+    check("the folder is gone", left.exists(), False)
+
+
+def bundles_that_cant_be_read():
+    def said(stdin, data=None):
+        how = {"input": data} if data else {"stdin": stdin}
+        made = subprocess.run([INITD], capture_output=True, timeout=60, **how)
+        return made.stdout.decode(), made.stderr.decode(), made.returncode
+
+    folder = os.open("/", os.O_RDONLY)
+    check("a folder as standard input", said(folder), unusable("-", "Is a directory"))
+    os.close(folder)
+    check("a long bundle", said(None, b"#" * 67_108_865), unusable("-", "it has more than 67108864 bytes"))
+
+
 def sources_that_cant_be_read(work):
     folder = work / "odd"
     write(folder, {"a.conf": "exec /bin/true\n"})
@@ -118,8 +168,28 @@ def sources_that_cant_be_read(work):
     check("a link to nothing is passed over", initd_said("check", folder), ("1 jobs, 0 faults\n", "", 0))
     link = folder / "round"
     link.symlink_to("round")
-    check("a link to itself is not", initd_said("check", folder), unusable(folder, "Too many levels of symbolic links", link))
-    link.unlink()
+    (folder / "to").symlink_to("fro")
+    (folder / "fro").symlink_to("to")
+    check("a link to itself is passed over", initd_said("check", folder), ("1 jobs, 0 faults\n", "", 0))
+    job = folder / "itself.conf"
+    job.symlink_to("itself.conf")
+    check("a job file that is a link to itself", initd_said("check", folder), unusable(job, "Too many levels of symbolic links"))
+    job.unlink()
+    again = folder / "again"
+    again.symlink_to(".")
+    found = initd_said("check", folder)
+    check("a folder that lies in itself", (found[0], "Too many levels of symbolic links" in found[1], found[2]), (f"initd: cannot use {folder}\n", True, 3))
+    again.unlink()
+    (folder / "sub").mkdir()
+    names = [bytes(folder) + b"/caf\xe9.conf", bytes(folder) + b"/sub/\xff"]
+    for name in names:
+        with open(name, "w") as file:
+            file.write("exec /bin/true\n")
+    found = initd_said("check", folder)
+    lines = [f"initd: {below}: an entry in it is passed over, whose name isn't UTF-8" for below in (f"{folder}/", f"{folder}/sub/")]
+    check("names that aren't UTF-8 are passed over", (found[0], sorted(found[1].splitlines()), found[2]), ("1 jobs, 0 faults\n", lines, 0))
+    for name in names:
+        os.unlink(name)
     job = folder / "x.conf"
     job.symlink_to("/no/such/file")
     check("a job file that is a link to nothing", initd_said("check", folder), unusable(job, "No such file or directory"))
@@ -203,6 +273,8 @@ def all_of(work):
     an_image_that_replaces_nothing(work, folder)
     a_record_that_is_there(work, folder)
     sockets_that_cant_be_made(work, folder)
+    starts_at_once(work)
+    bundles_that_cant_be_read()
     sources_that_cant_be_read(work)
     a_record_on_a_full_disk(work, folder)
     out_of_memory(work)

@@ -1,12 +1,15 @@
-"""What a run tells: why jobs failed, its lines to a file and to a pipe that nobody reads, its record, and how it is stopped in order."""
+"""What a run tells: why jobs failed, its lines to a file, and to a pipe and a terminal that nobody reads, its record, and how it is stopped in order."""
 import contextlib
 import os
+import pty
 import re
 import signal
 import subprocess
+import termios
 import time
+import tty
 
-from harness import INITCTL, INITD, SEARCHED, TOP, Run, check, initd, wait_for, write
+from harness import INITCTL, INITD, SEARCHED, TOP, Run, check, initd, wait_for, without_comments, write
 
 FAILING = {
     "a.conf": "start on startup\nstop on shutdown\nexec sleep 1000\n",
@@ -68,7 +71,7 @@ def an_image_and_a_file(work, folder):
     check("the first line quotes its paths", first, f"# initd replay '{image}' '{quoted}' --env {SEARCHED}")
     shell = f'initd() {{ "{INITD}" "$@"; }}\n{first[2:]}\n'
     again = subprocess.run(["sh", "-c", shell], capture_output=True, text=True, timeout=60)
-    check("the first line replays what was told", (again.stdout, again.returncode), (told.read_text(), 0))
+    check("the first line replays what was told", (again.stdout, again.returncode), (without_comments(told.read_text()), 0))
     check("much was told", len(told.read_text().splitlines()) > 50, True)
     broken = work / "broken image"
     broken.write_bytes(image.read_bytes()[:-1])
@@ -100,6 +103,62 @@ def nobody_reads(work, folder):
         said = run.err.read_text()
         check("lost lines are counted", bool(re.fullmatch(r"initd: \d+ lines of what happens are lost: nobody read them\n", said)), True)
         check("the others are whole", read.endswith(b"\n") and len(read) > 500_000, True)
+    finally:
+        os.close(reader)
+        run.end()
+
+
+def read_all(reader, seconds=2):
+    """What can be read, until nothing comes for some time."""
+    os.set_blocking(reader, False)
+    read = b""
+    end = time.time() + seconds
+    while time.time() < end:
+        try:
+            read += os.read(reader, 65_536)
+            end = time.time() + seconds
+        except BlockingIOError:
+            time.sleep(0.01)
+    return read
+
+
+def a_stopped_terminal(work, folder):
+    """A terminal that is stopped (stty(1), Control-S) holds nobody up, nor does one that nobody reads; its lines come later."""
+    reader, terminal = pty.openpty()
+    tty.setraw(terminal)
+    told = work / "terminal.told"
+    termios.tcflow(terminal, termios.TCOOFF)
+    run = Run(work, "terminal", folder, "--verbose", "--tell", told, stdout=terminal)
+    try:
+        wait_for(lambda: run.pid("a"))
+        for number in range(10):
+            run.ask("start", "silent", "A=" + "x" * 30_000)
+        check("an init whose terminal is stopped answers", run.ask("version")[1], 0)
+        termios.tcflow(terminal, termios.TCOON)
+        for number in range(10):
+            run.ask("start", "silent", "A=" + "y" * 30_000)
+        check("one whose terminal nobody reads does too", run.ask("version")[1], 0)
+        read = read_all(reader)
+        check("all that it told comes once it is read", read.decode() == told.read_text() and len(read) > 500_000, True)
+    finally:
+        run.end()
+        os.close(terminal)
+        os.close(reader)
+
+
+def services_keep_their_output(work):
+    """An init that waits for no reader of its output leaves that of its services as it is: they wait."""
+    folder = work / "prints"
+    write(folder, {"prints.conf": "task\nexec sh -c \"head -c 300000 /dev/zero | tr '\\0' x\"\n"})
+    reader, writer = os.pipe()
+    run = Run(work, "prints", folder, "--verbose", stdout=writer)
+    os.close(writer)
+    try:
+        run.ask("start", "--no-wait", "prints")
+        time.sleep(0.5)
+        check("a service whose output nobody reads waits", "prints start/running" in run.ask("status", "prints")[0], True)
+        read = read_all(reader)
+        check("all that it wrote comes", (read.count(b"x") >= 300_000, run.ask("status", "prints")), (True, ("prints stop/waiting\n", 0)))
     finally:
         os.close(reader)
         run.end()
@@ -156,5 +215,7 @@ def all_of(work):
     failures(work, folder)
     an_image_and_a_file(work, folder)
     nobody_reads(work, folder)
+    a_stopped_terminal(work, folder)
+    services_keep_their_output(work)
     closed_descriptors(work, folder)
     stopped_in_order(work, folder)

@@ -5,9 +5,11 @@ ghost use Rattle.up_command.specs.Disk.{Answers, EndsWith};
 use crate::command::Asked;
 use crate::disk::check_dir;
 use crate::image::{compile_dir, show_image};
+use crate::noted::Noted;
 use crate::run::run_source;
 use crate::source::replay_source;
 use std::alloc::AllocError;
+use std::fs::File;
 use std::io;
 use std::io::{BufWriter, Eprint, Write};
 use std::net::Net;
@@ -18,12 +20,15 @@ use up_replay::replay::replay_bundle;
 use up_replay::{Printed, write_printed};
 use up_text::Env;
 
-// Replays standard input, and returns the status.
-fn replay_input(rt: &(impl Input + Print + AllocGlobal)) -> io::Result<ExitStatus> {
-    let mut reader = rt.reader();
+// Replays standard input, and returns the status. If it can't be used it is said why.
+fn replay_input(rt: &(impl Input + Print + Eprint + AllocGlobal)) -> io::Result<ExitStatus> {
+    let mut reader = Noted::new(rt.reader());
     let mut writer = BufWriter::new(rt.alloc(), io::writer(rt))?;
     let status = replay_bundle(rt.alloc(), &mut reader, &mut writer);
     writer.flush()?;
+    if status == ExitStatus::Unusable {
+        reader.say_why(rt);
+    }
     Ok(status)
 }
 
@@ -48,7 +53,16 @@ pub(crate) fn print(
 /// Does what is asked for, with a base environment for a replay, prints on standard output, and returns the status: that of what is
 /// printed, `Unusable` if it can't be written, `Memory` if memory ran out. An error is that of the standard output, or memory ran out for its buffer.
 pub fn answer<
-    R: Files + Net + Processes + Clock + Input + Print + Eprint + AllocGlobal + Clone + Drop,
+    R: Files<File = File>
+        + Net
+        + Processes
+        + Clock
+        + Input
+        + Print
+        + Eprint
+        + AllocGlobal
+        + Clone
+        + Drop,
 >(rt: &R, asked: Asked, base: Env) -> io::Result<ExitStatus>
     ensures { IfOk result (Answers base asked.entry) }
 {

@@ -5,6 +5,9 @@ use std::alloc::{AllocError, Global};
 /// The longest pause between two rounds, in milliseconds.
 const MAX_PAUSE: i64 = 60_000;
 
+/// The longest time for which a client may be silent, in seconds: a day.
+const MAX_SILENCE: i64 = 86_400;
+
 // How an argument is given, and what it may be.
 #[derive(Clone, Copy)]
 enum ArgumentKind {
@@ -20,6 +23,8 @@ enum ArgumentKind {
     Count,
     // A pause in milliseconds, after its option.
     Pause,
+    // A time in seconds, after its option.
+    Timeout,
 }
 
 // An argument of a command. An option has its name after two dashes.
@@ -118,6 +123,12 @@ static SUBCOMMANDS: [Subcommand; 5] = [
                 kind: ArgumentKind::Pause,
             },
             Argument {
+                id: "client-timeout",
+                shown: "S",
+                help: "Closes a client that has sent no whole request for S seconds, while it waited for no answer: 60 if left out; with 0 never",
+                kind: ArgumentKind::Timeout,
+            },
+            Argument {
                 id: "verbose",
                 shown: "",
                 help: "Prints what the init does, in the lines of a replay",
@@ -171,6 +182,9 @@ fn arg_of<'a>(alloc: Global, argument: &Argument) -> Arg<'a> {
         ArgumentKind::Count => option(arg, argument).value_parser(value_parser!(u32).range(1..)),
         ArgumentKind::Pause => option(arg, argument).value_parser(value_parser!(u64).range(
             0..=MAX_PAUSE,
+        )),
+        ArgumentKind::Timeout => option(arg, argument).value_parser(value_parser!(u64).range(
+            0..=MAX_SILENCE,
         )),
     }
 }

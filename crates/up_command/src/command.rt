@@ -6,6 +6,7 @@ ghost use Rattle.up_model.specs.declared.exit_status.ExitStatus.TheVariants as s
 use crate::arguments::command;
 use crate::pace::MOST_PAUSE;
 use crate::run::Rounds;
+use crate::silence::MOST_SILENCE;
 use crate::teller::Telling;
 use clap::error::ErrorKind;
 use clap::{ArgMatches, Command, Error};
@@ -68,6 +69,9 @@ fn asked_run<'a>(given: &ArgMatches<'a>) -> Option<Asked<'a>> {
     let rounds = Rounds {
         count: given.get_one::<u32>("rounds").unwrap_or(u32::MAX),
         most_pause: given.get_one::<u64>("pause").unwrap_or(MOST_PAUSE),
+        client_timeout: given
+            .get_one::<u64>("client-timeout")
+            .unwrap_or(MOST_SILENCE),
     };
     let telling = Telling {
         verbose: is_set(given, "verbose"),

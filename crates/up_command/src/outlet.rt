@@ -2,13 +2,21 @@
 use mio::unix::SourceFd;
 use mio::{Events, Interest, Poll, Token};
 use std::alloc::Global;
+use std::fs::{File, OpenOptions, metadata};
 use std::io;
-use std::io::Write;
+use std::io::{ErrorKind, Write};
 use std::net::Net;
+use std::os::fd::OwnedFd;
+use std::os::unix::fs::{FileTypeExt, MetadataExt};
+use std::os::unix::net::UnixStream;
+use std::rt::Files;
 use std::time::Duration;
 
 /// The descriptor of standard output.
 const OUTPUT: i32 = 1;
+
+/// The path by which it is opened once more (proc(5)).
+const OUTPUT_PATH: &str = "/proc/self/fd/1";
 
 /// So many bytes are written at once. A pipe that takes any takes so many (pipe(7), PIPE_BUF).
 const MOST_AT_ONCE: usize = 4_096;
@@ -19,6 +27,11 @@ const MOST_UNREAD: usize = 1_048_576;
 /// So often standard output is asked at a time whether it takes bytes: all that may wait can be written.
 const MOST_WRITES: usize = 257;
 
+/// The kinds of device of a terminal that a program plays, as in a window (pts(4)); the kernel's list of devices has their numbers.
+const PLAYED_FIRST: u64 = 136;
+
+const PLAYED_LAST: u64 = 143;
+
 // What tells whether standard output takes bytes now.
 #[derive(Drop)]
 struct Watch {
@@ -26,16 +39,64 @@ struct Watch {
     events: Events,
 }
 
+// How bytes get to standard output without a wait.
+#[derive(Drop)]
+enum Way {
+    // standard output opened once more; a write to it that would wait is refused
+    Anew(File),
+    // standard output itself, at moments at which it takes bytes
+    Watched(Watch),
+    // a file, which always takes bytes
+    Plain,
+}
+
 /// Standard output, to which lines are told as far as it takes them at once. The others wait, and past a limit they are lost.
 #[derive(Drop)]
 pub(crate) struct Outlet {
-    // none where the system can't tell, as of a file, which always takes bytes
-    watch: Option<Watch>,
+    way: Way,
     waiting: Vec<u8>,
     // how many of the bytes that wait are written
     written: usize,
     // how many lines were lost
     lost: u64,
+}
+
+// The kind of a device (makedev(3)).
+fn major_of(device: u64) -> u64 {
+    (device >> 8) % 4_096
+}
+
+// Opens a pipe to be written. Without a reader that would wait for one, so that it is read as well for a moment.
+fn open_pipe<R: Files<File = File>>(rt: &R) -> io::Result<File> {
+    let both = OpenOptions::new()
+        .read(true)
+        .write(true)
+        .open(rt, OUTPUT_PATH)?;
+    let opened = OpenOptions::new().write(true).open(rt, OUTPUT_PATH);
+    drop(both);
+    opened
+}
+
+// Standard output opened once more, if that is sure not to wait: a pipe, or a terminal that a program plays.
+fn open_output<R: Files<File = File>>(rt: &R) -> io::Result<File> {
+    let found = metadata(rt, OUTPUT_PATH)?;
+    let kind = found.file_type();
+    let major = major_of(found.rdev());
+    if kind.is_fifo() {
+        open_pipe(rt)
+    } else if kind.is_char_device() && PLAYED_FIRST <= major && major <= PLAYED_LAST {
+        OpenOptions::new().write(true).open(rt, OUTPUT_PATH)
+    } else {
+        Err(io::Error::from(ErrorKind::Unsupported))
+    }
+}
+
+// The same, so that a write that would wait is refused. That holds for what was opened here alone: services keep an output that waits.
+fn open_anew<R: Files<File = File>>(rt: &R) -> io::Result<File> {
+    let output = open_output(rt)?;
+    let same = UnixStream::from(OwnedFd::from(output.try_clone()?));
+    same.set_nonblocking(true)?;
+    Ok(output)
 }
 
 // A watch over standard output, if the system can watch it.
@@ -47,6 +108,16 @@ fn watched<R: Net>(rt: &R, alloc: Global) -> Option<Watch> {
         .ok()?;
     let events = Events::with_capacity(alloc, 1).ok()?;
     Some(Watch { poll, events })
+}
+
+fn way_of<R: Files<File = File> + Net>(rt: &R, alloc: Global) -> Way {
+    if let Ok(output) = open_anew(rt) {
+        return Way::Anew(output);
+    }
+    match watched(rt, alloc) {
+        Some(watch) => Way::Watched(watch),
+        None => Way::Plain,
+    }
 }
 
 // How many lines end in a text.
@@ -78,46 +149,70 @@ impl Watch {
     }
 }
 
+// How many of the bytes an output took that refuses what would wait.
+fn write_some(output: &mut File, bytes: &[u8]) -> io::Result<usize> {
+    match output.write(bytes) {
+        Err(error) if matches!(error.kind(), ErrorKind::WouldBlock | ErrorKind::Interrupted) => {
+            Ok(0)
+        }
+        written => written,
+    }
+}
+
+fn write_all<R: Print>(rt: &R, bytes: &[u8]) -> io::Result<usize> {
+    let mut writer = io::writer(rt);
+    writer.write_all(bytes)?;
+    writer.flush()?;
+    Ok(bytes.len())
+}
+
+impl Way {
+    // How many of the bytes standard output took; 0 if it takes none now.
+    fn write<R: Print>(&mut self, rt: &R, bytes: &[u8]) -> io::Result<usize> {
+        match self {
+            Way::Anew(output) => write_some(output, bytes),
+            Way::Watched(watch) => {
+                if watch.takes() {
+                    write_all(rt, bytes)
+                } else {
+                    Ok(0)
+                }
+            }
+            Way::Plain => write_all(rt, bytes),
+        }
+    }
+}
+
 impl Outlet {
     /// Standard output, to which nothing was told.
-    pub(crate) fn new<R: Net>(rt: &R, alloc: Global) -> Self {
+    pub(crate) fn new<R: Files<File = File> + Net>(rt: &R, alloc: Global) -> Self {
         Outlet {
-            watch: watched(rt, alloc),
+            way: way_of(rt, alloc),
             waiting: Vec::new(alloc),
             written: 0,
             lost: 0,
         }
     }
 
-    fn takes(&mut self) -> bool {
-        match &mut self.watch {
-            Some(watch) => watch.takes(),
-            None => true,
-        }
-    }
-
-    // Writes the next of the bytes that wait. Without such nothing waits any more.
-    fn write_next<R: Print>(&mut self, rt: &R) -> io::Result<()> {
+    // Writes the next of the bytes that wait, and answers how many it was. Without such nothing waits any more.
+    fn write_next<R: Print>(&mut self, rt: &R) -> io::Result<usize> {
         let left = self.waiting.get(self.written..).unwrap_or(&[]);
         let next = left.get(..MOST_AT_ONCE).unwrap_or(left);
-        let mut writer = io::writer(rt);
-        writer.write_all(next)?;
-        writer.flush()?;
-        self.written = self.written.saturating_add(next.len());
+        let count = self.way.write(rt, next)?;
+        self.written = self.written.saturating_add(count);
         if self.written >= self.waiting.len() {
             self.waiting.clear();
             self.written = 0;
         }
-        Ok(())
+        Ok(count)
     }
 
     /// Writes what waits, as far as standard output takes it at once.
     pub(crate) fn flush<R: Print>(&mut self, rt: &R) -> io::Result<()> {
         for _ in 0..MOST_WRITES {
-            if self.waiting.is_empty() || !self.takes() {
+            if self.waiting.is_empty() || self.write_next(rt)? == 0 {
                 return Ok(());
             }
-            self.write_next(rt)?;
         }
         Ok(())
     }

@@ -2,16 +2,18 @@
 
 use crate::answer::print;
 use crate::failures::say_failures;
+use crate::faults::host_faults;
 use crate::head::log_head;
 use crate::jobs::read_jobs;
 use crate::outlet::Outlet;
 use crate::pace::{Pace, SHORT_PAUSE, is_idle};
 use crate::record::open_file;
+use crate::silence::Silences;
 use crate::socket::say_no_socket;
 use crate::teller::{Teller, Telling};
 use crate::why::say_error;
 use std::alloc::{AllocError, Global};
-use std::fs::{OpenFile, remove_file};
+use std::fs::{File, OpenFile, remove_file};
 use std::io::{Eprint, Write};
 use std::net::Net;
 use std::process::Processes;
@@ -20,7 +22,7 @@ use std::time::Duration;
 use std::{io, thread};
 use up_daemon::{Daemon, Door, SocketFault, UnixDoor};
 use up_engine::Engine;
-use up_host::RealHost;
+use up_host::{Host, RealHost};
 use up_image::Table;
 use up_model::{Event, ExitStatus, Input};
 use up_replay::cannot_use;
@@ -29,19 +31,23 @@ use up_text::{Env, Name};
 /// The folders in which the programs of jobs are looked for.
 const SEARCHED: &str = "/usr/sbin:/usr/bin:/sbin:/bin";
 
-/// The rounds of a run, and its pauses.
+/// The rounds of a run, its pauses, and how long a client may be silent.
 #[derive(Clone, Copy, PartialEq, Eq)]
 pub struct Rounds {
     /// How many rounds there are.
     pub count: u32,
     /// The longest pause after a round that did nothing, in milliseconds; 0 for none.
     pub most_pause: u64,
+    /// How long a client may be silent that waits for nothing, in seconds; 0 for ever.
+    pub client_timeout: u64,
 }
 
-// How a run goes on from round to round: how long it pauses, and whether nothing is said of jobs that fail.
+// How a run goes on from round to round: how long it pauses, how long clients have been silent, and whether nothing is said of jobs that
+// fail.
 #[derive(Drop)]
 struct Going {
     pace: Pace,
+    silences: Silences,
     quiet: bool,
 }
 
@@ -124,15 +130,21 @@ where
     R: Processes + Clock + Print + Eprint + AllocGlobal,
     W: Write + OpenFile + Drop,
 {
+    let faults = host.faults();
     let Ok(round) = daemon.round(host, door) else {
         return false;
     };
     let idle = is_idle(&round, door.happened());
     teller.tell(rt, rt.alloc(), &round, idle);
+    let counted = host.faults().saturating_sub(faults);
+    let faults = host_faults(round.fed.as_slice(), host.happened(), counted);
+    teller.tell_faults(rt, rt.alloc(), &faults, door.failed());
     if !going.quiet && !idle {
         say_failures(rt, &round, host.refusals());
     }
     drop(round);
+    going.silences.note(host.happened(), door.happened());
+    door.dismiss(going.silences.silent_client(daemon));
     going.pace.note(idle);
     rest(rt, door, &going.pace);
     true
@@ -202,10 +214,11 @@ fn serve_with<
     };
     let going = Going {
         pace: Pace::new(rounds.most_pause),
+        silences: Silences::new(rt.alloc(), rounds.client_timeout),
         quiet,
     };
     let status = all_rounds(rt, daemon, (&mut host, door), rounds.count, going, teller);
-    teller.finish(rt);
+    teller.finish(rt, rt.alloc(), host.faults(), door.faults());
     drop(host);
     Ok(status)
 }
@@ -241,11 +254,11 @@ fn no_socket<R: Files + Net + Print + Eprint + AllocGlobal>(
 }
 
 // What tells of a run, once its files are there; or the path of one that can't be made.
-fn teller_of<'a, R: Files + Net + Eprint + AllocGlobal>(
+fn teller_of<'a, R: Files<File = File> + Net + Eprint + AllocGlobal>(
     rt: &R,
     source: &str,
     telling: Telling<'a>,
-) -> Result<Result<Teller<R::File>, &'a str>, AllocError> {
+) -> Result<Result<Teller<File>, &'a str>, AllocError> {
     let head = log_head(rt.alloc(), source, telling.log.unwrap_or("-"), SEARCHED)?;
     let Some(log) = open_file(rt, telling.log, telling.over) else {
         drop(head);
@@ -270,7 +283,7 @@ fn record_run<R>(
     telling: Telling,
 ) -> io::Result<ExitStatus>
 where
-    R: Files + Net + Processes + Clock + Print + Eprint + AllocGlobal + Clone + Drop,
+    R: Files<File = File> + Net + Processes + Clock + Print + Eprint + AllocGlobal + Clone + Drop,
 {
     match teller_of(rt, source, telling) {
         Ok(Ok(mut teller)) => {
@@ -300,7 +313,7 @@ fn run_jobs<R>(
     telling: Telling,
 ) -> io::Result<ExitStatus>
 where
-    R: Files + Net + Processes + Clock + Print + Eprint + AllocGlobal + Clone + Drop,
+    R: Files<File = File> + Net + Processes + Clock + Print + Eprint + AllocGlobal + Clone + Drop,
 {
     match UnixDoor::bind(rt, rt.alloc(), socket) {
         Ok(mut door) => {
@@ -325,7 +338,7 @@ fn run_found<R>(
     telling: Telling,
 ) -> io::Result<ExitStatus>
 where
-    R: Files + Net + Processes + Clock + Print + Eprint + AllocGlobal + Clone + Drop,
+    R: Files<File = File> + Net + Processes + Clock + Print + Eprint + AllocGlobal + Clone + Drop,
 {
     let Some(table) = table else {
         return Ok(printed);
@@ -345,13 +358,9 @@ where
 /// Reads the jobs of a folder or of an image, prints the faults of a folder's files, makes the socket, and does the rounds. Returns the
 /// status: `Failed` if faults were printed; `Unusable` if the folder or the image is refused, or one of them, the record, the socket or
 /// the output can't be used; `Memory` if memory ran out. Neither the socket nor the processes are touched at the end.
-pub fn run_source<R: Files + Net + Processes + Clock + Print + Eprint + AllocGlobal + Clone + Drop>(
-    rt: &R,
-    source: &str,
-    socket: &str,
-    rounds: Rounds,
-    telling: Telling,
-) -> io::Result<ExitStatus> {
+pub fn run_source<
+    R: Files<File = File> + Net + Processes + Clock + Print + Eprint + AllocGlobal + Clone + Drop,
+>(rt: &R, source: &str, socket: &str, rounds: Rounds, telling: Telling) -> io::Result<ExitStatus> {
     let jobs = read_jobs(rt, source)?;
     match print(rt, Ok(jobs.printed)) {
         Ok(printed) => run_found(rt, jobs.table, printed, (source, socket), rounds, telling),

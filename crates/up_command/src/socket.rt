@@ -44,6 +44,9 @@ pub(crate) fn say_no_socket<R: Files + Net + Eprint>(rt: &R, path: &str, fault: 
         SocketFault::Empty => say(rt, path, "an empty path names no socket"),
         SocketFault::TooLong => say(rt, path, "a socket's path has at most 101 bytes"),
         SocketFault::Exists => say_obstacle(rt, path),
+        SocketFault::Unusable(ErrorKind::ResourceBusy) => {
+            say(rt, path, "another init is being started at it")
+        }
         SocketFault::Unusable(kind) => say_error(rt, path, &io::Error::from(kind)),
         SocketFault::Memory => {}
     }

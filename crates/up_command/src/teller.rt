@@ -3,6 +3,7 @@ ghost use Rattle.std.specs.Prelude.{◌≡◌, ◌++◌, OnOk};
 ghost use Rattle.std.specs.List.{flat_map};
 ghost use Rattle.up_replay.specs.Lines.{output_lines};
 
+use crate::faults::{HostFaults, fault_count, fault_lines};
 use crate::outlet::Outlet;
 use crate::unsaid::unsaid;
 use crate::why::Reason;
@@ -11,7 +12,7 @@ use std::fmt::Display;
 use std::fs::OpenFile;
 use std::io;
 use std::io::{Eprint, Write};
-use up_daemon::Round;
+use up_daemon::{DoorCall, Round};
 use up_model::{Input, Output};
 use up_replay::{push_outputs, script_lines};
 use up_text::Items;
@@ -57,6 +58,18 @@ fn push_gave(text: &mut Vec<u8>, gave: &[Items<Output>]) -> Result<(), AllocErro
         push_outputs(text, outputs.as_slice())?;
     }
     Ok(())
+}
+
+// The lines of what a round gave.
+fn gave_lines(alloc: Global, gave: &[Items<Output>]) -> Result<Vec<u8>, AllocError> {
+    let mut text: Vec<u8> = Vec::new(alloc);
+    match push_gave(&mut text, gave) {
+        Ok(()) => Ok(text),
+        Err(refused) => {
+            drop(text);
+            Err(refused)
+        }
+    }
 }
 
 // Says that lines which were told were read by nobody.
@@ -196,13 +209,13 @@ impl<W: Write + OpenFile + Drop> Teller<W> {
         }
     }
 
-    // Tells what a round gave.
-    fn tell_gave<R: Print + Eprint>(&mut self, rt: &R, alloc: Global, gave: &[Items<Output>]) {
-        let mut text: Vec<u8> = Vec::new(alloc);
-        match push_gave(&mut text, gave) {
-            Ok(()) => {
+    // Tells lines to those who get them.
+    fn tell_lines<R: Print + Eprint>(&mut self, rt: &R, lines: Result<Vec<u8>, AllocError>) {
+        match lines {
+            Ok(text) => {
                 self.write_told(rt, text.as_slice());
                 self.print(rt, text.as_slice());
+                drop(text);
             }
             Err(_) => {
                 self.told = None;
@@ -210,6 +223,11 @@ impl<W: Write + OpenFile + Drop> Teller<W> {
                 let _ = eprintln!(rt; "initd: what happens is told no more: out of memory");
             }
         }
+    }
+
+    // Whether somebody gets the lines of what happens.
+    fn has_reader(&self) -> bool {
+        self.told.is_some() || self.verbose.is_some()
     }
 
     /// Tells of a round, which may have been idle.
@@ -221,15 +239,37 @@ impl<W: Write + OpenFile + Drop> Teller<W> {
         idle: bool,
     ) {
         self.note(rt, alloc, round.fed.as_slice(), idle);
-        if self.told.is_some() || self.verbose.is_some() {
-            self.tell_gave(rt, alloc, round.gave.as_slice());
+        if self.has_reader() {
+            self.tell_lines(rt, gave_lines(alloc, round.gave.as_slice()));
         }
     }
 
-    /// The run is over: what waits of the record is written, and what nobody read is lost.
-    pub(crate) fn finish<R: Print + Eprint>(&mut self, rt: &R) {
+    /// Tells which calls of the host and of the door failed in a round, as comments.
+    pub(crate) fn tell_faults<R: Print + Eprint>(
+        &mut self,
+        rt: &R,
+        alloc: Global,
+        host: &HostFaults,
+        door: &[DoorCall],
+    ) {
+        if self.has_reader() && (host.are_some() || !door.is_empty()) {
+            self.tell_lines(rt, fault_lines(alloc, host, door));
+        }
+    }
+
+    /// The run is over, in which so many calls of the host and of the door failed: that is told, what waits of the record is written, and
+    /// what nobody read is lost.
+    pub(crate) fn finish<R: Print + Eprint>(
+        &mut self,
+        rt: &R,
+        alloc: Global,
+        host: u64,
+        door: u64,
+    ) {
         self.write_waiting(rt);
-        self.print(rt, &[]);
+        if self.has_reader() {
+            self.tell_lines(rt, fault_count(alloc, host, door));
+        }
         if let Some(outlet) = &self.verbose {
             say_lost(rt, outlet.unread());
         }

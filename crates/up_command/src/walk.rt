@@ -30,6 +30,9 @@ const TOO_DEEP: &str = "a folder in it lies more than 64 levels deep";
 /// Why a folder isn't read with all that it has.
 const TOO_MANY: &str = "it has more than 65536 entries, with those of its subfolders";
 
+/// What is said of a folder with an entry whose name is no text.
+const NO_TEXT: &str = "an entry in it is passed over, whose name isn't UTF-8";
+
 /// Why a folder isn't read.
 #[derive(Debug, Drop)]
 pub enum WalkError {
@@ -127,12 +130,31 @@ pub fn read_file<R: Files + AllocGlobal>(rt: &R, path: &str, most: usize) -> io:
     Ok(bytes)
 }
 
-// Whether an error isn't that of one file that could be passed over: too many links are met also where a folder lies in itself.
-fn is_of_folder(error: &io::Error) -> bool {
-    matches!(
-        error.kind(),
-        ErrorKind::FilesystemLoop | ErrorKind::OutOfMemory
-    )
+// Whether what has this path leads through too many links by itself, and not by the path of its folder.
+fn is_link_to_itself<R: Files + AllocGlobal>(rt: &R, whole: &str) -> bool {
+    let Some((folder, name)) = whole.rsplit_once('/') else {
+        return false;
+    };
+    let folder = if folder.is_empty() { "/" } else { folder };
+    let Ok(mut real) = fs::canonicalize(rt, folder) else {
+        return false;
+    };
+    if real.push(name).is_err() {
+        return false;
+    }
+    match fs::metadata(rt, real.as_path()) {
+        Ok(_) => false,
+        Err(error) => error.kind() == ErrorKind::FilesystemLoop,
+    }
+}
+
+// Whether an error isn't that of one file that could be passed over: memory ran out, or too many links were met since a folder lies in itself.
+fn is_of_folder<R: Files + AllocGlobal>(rt: &R, error: &io::Error, whole: &str) -> bool {
+    match error.kind() {
+        ErrorKind::OutOfMemory => true,
+        ErrorKind::FilesystemLoop => !is_link_to_itself(rt, whole),
+        _ => false,
+    }
 }
 
 // The bytes of a job file; none of another file. A pipe or a device is no file that could be read whole.
@@ -231,8 +253,10 @@ impl Found {
             Err(error) if is_source(path.as_str()) => {
                 Err(refused(rt, error, whole.as_str(), whole.as_str()))
             }
-            Err(error) if is_of_folder(&error) => Err(refused(rt, error, whole.as_str(), dir)),
-            // By its name no job file: a link to nothing, what may not be looked at, or what went meanwhile.
+            Err(error) if is_of_folder(rt, &error, whole.as_str()) => {
+                Err(refused(rt, error, whole.as_str(), dir))
+            }
+            // By its name no job file: a link to nothing or to itself, what may not be looked at, or what went meanwhile.
             Err(_) => Ok(()),
         }
     }
@@ -265,6 +289,25 @@ impl Found {
         Ok(())
     }
 
+    // Passes over an entry of a folder whose name is no text, of which the system's list says no more. It counts as one.
+    fn pass_over<R: Eprint + AllocGlobal>(
+        &mut self,
+        rt: &R,
+        dir: &str,
+        whole: &str,
+    ) -> Result<(), WalkError>
+        requires { Keeps self.old.folder self.old.entries }
+        ensures refused { IfErr result (MayFail dir.now) }
+        ensures kept { OnOk result (Keeps self.new.folder self.new.entries) }
+    {
+        if self.entries >= MAX_ENTRIES {
+            return Err(unusable_since(rt, dir, TOO_MANY));
+        }
+        say(rt, whole, NO_TEXT);
+        self.entries += 1;
+        Ok(())
+    }
+
     // Takes all that a folder has.
     fn list<R: Files + Eprint + AllocGlobal + Clone + Drop>(
         &mut self,
@@ -284,6 +327,9 @@ impl Found {
         for entry in entries {
             match entry {
                 Ok(entry) => self.take_entry(rt, dir, level, entry.file_name())?,
+                Err(error) if error.kind() == ErrorKind::InvalidFilename => {
+                    self.pass_over(rt, dir, whole.as_str())?
+                }
                 Err(error) => return Err(refused(rt, error, whole.as_str(), dir)),
             }
         }
@@ -292,7 +338,7 @@ impl Found {
 }
 
 /// Reads the job files and overrides of a folder and of its subfolders. Symbolic links are followed. A folder that can't be listed, that
-/// has too many entries or too deep a subfolder, and a name that is no text, make `dir` unusable.
+/// has too many entries or too deep a subfolder, makes `dir` unusable. An entry whose name is no text is passed over, and that is said.
 pub fn walk<R: Files + Eprint + AllocGlobal + Clone + Drop>(
     rt: &R,
     dir: &str,

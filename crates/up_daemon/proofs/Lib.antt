@@ -13,3 +13,4 @@ pub mod Numberings
 pub mod Wholes
 pub mod Endings
 pub mod Departures
+pub mod Waits

@@ -1,6 +1,6 @@
 -- What a round knows of a client.
-use Rattle.std.specs.Prelude.{◌≡◌, ◌≢◌, ◌⊎◌, ◌++◌, ◌∷◌, ◌&&◌, ℕ, Bool, false, nat_lt, length, [], List, Option, None, Some, is_none, map}
-use Rattle.std.specs.List.{AllByRecursion}
+use Rattle.std.specs.Prelude.{◌≡◌, ◌≢◌, ◌⊎◌, ◌++◌, ◌∷◌, ◌&&◌, ◌||◌, ◌==◌, ℕ, Bool, false, nat_lt, length, [], List, Option, None, Some, is_none, is_some, map}
+use Rattle.std.specs.List.{AllByRecursion, list_any}
 use Rattle.up_model.specs.Requests.{RequestValue}
 use Rattle.up_model.specs.declared.request.Answer.{Answer}
 use Rattle.up_wire.specs.Answers.{answer_frames}
@@ -39,6 +39,18 @@ numbers_of peers = map (λ (peer : Peer). peer.number) peers
 -- its next request may enter: it has one, and none before that is unanswered
 abbrev pub is_ready : Peer → Bool
 is_ready peer = is_none peer.unanswered && nat_lt 0 (length peer.waiting)
+
+-- it waits for something: a request of it waits or is unanswered, or bytes wait to be written to it
+abbrev pub is_waiting : Peer → Bool
+is_waiting peer = is_some peer.unanswered || nat_lt 0 (length peer.waiting) || nat_lt 0 (length peer.answers)
+
+-- it has this number, and waits for something
+abbrev pub waits : ℕ → Peer → Bool
+waits number peer = (peer.number == number) && is_waiting peer
+
+-- some client with this number waits for something
+abbrev pub one_waits : ℕ → List Peer → Bool
+one_waits number peers = list_any (waits number) peers
 
 -- a client that has just come
 abbrev pub newcomer : ℕ → Peer

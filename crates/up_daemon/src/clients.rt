@@ -2,7 +2,7 @@
 ghost use Rattle.std.specs.List.{AllByRecursion};
 ghost use Rattle.std.specs.Prelude.{◌≡◌, ◌≤◌, ◌<◌, ◌+◌, ◌++◌, ◌∷◌, ℕ, List, [], true, false, IfOk, OnOk, IfSome, IfNone, vec_len};
 ghost use Rattle.up_daemon.specs.Connected.{AreConnected};
-ghost use Rattle.up_daemon.specs.Peers.{Peer, peer_of, peers_of, numbers_of, IsEntered, IsAtRest, IsQueued};
+ghost use Rattle.up_daemon.specs.Peers.{Peer, peer_of, peers_of, numbers_of, one_waits, IsEntered, IsAtRest, IsQueued};
 ghost use Rattle.up_daemon.specs.Rounds.{Reaches};
 ghost use Rattle.up_daemon.specs.RoundStates.{LettingIn, ReadingFrom, WritingTo, DaemonState, RoundState, HasItsClients};
 ghost use Rattle.up_daemon.specs.Seating.{seen, at_door, with_stayer, stayer};
@@ -178,6 +178,13 @@ impl Clients {
             }
         }
         None
+    }
+
+    /// Whether a client with this number waits for something.
+    pub(crate) fn waits(&self, number: u32) -> bool
+        ensures { result ≡ one_waits number (peers_of self.now.list.items) }
+    {
+        self.list.iter().any(|client| client.waits(number))
     }
 
     /// Queues the answer for the client whose request has this number, if it is still connected.

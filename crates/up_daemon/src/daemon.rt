@@ -51,6 +51,7 @@ fn do_parts<H: Host, D: Door>(work: &mut Work, host: &mut H, door: &mut D) -> Re
 impl Daemon {
     ghost use Rattle.up_daemon.specs.Daemons.{engine_of, clients_of, next_of, daemon_state, was_refused};
     ghost use Rattle.up_daemon.specs.Answering.{Told};
+    ghost use Rattle.up_daemon.specs.Peers.{one_waits};
 
     /// A daemon without clients, over this engine as it is.
     pub fn new(alloc: Global, engine: Engine) -> Self
@@ -69,6 +70,13 @@ impl Daemon {
             },
             refused: false,
         }
+    }
+
+    /// Whether a client with this number waits for something: a request of it waits or is unanswered, or an answer isn't written whole.
+    pub fn is_waiting(&self, client: u32) -> bool
+        ensures { result ≡ one_waits client (clients_of self.now) }
+    {
+        self.work.clients.waits(client)
     }
 
     /// One round: reads the clock, looks for ends, lets clients in, reads each once, lets their requests enter, turns the queue of

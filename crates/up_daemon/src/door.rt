@@ -24,7 +24,8 @@ pub trait Door {
         ensures reports { Reports Accepted (calls self.old) result (calls self.new) }
         ensures connects { ConnectsOnAccept (connected self.old) result (connected self.new) };
 
-    /// How many bytes of the client were put at the buffer's beginning; `None` if none is there yet, and 0 if it sends no more.
+    /// How many bytes of the client were put at the buffer's beginning; `None` if none is there yet, and 0 if it sends no more, or the
+    /// door hears it no more.
     fn read(&mut self, client: u32, buffer: &mut [u8]) -> Result<Option<usize>, DoorFault>
         ensures reports { Reports (λ found. Read client (option_map (λ count. take count buffer.new) found))
             (calls self.old) result (calls self.new) }

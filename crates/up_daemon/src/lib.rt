@@ -4,6 +4,7 @@
 #![tactic(auto)]
 
 mod buffer;
+mod call;
 mod clients;
 mod copies;
 mod daemon;
@@ -19,6 +20,7 @@ mod socket;
 mod unix;
 mod work;
 
+pub use call::DoorCall;
 pub use daemon::Daemon;
 pub use door::Door;
 pub use error::DaemonError;

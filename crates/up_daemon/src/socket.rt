@@ -5,8 +5,8 @@ ghost use Rattle.up_daemon.specs.Sockets.{path_refusal, IsOfSystem};
 use mio::net::UnixListener;
 use std::alloc::Global;
 use std::fs::{
-    DirBuilder, Files, Permissions, hard_link, metadata, remove_dir, remove_file, set_permissions,
-    symlink_metadata,
+    DirBuilder, File, Files, Permissions, TryLockError, hard_link, metadata, remove_dir,
+    remove_file, set_permissions, symlink_metadata,
 };
 use std::io;
 use std::io::ErrorKind;
@@ -34,6 +34,9 @@ pub enum SocketFault {
 
 /// The most bytes of a path: the system allows 107 (unix(7)), and the socket is made six bytes below it.
 const MOST_PATH: usize = 101;
+
+/// So often a folder is made that another start removes before it is locked.
+const MOST_TRIES: u32 = 8;
 
 /// The refusal of a path that no socket can have.
 pub(crate) fn path_refusal(path: &str) -> Option<SocketFault>
@@ -91,46 +94,91 @@ fn is_deserted<R: Files + Net>(rt: &R, inner: &str) -> bool {
     }
 }
 
-// Makes the folder of a socket. One that a start of this user left which was ended is made anew; it has nothing but that socket.
-fn make_folder<R: Files + Net>(rt: &R, folder: &str, inner: &str) -> io::Result<()> {
+// Makes the folder of a socket, if it isn't there. One that is there has to be that of a start of this user.
+fn make_folder(rt: &impl Files, folder: &str) -> io::Result<()> {
     let mut builder = DirBuilder::new();
     builder.mode(0o700);
-    let Err(error) = builder.create(rt, folder) else {
-        return Ok(());
-    };
-    if error.kind() != ErrorKind::AlreadyExists
-        || !is_own_folder(rt, folder)
-        || !is_deserted(rt, inner)
-    {
-        return Err(error);
+    match builder.create(rt, folder) {
+        Ok(()) => Ok(()),
+        Err(error) if error.kind() != ErrorKind::AlreadyExists => Err(error),
+        Err(_) if is_own_folder(rt, folder) => Ok(()),
+        Err(error) => Err(error),
     }
-    let _ = remove_file(rt, inner);
-    if remove_dir(rt, folder).is_err() {
-        return Err(error);
-    }
-    builder.create(rt, folder)
 }
 
-// Makes a socket in a folder that nobody else can enter, which goes afterwards.
-fn listen_through<R: Files + Net>(
+// Whether a path is still that of a folder that was opened.
+fn is_still_there(rt: &impl Files, folder: &str, opened: &File) -> bool {
+    match (symlink_metadata(rt, folder), opened.metadata()) {
+        (Ok(found), Ok(own)) => found.ino() == own.ino() && found.dev() == own.dev(),
+        _ => false,
+    }
+}
+
+// Locks a folder against all other starts, until the file is dropped or the process ends.
+fn lock(folder: &File) -> io::Result<()> {
+    match folder.try_lock() {
+        Ok(()) => Ok(()),
+        Err(TryLockError::WouldBlock) => Err(io::Error::from(ErrorKind::ResourceBusy)),
+        Err(TryLockError::Error(error)) => Err(error),
+    }
+}
+
+// The folder of a socket, locked; none if another start removed it meanwhile.
+fn locked_folder<R: Files<File = File>>(rt: &R, folder: &str) -> io::Result<Option<File>> {
+    make_folder(rt, folder)?;
+    let opened = match File::open(rt, folder) {
+        Ok(opened) => opened,
+        Err(error) if error.kind() == ErrorKind::NotFound => return Ok(None),
+        Err(error) => return Err(error),
+    };
+    lock(&opened)?;
+    if is_still_there(rt, folder, &opened) {
+        Ok(Some(opened))
+    } else {
+        Ok(None)
+    }
+}
+
+// Makes a socket in a folder that this start has locked. The socket of a start that was ended goes before, and the folder afterwards.
+fn listen_locked<R: Files + Net>(
     rt: &R,
     folder: &str,
     inner: &str,
     path: &str,
 ) -> io::Result<UnixListener> {
-    // It is told as well if the folder can't be made. A path that comes to be later, the link refuses.
-    if symlink_metadata(rt, path).is_ok() {
+    if !is_deserted(rt, inner) {
         return Err(io::Error::from(ErrorKind::AlreadyExists));
     }
-    make_folder(rt, folder, inner)?;
+    let _ = remove_file(rt, inner);
     let listener = listen_inside(rt, inner, path);
     let _ = remove_file(rt, inner);
     let _ = remove_dir(rt, folder);
     listener
 }
 
+// Makes a socket in a folder that nobody else can enter, which goes afterwards.
+fn listen_through<R: Files<File = File> + Net>(
+    rt: &R,
+    folder: &str,
+    inner: &str,
+    path: &str,
+) -> io::Result<UnixListener> {
+    for _ in 0..MOST_TRIES {
+        // It is told as well if the folder can't be made. A path that comes to be later, the link refuses.
+        if symlink_metadata(rt, path).is_ok() {
+            return Err(io::Error::from(ErrorKind::AlreadyExists));
+        }
+        if let Some(locked) = locked_folder(rt, folder)? {
+            let listener = listen_locked(rt, folder, inner, path);
+            drop(locked);
+            return listener;
+        }
+    }
+    Err(io::Error::from(ErrorKind::ResourceBusy))
+}
+
 /// A socket that its owner alone can use (mode 0600) from the first moment that it can be seen.
-pub(crate) fn listen<R: Files + Net>(
+pub(crate) fn listen<R: Files<File = File> + Net>(
     rt: &R,
     alloc: Global,
     path: &str,

@@ -1,11 +1,12 @@
 //! The door over a unix socket.
-ghost use Rattle.std.specs.Prelude.{◌≡◌, ◌≤◌, ℕ, [], false, length, None, IfOk, IfErr, IfSome, OnOk};
+ghost use Rattle.std.specs.Prelude.{◌≡◌, ◌≤◌, ℕ, [], true, false, is_some, length, None, IfOk, IfErr, IfSome, OnOk};
 ghost use Rattle.up_host.specs.Journals.{calls_of};
 ghost use Rattle.up_host.specs.Calls.{no_calls, with_failure};
 ghost use Rattle.up_daemon.specs.Clients.{has_client};
 ghost use Rattle.up_daemon.specs.Sockets.{path_refusal, IsOfSystem, SaysWhy};
 
 use crate::buffer::{copy_of, fill, zeros};
+use crate::call::DoorCall;
 use crate::door::Door;
 use crate::fault::DoorFault;
 use crate::passed::Passed;
@@ -14,7 +15,7 @@ use mio::net::{UnixListener, UnixStream};
 use mio::{Events, Interest, Poll, Token};
 use slab::Slab;
 use std::alloc::Global;
-use std::fs::Files;
+use std::fs::{File, Files};
 use std::io;
 use std::io::{ErrorKind, Read, Write};
 use std::net::Net;
@@ -36,6 +37,10 @@ pub struct UnixDoor {
     poll: Poll,
     events: Events,
     clients: Slab<UnixStream>,
+    // a client that is told to send no more once it sends nothing
+    dismissed: Option<u32>,
+    // the calls that failed since the record was emptied
+    failed: Vec<DoorCall>,
     journal: Journal<Passed>,
 }
 
@@ -73,16 +78,21 @@ fn watched(poll: &Poll, mut stream: UnixStream, token: usize) -> Arrival {
     }
 }
 
-// How many bytes the client sent; `None` if it sent none yet.
-fn receive(stream: &UnixStream, bytes: &mut [u8]) -> Result<Option<usize>, DoorFault>
-    ensures { IfOk result (λ found. IfSome found (λ count. count ≤ length bytes.old)) }
+// How many bytes the client sent; `None` if it sent none yet, and 0 if it is dismissed then.
+fn receive(
+    stream: &UnixStream,
+    bytes: &mut [u8],
+    is_dismissed: bool,
+) -> Result<Option<usize>, DoorFault>
+    ensures within { IfOk result (λ found. IfSome found (λ count. count ≤ length bytes.old)) }
+    ensures dismissed { is_dismissed ≡ true → IfOk result (λ found. is_some found ≡ true) }
 {
     let mut stream = stream;
     match stream.read(bytes) {
         Ok(count) => Ok(Some(count)),
         Err(error) => {
             if is_for_later(&error) {
-                Ok(None)
+                Ok(is_dismissed.then_some(0))
             } else {
                 Err(DoorFault)
             }
@@ -108,7 +118,11 @@ fn send(stream: &UnixStream, bytes: &[u8]) -> Result<usize, DoorFault>
 }
 
 // A door at a path that a socket can have.
-fn open<R: Files + Net>(rt: &R, alloc: Global, path: &str) -> Result<UnixDoor, SocketFault>
+fn open<R: Files<File = File> + Net>(
+    rt: &R,
+    alloc: Global,
+    path: &str,
+) -> Result<UnixDoor, SocketFault>
     ensures refused { IfErr result (λ fault. IsOfSystem fault) }
     ensures calls { IfOk result (λ door. calls_of door.journal ≡ no_calls) }
     ensures connected { IfOk result (λ door. (client : ℕ) → has_client door.clients client ≡ false) }
@@ -127,6 +141,8 @@ fn open<R: Files + Net>(rt: &R, alloc: Global, path: &str) -> Result<UnixDoor, S
         poll,
         events,
         clients: Slab::new(alloc),
+        dismissed: None,
+        failed: Vec::new(alloc),
         journal: Journal::new(alloc),
     };
     match door.watch() {
@@ -142,7 +158,11 @@ impl UnixDoor {
     /// A door at a path where nothing is yet. Its socket can be used by its owner alone. Refused for an empty path, one of more
     /// than 101 bytes, and one that exists; it is not removed when the door goes. The folder `PATH.new` in which it is made is taken
     /// over from a start of the same user that was ended.
-    pub fn bind<R: Files + Net>(rt: &R, alloc: Global, path: &str) -> Result<Self, SocketFault>
+    pub fn bind<R: Files<File = File> + Net>(
+        rt: &R,
+        alloc: Global,
+        path: &str,
+    ) -> Result<Self, SocketFault>
         ensures refused { IfErr result (λ fault. SaysWhy path.now fault) }
         ensures usable { OnOk result (path_refusal path.now ≡ None) }
         ensures calls { IfOk result (λ door. calls_of door.journal ≡ no_calls) }
@@ -172,12 +192,30 @@ impl UnixDoor {
         registry.register(&mut self.listener, Token(LISTENER), Interest::READABLE)
     }
 
-    // Counts a call that failed.
-    fn refuse(&mut self) -> DoorFault
+    /// The calls that failed since the record was emptied, oldest first. One for which there was no memory is left out.
+    pub fn failed(&self) -> &[DoorCall]
+        ensures { result.now ≡ self.now.failed.items }
+    {
+        self.failed.as_slice()
+    }
+
+    /// Dismisses a client, or none any more: a read that finds nothing of it tells that it sends no more.
+    pub fn dismiss(&mut self, client: Option<u32>)
+        ensures dismissed { self.new.dismissed ≡ client }
+        ensures failed { self.new.failed ≡ self.old.failed }
+        ensures journal { self.new.journal ≡ self.old.journal }
+        ensures clients { self.new.clients ≡ self.old.clients }
+    {
+        self.dismissed = client;
+    }
+
+    // Counts a call that failed, and keeps which, if there is memory for it.
+    fn refuse(&mut self, call: DoorCall) -> DoorFault
         ensures calls { calls_of self.new.journal ≡ with_failure (calls_of self.old.journal) }
         ensures clients { self.new.clients ≡ self.old.clients }
     {
         self.journal.count_fault();
+        let _ = self.failed.push(call);
         DoorFault
     }
 }
@@ -192,10 +230,10 @@ impl Door for UnixDoor {
 
     fn accept(&mut self) -> Result<Option<u32>, DoorFault> {
         if !self.journal.make_room() || self.clients.reserve(1).is_err() {
-            return Err(self.refuse());
+            return Err(self.refuse(DoorCall::Accept));
         }
         let Ok(client) = u32::try_from(self.clients.vacant_key()) else {
-            return Err(self.refuse());
+            return Err(self.refuse(DoorCall::Accept));
         };
         match admit(&self.listener, &self.poll, client as usize) {
             Arrival::Client(stream) => {
@@ -207,21 +245,21 @@ impl Door for UnixDoor {
                 self.journal.add(Passed::Accepted(None));
                 Ok(None)
             }
-            Arrival::Failed => Err(self.refuse()),
+            Arrival::Failed => Err(self.refuse(DoorCall::Accept)),
         }
     }
 
     fn read(&mut self, client: u32, buffer: &mut [u8]) -> Result<Option<usize>, DoorFault> {
         if !self.journal.make_room() {
-            return Err(self.refuse());
+            return Err(self.refuse(DoorCall::Read));
         }
         let Ok(mut bytes) = zeros(self.alloc, buffer.len()) else {
-            return Err(self.refuse());
+            return Err(self.refuse(DoorCall::Read));
         };
         let Some(stream) = self.clients.get(client as usize) else {
-            return Err(self.refuse());
+            return Err(self.refuse(DoorCall::Read));
         };
-        match receive(stream, &mut bytes) {
+        match receive(stream, &mut bytes, self.dismissed == Some(client)) {
             Ok(Some(count)) => {
                 bytes.truncate(count);
                 fill(buffer, &bytes);
@@ -233,19 +271,19 @@ impl Door for UnixDoor {
                 self.journal.add(Passed::Read(client, None));
                 Ok(None)
             }
-            Err(_) => Err(self.refuse()),
+            Err(_) => Err(self.refuse(DoorCall::Read)),
         }
     }
 
     fn write(&mut self, client: u32, bytes: &[u8]) -> Result<usize, DoorFault> {
         if !self.journal.make_room() {
-            return Err(self.refuse());
+            return Err(self.refuse(DoorCall::Write));
         }
         let Ok(mut told) = copy_of(self.alloc, bytes) else {
-            return Err(self.refuse());
+            return Err(self.refuse(DoorCall::Write));
         };
         let Some(stream) = self.clients.get(client as usize) else {
-            return Err(self.refuse());
+            return Err(self.refuse(DoorCall::Write));
         };
         match send(stream, bytes) {
             Ok(count) => {
@@ -253,7 +291,7 @@ impl Door for UnixDoor {
                 self.journal.add(Passed::Wrote(client, Items::new(told)));
                 Ok(count)
             }
-            Err(_) => Err(self.refuse()),
+            Err(_) => Err(self.refuse(DoorCall::Write)),
         }
     }
 
@@ -262,7 +300,7 @@ impl Door for UnixDoor {
         if self.journal.make_room() {
             self.journal.add(Passed::Closed(client));
         } else {
-            self.journal.count_fault();
+            let _ = self.refuse(DoorCall::Close);
         }
     }
 
@@ -276,5 +314,6 @@ impl Door for UnixDoor {
 
     fn clear_record(&mut self) {
         self.journal.clear();
+        self.failed.clear();
     }
 }

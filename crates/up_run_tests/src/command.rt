@@ -74,6 +74,7 @@ static ASKED: [Case; 10] = [
             rounds: Rounds {
                 count: 3,
                 most_pause: 10,
+                client_timeout: 60,
             },
             telling: Telling {
                 verbose: true,
@@ -95,6 +96,7 @@ static ASKED: [Case; 10] = [
             "--record-over",
             "--pause",
             "0",
+            "--client-timeout=1",
         ],
         Wanted::Asked(Asked::Run {
             source: "jobs",
@@ -102,6 +104,7 @@ static ASKED: [Case; 10] = [
             rounds: Rounds {
                 count: 4_294_967_295,
                 most_pause: 0,
+                client_timeout: 1,
             },
             telling: Telling {
                 verbose: false,

@@ -2,7 +2,7 @@
 ghost use Rattle.std.specs.Prelude.{◌≡◌, ◌≤◌, ◌<◌, [], None, IfOk, OnOk, IfSome, length, take, option_map};
 ghost use Rattle.up_daemon.specs.Connected.{SameClients};
 ghost use Rattle.up_daemon.specs.Hearing.{Hears, Enters, IsAnswered, IsTaken, IsPassedOver, IsReadOnce, IsWrittenOnce, most_waiting};
-ghost use Rattle.up_daemon.specs.Peers.{peer_of, is_ready};
+ghost use Rattle.up_daemon.specs.Peers.{peer_of, is_ready, is_waiting, waits};
 
 use crate::door::Door;
 use std::alloc::{AllocError, Global};
@@ -52,6 +52,20 @@ impl Client {
         ensures { result ≡ is_ready (peer_of self.now) }
     {
         self.unanswered.is_none() && self.waiting.len() > 0
+    }
+
+    /// Whether a request of it waits or is unanswered, or bytes wait to be written to it.
+    pub(crate) fn is_waiting(&self) -> bool
+        ensures { result ≡ is_waiting (peer_of self.now) }
+    {
+        self.unanswered.is_some() || self.waiting.len() > 0 || self.answers.len() > 0
+    }
+
+    /// Whether it has this number, and waits for something.
+    pub(crate) fn waits(&self, number: u32) -> bool
+        ensures { result ≡ waits number (peer_of self.now) }
+    {
+        self.number == number && self.is_waiting()
     }
 
     /// Takes bytes that it sent. False if they break a frame, after which it can't be read on.

@@ -1,0 +1,51 @@
+//! A reader that keeps why it couldn't be read.
+use crate::why::{say, say_error};
+use std::io;
+use std::io::{Eprint, ErrorKind, Read};
+use up_replay::replay::MAX_BUNDLE;
+
+/// A reader, with how many bytes were read of it, and the last error.
+#[derive(Drop)]
+pub(crate) struct Noted<R> {
+    inner: R,
+    count: u64,
+    error: Option<io::Error>,
+}
+
+impl<R: Read> Noted<R> {
+    /// A reader of which nothing was read.
+    pub(crate) fn new(inner: R) -> Self {
+        Noted {
+            inner,
+            count: 0,
+            error: None,
+        }
+    }
+
+    /// Says why the bundle on standard input can't be used, if it is that.
+    pub(crate) fn say_why<E: Eprint>(&self, rt: &E) {
+        match self.error {
+            Some(error) => say_error(rt, "-", &error),
+            None => {
+                if self.count > MAX_BUNDLE as u64 {
+                    say(rt, "-", "it has more than 67108864 bytes");
+                }
+            }
+        }
+    }
+}
+
+impl<R: Read> Read for Noted<R> {
+    ghost remaining = { λ noted. R.remaining noted.inner };
+
+    fn read(&mut self, buf: &mut [u8]) -> io::Result<usize> {
+        let read = self.inner.read(buf);
+        match read {
+            Ok(count) => self.count = self.count.saturating_add(count as u64),
+            // The reader goes on after it.
+            Err(error) if error.kind() == ErrorKind::Interrupted => {}
+            Err(error) => self.error = Some(error),
+        }
+        read
+    }
+}

@@ -1,0 +1,10 @@
+//! The calls of a door that may fail.
+
+/// A call of a door.
+#[derive(Clone, Copy, Debug, PartialEq, Eq)]
+pub enum DoorCall {
+    Accept,
+    Read,
+    Write,
+    Close,
+}
