@@ -1,5 +1,5 @@
 -- An offer to an expression that doesn't name the event changes nothing.
-use Rattle.std.proofs.Common.{◌≡◌, ℕ, zero, suc, ◌==◌, Bool, true, false, List, [], ◌∷◌, ◌++◌, Option, None, Some, refl, sym, ◌∙◌, ap, subst, eq-eqb, append-nil}
+use Rattle.std.proofs.Common.{◌≡◌, ℕ, zero, suc, true, false, List, [], ◌∷◌, ◌++◌, Option, None, Some, refl, sym, ◌∙◌, ap, subst, eq-eqb, append-nil}
 use Rattle.up_conf.specs.declared.job.JobDef.{JobDef}
 use Rattle.up_expr.specs.Trees.{Tree}
 use Rattle.up_expr.specs.Truth.{Sight}
@@ -16,7 +16,6 @@ use Rattle.up_marks.proofs.AgreeLemmas.{agrees_unnamed}
 use Rattle.up_marks.proofs.SkipLemmas.{seen_own}
 use Rattle.up_model.specs.Chronicle.{Chronicle, Expression, Offered, StartOn, StopOn}
 use Rattle.up_model.specs.Configuration.{Configuration}
-use Rattle.up_model.specs.Environments.{env_of_job}
 use Rattle.up_model.specs.Queue.{queue}
 use Rattle.up_model.specs.Readings.{event_at, env}
 use Rattle.up_model.specs.Seen.{seen, sight_of, same_expression, env_of}
@@ -37,7 +36,7 @@ use Rattle.up_book.specs.declared.past.Past.{Past}
 use Rattle.up_book.proofs.Keyed.{job-there}
 use Rattle.up_book.proofs.Ledgers.{keyed, silent, calm}
 use Rattle.up_book.proofs.Lists.{cons_same}
-use Rattle.up_book.proofs.One.{There, there, nth-all, IsKnown, known-all}
+use Rattle.up_book.proofs.One.{there, nth-all, IsKnown, known-all}
 use Rattle.up_book.proofs.Seeing.{forgets-seen, offered-spares, offered-seen, stop-known, start-of}
 use Rattle.up_book.proofs.Sights.{remembered-stop, remembered-start}
 use Rattle.up_book.proofs.Whole.{keeps-spared}

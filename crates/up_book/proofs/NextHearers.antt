@@ -1,5 +1,5 @@
 -- The first job, from one on, that hears of an event.
-use Rattle.std.proofs.Common.{◌≡◌, ℕ, zero, suc, ◌+◌, ◌*◌, ◌<◌, ◌≤◌, ◌==◌, nat_lt, Bool, true, false, ◌||◌, List, [], ◌∷◌, ◌++◌, length, map, filter, drop, Option, None, Some, option_map, IfSome, slice_get, get_or, if◌then◌else◌, refl, sym, ◌∙◌, ap, subst, arith, eq-eqb, eqb-true, ne_eqb, lt-ltb, ltb-true, ltb-false}
+use Rattle.std.proofs.Common.{◌≡◌, ℕ, zero, suc, ◌+◌, ◌*◌, ◌<◌, ◌≤◌, ◌==◌, nat_lt, Bool, true, false, ◌||◌, List, [], ◌∷◌, ◌++◌, length, map, drop, Option, None, Some, option_map, IfSome, slice_get, get_or, if◌then◌else◌, refl, sym, ◌∙◌, ap, arith, eq-eqb, eqb-true, ne_eqb, lt-ltb, ltb-true, ltb-false}
 use Rattle.std.specs.List.{AllByRecursion}
 use Rattle.std.specs.List.Sorted.{IsPartitionPoint, IsPartitionedBy}
 use Rattle.std.specs.Str.{bytes_eq}
@@ -10,12 +10,10 @@ use Rattle.up_image.specs.Index.{named}
 use Rattle.up_image.specs.declared.index.Place.{Place}
 use Rattle.up_marks.specs.Agreeing.{naming}
 use Rattle.up_marks.specs.Naming.{names, names_in, naming_in, bit_of, rank, rank_of, of_expression, Rising}
-use Rattle.up_marks.specs.Skipping.{names_event}
 use Rattle.up_model.specs.Configuration.{Configuration}
 use Rattle.up_model.specs.Values.{Bytes}
 use Rattle.up_model.specs.declared.event.Event.{Event}
 use Rattle.up_book.specs.Hearers.{hears, has_job, IsNextJob, IsNextHearer}
-use Rattle.up_book.specs.Hearing.{HasLeaves}
 use Rattle.up_book.specs.Keys.{job_at}
 use Rattle.up_book.specs.Ledgers.{HasIndex}
 use Rattle.up_book.proofs.Keyed.{job-there}
@@ -195,7 +193,7 @@ hears-so index config n job event its there has = by_case (names_in job.start_on
 pub next-hearer : (index : List Place) (config : Configuration) (event : Event) (from : ℕ) (next : Option ℕ) → HasIndex index config.jobs → IsNextJob from (named event.name index) next → IsNextHearer config (Some event) from next
 next-hearer index config event from None its is = λ n job after there. deaf-so index config n job event its there (none-before from n (named event.name index) is after)
 next-hearer index config event from (Some next) its is = (
-    is.0,
-    (λ n job after before there. deaf-so index config n job event its there (none-between from next n (named event.name index) is.2 after before)),
-    (λ job there. hears-so index config next job event its there is.1),
-  )
+  is.0,
+  (λ n job after before there. deaf-so index config n job event its there (none-between from next n (named event.name index) is.2 after before)),
+  (λ job there. hears-so index config next job event its there is.1),
+)

@@ -1,5 +1,5 @@
 -- An effect that concerns one instance: no other may move.
-use Rattle.std.proofs.Common.{◌≡◌, ℕ, zero, suc, ◌+◌, ◌≤◌, ◌==◌, Bool, true, false, not, List, [], ◌∷◌, ◌++◌, length, Option, None, Some, is_some, slice_get, bytes_eq, option_map, if◌then◌else◌, append_assoc, refl, sym, ◌∙◌, ap, subst, arith}
+use Rattle.std.proofs.Common.{◌≡◌, ℕ, zero, suc, ◌+◌, ◌==◌, Bool, true, false, not, List, [], ◌∷◌, ◌++◌, Option, None, Some, is_some, slice_get, bytes_eq, option_map, if◌then◌else◌, refl, sym, ◌∙◌, ap, subst}
 use Rattle.std.specs.Prelude.{option_and_then}
 use Rattle.std.specs.List.{AllByRecursion}
 use Rattle.up_conf.specs.declared.job.JobDef.{JobDef}
@@ -29,7 +29,7 @@ use Rattle.up_model.specs.Readings.{goal, state_of, holders, failure, made_at, s
 use Rattle.up_model.specs.Replies.{releasing}
 use Rattle.up_model.specs.Values.{Bytes}
 use Rattle.up_model.proofs.NameLaws.{AreSingle, Singles}
-use Rattle.up_model.proofs.Places.{count, one_if}
+use Rattle.up_model.proofs.Places.{count}
 use Rattle.up_model.proofs.ReplyLaws.{releasing-all}
 use Rattle.up_model.proofs.Sparing.{same-append, all-append, all-if}
 use Rattle.up_book.specs.Keeps.{AreDistinct}

@@ -4,21 +4,18 @@ use Rattle.std.specs.List.{AllByRecursion}
 use Rattle.up_conf.specs.declared.job.JobDef.{JobDef}
 use Rattle.up_model.specs.declared.input.Input.{Input}
 use Rattle.up_model.specs.declared.input.Input.TheVariants.{Turn}
-use Rattle.up_model.specs.declared.request.Answer.{Answer}
-use Rattle.up_model.specs.declared.state.Goal.{Goal}
-use Rattle.up_model.specs.declared.state.Goal.TheVariants.{Start, Stop}
+use Rattle.up_model.specs.declared.state.Goal.TheVariants.{Start}
 use Rattle.up_model.specs.declared.state.State.TheVariants.{Waiting}
 use Rattle.up_model.specs.declared.who.Who.{Who}
-use Rattle.up_model.specs.Chronicle.{Chronicle, Entry, Expression, Given, Handled, Offered, Fired, Made, Aimed, Released, Entered, Replied, StartOn, StopOn}
+use Rattle.up_model.specs.Chronicle.{Chronicle, Entry, Given, Handled, Offered, Fired, Made, Aimed, Entered, StartOn}
 use Rattle.up_model.specs.Configuration.{Configuration}
 use Rattle.up_model.specs.Answers.{after}
 use Rattle.up_model.specs.Due.{due, effect}
 use Rattle.up_model.specs.Environments.{instance_name}
-use Rattle.up_model.specs.Events.{events_at, stopped_by}
 use Rattle.up_model.specs.Events as events_of
 use Rattle.up_model.specs.Instances.{Instance, is_before, with_instance, without_instance, instances_of, all_instances, place_named, instance_named}
 use Rattle.up_model.specs.Moves.{may_leave, next_of, move, move_first}
-use Rattle.up_model.specs.Offers.{offering, offer_next, stop_of, stop_by, stop_offer, max_instances, start_of, who_called, start_who, start_by, start_offer}
+use Rattle.up_model.specs.Offers.{offering, offer_next, stop_offer, max_instances, start_of, who_called, start_who, start_by, start_offer}
 use Rattle.up_model.specs.Predicates.{is_start, entries_if, or_else}
 use Rattle.up_model.specs.Readings.{goal, state_of, blocker, made_at}
 use Rattle.up_model.specs.Replies.{releasing, asked, unless_answered, answering_hurried, answering_last}
@@ -27,8 +24,7 @@ use Rattle.up_model.specs.Values.{Bytes, Bindings}
 use Rattle.up_model.specs.Work.{moves_at}
 use Rattle.up_model.proofs.MoveLaws.{moves-few}
 use Rattle.up_model.proofs.Places.{count, one_if, bytes_refl, count-older, all_instances-older, instances-exist}
-use Rattle.up_model.proofs.ReplyLaws.{releasing-all}
-use Rattle.up_model.proofs.Sparing.{same-append, all-append, all-if}
+use Rattle.up_model.proofs.Sparing.{same-append}
 use Rattle.up_book.specs.Keeps.{AreDistinct}
 use Rattle.up_book.proofs.One.{IsKnown, known-all, called, none-of-others, apart-back}
 use Rattle.up_job.specs.Lists.{nth}

@@ -1,5 +1,5 @@
 -- No expression in force is true, after any entry but an offer that makes one true and doesn't fire it.
-use Rattle.std.proofs.Common.{◌≡◌, ℕ, zero, suc, ◌<◌, ◌≤◌, ◌==◌, Bool, true, false, List, [], ◌∷◌, ◌++◌, length, Option, None, Some, bytes_eq, if◌then◌else◌, refl, sym, ◌∙◌, ap, subst, arith, eq-eqb, eqb-true, ne_eqb, append_assoc}
+use Rattle.std.proofs.Common.{◌≡◌, ℕ, zero, suc, ◌<◌, ◌≤◌, ◌==◌, Bool, true, false, List, [], ◌∷◌, ◌++◌, length, Option, None, Some, bytes_eq, if◌then◌else◌, refl, sym, ◌∙◌, ap, subst, arith, eqb-true, ne_eqb, append_assoc}
 use Rattle.std.specs.List.{AllByRecursion}
 use Rattle.up_conf.specs.declared.job.JobDef.{JobDef}
 use Rattle.up_expr.specs.Trees.{Tree, One, Both, Either}
@@ -14,14 +14,14 @@ use Rattle.up_model.specs.Predicates.{entries_if}
 use Rattle.up_model.specs.Readings.{entry_at, made_at}
 use Rattle.up_model.specs.Seen.{same_expression, seen, holds, taken}
 use Rattle.up_model.specs.Values.{Bytes}
-use Rattle.up_model.proofs.Places.{bytes_refl, bytes_same}
+use Rattle.up_model.proofs.Places.{bytes_refl}
 use Rattle.up_book.specs.Keeps.{AreDistinct}
 use Rattle.up_book.specs.Keys.{job_at}
 use Rattle.up_book.specs.Regular.{called}
 use Rattle.up_book.proofs.Keyed.{job-there}
 use Rattle.up_book.proofs.One.{apart-back, nth-apart}
 use Rattle.up_job.specs.Lists.{nth}
-use Rattle.up_marks.proofs.SkipLemmas.{seen_own, seen_other}
+use Rattle.up_marks.proofs.SkipLemmas.{seen_other}
 use Rattle.up_engine.specs.Settling.{settle_one, settle_each, settle_all}
 use Rattle.up_engine.specs.Unfired.{NoneHolds}
 use Rattle.up_engine.proofs.Acts.{Acts, stop-by, start-by}

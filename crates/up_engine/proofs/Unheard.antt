@@ -6,15 +6,14 @@ use Rattle.up_job.specs.Lists.{nth}
 use Rattle.up_job.specs.declared.instance_key.InstanceKey.{InstanceKey}
 use Rattle.up_marks.specs.Skipping.{names_event, Stops, Starts}
 use Rattle.up_marks.proofs.SkipLemmas.{skipped_offer}
-use Rattle.up_model.specs.declared.event.Event.{Event}
 use Rattle.up_model.specs.declared.event_id.EventId.{EventId}
 use Rattle.up_model.specs.declared.input.Input.TheVariants.{Turn}
-use Rattle.up_model.specs.Chronicle.{Chronicle, Entry, Expression, Given, Handled, Offered, StartOn, StopOn}
+use Rattle.up_model.specs.Chronicle.{Chronicle, Expression, Given, Handled, Offered, StartOn, StopOn}
 use Rattle.up_model.specs.Configuration.{Configuration}
 use Rattle.up_model.specs.Due.{due}
 use Rattle.up_model.specs.Instances.{Instance, instances_of}
 use Rattle.up_model.specs.Life.{wait_in}
-use Rattle.up_model.specs.Moves.{is_over, may_leave}
+use Rattle.up_model.specs.Moves.{may_leave}
 use Rattle.up_model.specs.Offers.{stop_offer, start_offer}
 use Rattle.up_model.specs.Readings.{state_of, entry_at, event_of, event_at}
 use Rattle.up_book.specs.Hearers.{hears}
@@ -22,7 +21,7 @@ use Rattle.up_book.specs.Keeps.{AreDistinct}
 use Rattle.up_book.specs.Keys.{job_at, instance_at, instance_place}
 use Rattle.up_book.proofs.Keyed.{nth-get, job-there}
 use Rattle.up_book.proofs.One.{IsKnown, known-all}
-use Rattle.up_engine.specs.Settling.{settle_one, settle_each, hear_stops, hear_start, hear, hear_all}
+use Rattle.up_engine.specs.Settling.{settle_one, settle_each, hear_stops, hear, hear_all}
 use Rattle.up_engine.specs.Unfired.{NoneHolds}
 use Rattle.up_engine.specs.Unheard.{AreUnheard}
 use Rattle.up_engine.proofs.Firing.{IsHandling}
@@ -33,7 +32,7 @@ use Rattle.up_engine.proofs.Passing.{over-offered}
 use Rattle.up_engine.proofs.Positions.{instance-here, drop-front}
 use Rattle.up_engine.proofs.Resting.{Rest, all-middle}
 use Rattle.up_engine.proofs.Settled.{one-stays}
-use Rattle.up_engine.proofs.Unfired.{none-entry, none-stop-offered, none-start-offered}
+use Rattle.up_engine.proofs.Unfired.{none-entry, none-stop-offered}
 
 -- what an offer that changes nothing leaves to a book
 pub record PassesBy (stands : Chronicle → Type 0) (places : Chronicle → EventId → Option ℕ) (config : Configuration) : Type 0 where

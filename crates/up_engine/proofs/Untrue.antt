@@ -53,9 +53,9 @@ after-untrue config input.Turn c distinct none untrue = by_event (turn_event con
         by_handled : (b : Bool) → live.handled ≡ b → NoneHolds config (after config c input.Turn)
         by_handled true is =
             other-untrue config input.Turn c distinct (λ takes. (
-              let no : live.handled ≡ false = subst TakesUp found takes in
-              let both : true ≡ false = sym is ∙ no in
-              absurd cc
+            let no : live.handled ≡ false = subst TakesUp found takes in
+            let both : true ≡ false = sym is ∙ no in
+            absurd cc
             )) untrue
         by_handled false is =
             subst (NoneHolds config) (after-taken config input.Turn c live.place distinct none (turn-takes config c live.place live.handled found is))

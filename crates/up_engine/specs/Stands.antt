@@ -1,5 +1,5 @@
 -- What an engine stands for: a chronicle of its jobs and its base environment. These are the only definitions that read its fields.
-use Rattle.std.specs.Prelude.{◌≡◌, ◌≤◌, ◌+◌, [], ◌∷◌, ℕ, Bool, true, false, List, length, take, drop, is_some, Option, None, Some, Result, Ok, Err}
+use Rattle.std.specs.Prelude.{◌≡◌, ◌≤◌, ◌+◌, ◌∷◌, ℕ, Bool, true, false, List, length, take, drop, is_some, Option, None, Some, Result, Ok, Err}
 use Rattle.up_engine.specs.declared.engine.Engine.{Engine}
 use Rattle.up_engine.specs.declared.fault.StepError.{StepError}
 use Rattle.up_engine.specs.declared.fault.StepError.TheVariants.{NotExpected, Down, Memory}

@@ -1,5 +1,5 @@
 -- What holds between two steps: nothing is left to do, and no expression in force is true, since one that comes true fires at once.
-use Rattle.std.specs.Prelude.{◌≡◌, ◌≤◌, ℕ, false, List, [], length, Some}
+use Rattle.std.specs.Prelude.{◌≡◌, ◌≤◌, ℕ, false, [], length, Some}
 use Rattle.up_book.specs.Keys.{job_at}
 use Rattle.up_book.specs.Regular.{called}
 use Rattle.up_conf.specs.declared.job.JobDef.{JobDef}

@@ -105,13 +105,7 @@ fn concern_of(on: Option<InstanceKey>) -> Concern
 }
 
 #[tactic(auto, unfolding(up_model::specs::Due::effect))]
-fn take_spawn<B: Book>(
-    setup: &Setup,
-    book: &mut B,
-    who: Who,
-    process: Process,
-    pid: u32,
-) -> Concern
+fn take_spawn<B: Book>(setup: &Setup, book: &mut B, who: Who, process: Process, pid: u32) -> Concern
     ensures after { (c : Chronicle) → B.stands book.old Resting setup.now c
         → B.stands book.new Stepping setup.now
         (model.effect setup.now (given_as.Spawned who process pid) c ++ c) }

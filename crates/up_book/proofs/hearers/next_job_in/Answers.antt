@@ -1,4 +1,4 @@
-use Rattle.std.proofs.Common.{◌≡◌, Option, Some, option_map, slice_get, drop, ◌∙◌, sym, ap, subst}
+use Rattle.std.proofs.Common.{Some, option_map, slice_get, ◌∙◌, sym, ap, subst}
 use Rattle.up_image.specs.declared.index.Place.{Place}
 use Rattle.up_book.specs.Hearers.{IsNextJob}
 use Rattle.up_book.proofs.NextHearers.{next-job}

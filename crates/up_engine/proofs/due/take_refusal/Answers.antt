@@ -1,4 +1,4 @@
-use Rattle.std.proofs.Common.{◌++◌, ◌∷◌, [], List, append_assoc, refl, subst, ap}
+use Rattle.std.proofs.Common.{◌++◌, ◌∷◌, [], List, append_assoc, refl, subst}
 use Rattle.up_book.specs.Keys.{Resting, Stepping}
 use Rattle.up_engine.proofs.Alone.{concerns-alone, end_of-own}
 use Rattle.up_engine.proofs.Effects.{effect-offers}

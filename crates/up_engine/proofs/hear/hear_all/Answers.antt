@@ -1,9 +1,9 @@
 use Rattle.std.proofs.Common.{◌∷◌, length, arith}
 use Rattle.up_book.specs.Keys.{Stepping}
 use Rattle.up_engine.specs.Settling.{hear}
-use Rattle.up_engine.proofs.Unheard.{PassesBy, HeardTo, heard-none, heard-one, heard-last, passed-to}
+use Rattle.up_engine.proofs.Unheard.{PassesBy, heard-none, heard-one, heard-last, passed-to}
 use Rattle.up_model.specs.declared.input.Input.TheVariants.{Turn}
-use Rattle.up_model.specs.Chronicle.{Chronicle, Given, Handled}
+use Rattle.up_model.specs.Chronicle.{Given, Handled}
 use Rattle.up_engine.proofs.hear.hear_all.Goals as goal
 
 pub hearers-init : goal.hearers-init

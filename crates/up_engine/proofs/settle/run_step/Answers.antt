@@ -1,12 +1,10 @@
-use Rattle.std.proofs.Common.{◌≡◌, ◌++◌, ◌∷◌, ◌∙◌, sym, ap, subst}
+use Rattle.std.proofs.Common.{◌≡◌, ◌++◌, ◌∙◌, sym, ap, subst}
 use Rattle.up_engine.specs.Settling.{settle_one, settle_all}
 use Rattle.up_model.specs.Due.{effect}
 use Rattle.up_model.specs.Replies.{answering_last}
 use Rattle.up_book.specs.Keys.{Stepping}
 use Rattle.up_engine.proofs.Hearing.{after-taken, after-other}
 use Rattle.up_engine.proofs.Quiet.{after-quiet}
-use Rattle.up_model.specs.declared.input.Input.TheVariants.{Turn}
-use Rattle.up_model.specs.Chronicle.{Chronicle, Given, Handled}
 use Rattle.up_engine.proofs.settle.run_step.Goals as goal
 
 pub returns-in-Nobody : goal.returns-in-Nobody

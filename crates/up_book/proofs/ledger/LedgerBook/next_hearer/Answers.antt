@@ -1,4 +1,4 @@
-use Rattle.std.proofs.Common.{subst, sym}
+use Rattle.std.proofs.Common.{subst}
 use Rattle.up_book.specs.Hearers.{IsNextHearer}
 use Rattle.up_book.proofs.NextHearers.{next-hearer, next-later}
 use Rattle.up_book.proofs.ledger.LedgerBook.next_hearer.Goals as goal

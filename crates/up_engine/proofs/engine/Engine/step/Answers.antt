@@ -1,4 +1,4 @@
-use Rattle.std.proofs.Common.{◌≡◌, ◌∙◌, sym, refl, ap, []}
+use Rattle.std.proofs.Common.{◌∙◌, sym, refl}
 use Rattle.up_book.specs.Keys.{Resting}
 use Rattle.up_engine.proofs.TurnLemmas.{turn_told}
 use Rattle.up_engine.proofs.LeftLemmas.{left_after, sound_after}
