@@ -1,11 +1,8 @@
 //! Calls of which a request for memory may be refused: each answers as with ample memory, or that memory ran out.
 //!
 //! `rt try --test --fail-alloc N -- memory` refuses the Nth request; `bench/faults` goes through all of them with the built tests.
-use crate::folders::{
-    BOTH, EMPTY_IMAGE, MANY, STARTUP, STARTUP_IMAGE, again, folder_of, image_of, refusal,
-};
-use std::alloc::Global;
-use std::test::Fail;
+use crate::folders::{BOTH, EMPTY_IMAGE, MANY, STARTUP, STARTUP_IMAGE, again, folder_of, refusal};
+use std::alloc::{AllocError, Global};
 use up_conf::{Fault, Folder, Report};
 use up_image::{CompileError, ImageError, Table, compile};
 
@@ -125,7 +122,7 @@ static DAMAGED: [(usize, &[u8], ImageError); 4] = [
     (111, b"\x02", ImageError::BadTable),
 ];
 
-fn damaged(alloc: Global, len: usize, end: &[u8]) -> Result<Vec<u8>, Fail> {
+fn damaged(alloc: Global, len: usize, end: &[u8]) -> Result<Vec<u8>, AllocError> {
     let front = STARTUP_IMAGE.get(..len).unwrap_or(STARTUP_IMAGE);
     let mut bytes = Vec::from_slice(alloc, front)?;
     bytes.extend_from_slice(end)?;
@@ -140,14 +137,44 @@ fn refuses_case(alloc: Global, case: &(usize, &[u8], ImageError)) -> Came {
     }
 }
 
-// What comes of the image of a folder with every stanza, read and written again.
+// What comes of an image that is read and written again.
+fn comes_back(alloc: Global, image: &[u8]) -> Came {
+    match again(alloc, image) {
+        Ok(bytes) => whole_if(bytes.as_slice() == image),
+        Err(ImageError::Memory) => Came::Refused,
+        Err(_) => Came::Otherwise,
+    }
+}
+
+fn comes_of_table(alloc: Global, table: &Table) -> Came {
+    match table.to_bytes(alloc) {
+        Ok(image) => comes_back(alloc, image.as_slice()),
+        Err(ImageError::Memory) => Came::Refused,
+        Err(_) => Came::Otherwise,
+    }
+}
+
+fn comes_of_folder(alloc: Global, folder: &Folder) -> Came {
+    match compile(alloc, folder) {
+        Ok((table, report)) => {
+            drop(report);
+            let came = comes_of_table(alloc, &table);
+            drop(table);
+            came
+        }
+        Err(CompileError::Memory) => Came::Refused,
+        Err(_) => Came::Otherwise,
+    }
+}
+
+// What comes of the image of a folder with every stanza.
 fn comes_of_many(alloc: Global) -> Came {
-    match image_of(alloc, MANY) {
-        Ok(image) => match again(alloc, image.as_slice()) {
-            Ok(bytes) => whole_if(bytes.as_slice() == image.as_slice()),
-            Err(ImageError::Memory) => Came::Refused,
-            Err(_) => Came::Otherwise,
-        },
+    match folder_of(alloc, MANY) {
+        Ok(folder) => {
+            let came = comes_of_folder(alloc, &folder);
+            drop(folder);
+            came
+        }
         Err(_) => Came::Refused,
     }
 }
