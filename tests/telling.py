@@ -146,6 +146,19 @@ def a_stopped_terminal(work, folder):
         os.close(reader)
 
 
+def a_reader_that_goes(work, folder):
+    reader, writer = os.pipe()
+    run = Run(work, "gone", folder, "--verbose", stdout=writer)
+    os.close(writer)
+    os.close(reader)
+    try:
+        check("an init whose reader went goes on", run.ask("start", "silent"), ("silent stop/waiting\n", 0))
+        said = run.err.read_text()
+        check("and says so once", (said.startswith("initd: what happens is told no more: "), said.count("\n")), (True, 1))
+    finally:
+        run.end()
+
+
 def services_keep_their_output(work):
     """An init that waits for no reader of its output leaves that of its services as it is: they wait."""
     folder = work / "prints"
@@ -216,6 +229,7 @@ def all_of(work):
     an_image_and_a_file(work, folder)
     nobody_reads(work, folder)
     a_stopped_terminal(work, folder)
+    a_reader_that_goes(work, folder)
     services_keep_their_output(work)
     closed_descriptors(work, folder)
     stopped_in_order(work, folder)

@@ -93,15 +93,21 @@ impl Silences {
         }
     }
 
-    // The place of a client that has been silent for too long. One that waits for something isn't silent.
-    fn place_of_silent(&mut self, daemon: &Daemon) -> Option<usize> {
-        for place in 0..self.list.len() {
-            let silence = self.list[place];
+    // The silence of a client that waits for something begins now, if it has lasted for too long.
+    fn excuse_waiting(&mut self, daemon: &Daemon) {
+        let (now, most) = (self.now, self.most);
+        for silence in &mut self.list {
+            if is_over(silence.since, now, most) && daemon.is_waiting(silence.client) {
+                silence.since = now;
+            }
+        }
+    }
+
+    // The first client that has been silent for too long.
+    fn first_silent(&self) -> Option<Silence> {
+        for silence in &self.list {
             if is_over(silence.since, self.now, self.most) {
-                if !daemon.is_waiting(silence.client) {
-                    return Some(place);
-                }
-                self.list[place].since = self.now;
+                return Some(*silence);
             }
         }
         None
@@ -109,8 +115,9 @@ impl Silences {
 
     /// A client that has been silent for too long. Which is named now comes last the next time, so that none keeps the others in.
     pub(crate) fn silent_client(&mut self, daemon: &Daemon) -> Option<u32> {
-        let place = self.place_of_silent(daemon)?;
-        let silence = self.list.remove(place);
+        self.excuse_waiting(daemon);
+        let silence = self.first_silent()?;
+        self.end(silence.client);
         let _ = self.list.push(silence);
         Some(silence.client)
     }

@@ -1,8 +1,8 @@
 //! The clients of the daemon, in the order in which they came.
-ghost use Rattle.std.specs.List.{AllByRecursion};
+ghost use Rattle.std.specs.List.{AllByRecursion, list_any};
 ghost use Rattle.std.specs.Prelude.{◌≡◌, ◌≤◌, ◌<◌, ◌+◌, ◌++◌, ◌∷◌, ℕ, List, [], true, false, IfOk, OnOk, IfSome, IfNone, vec_len};
 ghost use Rattle.up_daemon.specs.Connected.{AreConnected};
-ghost use Rattle.up_daemon.specs.Peers.{Peer, peer_of, peers_of, numbers_of, one_waits, IsEntered, IsAtRest, IsQueued};
+ghost use Rattle.up_daemon.specs.Peers.{Peer, peer_of, peers_of, numbers_of, waits, one_waits, IsEntered, IsAtRest, IsQueued};
 ghost use Rattle.up_daemon.specs.Rounds.{Reaches};
 ghost use Rattle.up_daemon.specs.RoundStates.{LettingIn, ReadingFrom, WritingTo, DaemonState, RoundState, HasItsClients};
 ghost use Rattle.up_daemon.specs.Seating.{seen, at_door, with_stayer, stayer};
@@ -62,6 +62,13 @@ fn write_or_close<D: Door>(client: &mut Client, door: &mut D) -> Result<bool, Al
     }
     door.close(client.number);
     Ok(false)
+}
+
+// Whether a client with this number waits for something.
+fn one_waits(clients: &[Client], number: u32) -> bool
+    ensures { result ≡ list_any (λ client. waits number (peer_of client)) clients.now }
+{
+    clients.iter().any(|client| client.waits(number))
 }
 
 impl Clients {
@@ -184,7 +191,7 @@ impl Clients {
     pub(crate) fn waits(&self, number: u32) -> bool
         ensures { result ≡ one_waits number (peers_of self.now.list.items) }
     {
-        self.list.iter().any(|client| client.waits(number))
+        one_waits(self.list.as_slice(), number)
     }
 
     /// Queues the answer for the client whose request has this number, if it is still connected.
