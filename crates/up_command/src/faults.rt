@@ -44,6 +44,13 @@ fn is_refusal(input: &Input) -> bool
     matches!(input, Input::Refused { who: _, process: _ })
 }
 
+// How many calls failed, if one did.
+fn number(failed: bool) -> u64
+    ensures { result ≡ number failed }
+{
+    if failed { 1 } else { 0 }
+}
+
 // How many starts were refused. Each is a call that failed.
 fn refusals(fed: &[Input]) -> usize
     ensures { result ≡ count_by is_refusal fed.now }
@@ -66,8 +73,8 @@ pub(crate) fn host_faults(fed: &[Input], happened: &[Happened], counted: u64) ->
     let spawns = refusals(fed) as u64;
     let signals = counted
         .saturating_sub(spawns)
-        .saturating_sub(u64::from(clock))
-        .saturating_sub(u64::from(poll));
+        .saturating_sub(number(clock))
+        .saturating_sub(number(poll));
     HostFaults {
         clock,
         poll,
@@ -104,8 +111,8 @@ pub(crate) fn fault_lines(
     door: &[DoorCall],
 ) -> Result<Vec<u8>, AllocError> {
     let mut text: Vec<u8> = Vec::new(alloc);
-    push_line(&mut text, "host", "now", u64::from(host.clock))?;
-    push_line(&mut text, "host", "poll", u64::from(host.poll))?;
+    push_line(&mut text, "host", "now", number(host.clock))?;
+    push_line(&mut text, "host", "poll", number(host.poll))?;
     push_line(&mut text, "host", "spawn", host.spawns)?;
     push_line(&mut text, "host", "signal", host.signals)?;
     for call in door {
