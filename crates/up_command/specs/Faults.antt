@@ -21,7 +21,7 @@ is_last_poll (Signalled who pid signal) = false
 is_last_poll (Now reading) = false
 
 -- a start that failed
-abbrev pub is_refusal : Input → Bool
+unfoldable pub is_refusal : Input → Bool
 is_refusal (input.Refused who process) = true
 is_refusal (input.Ended who process how) = false
 is_refusal (input.Request id request) = false

@@ -38,6 +38,7 @@ fn is_last_poll(entry: &Happened) -> bool
     matches!(entry, Happened::Polled(None))
 }
 
+#[tactic(auto, unfolding(crate::specs::Faults::is_refusal))]
 fn is_refusal(input: &Input) -> bool
     ensures { result ≡ is_refusal input.now }
 {
@@ -52,12 +53,29 @@ fn number(failed: bool) -> u64
 }
 
 // How many starts were refused. Each is a call that failed.
-fn refusals(fed: &[Input]) -> usize
+#[tactic(auto, using(crate::proofs::Counts::counted_more))]
+fn refusals(fed: &[Input]) -> u64
     ensures { result ≡ count_by is_refusal fed.now }
 {
-    fed.iter()
-        .filter(|input: &&Input| is_refusal(*input))
-        .count()
+    let mut count = 0;
+    for input in fed {
+        count += number(is_refusal(input));
+    }
+    count
+}
+
+// Whether the clock was read.
+fn has_reading(happened: &[Happened]) -> bool
+    ensures { result ≡ list_any is_reading happened.now }
+{
+    happened.iter().any(|entry| is_reading(entry))
+}
+
+// Whether a look found no end, as the last one of a round does.
+fn has_last_poll(happened: &[Happened]) -> bool
+    ensures { result ≡ list_any is_last_poll happened.now }
+{
+    happened.iter().any(|entry| is_last_poll(entry))
 }
 
 /// The calls that failed in a round with these inputs and this record, if the host counted so many. A round reads the clock once and
@@ -68,9 +86,9 @@ pub(crate) fn host_faults(fed: &[Input], happened: &[Happened], counted: u64) ->
     ensures spawns { result.spawns ≡ count_by is_refusal fed.now }
     ensures signals { result.signals ≡ counted - result.spawns - number result.clock - number result.poll }
 {
-    let clock = !happened.iter().any(|entry| is_reading(entry));
-    let poll = !happened.iter().any(|entry| is_last_poll(entry));
-    let spawns = refusals(fed) as u64;
+    let clock = !has_reading(happened);
+    let poll = !has_last_poll(happened);
+    let spawns = refusals(fed);
     let signals = counted
         .saturating_sub(spawns)
         .saturating_sub(number(clock))
