@@ -203,14 +203,13 @@ fn finds(fake: &Fake, dir: &str, found: &Found) -> bool {
 }
 
 // What fails, the names in the folder, and the path that is named.
-static FAILURES: [(At, &[u8], &str); 7] = [
+static FAILURES: [(At, &[u8], &str); 6] = [
     (At::List, b"a.conf\0", "etc"),
     (At::Name, b"a.conf\0", "etc"),
     (At::Look, b"a.conf\0", "etc/a.conf"),
     (At::Look, b"a.override\0", "etc/a.override"),
     (At::Open, b"a.conf\0", "etc/a.conf"),
     (At::Read, b"a.conf\0", "etc/a.conf"),
-    (At::Nothing, b"a.conf\0\xff\0", "etc"),
 ];
 
 // Whether the path is named; and if what fails does so because memory ran out, that is told.
@@ -224,7 +223,7 @@ fn is_named(alloc: Global, at: At, names: &'static [u8], path: &'static str) -> 
     };
     let is_named = finds(&fake, "etc", &Found::Unusable(path));
     fake.kind = ErrorKind::OutOfMemory;
-    is_named && (at == At::Nothing || finds(&fake, "etc", &Found::Memory))
+    is_named && finds(&fake, "etc", &Found::Memory)
 }
 
 #[test]
@@ -235,7 +234,7 @@ fn a_failure_is_named(rt: HostRuntime) {
 }
 
 // Names, whether they are those of files, what fails, the folder, and what a walk finds. The path of no folder is empty.
-static PIPES: [(&[u8], bool, At, &str, Found); 5] = [
+static PIPES: [(&[u8], bool, At, &str, Found); 6] = [
     (
         b"a\0a.conf\0",
         false,
@@ -247,6 +246,8 @@ static PIPES: [(&[u8], bool, At, &str, Found); 5] = [
     (b"a\0a.conf\0", true, At::Nothing, "", Found::Unusable("")),
     (b"a\0b.txt\0", true, At::Open, "/", Found::Files(0)),
     (b"a\0b.txt\0", true, At::Look, "/", Found::Files(0)),
+    // a name that is no text is passed over
+    (b"a.conf\0\xff\0", true, At::Nothing, "etc", Found::Files(1)),
 ];
 
 #[test]
