@@ -2,7 +2,7 @@
 pub mod Faults
 -- Which jobs don't hear of an event.
 pub mod Unheard
--- That no expression in force is true: one that comes true fires in the same step.
+-- What holds between two steps.
 pub mod Unfired
 -- What the effect of an input hands on.
 pub mod Effects

@@ -7,7 +7,7 @@ use Rattle.up_book.specs.declared.ledger.Ledger.{Ledger}
 use Rattle.up_model.specs.Chronicle.{Chronicle}
 use Rattle.up_model.specs.Configuration.{Configuration}
 
--- the book stands for a chronicle after which nothing is left to do
+-- the book stands for a chronicle that is at rest
 abbrev pub Rests : Configuration → Ledger → Type 0
 Rests config book = (c : Chronicle) × Stands book Resting config c × IsAtRest config c
 

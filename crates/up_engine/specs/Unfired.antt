@@ -17,7 +17,7 @@ pub record NoneHolds (config : Configuration) (c : Chronicle) : Type 0 where
   -- an instance that is still to be made has seen nothing
   pub unborn : (i : ℕ) → length c ≤ i → seen config (StopOn i) c ≡ []
 
--- nothing is left to do
+-- nothing is left to do, and none of them is true
 pub record IsAtRest (config : Configuration) (c : Chronicle) : Type 0 where
   pub rested : due config c ≡ []
   pub untrue : NoneHolds config c
