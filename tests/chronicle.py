@@ -8,8 +8,8 @@ reaches a limit of events or instances.
 import dataclasses
 
 PROCESSES = ("main", "pre-start", "post-start", "pre-stop", "post-stop")
-SIGNALS = {2: "INT", 9: "KILL", 15: "TERM"}
-JOB_COMMANDS = ("start", "stop", "restart", "status")
+SIGNALS = {1: "HUP", 2: "INT", 9: "KILL", 10: "USR1", 15: "TERM"}
+JOB_COMMANDS = ("start", "stop", "restart", "status", "reload")
 BLOCKING = ("starting", "stopping")
 
 
@@ -26,6 +26,7 @@ class Job:
     limit: tuple = (10, 5)
     kill_signal: int = 15
     kill_timeout: int = 5
+    reload_signal: int = 1
     env: tuple = ()
     export: tuple = ()
     normal: tuple = ()
@@ -39,6 +40,7 @@ class Job:
         lines += ["task"] if self.task else []
         lines += ["respawn"] if self.respawn else []
         lines += ["respawn limit %d %d" % self.limit, f"kill signal {SIGNALS[self.kill_signal]}", f"kill timeout {self.kill_timeout}"]
+        lines += [f"reload signal {SIGNALS[self.reload_signal]}"] if self.reload_signal != 1 else []
         lines += [f"env {key}" if value is None else f"env {key}={value}" for key, value in self.env]
         lines += [f"export {key}" for key in self.export]
         lines += [f"normal exit {status}" for status in self.normal]
@@ -515,7 +517,7 @@ def list_text(c):
 
 
 def request_job(c, given, command, waits, name, variables):
-    """One of the four requests that name a job: a refusal, a text to answer, or None where it is taken."""
+    """One of the five requests that name a job: a refusal, a text to answer, or None where it is taken."""
     job = c.job_named(name)
     if job is None:
         return False, f"Unknown job: {name}"
@@ -538,8 +540,11 @@ def request_job(c, given, command, waits, name, variables):
             return False, f"Job has already been stopped: {who_name(who)}"
         release(c, instance, False)
         return c.append(("Aimed", instance, "stop", variables, holders))
-    if c.state(instance) != "running":
+    if c.state(instance) != "running" or command == "reload" and not c.lives(instance, "main"):
         return False, f"Job is not running: {who_name(who)}"
+    if command == "reload":
+        c.append(("Signalled", instance, job.reload_signal, False))
+        return True, ""
     release(c, instance, False)
     return c.append(("Restarted", instance, holders))
 
@@ -625,7 +630,7 @@ def statement(given):
         return words("emit", given[1], *pairs(given[2]))
     if kind == "Request":
         _, number, command, waits, name, variables = given
-        flag = [] if waits or command in ("status", "list") else ["--no-wait"]
+        flag = [] if waits or command in ("status", "list", "reload") else ["--no-wait"]
         return words("request", number, command, *flag, *([name] if name else []), *pairs(variables))
     if kind == "Spawned":
         return words("spawned", *given[1], given[2], given[3])

@@ -16,25 +16,38 @@ import subprocess
 import sys
 import tempfile
 
-from harness import INITD, Run, check, counts, initd, write
+from harness import INITD, TOP, Run, check, counts, initd, write
 
 REFUSALS = re.compile(rb"initd: (30 BadMagic|31 BadVersion|32 Truncated|33 Trailing|34 BadTable)\n")
 
-# The image of one service, and of a folder with every field used.
+# The image of one service, and the files of a folder with every field used.
 SMALL = bytes.fromhex(
-    "55505442 0001 0001 00000070 00000001 61 00 00000000 00000000 0000000a 00000005 0f 00000005 0000 0000 0000"
+    "55505442 0002 0001 00000071 00000001 61 00 00000000 00000000 0000000a 00000005 0f 01 00000005 0000 0000 0000"
     "01 0002 00000009 2f62696e2f74727565 00000001 78 00 00 00 00 0001 00 00000007 73746172747570 0000 0000"
     "00000001 00000007 73746172747570 00000001 0000 01 0000"
 )
 WHOLE = {
     "a.conf": (
-        "task\nrespawn\nrespawn limit 3 60\nconsole none\ninstance $N\nchdir /tmp\nkill signal INT\nkill timeout 9\n"
+        "task\nrespawn\nrespawn limit 3 60\nconsole none\ninstance $N\nchdir /tmp\nkill signal INT\nkill timeout 9\nreload signal USR1\n"
         "env A=b\nenv C\nexport A C\nnormal exit 0 TERM\n"
         "exec /bin/d one two\npre-start exec /bin/e $A\npost-start script\n  true\nend script\npre-stop exec /bin/f\npost-stop exec /bin/g\n"
         "start on a X=1 and (b Y!=2 or c 3)\nstop on halt or stopped a\n"
     ),
     "net/b.conf": "start on a\nexec /bin/h\n",
 }
+
+
+# The image of that service in version 1, as programs before version 2 wrote it.
+OLD = TOP / "tests" / "images" / "version-1.image"
+
+
+def renewed(data):
+    """The image of version 2 for that of one job in version 1: with HUP after the kill signal, before which its number parts stand."""
+    at = 12
+    for flags in (1, 0, 0):
+        at += 4 + int.from_bytes(data[at : at + 4], "big") + flags
+    at += 9
+    return data[:4] + b"\0\2" + data[6:8] + (len(data) + 1).to_bytes(4, "big") + data[12:at] + b"\1" + data[at:]
 
 
 class Trial:
@@ -69,7 +82,7 @@ class Trial:
             whole.write_bytes(text)
         self.again.unlink(missing_ok=True)
         made = initd("compile", self.folder, self.again)[1]
-        return made == 0 and self.again.read_bytes() == data
+        return made == 0 and self.again.read_bytes() == (renewed(data) if data[5] == 1 else data)
 
 
 def replaced(data, values, count=None):
@@ -100,11 +113,12 @@ def at_random(data, times, chance):
 
 
 def images(work):
-    """The image of one service, and that of a folder with every field used."""
+    """The image of one service, also in version 1, and that of a folder with every field used."""
     folder, image = work / "whole", work / "whole.image"
     write(folder, WHOLE)
     check("damage: every field is compiled", initd("compile", folder, image), ("2 jobs, 0 faults\n", 0))
-    return ("one service", SMALL), ("every field", image.read_bytes())
+    check("damage: the image of version 1 says the same", renewed(OLD.read_bytes()), SMALL)
+    return ("one service", SMALL), ("one service in version 1", OLD.read_bytes()), ("every field", image.read_bytes())
 
 
 def tried(work, name, changes):
@@ -209,7 +223,7 @@ def all_of(work):
     for name, data in images(work):
         tried(work, f"{name}, as it is", [("nothing", data)])
         tried(work, f"{name}, cut", cut(data))
-        tried(work, f"{name}, a byte changed a little", replaced(data, near, 112))
+        tried(work, f"{name}, a byte changed a little", replaced(data, near, 113))
         tried(work, f"{name}, two bytes", at_random(data, 100, chance))
     frames(work, near)
 

@@ -62,6 +62,7 @@ FILES = [
     ("a kill timeout of 2,147,483,647", "kill timeout 2147483647\nexec /bin/d\n", "kill timeout 2147483648\nexec /bin/d\n", "10 BadNumber"),
     ("a normal exit of 255", "normal exit 255\nexec /bin/d\n", "normal exit 256\nexec /bin/d\n", "10 BadNumber"),
     ("signal 31", "kill signal 31\nexec /bin/d\n", "kill signal 32\nexec /bin/d\n", "11 BadSignal"),
+    ("reload signal 31", "reload signal 31\nexec /bin/d\n", "reload signal 32\nexec /bin/d\n", "11 BadSignal"),
 ]
 
 

@@ -252,6 +252,21 @@ def words_of_a_client(work):
     check("an option that stands too late", ("'--socket PATH' stands before the command" in text, "-- --socket" in text, status), (True, False, 2))
 
 
+def no_socket_named(work):
+    """Both programs go by one path if they are told none. Who may not write there is told so, and so is a second run at what a run left."""
+    place = pathlib.Path("/run/initd.socket")
+    refused = (f"initd: cannot use {place}\n", 3)
+    is_free = os.access(place.parent, os.W_OK) and not place.exists()
+    check("a run at no socket", initd("run", work / "idle", "--rounds", "1"), ("", 0) if is_free else refused)
+    check("is one at that of /run", place.exists() or not is_free, True)
+    check("a second run at it", initd("run", work / "idle", "--rounds", "1"), refused)
+    if is_free:
+        place.unlink()
+        bare = {name: value for name, value in os.environ.items() if name != "INITCTL_SOCKET"}
+        asked = subprocess.run([INITCTL, "list"], capture_output=True, text=True, env=bare, timeout=30)
+        check("a client that names no socket", (asked.stdout, asked.stderr, asked.returncode), ("", "initctl: Unable to connect\n", 1))
+
+
 def pauses(work):
     """The pauses of an idle run grow to the longest within the time that OPERATING.md says."""
     record = work / "pace.record"
@@ -279,4 +294,5 @@ def all_of(work):
     a_record_on_a_full_disk(work, folder)
     out_of_memory(work)
     words_of_a_client(work)
+    no_socket_named(work)
     pauses(work)

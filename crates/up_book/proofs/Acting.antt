@@ -73,12 +73,31 @@ number-in (input.Ended who its how) was = refl
 number-in (input.Clock reading) was = refl
 number-in input.Turn was = refl
 
-pub step-replied : (outputs more : List Output) (asked : Option Asked) (on : Option ActedOn) (config : Configuration) (c : Chronicle) (given : Input) (answer : Answer) → reply_of (number_asked asked) answer ≡ more → Asks outputs asked on config (Given given ∷ c)
-    → Asks (outputs ++ more) (answered_of asked) on config (Replied (length c) answer ∷ Given given ∷ c)
-step-replied outputs more asked on config c given answer replies s =
-    let here : entry_at (length c) (Given given ∷ c) ≡ Some (Given given) = rw (eq-eqb (length c) (length c) refl) refl in
-    let number : id_at (length c) (Given given ∷ c) ≡ number_asked asked = ap id_of here ∙ sym (number-in given (was_answered (length c) (Given given ∷ c))) ∙ sym (ap number_asked s.asked) in
-    step-answered outputs more asked on config (Given given ∷ c) answer (ap (λ o. reply_of o answer) number ∙ replies) s
+-- before the first input there is no request
+none-given : (place : ℕ) (c : Chronicle) → given_input c ≡ None → id_at place c ≡ None
+none-given place [] none = refl
+none-given place (Given given ∷ c) none = absurd (cc)
+none-given place (e ∷ c) none = by_place (length c == place) refl (none-given place c none)
+  where
+    by_place : (b : Bool) → id_of (Some e) ≡ None → id_at place c ≡ None → id_of (if b then Some e else entry_at place c) ≡ None
+    by_place true one older = one
+    by_place false one older = older
+
+number-there : (c : Chronicle) → id_at (given_place c) c ≡ number_asked (asked_of c)
+number-there c = by_input (given_input c) refl
+  where
+    was : Bool
+    was = was_answered (given_place c) c
+
+    by_input : (its : Option Input) → given_input c ≡ its → id_at (given_place c) c ≡ number_asked (asked_in its was)
+    by_input None none = none-given (given_place c) c none
+    by_input (Some its) some = ap id_of (given-there c its some).1 ∙ sym (number-in its was)
+
+pub step-replied : (outputs more : List Output) (asked : Option Asked) (on : Option ActedOn) (config : Configuration) (c : Chronicle) (answer : Answer) → reply_of (number_asked asked) answer ≡ more → Asks outputs asked on config c
+    → Asks (outputs ++ more) (answered_of asked) on config (Replied (given_place c) answer ∷ c)
+step-replied outputs more asked on config c answer replies s =
+    let number : id_at (given_place c) c ≡ number_asked asked = number-there c ∙ sym (ap number_asked s.asked) in
+    step-answered outputs more asked on config c answer (ap (λ o. reply_of o answer) number ∙ replies) s
 
 -- at the end of the step
 pub last-so : (c : Chronicle) (id : ℕ) (text : Bytes) → due_of (asked_of c) ≡ Some id → text ≡ status_if (request_instance c) c → answering_last c ≡ Replied (given_place c) (record { ok = true; text = text }) ∷ []

@@ -1,5 +1,5 @@
 -- How often an event is held is the same by what is kept and by the chronicle.
-use Rattle.std.proofs.Common.{◌≡◌, ℕ, zero, suc, ◌+◌, ◌==◌, ◌||◌, Bool, true, false, not, List, [], ◌∷◌, ◌++◌, map, Option, None, Some, option_map, if◌then◌else◌, refl, sym, ◌∙◌, ap, arith, eqb-true, eq-eqb, ne_eqb}
+use Rattle.std.proofs.Common.{◌≡◌, ℕ, zero, suc, ◌+◌, ◌==◌, ◌||◌, Bool, true, false, not, List, [], ◌∷◌, ◌++◌, map, Option, None, Some, option_map, if◌then◌else◌, refl, sym, ◌∙◌, ap, arith, eqb-true, eq-eqb, ne_eqb, subst}
 use Rattle.up_job.specs.Unblocking.{is_event}
 use Rattle.std.proofs.lemmas.Bool.{eqb-false}
 use Rattle.up_job.specs.Lists.{nth, with_at}
@@ -11,8 +11,9 @@ use Rattle.up_model.specs.declared.event.Event.{Event}
 use Rattle.up_model.specs.declared.event_id.EventId.{EventId}
 use Rattle.up_model.specs.declared.input.Input.TheVariants as input
 use Rattle.up_model.specs.Chronicle.{Chronicle, Entry, Origin, Given, Queued, StartOn, StopOn}
-use Rattle.up_model.specs.Configuration.{Configuration}
-use Rattle.up_model.specs.Held.{held_by, held_by_instances, held_by_job, held_by_jobs, has, is_held}
+use Rattle.up_model.specs.Configuration.{Configuration, job_named}
+use Rattle.up_model.specs.Files.{file_of, file_in_force, job_names, names_in_order}
+use Rattle.up_model.specs.Held.{held_by, held_by_instances, held_by_job, held_by_jobs, has, is_held, start_on_of, stop_on_of}
 use Rattle.up_model.specs.Instances.{Instance, instances_of}
 use Rattle.up_model.specs.Readings.{entry_at, holders}
 use Rattle.up_model.specs.Seen.{seen, kept}
@@ -29,9 +30,12 @@ use Rattle.up_marks.specs.Marking.{uses as mark_uses}
 use Rattle.up_marks.specs.Triggers.{Remembers, uses_by}
 use Rattle.up_marks.proofs.Firsts.{kept_first}
 use Rattle.up_marks.proofs.Markings.{kept_in_tree}
-use Rattle.up_book.specs.Keeps.{KeepsJobs}
+use Rattle.up_book.specs.Keeps.{KeepsJobs, AreDistinct}
 use Rattle.up_book.specs.Summaries.{ByEvent, holding_in, holding_at, Summary, summary, JobSummary, job_summary}
 use Rattle.up_book.specs.Views.{Places, view, job_view, holding_of}
+use Rattle.up_model.proofs.FileLaws.{file_of-job}
+use Rattle.up_book.proofs.Outgoing.{found-all}
+use Rattle.std.specs.List.{AllByRecursion}
 
 count-append : (p : ℕ) (xs ys : List ℕ) → count_in p (xs ++ ys) ≡ count_in p xs + count_in p ys
 count-append p [] ys = omega arith
@@ -132,47 +136,50 @@ trigger-used places id (Some marks) None sights p names agrees = absurd agrees
 
 -- what instances hold
 instances-used : (places : Places) (config : Configuration) (job : JobDef) (c : Chronicle) (id : EventId) (p : ℕ) (origin : Origin) (event : Event) (its : List Kept) (xs : List Instance) → Names places id p
-    → entry_at p c ≡ Some (Queued origin event) → map (view places) its ≡ map (summary config job c) xs → InstancesRemember places config job c its xs → count_in p (held_by_instances config job xs c) ≡ kept_uses id its
-instances-used places config job c id p origin event [] [] names queued same remember = refl
-instances-used places config job c id p origin event [] (x ∷ xs) names queued same remember = absurd remember
-instances-used places config job c id p origin event (k ∷ its) [] names queued same remember = absurd remember
-instances-used places config job c id p origin event (k ∷ its) (x ∷ xs) names queued same remember =
+    → entry_at p c ≡ Some (Queued origin event) → map (view places) its ≡ map (summary config job c) xs → InstancesRemember places config job c its xs → AllByRecursion (λ x. file_of config x.place c ≡ Some job) xs → count_in p (held_by_instances config xs c) ≡ kept_uses id its
+instances-used places config job c id p origin event [] [] names queued same remember files = refl
+instances-used places config job c id p origin event [] (x ∷ xs) names queued same remember files = absurd remember
+instances-used places config job c id p origin event (k ∷ its) [] names queued same remember files = absurd remember
+instances-used places config job c id p origin event (k ∷ its) (x ∷ xs) names queued same remember files =
     let first : view places k ≡ summary config job c x = cc in
     let rest : map (view places) its ≡ map (summary config job c) xs = cc in
     let hold : map (holding_of places) k.holders ≡ map (holding_at c) (holders x.place c) = ap (λ (s : Summary). s.holders) first in
-    let stops = kept job.stop_on (seen config (StopOn x.place) c) in
+    let stops = kept (stop_on_of (file_of config x.place c)) (seen config (StopOn x.place) c) in
     omega (
       arith,
-      count-append p (held_by config job x.place c) (held_by_instances config job xs c),
+      count-append p (held_by config x.place c) (held_by_instances config xs c),
       count-append p stops (holders x.place c),
+      ap (λ file. count_in p (kept (stop_on_of file) (seen config (StopOn x.place) c))) files.0,
       trigger-used places id k.stop_on job.stop_on (seen config (StopOn x.place) c) p names remember.0,
       holders-count p c origin event (holders x.place c) queued,
       ap (holder_count p) hold,
       holders-used places id k.holders p names,
-      instances-used places config job c id p origin event its xs names queued rest remember.1,
+      instances-used places config job c id p origin event its xs names queued rest remember.1 files.1,
     )
 
 -- and what jobs hold
 jobs-used : (places : Places) (config : Configuration) (c : Chronicle) (id : EventId) (p : ℕ) (origin : Origin) (event : Event) (its : List JobInstances) (triggers : List (Option (List Mark))) (jobs : List JobDef) → Names places id p
     → entry_at p c ≡ Some (Queued origin event) → map (job_view places) its ≡ map (job_summary config c) jobs → StopsRemember places config c its jobs → StartsRemember places config c triggers jobs
-    → count_in p (held_by_jobs config jobs c) ≡ uses id its + start_uses id triggers
-jobs-used places config c id p origin event [] [] [] names queued same stops starts = refl
-jobs-used places config c id p origin event [] [] (job ∷ jobs) names queued same stops starts = absurd stops
-jobs-used places config c id p origin event [] (t ∷ ts) [] names queued same stops starts = absurd starts
-jobs-used places config c id p origin event [] (t ∷ ts) (job ∷ jobs) names queued same stops starts = absurd stops
-jobs-used places config c id p origin event (j ∷ its) ts [] names queued same stops starts = absurd stops
-jobs-used places config c id p origin event (j ∷ its) [] (job ∷ jobs) names queued same stops starts = absurd starts
-jobs-used places config c id p origin event (j ∷ its) (t ∷ ts) (job ∷ jobs) names queued same stops starts =
+    → AllByRecursion (λ job. job_named job.name config.jobs ≡ Some job) jobs → count_in p (held_by_jobs config (job_names jobs) c) ≡ uses id its + start_uses id triggers
+jobs-used places config c id p origin event [] [] [] names queued same stops starts found = refl
+jobs-used places config c id p origin event [] [] (job ∷ jobs) names queued same stops starts found = absurd stops
+jobs-used places config c id p origin event [] (t ∷ ts) [] names queued same stops starts found = absurd starts
+jobs-used places config c id p origin event [] (t ∷ ts) (job ∷ jobs) names queued same stops starts found = absurd stops
+jobs-used places config c id p origin event (j ∷ its) ts [] names queued same stops starts found = absurd stops
+jobs-used places config c id p origin event (j ∷ its) [] (job ∷ jobs) names queued same stops starts found = absurd starts
+jobs-used places config c id p origin event (j ∷ its) (t ∷ ts) (job ∷ jobs) names queued same stops starts found =
     let first : job_view places j ≡ job_summary config c job = cc in
     let rest : map (job_view places) its ≡ map (job_summary config c) jobs = cc in
-    let keeps = kept job.start_on (seen config (StartOn job.name) c) in
+    let keeps = kept (start_on_of (file_in_force config job.name c)) (seen config (StartOn job.name) c) in
+    let files = subst (λ file. AllByRecursion (λ x. file_of config x.place c ≡ file) (instances_of job.name c)) found.0 (file_of-job config job.name c) in
     omega (
       arith,
-      count-append p (held_by_job config job c) (held_by_jobs config jobs c),
-      count-append p keeps (held_by_instances config job (instances_of job.name c) c),
+      count-append p (held_by_job config job.name c) (held_by_jobs config (job_names jobs) c),
+      count-append p keeps (held_by_instances config (instances_of job.name c) c),
+      ap (λ file. count_in p (kept (start_on_of file) (seen config (StartOn job.name) c))) found.0,
       trigger-used places id t job.start_on (seen config (StartOn job.name) c) p names starts.0,
-      instances-used places config job c id p origin event j.instances (instances_of job.name c) names queued (ap (λ (s : JobSummary). s.instances) first) stops.0,
-      jobs-used places config c id p origin event its ts jobs names queued rest stops.1 starts.1,
+      instances-used places config job c id p origin event j.instances (instances_of job.name c) names queued (ap (λ (s : JobSummary). s.instances) first) stops.0 files,
+      jobs-used places config c id p origin event its ts jobs names queued rest stops.1 starts.1 found.1,
     )
 
 -- whether it is among these
@@ -190,9 +197,9 @@ has-count p (x ∷ xs) = by_case (x == p) (has-count p xs)
 
 -- an event is held if what is kept uses it
 pub held : (places : Places) (jobs : List JobInstances) (triggers : List (Option (List Mark))) (config : Configuration) (c : Chronicle) (id : EventId) (p : ℕ) (origin : Origin) (event : Event) → KeepsJobs places jobs config c
-    → Remembered places jobs triggers config c → Names places id p → entry_at p c ≡ Some (Queued origin event) → is_held config p c ≡ not (uses id jobs + start_uses id triggers == 0)
-held places jobs triggers config c id p origin event keeps remembered names queued =
-    has-count p (held_by_jobs config config.jobs c) ∙ ap (λ n. not (n == 0)) (jobs-used places config c id p origin event jobs triggers config.jobs names queued keeps remembered.stops remembered.starts)
+    → Remembered places jobs triggers config c → AreDistinct config.jobs → Names places id p → entry_at p c ≡ Some (Queued origin event) → is_held config p c ≡ not (uses id jobs + start_uses id triggers == 0)
+held places jobs triggers config c id p origin event keeps remembered distinct names queued =
+    has-count p (held_by_jobs config (names_in_order config c) c) ∙ ap (λ n. not (n == 0)) (jobs-used places config c id p origin event jobs triggers config.jobs names queued keeps remembered.stops remembered.starts (found-all config.jobs distinct))
 
 -- what one change makes of the uses
 pub uses-changed : (id : EventId) (f : Kept → Kept) (at : ℕ) (its : List Kept) (k : Kept) → nth at its ≡ Some k

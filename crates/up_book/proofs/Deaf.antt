@@ -9,15 +9,15 @@ use Rattle.up_job.specs.Lists.{nth, with_at}
 use Rattle.up_job.specs.declared.instance.Instance.{Instance as Kept}
 use Rattle.up_job.specs.declared.instance_key.InstanceKey.{InstanceKey}
 use Rattle.up_job.specs.declared.instances.JobInstances.{JobInstances}
-use Rattle.up_marks.specs.Skipping.{names_event}
+use Rattle.up_marks.specs.Ruling.{may_hear}
 use Rattle.up_marks.specs.Triggers.{Remembers}
 use Rattle.up_marks.specs.declared.mark.Mark.{Mark}
-use Rattle.up_marks.proofs.AgreeLemmas.{agrees_unnamed}
+use Rattle.up_marks.proofs.Ruled.{agrees-ruled}
 use Rattle.up_marks.proofs.SkipLemmas.{seen_own}
 use Rattle.up_model.specs.Chronicle.{Chronicle, Expression, Offered, StartOn, StopOn}
 use Rattle.up_model.specs.Configuration.{Configuration}
 use Rattle.up_model.specs.Queue.{queue}
-use Rattle.up_model.specs.Readings.{event_at, env}
+use Rattle.up_model.specs.Readings.{event_at}
 use Rattle.up_model.specs.Seen.{seen, sight_of, same_expression, env_of}
 use Rattle.up_model.specs.Values.{Bindings}
 use Rattle.up_model.specs.declared.event.Event.{Event}
@@ -61,17 +61,17 @@ keyed-same key jobs kept found = by_job (nth key.job jobs) refl found
         with-same key.job (changed_in key.at (with_stop_on kept.stop_on)) jobs j is
         (ap (λ its. record j { instances = its }) (with-same key.at (with_stop_on kept.stop_on) j.instances kept found refl))
 
--- a trigger agrees with that and an event that no leaf names
-deaf-sees : (places : Places) (trigger : Option (List Mark)) (condition : Option Tree) (sights : List Sight) (e : ℕ) (event : Option Event) (environment : Bindings) → names_event condition event ≡ false
+-- a trigger agrees with that and an event that each leaf rules out
+deaf-sees : (places : Places) (trigger : Option (List Mark)) (condition : Option Tree) (sights : List Sight) (e : ℕ) (event : Option Event) (environment : Bindings) → may_hear condition event ≡ false
     → Remembers places trigger condition sights → Remembers places trigger condition (sights ++ sight_of e event environment)
 deaf-sees places trigger condition sights e None environment deaf r = subst (Remembers places trigger condition) (sym (append-nil sights)) r
 deaf-sees places None None sights e (Some event) environment deaf r = tt
 deaf-sees places (Some marks) (Some tree) sights e (Some event) environment deaf r =
-    agrees_unnamed places marks tree sights (record { event = e; name = event.name; vars = event.vars; env = environment }) deaf r
+    agrees-ruled places marks tree sights (record { event = e; name = event.name; vars = event.vars; env = environment }) deaf r
 deaf-sees places None (Some tree) sights e (Some event) environment deaf r = absurd r
 deaf-sees places (Some marks) None sights e (Some event) environment deaf r = absurd r
 
-deaf-seen : (places : Places) (trigger : Option (List Mark)) (condition : Option Tree) (config : Configuration) (x : Expression) (e : ℕ) (c : Chronicle) → same_expression x x ≡ true → names_event condition (event_at e c) ≡ false
+deaf-seen : (places : Places) (trigger : Option (List Mark)) (condition : Option Tree) (config : Configuration) (x : Expression) (e : ℕ) (c : Chronicle) → same_expression x x ≡ true → may_hear condition (event_at e c) ≡ false
     → Remembers places trigger condition (seen config x c) → Remembers places trigger condition (seen config x (Offered x e ∷ c))
 deaf-seen places trigger condition config x e c own deaf r =
     subst (Remembers places trigger condition) (sym (seen_own config x x e c own)) (deaf-sees places trigger condition (seen config x c) e (event_at e c) (env_of config x c) deaf r)
@@ -84,7 +84,7 @@ forgets-deaf past config c x e f remembered =
     let keeps : Keeps places past.instances config (Offered x e ∷ c) = keeps-spared places past.instances config c (Offered x e) f.lives (offered-spares config c x e) tt in
     forgets-seen past past config c (Offered x e) f (offered-spares config c x e) tt refl tt (λ p. refl) refl remembered keeps refl (λ id. refl) f.counted refl
 
-forgets-deaf-start : (past : Past) (config : Configuration) (c : Chronicle) (place e : ℕ) (job : JobDef) → Forgets past config c → nth place config.jobs ≡ Some job → names_event job.start_on (event_at e c) ≡ false
+forgets-deaf-start : (past : Past) (config : Configuration) (c : Chronicle) (place e : ℕ) (job : JobDef) → Forgets past config c → nth place config.jobs ≡ Some job → may_hear job.start_on (event_at e c) ≡ false
     → Forgets past config (Offered (StartOn job.name) e ∷ c)
 forgets-deaf-start past config c place e job f in_jobs deaf =
     let places = place_of past.events (queue c) in
@@ -97,13 +97,13 @@ forgets-deaf-start past config c place e job f in_jobs deaf =
     forgets-deaf past config c (StartOn job.name) e f (subst (λ ts. Remembered places past.instances ts config (Offered (StartOn job.name) e ∷ c)) same remembered)
 
 forgets-deaf-stop : (past : Past) (config : Configuration) (c : Chronicle) (key : InstanceKey) (job : JobDef) (i e : ℕ) → Forgets past config c → standing.instance_place past c key ≡ Some i → nth key.job config.jobs ≡ Some job
-    → names_event job.stop_on (event_at e c) ≡ false → Forgets past config (Offered (StopOn i) e ∷ c)
+    → may_hear job.stop_on (event_at e c) ≡ false → Forgets past config (Offered (StopOn i) e ∷ c)
 forgets-deaf-stop past config c key job i e f found in_jobs deaf =
     let places = place_of past.events (queue c) in
     let t = there places past.instances config c key i f.lives.jobs found in
     let x : Expression = StopOn t.its.place in
     let own : job ≡ t.job = cc in
-    let unnamed : names_event t.job.stop_on (event_at e c) ≡ false = subst (λ (j : JobDef). names_event j.stop_on (event_at e c) ≡ false) own deaf in
+    let unnamed : may_hear t.job.stop_on (event_at e c) ≡ false = subst (λ (j : JobDef). may_hear j.stop_on (event_at e c) ≡ false) own deaf in
     let new = deaf-seen places t.kept.stop_on t.job.stop_on config x e c (eq-eqb t.its.place t.its.place refl) unnamed (stop-known past config c key i t f) in
     let known = nth-all (IsKnown t.job.name c) key.at (Rattle.up_model.specs.Instances.instances_of t.job.name c) t.its t.in_instances (known-all t.job.name c) in
     let remembered = remembered-stop places past.instances past.starts.items config c (Offered x e) t.kept.stop_on key t.job t.its (offered-seen config c x e) f.lives.distinct t.in_jobs t.in_instances known.0 new f.remembered in
@@ -112,14 +112,14 @@ forgets-deaf-stop past config c key job i e f found in_jobs deaf =
     (forgets-deaf past config c x e f (subst (λ its. Remembered places its past.starts.items config (Offered x e ∷ c)) same remembered))
 
 -- so a ledger stands for it
-pub stands-deaf-start : (ledger : Ledger) (config : Configuration) (c : Chronicle) (n : ℕ) (job : JobDef) (e : ℕ) → Stands ledger Stepping config c → job_at config n ≡ Some job → names_event job.start_on (event_at e c) ≡ false
+pub stands-deaf-start : (ledger : Ledger) (config : Configuration) (c : Chronicle) (n : ℕ) (job : JobDef) (e : ℕ) → Stands ledger Stepping config c → job_at config n ≡ Some job → may_hear job.start_on (event_at e c) ≡ false
     → Stands ledger Stepping config (Offered (StartOn job.name) e ∷ c)
 stands-deaf-start ledger config c n job e s there deaf =
     let x = Offered (StartOn job.name) e in
     silent ledger ledger.past config c x s (forgets-deaf-start ledger.past config c n e job s.past (job-there config n job there) deaf) tt tt (calm config c x (λ its. refl) (λ j. refl) (λ j. refl))
 
 pub stands-deaf-stop : (ledger : Ledger) (config : Configuration) (c : Chronicle) (key : InstanceKey) (job : JobDef) (i e : ℕ) → Stands ledger Stepping config c → instance_place config c key ≡ Some i → job_at config key.job ≡ Some job
-    → names_event job.stop_on (event_at e c) ≡ false → Stands ledger Stepping config (Offered (StopOn i) e ∷ c)
+    → may_hear job.stop_on (event_at e c) ≡ false → Stands ledger Stepping config (Offered (StopOn i) e ∷ c)
 stands-deaf-stop ledger config c key job i e s found there deaf =
     let x = Offered (StopOn i) e in
     silent ledger ledger.past config c x s (forgets-deaf-stop ledger.past config c key job i e s.past (keyed ledger.past config c key i s.past found) (job-there config key.job job there) deaf) tt tt

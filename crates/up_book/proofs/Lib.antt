@@ -46,3 +46,4 @@ pub mod Deaf
 pub mod NextHearers
 pub mod Ledgers
 pub mod Acting
+pub mod Blocking

@@ -52,6 +52,16 @@ named-there zero (first ∷ jobs) job there distinct =
 named-there (suc n) (first ∷ jobs) job there distinct =
     rw (back job.name first.name (nth-apart n jobs job first there distinct.0)) (named-there n jobs job there distinct.1)
 
+-- so is each of the table
+found-more : (x : JobDef) (xs ys : List JobDef) → AllByRecursion (λ y. bytes_eq y.name x.name ≡ false) ys → AllByRecursion (λ y. job_named y.name xs ≡ Some y) ys
+    → AllByRecursion (λ y. job_named y.name (x ∷ xs) ≡ Some y) ys
+found-more x xs [] apart found = tt
+found-more x xs (y ∷ ys) apart found = (rw (back y.name x.name apart.0) found.0, found-more x xs ys apart.1 found.1)
+
+pub found-all : (jobs : List JobDef) → AreDistinct jobs → AllByRecursion (λ job. job_named job.name jobs ≡ Some job) jobs
+found-all [] distinct = tt
+found-all (x ∷ xs) distinct = (rw (bytes_refl x.name) refl, found-more x xs xs distinct.0 (found-all xs distinct.1))
+
 pub made-there : (at : ℕ) (job : JobDef) (x : Instance) (c : Chronicle) → nth at (instances_of job.name c) ≡ Some x → made_at x.place c ≡ Some (called job.name x.name)
 made-there at job x c here =
     let its = nth-all (IsKnown job.name c) at (instances_of job.name c) x here (known-all job.name c) in

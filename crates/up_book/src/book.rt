@@ -2,14 +2,16 @@
 ghost use Rattle.std.specs.Prelude.{◌≡◌, ◌≤◌, ℕ, true, false, List, ◌∷◌, ◌++◌, [], map, length, Option, None, Some, is_some, option_map, OnOk, IfOk, IfSome};
 ghost use Rattle.std.specs.Option.{option_copied, option_map_or};
 ghost use Rattle.up_book.specs.declared.holders.Holders.{Holders as HoldersValue};
+ghost use Rattle.up_book.specs.Asking.{given_place};
 ghost use Rattle.up_book.specs.Hearers.{IsNextHearer};
-ghost use Rattle.up_book.specs.Keeps.{is_waiting};
+ghost use Rattle.up_book.specs.Keeps.{AreDistinct, is_waiting};
 ghost use Rattle.up_book.specs.Keys.{Mode, Resting, Stepping, SpeaksOf, held_as, request_place, job_at, name_at, instance_at, instance_place};
 ghost use Rattle.up_book.specs.Regular.{called};
 ghost use Rattle.up_book.specs.Turning.{turn_at};
+ghost use Rattle.up_book.specs.Unblocking.{IsBlockedBy};
 ghost use Rattle.up_conf.specs.declared.job.JobDef.{JobDef as JobValue};
 ghost use Rattle.up_job.specs.declared.instance_key.InstanceKey.{InstanceKey as KeyValue};
-ghost use Rattle.up_marks.specs.Skipping.{names_event};
+ghost use Rattle.up_marks.specs.Ruling.{may_hear};
 ghost use Rattle.up_model.specs.declared.event_id.EventId.{EventId as EventIdValue};
 ghost use Rattle.up_model.specs.declared.input.Input.{Input as InputValue};
 ghost use Rattle.up_model.specs.declared.state.Goal.TheVariants.{Stop as goal_stop};
@@ -182,9 +184,8 @@ pub trait Book: Drop {
 
     /// The input was a request: it is answered.
     fn reply(&mut self, answer: Answer) -> Result<(), AllocError>
-        ensures { OnOk result ((config : Configuration) (c : Chronicle) (input : InputValue)
-            → stands self.old Stepping config (entry.Given input ∷ c)
-            → stands self.new Stepping config (entry.Replied (length c) answer ∷ entry.Given input ∷ c)) };
+        ensures { OnOk result ((config : Configuration) (c : Chronicle) → stands self.old Stepping config c
+            → stands self.new Stepping config (entry.Replied (given_place c) answer ∷ c)) };
 
     /// A turn takes an event up.
     fn handle(&mut self, key: EventId) -> Result<(), AllocError>
@@ -197,14 +198,22 @@ pub trait Book: Drop {
             → event_place self.old c k ≡ Some j → event_place self.new (entry.Handled e ∷ c) k ≡ Some j) };
 
     /// An event that nobody holds leaves the queue, and the client that waits for it is answered; an event that tells that it was spoilt
-    /// goes to the end, if there is one.
-    fn finish(&mut self, key: EventId, told: Option<Event>) -> Result<(), AllocError>
-        ensures { OnOk result ((config : Configuration) (c : Chronicle) (e : ℕ)
+    /// goes to the end, if there is one. Returns the instance that waited for it, if one did.
+    fn finish(
+        &mut self,
+        key: EventId,
+        told: Option<Event>,
+    ) -> Result<Option<InstanceKey>, AllocError>
+        ensures after { OnOk result ((config : Configuration) (c : Chronicle) (e : ℕ)
             → stands self.old Stepping config c
             → event_place self.old c key ≡ Some e → held.is_held config e c ≡ false
             → stands self.new Stepping config
             (telling e told ++ (replies.answering_waiter (replies.waiter e c) (held.is_spoilt e c)
-            ++ entry.Finished e ∷ c))) };
+            ++ entry.Finished e ∷ c))) }
+        ensures blocked { IfOk result (λ on. (config : Configuration) (c : Chronicle) (e : ℕ)
+            → stands self.old Stepping config c
+            → event_place self.old c key ≡ Some e → held.is_held config e c ≡ false
+            → IsBlockedBy config e c on) };
 
     /// An instance enters a state other than waiting.
     fn enter(&mut self, key: InstanceKey, state: State) -> Result<(), AllocError>
@@ -360,9 +369,11 @@ pub trait Book: Drop {
             → job_at config index ≡ Some job.now → instance_named (called job.now.name name.now) c ≡ None
             → event_place self.old c k ≡ Some j → event_place self.new (entry.Made job.now.name name.now ∷ c) k ≡ Some j) };
 
-    /// The first job, from an index of the table on, with an expression that names an event. Takes no memory.
-    fn next_hearer(&self, event: EventId, from: usize) -> Option<usize>
+    /// The first job of the table, from an index on, with an expression that names an event, by a leaf without a literal value that rules
+    /// the event out. Takes no memory.
+    fn next_hearer(&self, jobs: &[JobDef], event: EventId, from: usize) -> Option<usize>
         ensures next { (config : Configuration) (c : Chronicle) (e : ℕ) → stands self.now Stepping config c
+            → jobs.now ≡ config.jobs
             → event_place self.now c event ≡ Some e → IsNextHearer config (read.event_at e c) from result }
         ensures later { IfSome result (λ next. from ≤ next) };
 
@@ -370,15 +381,15 @@ pub trait Book: Drop {
     fn names_differ(&self)
         ensures { (mode : Mode) (config : Configuration) (c : Chronicle) → stands self.now mode config c → Singles c };
 
-    /// An offer to an expression that doesn't name the event leaves a book as it is. Does nothing.
+    /// An offer to an expression each leaf of which names another event, or rules this one out, leaves a book as it is. Does nothing.
     fn passes_by(&self)
         ensures start { (config : Configuration) (c : Chronicle) (n : ℕ) (job : JobValue) (e : ℕ)
             → stands self.now Stepping config c → job_at config n ≡ Some job
-            → names_event job.start_on (read.event_at e c) ≡ false
+            → may_hear job.start_on (read.event_at e c) ≡ false
             → stands self.now Stepping config (entry.Offered (entry.StartOn job.name) e ∷ c) }
         ensures stop { (config : Configuration) (c : Chronicle) (key : KeyValue) (job : JobValue) (i e : ℕ)
             → stands self.now Stepping config c → instance_place config c key ≡ Some i
-            → job_at config key.job ≡ Some job → names_event job.stop_on (read.event_at e c) ≡ false
+            → job_at config key.job ≡ Some job → may_hear job.stop_on (read.event_at e c) ≡ false
             → stands self.now Stepping config (entry.Offered (entry.StopOn i) e ∷ c) }
         ensures events { (c : Chronicle) (x : ExpressionValue) (e : ℕ) (k : EventIdValue)
             → event_place self.now (entry.Offered x e ∷ c) k ≡ event_place self.now c k };
@@ -489,4 +500,8 @@ pub trait Book: Drop {
     // no job but those of the table has instances
     ghost known: { (book : Self) (mode : Mode) (config : Configuration) (c : Chronicle) (job : Bytes)
         → stands book mode config c → job_named job config.jobs ≡ None → instances_of job c ≡ [] };
+
+    // no two jobs of the table have one name
+    ghost distinct: { (book : Self) (mode : Mode) (config : Configuration) (c : Chronicle)
+        → stands book mode config c → AreDistinct config.jobs };
 }

@@ -1,13 +1,15 @@
 //! Which jobs hear of an event.
-ghost use Rattle.std.specs.Prelude.{◌≡◌, ◌≤◌, length, nat_lt, true, false};
+ghost use Rattle.std.specs.Prelude.{◌≡◌, ◌≤◌, ◌&&◌, length, nat_le, nat_lt, true, false};
 ghost use Rattle.std.specs.List.Sorted.{IsPartitionPoint};
-ghost use Rattle.up_book.specs.Hearers.{IsNextJob};
+ghost use Rattle.up_book.specs.Hearers.{IsNextJob, first_from};
 ghost use Rattle.up_image.specs.Index.{named};
 ghost use Rattle.up_marks.specs.Naming.{Rising};
+ghost use Rattle.up_marks.specs.Ruling.{admits};
 
+use up_conf::JobDef;
 use up_image::Place;
-use up_marks::Index;
-use up_text::Name;
+use up_marks::{Index, admits};
+use up_model::Event;
 
 // How many of these places are of earlier jobs.
 fn earlier_len(places: &[Place], job: usize) -> usize
@@ -19,21 +21,38 @@ fn earlier_len(places: &[Place], job: usize) -> usize
     places.partition_point(|place| usize::from(place.job) < job)
 }
 
-// The first job from one on that has one of these places.
-fn next_job_in(places: &[Place], from: usize) -> Option<usize>
-    requires { Rising 0 places.now }
-    ensures { IsNextJob from places.now result }
+// Whether a place is of a job from one on, and its leaf may match an event.
+fn is_next(jobs: &[JobDef], place: &Place, event: &Event, from: usize) -> bool
+    ensures { result ≡ (nat_le from place.now.job && admits jobs.now event.now place.now) }
 {
-    let (_, later) = places.split_at(earlier_len(places, from));
-    match later.first() {
-        Some(place) => Some(usize::from(place.job)),
-        None => None,
-    }
+    from <= usize::from(place.job) && admits(jobs, place, event)
 }
 
-/// The first job from one on with a leaf that names an event. Takes no memory.
-pub(crate) fn next_job(index: &Index, name: &Name, from: usize) -> Option<usize>
-    ensures { IsNextJob from (named name.now index.now) result }
+// The job of the first of these places for which that is so.
+#[tactic(auto, using(crate::proofs::NextHearers::first_left))]
+fn first_job(jobs: &[JobDef], places: &[Place], event: &Event, from: usize) -> Option<usize>
+    ensures { result ≡ first_from (admits jobs.now event.now) from places.now }
 {
-    next_job_in(index.places(name), from)
+    for place in places {
+        if is_next(jobs, place, event, from) {
+            return Some(usize::from(place.job));
+        }
+    }
+    None
+}
+
+// The first job from one on that has one of these places with a leaf that may match an event.
+fn next_job_in(jobs: &[JobDef], places: &[Place], event: &Event, from: usize) -> Option<usize>
+    requires { Rising 0 places.now }
+    ensures { IsNextJob (admits jobs.now event.now) from places.now result }
+{
+    let (_, later) = places.split_at(earlier_len(places, from));
+    first_job(jobs, later, event, from)
+}
+
+/// The first job from one on with a leaf that may match an event. Takes no memory.
+pub(crate) fn next_job(index: &Index, jobs: &[JobDef], event: &Event, from: usize) -> Option<usize>
+    ensures { IsNextJob (admits jobs.now event.now) from (named event.now.name index.now) result }
+{
+    next_job_in(jobs, index.places(&event.name), event, from)
 }

@@ -249,11 +249,15 @@ impl Book for Ledger {
         Ok(())
     }
 
-    fn finish(&mut self, key: EventId, told: Option<Event>) -> Result<(), AllocError> {
-        let finished = self.past.finish(key);
+    fn finish(
+        &mut self,
+        key: EventId,
+        told: Option<Event>,
+    ) -> Result<Option<InstanceKey>, AllocError> {
+        let (finished, on) = self.past.finish(key);
         reply_finished(&mut self.step.outputs, self.alloc, finished)?;
         self.tell_if(told)?;
-        Ok(())
+        Ok(on)
     }
 
     fn enter(&mut self, key: InstanceKey, state: State) -> Result<(), AllocError> {
@@ -373,9 +377,9 @@ impl Book for Ledger {
         Ok(key)
     }
 
-    fn next_hearer(&self, event: EventId, from: usize) -> Option<usize> {
+    fn next_hearer(&self, jobs: &[JobDef], event: EventId, from: usize) -> Option<usize> {
         match self.past.event_at(event) {
-            Some(event) => next_job(&self.index, &event.name, from),
+            Some(event) => next_job(&self.index, jobs, event, from),
             None => None,
         }
     }
@@ -437,4 +441,6 @@ impl Book for Ledger {
     }
 
     ghost known = { λ ledger mode config c job s none. s.known job none };
+
+    ghost distinct = { λ ledger mode config c s. s.past.lives.distinct };
 }

@@ -31,6 +31,7 @@ ghost use Rattle.up_book.specs.Holding.{AllLive};
 ghost use Rattle.up_job.specs.declared.instance_key.InstanceKey.{InstanceKey as InstanceKeyValue};
 ghost use Rattle.up_book.specs.Summaries.{holding_at};
 ghost use Rattle.up_book.specs.Remembering.{StartsRemember};
+ghost use Rattle.up_book.specs.Unblocking.{IsBlockedBy};
 ghost use Rattle.up_book.specs.Views.{Places, holding_of, kept_at};
 ghost use Rattle.up_model.specs.Values.{Bindings};
 ghost use Rattle.up_model.specs.declared.state.Goal.TheVariants as aim;
@@ -178,18 +179,26 @@ impl Past {
         take_up(&mut self.events, id);
     }
 
-    /// An event that nobody holds leaves the queue. Takes no memory.
-    pub(crate) fn finish(&mut self, id: EventId) -> Option<Finished>
+    /// An event that nobody holds leaves the queue; returns how it ended, and the instance that waited for it, if one did. Takes no
+    /// memory.
+    pub(crate) fn finish(&mut self, id: EventId) -> (Option<Finished>, Option<InstanceKey>)
         ensures after { (config : Configuration) (c : Chronicle) (e : ℕ) → Forgets self.old config c
             → event_place self.old c id ≡ Some e → is_held config e c ≡ false
             → Forgets self.new config (entry.Finished e ∷ c) }
         ensures told { (config : Configuration) (c : Chronicle) (e : ℕ) → Forgets self.old config c
             → event_place self.old c id ≡ Some e → is_held config e c ≡ false
-            → result ≡ finished_at e c }
+            → result.0 ≡ finished_at e c }
+        ensures blocked { (config : Configuration) (c : Chronicle) (e : ℕ) → Forgets self.old config c
+            → event_place self.old c id ≡ Some e → is_held config e c ≡ false
+            → IsBlockedBy config e c result.1 }
     {
-        let finished = take_out(&mut self.events, id)?;
-        self.instances.unblock(id);
-        Some(finished)
+        match take_out(&mut self.events, id) {
+            Some(finished) => {
+                let on = self.instances.unblock(id);
+                (Some(finished), on)
+            }
+            None => (None, None),
+        }
     }
 
     /// An event from outside goes to the end of the queue.

@@ -19,7 +19,7 @@ use std::rt::Env;
 use std::{env, io};
 use up_model::{Answer, ExitStatus};
 use up_text::{Env as Variables, TextFault};
-use up_wire::{WireFault, command_line, request_of, write_request};
+use up_wire::{DEFAULT_SOCKET, WireFault, command_line, request_of, write_request};
 
 const PROFILE: &str = "initctl (upstart profile 1)";
 
@@ -33,7 +33,9 @@ fn socket<'a>(alloc: Global) -> Arg<'a>
     Arg::new(alloc, "socket")
         .long("socket")
         .value_name("PATH")
-        .help("The socket of the init; without it the variable INITCTL_SOCKET names it")
+        .help(
+            "The socket of the init; without it the variable INITCTL_SOCKET names it, or else it is /run/initd.socket",
+        )
         .action(ArgAction::Set)
 }
 
@@ -191,18 +193,6 @@ fn act<R: Net + Print + Eprint>(
     }
 }
 
-fn no_socket<R: Print + Eprint + AllocGlobal>(rt: &R, command: &mut Command) -> ExitStatus
-    ensures { IsStatus result }
-{
-    match command.error(
-        ErrorKind::MissingRequiredArgument,
-        "no socket: give --socket PATH or set INITCTL_SOCKET",
-    ) {
-        Ok(error) => print_refusal(rt, &error),
-        Err(_) => ExitStatus::Memory,
-    }
-}
-
 fn print_profile<R: Print>(rt: &R) -> ExitStatus
     ensures { IsOutcome result }
 {
@@ -231,6 +221,6 @@ pub fn run<R: Net + Print + Eprint + Env + AllocGlobal>(rt: &R, words: &[String]
     }
     match env::var(rt, "INITCTL_SOCKET") {
         Ok(socket) => act(rt, rt.alloc(), socket.as_str(), &matches),
-        Err(_) => no_socket(rt, &mut command),
+        Err(_) => act(rt, rt.alloc(), DEFAULT_SOCKET, &matches),
     }
 }

@@ -13,6 +13,8 @@ const MAX_SILENCE: i64 = 86_400;
 enum ArgumentKind {
     // In its place, and required.
     Place,
+    // In its place, or left out.
+    LastPlace,
     // After its option.
     Text,
     // After its option, which may be given again and again.
@@ -64,10 +66,23 @@ const SOURCE: Argument = Argument {
     kind: ArgumentKind::Place,
 };
 
-static SUBCOMMANDS: [Subcommand; 5] = [
+static SUBCOMMANDS: [Subcommand; 6] = [
     Subcommand {
         name: "check",
         about: "Prints the faults of a folder's job files",
+        arguments: &[
+            DIR,
+            Argument {
+                id: "explain",
+                shown: "",
+                help: "Prints below each fault the line at fault, and what to do",
+                kind: ArgumentKind::Flag,
+            },
+        ],
+    },
+    Subcommand {
+        name: "graph",
+        about: "Prints the jobs of a folder and the events that join them, as a graph for dot",
         arguments: &[DIR],
     },
     Subcommand {
@@ -107,8 +122,8 @@ static SUBCOMMANDS: [Subcommand; 5] = [
             Argument {
                 id: "SOCKET",
                 shown: "SOCKET",
-                help: "The path of the socket at which clients ask; nothing may be there yet",
-                kind: ArgumentKind::Place,
+                help: "The path of the socket at which clients ask, /run/initd.socket if left out; nothing may be there yet",
+                kind: ArgumentKind::LastPlace,
             },
             Argument {
                 id: "rounds",
@@ -176,6 +191,7 @@ fn arg_of<'a>(alloc: Global, argument: &Argument) -> Arg<'a> {
             .value_name(argument.shown)
             .required(true)
             .action(ArgAction::Set),
+        ArgumentKind::LastPlace => arg.value_name(argument.shown).action(ArgAction::Set),
         ArgumentKind::Text => option(arg, argument),
         ArgumentKind::Texts => option(arg, argument).action(ArgAction::Append),
         ArgumentKind::Flag => arg.long(argument.id).action(ArgAction::SetTrue),

@@ -4,24 +4,29 @@ ghost use Rattle.clap.specs.Words.{kind_of};
 ghost use Rattle.up_model.specs.declared.exit_status.ExitStatus.TheVariants as status;
 
 use crate::arguments::command;
-use crate::pace::MOST_PAUSE;
-use crate::run::Rounds;
-use crate::silence::MOST_SILENCE;
-use crate::teller::Telling;
 use clap::error::ErrorKind;
 use clap::{ArgMatches, Command, Error};
 use std::alloc::{AllocError, Global};
 use std::io::Eprint;
 use up_model::ExitStatus;
+use up_run::pace::MOST_PAUSE;
+use up_run::silence::MOST_SILENCE;
+use up_run::{Rounds, Telling};
 use up_text::{Env, TextFault};
+use up_wire::DEFAULT_SOCKET;
 
 /// What the program is asked for.
 #[derive(Clone, Copy, PartialEq, Eq)]
 pub enum Asked<'a> {
     /// To replay the bundle on standard input.
     Bundle,
-    /// To report the faults of a folder.
+    /// To report the faults of a folder, perhaps with what each means.
     Check {
+        dir: &'a str,
+        explain: bool,
+    },
+    /// To print the graph of a folder's jobs.
+    Graph {
         dir: &'a str,
     },
     /// To store the image of a folder.
@@ -47,6 +52,12 @@ pub enum Asked<'a> {
     },
 }
 
+fn asked_check<'a>(given: &ArgMatches<'a>) -> Option<Asked<'a>> {
+    let dir = given.get_str("DIR")?;
+    let explain = is_set(given, "explain");
+    Some(Asked::Check { dir, explain })
+}
+
 fn asked_compile<'a>(given: &ArgMatches<'a>) -> Option<Asked<'a>> {
     let dir = given.get_str("DIR")?;
     let image = given.get_str("IMAGE")?;
@@ -65,7 +76,7 @@ fn is_set(given: &ArgMatches, flag: &str) -> bool {
 
 fn asked_run<'a>(given: &ArgMatches<'a>) -> Option<Asked<'a>> {
     let source = given.get_str("SOURCE")?;
-    let socket = given.get_str("SOCKET")?;
+    let socket = given.get_str("SOCKET").unwrap_or(DEFAULT_SOCKET);
     let rounds = Rounds {
         count: given.get_one::<u32>("rounds").unwrap_or(u32::MAX),
         most_pause: given.get_one::<u64>("pause").unwrap_or(MOST_PAUSE),
@@ -90,7 +101,8 @@ fn asked_run<'a>(given: &ArgMatches<'a>) -> Option<Asked<'a>> {
 
 fn asked_by<'a>(word: &str, given: &ArgMatches<'a>) -> Option<Asked<'a>> {
     match word {
-        "check" => given.get_str("DIR").map(|dir| Asked::Check { dir }),
+        "check" => asked_check(given),
+        "graph" => given.get_str("DIR").map(|dir| Asked::Graph { dir }),
         "compile" => asked_compile(given),
         "show" => given.get_str("IMAGE").map(|image| Asked::Show { image }),
         "replay" => asked_replay(given),

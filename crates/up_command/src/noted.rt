@@ -1,7 +1,7 @@
 //! A reader that keeps why it couldn't be read.
-use crate::why::{say, say_error};
 use std::io;
 use std::io::{Eprint, ErrorKind, Read};
+use up_disk::why::{say, say_error};
 use up_replay::replay::MAX_BUNDLE;
 
 /// A reader, with how many bytes were read of it, and the last error.

@@ -46,6 +46,7 @@ job_of_outline outline = record {
   limit = outline.limit;
   kill_signal = outline.kill_signal;
   kill_timeout = outline.kill_timeout;
+  reload_signal = outline.reload_signal;
   env = [];
   export = [];
   normal = outline.normal;

@@ -14,8 +14,8 @@ use Rattle.up_stanza.specs.declared.setting.Setting.{Setting}
 use Rattle.up_stanza.specs.declared.stanza.Console as consoles
 use Rattle.up_stanza.specs.declared.stanza.Console.TheVariants as console
 use Rattle.up_stanza.specs.declared.stanza.Stanza.{Stanza}
-use Rattle.up_stanza.specs.Signals.{term}
-use Rattle.up_stanza.specs.declared.stanza.Stanza.TheVariants.{Env, Export, Task, Manual, Respawn, RespawnLimit, NormalExit, KillTimeout, KillSignal, Instance, Console, Chdir, Runs, StartOn, StopOn}
+use Rattle.up_stanza.specs.Signals.{hup, term}
+use Rattle.up_stanza.specs.declared.stanza.Stanza.TheVariants.{Env, Export, Task, Manual, Respawn, RespawnLimit, NormalExit, KillTimeout, KillSignal, ReloadSignal, Instance, Console, Chdir, Runs, StartOn, StopOn}
 
 -- the last that stanzas say of something, or else this
 abbrev pub last_or : {X : Type 0} → X → (Stanza → Option X) → List Stanza → X
@@ -62,6 +62,10 @@ kill_signal_in stanza = None
 abbrev pub kill_timeout_in : Stanza → Option ℕ
 kill_timeout_in (KillTimeout seconds) = Some seconds
 kill_timeout_in stanza = None
+
+abbrev pub reload_signal_in : Stanza → Option ℕ
+reload_signal_in (ReloadSignal signal) = Some signal
+reload_signal_in stanza = None
 
 -- what each process runs
 abbrev pub main_in : Stanza → Option (Option Action)
@@ -137,6 +141,7 @@ job_after job stanzas = record {
   limit = last_or job.limit limit_in stanzas;
   kill_signal = last_or job.kill_signal kill_signal_in stanzas;
   kill_timeout = last_or job.kill_timeout kill_timeout_in stanzas;
+  reload_signal = last_or job.reload_signal reload_signal_in stanzas;
   env = fold_stanzas env_with job.env stanzas;
   export = fold_stanzas export_with job.export stanzas;
   normal = fold_stanzas normal_with job.normal stanzas;
@@ -149,7 +154,7 @@ job_after job stanzas = record {
   stop_on = last_or job.stop_on stop_in stanzas;
 }
 
--- a job without stanzas: TERM, 5 seconds to the kill, 10 respawns in 5 seconds
+-- a job without stanzas: TERM, 5 seconds to the kill, HUP, 10 respawns in 5 seconds
 abbrev pub plain_job : Bytes → JobDef
 plain_job name = record {
   name = name;
@@ -161,6 +166,7 @@ plain_job name = record {
   limit = record { count = 10; interval = 5 };
   kill_signal = term;
   kill_timeout = 5;
+  reload_signal = hup;
   env = [];
   export = [];
   normal = [];

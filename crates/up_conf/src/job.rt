@@ -24,6 +24,8 @@ pub struct JobDef {
     pub kill_signal: Signal,
     /// How many seconds later the main process is killed.
     pub kill_timeout: u32,
+    /// The signal by which its main process is asked to read its configuration again; HUP without the stanza.
+    pub reload_signal: Signal,
     /// What it sets in its environment; the keys are distinct.
     pub env: Items<Setting>,
     /// The keys that its events carry; they are distinct.

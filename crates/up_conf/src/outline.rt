@@ -26,6 +26,7 @@ pub(crate) struct Outline<'a> {
     limit: Limit,
     kill_signal: Signal,
     kill_timeout: u32,
+    reload_signal: Signal,
     normal: Items<Exit>,
     main: Option<&'a Action>,
     pre_start: Option<&'a Action>,
@@ -117,6 +118,7 @@ pub(crate) fn plain_outline<'a>(alloc: Global) -> Outline<'a>
         },
         kill_signal: Signal::term(),
         kill_timeout: 5,
+        reload_signal: Signal::hup(),
         normal: Items::new(Vec::new(alloc)),
         main: None,
         pre_start: None,
@@ -167,16 +169,13 @@ fn with_stanza<'a>(job: Outline<'a>, stanza: &'a Stanza) -> Result<Outline<'a>, 
         Stanza::RespawnLimit(limit) => job.limit = *limit,
         Stanza::KillTimeout(seconds) => job.kill_timeout = *seconds,
         Stanza::KillSignal(signal) => job.kill_signal = *signal,
+        Stanza::ReloadSignal(signal) => job.reload_signal = *signal,
         Stanza::Instance(name) => job.instance = Some(name),
         Stanza::Console(console) => job.silent = is_silent(*console),
         Stanza::Chdir(dir) => job.dir = Some(dir),
         Stanza::StartOn(tree) => job.start_on = Some(tree),
         Stanza::StopOn(tree) => job.stop_on = Some(tree),
-        Stanza::About(_)
-        | Stanza::Emits(_)
-        | Stanza::Env(_)
-        | Stanza::Export(_)
-        | Stanza::ReloadSignal(_) => {}
+        Stanza::About(_) | Stanza::Emits(_) | Stanza::Env(_) | Stanza::Export(_) => {}
     }
     Ok(job)
 }
@@ -271,6 +270,7 @@ impl<'a> Outline<'a> {
                     limit: self.limit,
                     kill_signal: self.kill_signal,
                     kill_timeout: self.kill_timeout,
+                    reload_signal: self.reload_signal,
                     env,
                     export,
                     normal: self.normal,

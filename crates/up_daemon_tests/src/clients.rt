@@ -6,8 +6,10 @@ use up_daemon::{Door, Passed, ScriptDoor, Visitor};
 use up_host::{Failure, ScriptHost};
 use up_text::Items;
 
-/// The request `reload a`, which is refused at once.
-const RELOAD: [u8; 11] = [0, 0, 0, 7, 7, 0, 0, 1, 97, 0, 0];
+/// The request `reload database`, which is refused at once: there is no such job.
+const RELOAD: [u8; 18] = [
+    0, 0, 0, 14, 7, 0, 0, 8, 100, 97, 116, 97, 98, 97, 115, 101, 0, 0,
+];
 
 /// The bytes of its answer.
 const ANSWERED: usize = 26;
@@ -169,9 +171,9 @@ static CASES: [Case; 6] = [
     Case {
         name: "half a frame waits for the rest",
         says: &[
-            Said::Bytes(&[0, 0, 0, 7, 7]),
+            Said::Bytes(&[0, 0, 0, 14, 7]),
             Said::Nothing,
-            Said::Bytes(&[0, 0, 1, 97, 0, 0]),
+            Said::Bytes(&[0, 0, 8, 100, 97, 116, 97, 98, 97, 115, 101, 0, 0]),
         ],
         takes: &[],
         expected: &[(1, 0, 0), (0, 0, 0), (0, ANSWERED, 0)],

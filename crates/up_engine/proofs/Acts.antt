@@ -12,7 +12,7 @@ use Rattle.up_model.specs.Environments.{env_of_job, instance_name}
 use Rattle.up_model.specs.Events.{events_at, events_env, stopped_by}
 use Rattle.up_model.specs.Events as events_of
 use Rattle.up_model.specs.Instances.{instances_of, instance_named}
-use Rattle.up_model.specs.Offers.{stop_of, stop_by, stop_offer, max_instances, start_of, who_called, start_who, start_by, start_offer}
+use Rattle.up_model.specs.Offers.{stop_of, stop_by, stop_offer, max_instances, start_of, who_called, start_who, start_by, start_offer, start_env}
 use Rattle.up_model.specs.Predicates.{is_start, entries_if}
 use Rattle.up_model.specs.Readings.{goal}
 use Rattle.up_model.specs.Replies.{releasing}
@@ -73,8 +73,8 @@ start-who P of job made (Some name) environment its c =
 
 pub start-by : (P : Entry → Type 0) → Acts P → (config : Configuration) (job : JobDef) → ((name : Bytes) → P (Made job.name name)) → (events : List ℕ) (c : Chronicle) → AllByRecursion P (start_by config job events c)
 start-by P of config job made events c =
-    let environment : Bindings = events_env (env_of_job config job.name) (events_at events c) in
-    start-who P of job.name made (instance_name job environment) environment events c
+    let name : Option Bytes = instance_name job (events_env (env_of_job config job.name) (events_at events c)) in
+    start-who P of job.name made name (start_env config (who_called job.name name) (events_at events c) c) events c
 
 pub start-all : (P : Entry → Type 0) → Fires P → (config : Configuration) (job : JobDef) → ((name : Bytes) → P (Made job.name name)) → (e : ℕ) (c : Chronicle) → AllByRecursion P (start_offer config job e c)
 start-all P of config job made e c =

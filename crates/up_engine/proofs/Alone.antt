@@ -1,5 +1,5 @@
 -- An effect that concerns one instance: no other may move.
-use Rattle.std.proofs.Common.{◌≡◌, ℕ, zero, suc, ◌+◌, ◌==◌, Bool, true, false, not, List, [], ◌∷◌, ◌++◌, Option, None, Some, is_some, slice_get, bytes_eq, option_map, if◌then◌else◌, refl, sym, ◌∙◌, ap, subst}
+use Rattle.std.proofs.Common.{◌≡◌, ℕ, zero, suc, ◌==◌, Bool, true, false, not, List, [], ◌∷◌, ◌++◌, Option, None, Some, is_some, slice_get, bytes_eq, option_map, if◌then◌else◌, refl, sym, ◌∙◌, ap, subst}
 use Rattle.std.specs.Prelude.{option_and_then}
 use Rattle.std.specs.List.{AllByRecursion}
 use Rattle.up_conf.specs.declared.job.JobDef.{JobDef}
@@ -245,7 +245,7 @@ alone-after config c key i es distinct found stay unasked own =
 pub given-alone : (config : Configuration) (given : Input) (who : Who) (c : Chronicle) (key : InstanceKey) (i : ℕ) (es : List Entry) → AreDistinct config.jobs → Singles c → due config c ≡ [] → Names given who → instance_named who c ≡ Some i
     → instance_place config c key ≡ Some i → AllByRecursion (Own i) es → IsAlone key config (es ++ Given given ∷ c)
 given-alone config given who c key i es distinct singles none is named found own =
-    alone-after config (Given given ∷ c) key i es distinct found (stay-given config.jobs given who i c is named singles (stay-still i config.jobs c (none-moves config c none))) refl own
+    alone-after config (Given given ∷ c) key i es distinct found (stay-given config.jobs given who i c is named singles (stay-still i config.jobs c (none-moves config c distinct none))) refl own
 
 -- what a key says that was found for a process
 spoken : (place o : Option ℕ) → Some place ≡ option_map (λ (i : ℕ). Some i) o → (i : ℕ) × (o ≡ Some i) × (place ≡ Some i)

@@ -4,6 +4,7 @@ use Rattle.std.proofs.lemmas.Bool.Decides.{Decides-eqb}
 use Rattle.up_conf.specs.declared.job.JobDef.{JobDef}
 use Rattle.up_model.specs.Chronicle.{Chronicle}
 use Rattle.up_model.specs.Commands.{stopped_text, statuses, job_lines, list_lines}
+use Rattle.up_model.specs.Files.{job_names}
 use Rattle.up_model.specs.Instances.{Instance, instances_of}
 use Rattle.up_model.specs.Values.{Bytes}
 
@@ -13,10 +14,10 @@ lines_left lines i d within = rw add-one (drop-cons lines i d within)
 
 -- the status texts, and the lines, of what is left
 pub list_left : (jobs : List JobDef) (i : ℕ) (job : JobDef) (c : Chronicle) → i < length jobs → job ≡ get_or jobs i job
-    → list_lines (drop i jobs) c ≡ job_lines job.name (instances_of job.name c) c ++ list_lines (drop (i + 1) jobs) c
+    → list_lines (job_names (drop i jobs)) c ≡ job_lines job.name (instances_of job.name c) c ++ list_lines (job_names (drop (i + 1) jobs)) c
 list_left jobs i job c within here =
     let one : drop i jobs ≡ get_or jobs i job ∷ drop (i + 1) jobs = rw add-one (drop-cons jobs i job within) in
-    ap (λ left. list_lines left c) one ∙ ap (λ j. job_lines j.name (instances_of j.name c) c ++ list_lines (drop (i + 1) jobs) c) (sym here)
+    ap (λ left. list_lines (job_names left) c) one ∙ ap (λ j. job_lines j.name (instances_of j.name c) c ++ list_lines (job_names (drop (i + 1) jobs)) c) (sym here)
 
 -- a job with instances has a line for each
 pub lines_filled : (job : Bytes) (its : List Instance) (n : ℕ) (c : Chronicle) → n ≡ length its → (n == 0) ≡ false → statuses its c ≡ job_lines job its c

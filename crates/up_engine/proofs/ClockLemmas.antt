@@ -4,6 +4,8 @@ use Rattle.up_conf.specs.declared.job.JobDef.{JobDef}
 use Rattle.up_job.specs.declared.instance_key.InstanceKey.{InstanceKey}
 use Rattle.up_model.specs.Chronicle.{Chronicle, Signalled}
 use Rattle.up_model.specs.Clock.{kill, overdue, all_overdue, killing}
+use Rattle.up_model.specs.Configuration.{Configuration}
+use Rattle.up_model.specs.Files.{job_names}
 use Rattle.up_model.specs.Instances.{instances_of}
 
 -- one more is sent KILL after the others
@@ -33,8 +35,8 @@ instances_length places (key ∷ keys) [] h = absurd cc
 instances_length places (key ∷ keys) (first ∷ found) h = ap suc (instances_length places keys found (cc))
 
 -- those of the jobs from one on
-pub overdue_left : (jobs : List JobDef) (i : ℕ) (job : JobDef) (c : Chronicle) → i < length jobs → job ≡ get_or jobs i job
-    → all_overdue (drop i jobs) c ≡ overdue job (instances_of job.name c) c ++ all_overdue (drop (i + 1) jobs) c
-overdue_left jobs i job c within here =
+pub overdue_left : (config : Configuration) (jobs : List JobDef) (i : ℕ) (job : JobDef) (c : Chronicle) → i < length jobs → job ≡ get_or jobs i job
+    → all_overdue config (job_names (drop i jobs)) c ≡ overdue config (instances_of job.name c) c ++ all_overdue config (job_names (drop (i + 1) jobs)) c
+overdue_left config jobs i job c within here =
     let one : drop i jobs ≡ get_or jobs i job ∷ drop (i + 1) jobs = rw add-one (drop-cons jobs i job within) in
-    ap (λ left. all_overdue left c) one ∙ ap (λ j. overdue j (instances_of j.name c) c ++ all_overdue (drop (i + 1) jobs) c) (sym here)
+    ap (λ left. all_overdue config (job_names left) c) one ∙ ap (λ j. overdue config (instances_of j.name c) c ++ all_overdue config (job_names (drop (i + 1) jobs)) c) (sym here)

@@ -15,23 +15,26 @@ use Rattle.up_model.specs.declared.state.Goal.TheVariants.{Stop}
 use Rattle.up_model.specs.Chronicle.{Chronicle, Entry, Given, Queued, Handled, Finished, Offered, Aimed, Failed, Signalled, Outside}
 use Rattle.up_model.specs.Clock.{all_overdue, kill, killing}
 use Rattle.up_model.specs.Commands.{outcome_of, entries_of}
-use Rattle.up_model.specs.Configuration.{Configuration, job_named}
-use Rattle.up_model.specs.Due.{due, end_of, telling, failed_event_of, finishing, turn_event, turn_of, effect}
+use Rattle.up_model.specs.Configuration.{Configuration}
+use Rattle.up_model.specs.Due.{due, end_of, telling, failed_event_of, finishing, turn_event, turn_of, effect, end_by}
+use Rattle.up_model.specs.Files.{own_file, names_in_order}
 use Rattle.up_model.specs.Held.{is_spoilt}
 use Rattle.up_model.specs.Instances.{Instance, instances_of, instance_named}
 use Rattle.up_model.specs.Judgement.{end_itself, keep_failure, fail, carry_out, verdict_on_end}
-use Rattle.up_model.specs.Moves.{may_leave, move, move_first}
-use Rattle.up_model.specs.Offers.{offering, offer_next}
+use Rattle.up_model.specs.Moves.{may_leave, move}
+use Rattle.up_model.specs.Offers.{offering}
 use Rattle.up_model.specs.Predicates.{is_start, entries_if, or_else}
 use Rattle.up_model.specs.Queue as queue
 use Rattle.up_model.specs.Readings.{goal, holders, failure}
 use Rattle.up_model.specs.Replies.{releasing, waiter, answering_waiter, asked, was_answered, unless_answered, unanswered, answering_hurried, answering_last}
 use Rattle.up_model.specs.Work.{work}
+use Rattle.up_model.proofs.JobOffers.{offer_next}
 use Rattle.up_model.proofs.ReplyLaws.{Allows, releasing-all, answering_waiter-all, answering_hurried-all, outcome-all}
 use Rattle.up_model.proofs.Settling.{settle_still}
 use Rattle.up_model.proofs.Sparing.{same-append, all-append, all-if}
 use Rattle.up_book.specs.Keeps.{AreDistinct}
 use Rattle.up_engine.specs.Settling.{settle_one, settle_each, settle_all}
+use Rattle.up_engine.proofs.JobMoves.{move_first, due-by}
 use Rattle.up_engine.proofs.Firing.{stay-entry, stay-still, still-stay}
 use Rattle.up_engine.proofs.Moving.{Stay}
 use Rattle.up_engine.proofs.Offering.{rested, rested-next}
@@ -126,16 +129,16 @@ unfolding effect
 effect-of config (input.Emit event) c none = record { entries = Queued (Outside (length c)) event ∷ []; whole = refl; none = (tt, tt) }
 effect-of config (input.Request id request) c none =
     let d : Chronicle = Given (input.Request id request) ∷ c in
-    record { entries = entries_of (length c) (outcome_of config (length c) request d); whole = refl; none = outcome-all TakesNone allows (λ job name. tt) config (length c) request d }
+    record { entries = entries_of (length c) (outcome_of config (length c) request d); whole = refl; none = outcome-all TakesNone allows (λ job name. tt) config (length c) request d (λ p signal runs. tt) }
 effect-of config (input.Spawned who process pid) c none = record { entries = []; whole = refl; none = tt }
 effect-of config (input.Refused who process) c none =
     let d : Chronicle = Given (input.Refused who process) ∷ c in
-    record { entries = end_of (job_named who.job config.jobs) (instance_named who c) process end.Refused d; whole = refl; none = end_of-none (job_named who.job config.jobs) (instance_named who c) process end.Refused d }
+    record { entries = end_by config who process end.Refused d; whole = refl; none = end_of-none (own_file config who d) (instance_named who d) process end.Refused d }
 effect-of config (input.Ended who process how) c none =
     let d : Chronicle = Given (input.Ended who process how) ∷ c in
-    record { entries = end_of (job_named who.job config.jobs) (instance_named who c) process (end.Ended how) d; whole = refl; none = end_of-none (job_named who.job config.jobs) (instance_named who c) process (end.Ended how) d }
+    record { entries = end_by config who process (end.Ended how) d; whole = refl; none = end_of-none (own_file config who d) (instance_named who d) process (end.Ended how) d }
 effect-of config (input.Clock reading) c none =
-    let kills = all_overdue config.jobs (Given (input.Clock reading) ∷ c) in
+    let kills = all_overdue config (names_in_order config c) (Given (input.Clock reading) ∷ c) in
     record { entries = killing kills; whole = refl; none = killing-none kills }
 effect-of config input.Turn c none =
     let event = turn_event config (queue.queue c) c in
@@ -198,20 +201,19 @@ pub stay-entries : (i : ℕ) (jobs : List JobDef) (es c : List Entry) → AllByR
 stay-entries i jobs [] c all stay = stay
 stay-entries i jobs (e ∷ es) c all stay = stay-entry i jobs e (es ++ c) all.0 (stay-entries i jobs es c all.1 stay)
 
-pub none-due : (config : Configuration) (c : Chronicle) → move_first config.jobs c ≡ [] → offering c ≡ None → due config c ≡ answering_last c
-unfolding due
-none-due config c still offers =
-    ap (λ es. or_else es (or_else (offer_next config (offering c) c) (answering_last c))) still ∙ ap (λ o. or_else (offer_next config o c) (answering_last c)) offers
+pub none-due : (config : Configuration) (c : Chronicle) → AreDistinct config.jobs → move_first config.jobs c ≡ [] → offering c ≡ None → due config c ≡ answering_last c
+none-due config c distinct still offers =
+    due-by config c distinct ∙ ap (λ es. or_else es (or_else (offer_next config (offering c) c) (answering_last c))) still ∙ ap (λ o. or_else (offer_next config o c) (answering_last c)) offers
 
-pub last-rested : (config : Configuration) (c : Chronicle) → move_first config.jobs c ≡ [] → offering c ≡ None → answering_last c ++ c ≡ rested config c
-last-rested config c still offers =
+pub last-rested : (config : Configuration) (c : Chronicle) → AreDistinct config.jobs → move_first config.jobs c ≡ [] → offering c ≡ None → answering_last c ++ c ≡ rested config c
+last-rested config c distinct still offers =
     let d : Chronicle = answering_last c ++ c in
     let i = length d in
     let all : AllByRecursion (About i) (answering_last c) = answering_hurried-all (About i) (λ request answer. tt) (unanswered c) c in
     let still_d : move_first config.jobs d ≡ [] = still-stay config.jobs d (stay-entries i config.jobs (answering_last c) c all (stay-still i config.jobs c still)) in
     let offers_d : offering d ≡ None = same-append offering (About i) (offering-same i) (answering_last c) c all ∙ offers in
-    let none : due config d ≡ [] = none-due config d still_d offers_d ∙ answered-once (unanswered c) c refl in
-    sym (settle_still (work config d) config d none) ∙ ap (λ es. rested config (es ++ c)) (sym (none-due config c still offers)) ∙ rested-next config c
+    let none : due config d ≡ [] = none-due config d distinct still_d offers_d ∙ answered-once (unanswered c) c refl in
+    sym (settle_still (work config d) config d none) ∙ ap (λ es. rested config (es ++ c)) (sym (none-due config c distinct still offers)) ∙ rested-next config c
 
 -- so the step is done when all have settled and the answer is given
 pub settled-rested : (config : Configuration) (c : Chronicle) → AreDistinct config.jobs → offering c ≡ None
@@ -219,4 +221,4 @@ pub settled-rested : (config : Configuration) (c : Chronicle) → AreDistinct co
 settled-rested config c distinct offers =
     let all = all-settled config c distinct in
     let none : offering (settle_all config.jobs c) ≡ None = all-same offering offering-same config.jobs c ∙ offers in
-    last-rested config (settle_all config.jobs c) all.0 none ∙ all.1
+    last-rested config (settle_all config.jobs c) distinct all.0 none ∙ all.1

@@ -10,12 +10,13 @@ use Rattle.up_model.specs.Chronicle.{Chronicle, Entry, Given, Queued, Finished, 
 use Rattle.up_model.specs.Instances as instances
 use Rattle.up_model.specs.Instances.{Instance, is_before, instances_of}
 use Rattle.up_model.specs.Life.{Wait, ForStart, ForEvent, ForAnswer, ForProcess, ForChange, ForMain, wait_in}
-use Rattle.up_model.specs.Moves.{is_over, may_leave, move_of, move_in, move_first}
+use Rattle.up_model.specs.Moves.{is_over, may_leave, move_of}
 use Rattle.up_model.specs.Offers.{is_open, offering}
 use Rattle.up_model.specs.Readings.{goal, state_of, was_restarted, blocker, is_awaited, pid_of}
 use Rattle.up_model.specs.Values.{Bytes}
 use Rattle.up_model.proofs.Places.{older-other, all-without}
 use Rattle.up_engine.specs.Offering.{Asked, open_all}
+use Rattle.up_engine.proofs.JobMoves.{move_in, move_first}
 use Rattle.up_engine.proofs.Moving.{StayIn, Stay}
 use Rattle.up_book.proofs.One.{IsKnown, known-all}
 use Rattle.up_engine.proofs.Passing.{stays, or-nil-first, or-nil-rest}

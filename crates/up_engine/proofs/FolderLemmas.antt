@@ -1,14 +1,11 @@
 -- The jobs of a folder whose paths are apart have names that are apart, so that each is the one that its name finds.
 use Rattle.std.proofs.Common.{◌≡◌, ℕ, ◌-◌, Bool, true, false, ◌||◌, nat_eq, List, [], ◌∷◌, ◌++◌, length, take, map, filter, Option, None, Some, option_map, refl, sym, ◌∙◌, ap, cond}
 use Rattle.std.specs.Prelude.{codes, option_and_then}
-use Rattle.std.specs.Cmp.{IsStrictWeakOrder}
-use Rattle.std.specs.List.{list_all, list_any, filter_map, cons_option, ends_with, AllByRecursion}
+use Rattle.std.specs.List.{list_any, filter_map, cons_option, ends_with}
 use Rattle.std.specs.Result.{result_ok}
 use Rattle.std.specs.Str.{bytes_eq}
-use Rattle.std.proofs.lemmas.Bool.{and_from, and_parts, false_from_ne_true}
+use Rattle.std.proofs.lemmas.Bool.{false_from_ne_true}
 use Rattle.std.proofs.lemmas.Bool.Decides.{Decides-eqb}
-use Rattle.std.proofs.lemmas.Cmp.{nat_list_cmp_total}
-use Rattle.std.proofs.lemmas.List.Sorted.{ranks_by}
 use Rattle.std.proofs.lemmas.Slice.Eq.{bytes_eq-Decides, ends_is}
 use Rattle.up_conf.specs.declared.folder.File.{File}
 use Rattle.up_conf.specs.declared.job.JobDef.{JobDef}
@@ -19,15 +16,11 @@ use Rattle.up_conf.specs.Folders.{is_read, job_in, job_name, job_of_file, jobs_o
 use Rattle.up_conf.specs.Jobs.{job_of}
 use Rattle.up_conf.specs.Order.{is_below, put_by, sort_by_order}
 use Rattle.up_image.specs.Compiling.{has_twice, read_paths}
-use Rattle.up_image.specs.Giving.{are_ascending, can_all_be_given, can_be_given}
-use Rattle.up_image.proofs.PlaceOrder.{below_not_same}
 use Rattle.up_image.proofs.Repeats.{bytes_eq-flip, or-false, or_parts}
 use Rattle.up_isolation.specs.Views.{jobs_called}
 use Rattle.up_isolation.proofs.Ones.{AreApart, one-called}
 use Rattle.std.proofs.Common.{◌≤◌}
 use Rattle.up_model.specs.Values.{Bytes}
-use Rattle.up_model.specs.Blocks.{AreFound}
-use Rattle.up_model.specs.Configuration.{job_named}
 use Rattle.up_engine.proofs.Entries.{some_same}
 
 -- a job has the name that it was made with
@@ -175,27 +168,6 @@ apart-sorted less (x ∷ xs) apart =
     let parts = or_parts _ _ apart in
     apart-put less x (sort_by_order less xs) (none-sorted less x.name xs parts.0) (apart-sorted less xs parts.1)
 
--- jobs whose names are apart are found by their names
-found-more : (x : JobDef) (xs ys : List JobDef) → list_any (bytes_eq x.name) (map (λ (job : JobDef). job.name) ys) ≡ false → AllByRecursion (λ job. job_named job.name xs ≡ Some job) ys
-    → AllByRecursion (λ job. job_named job.name (x ∷ xs) ≡ Some job) ys
-found-more x xs [] none found = tt
-found-more x xs (y ∷ ys) none found =
-    let other : bytes_eq x.name y.name ≡ false = (or_parts _ _ none).0 in
-    (rw other found.0, found-more x xs ys (or_parts _ _ none).1 found.1)
-
-found-apart : (jobs : List JobDef) → has_twice (map (λ (job : JobDef). job.name) jobs) ≡ false → AreFound jobs
-found-apart [] apart = tt
-found-apart (x ∷ xs) apart =
-    let parts = or_parts _ _ apart in
-    let itself : bytes_eq x.name x.name ≡ true = (bytes_eq-Decides x.name x.name).1 refl in
-    (rw itself refl, found-more x xs xs parts.0 (found-apart xs parts.1))
-
--- the jobs of a folder whose paths are apart
-pub found : (files : List File) → has_twice (read_paths files) ≡ false → AreFound (jobs_of files)
-unfolding jobs_of
-found files apart =
-    found-apart _ (apart-sorted (λ job other. is_below job.name other.name) (filter_map (job_of_file files) files) (names-apart files files apart))
-
 -- so at most one of them has a name
 apart-names : (jobs : List JobDef) → has_twice (map (λ (job : JobDef). job.name) jobs) ≡ false → AreApart jobs
 apart-names [] apart = tt
@@ -207,41 +179,3 @@ unfolding jobs_of
 one-named job files apart =
     one-called job _ (apart-names _ (apart-sorted (λ job other. is_below job.name other.name)
     (filter_map (job_of_file files) files) (names-apart files files apart)))
-
--- names that ascend are apart
-order : IsStrictWeakOrder (λ (x y : List ℕ). is_below x y)
-order = ranks_by nat_list_cmp_total (λ (x : List ℕ). x)
-
-below_both : (a b c : List ℕ) → is_below a b ≡ true → is_below b c ≡ true → is_below a c ≡ true
-below_both a b c one two = by_case (is_below a c) refl
-  where
-    by_case : (x : Bool) → is_below a c ≡ x → is_below a c ≡ true
-    by_case true e = e
-    by_case false e =
-        let clash : true ≡ false = sym one ∙ order.chain a c b e (order.one_way b c two) in
-        absurd (cc)
-
-over_one : (name next : List ℕ) (names : List (List ℕ)) → is_below name next ≡ true → are_ascending (next ∷ names) ≡ true → are_ascending (name ∷ names) ≡ true
-over_one name next [] one up = refl
-over_one name next (other ∷ names) one up =
-    let parts = and_parts (is_below next other) (are_ascending (other ∷ names)) up in
-    and_from _ _ (below_both name next other one parts.0) parts.1
-
-none-above : (name : List ℕ) (names : List (List ℕ)) → are_ascending (name ∷ names) ≡ true → list_any (bytes_eq name) names ≡ false
-none-above name [] up = refl
-none-above name (next ∷ names) up =
-    let parts = and_parts (is_below name next) (are_ascending (next ∷ names)) up in
-    or-false _ _ (below_not_same name next parts.0) (none-above name names (over_one name next names parts.0 parts.1))
-
-ascending-apart : (names : List (List ℕ)) → are_ascending names ≡ true → has_twice names ≡ false
-ascending-apart [] up = refl
-ascending-apart (name ∷ []) up = refl
-ascending-apart (name ∷ next ∷ names) up =
-    or-false _ _ (none-above name (next ∷ names) up) (ascending-apart (next ∷ names) (and_parts (is_below name next) (are_ascending (next ∷ names)) up).1)
-
--- the jobs of a table
-pub found-given : (jobs : List JobDef) → can_all_be_given jobs ≡ true → AreFound jobs
-unfolding can_all_be_given
-found-given jobs given =
-    let names = map (λ (job : JobDef). job.name) jobs in
-    found-apart jobs (ascending-apart names (and_parts (are_ascending names) (list_all can_be_given jobs) given).0)

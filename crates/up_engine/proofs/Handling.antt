@@ -9,16 +9,20 @@ use Rattle.up_model.specs.Chronicle.{Chronicle, Given, Handled}
 use Rattle.up_model.specs.Configuration.{Configuration}
 use Rattle.up_model.specs.Due.{due}
 use Rattle.up_model.specs.Instances.{Instance, instances_of, all_instances}
-use Rattle.up_model.specs.Moves.{is_over, move_first}
+use Rattle.up_model.specs.Moves.{is_over}
+use Rattle.up_model.specs.Offers.{offering}
+use Rattle.up_model.specs.Predicates.{or_else}
 use Rattle.up_model.specs.Readings.{made_at}
 use Rattle.up_model.specs.Replies.{answering_last}
 use Rattle.up_model.specs.Values.{Bytes}
 use Rattle.up_model.specs.Work.{work}
+use Rattle.up_model.proofs.JobOffers.{offer_next}
 use Rattle.up_model.proofs.Settling.{settle_still}
 use Rattle.up_model.proofs.Places.{bytes_same, bytes_refl, count, one_if, all_instances-once, instances-exist}
 use Rattle.up_book.specs.Keeps.{AreDistinct}
 use Rattle.up_engine.specs.Offering.{Asked, OfStop, OfStart, open_stops, open_all}
 use Rattle.up_book.proofs.Lists.{cons_same}
+use Rattle.up_engine.proofs.JobMoves.{move_first, due-by}
 use Rattle.up_engine.proofs.Moving.{StayIn, Stay}
 use Rattle.up_engine.proofs.Offering.{rested}
 use Rattle.up_book.proofs.One.{IsKnown, known-all, called, none-of-others}
@@ -141,8 +145,9 @@ pub moves-gone : (i : ℕ) (jobs : List JobDef) (e : ℕ) (left : List Asked) (c
 moves-gone i jobs e left c h gone = record { open_left = h.open_left; handles = h.handles; still = λ j. stay-gone i j jobs c gone h.stay }
 
 -- when none is left, the step is done but for an answer
-pub handled-all : (config : Configuration) (e : ℕ) (c : Chronicle) → IsHandling config.jobs e [] c → answering_last c ≡ [] → (due config c ≡ []) × (rested config c ≡ c)
-unfolding due
-handled-all config e c h quiet =
-    let none : due config c ≡ [] = rw (still-stay config.jobs c (h.still (length c)), h.handles, Rattle.up_engine.proofs.Offering.first-offer config config.jobs e c, h.open_left) quiet in
+pub handled-all : (config : Configuration) (e : ℕ) (c : Chronicle) → AreDistinct config.jobs → IsHandling config.jobs e [] c → answering_last c ≡ [] → (due config c ≡ []) × (rested config c ≡ c)
+handled-all config e c distinct h quiet =
+    let parts : or_else (move_first config.jobs c) (or_else (offer_next config (offering c) c) (answering_last c)) ≡ [] =
+    rw (still-stay config.jobs c (h.still (length c)), h.handles, Rattle.up_engine.proofs.Offering.first-offer config config.jobs e c, h.open_left) quiet in
+    let none : due config c ≡ [] = due-by config c distinct ∙ parts in
     (none, settle_still (work config c) config c none)

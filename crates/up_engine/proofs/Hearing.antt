@@ -11,11 +11,11 @@ use Rattle.up_model.specs.Chronicle.{Chronicle, Entry, Given, Handled, Offered, 
 use Rattle.up_model.specs.Configuration.{Configuration}
 use Rattle.up_model.specs.Answers.{after}
 use Rattle.up_model.specs.Due.{due, effect}
-use Rattle.up_model.specs.Environments.{instance_name}
 use Rattle.up_model.specs.Events as events_of
+use Rattle.up_model.specs.Events.{events_at}
 use Rattle.up_model.specs.Instances.{Instance, is_before, with_instance, without_instance, instances_of, all_instances, place_named, instance_named}
-use Rattle.up_model.specs.Moves.{may_leave, next_of, move, move_first}
-use Rattle.up_model.specs.Offers.{offering, offer_next, stop_offer, max_instances, start_of, who_called, start_who, start_by, start_offer}
+use Rattle.up_model.specs.Moves.{may_leave, next_of, move}
+use Rattle.up_model.specs.Offers.{offering, stop_offer, max_instances, start_of, who_called, start_who, start_by, start_offer, start_env}
 use Rattle.up_model.specs.Predicates.{is_start, entries_if, or_else}
 use Rattle.up_model.specs.Readings.{goal, state_of, blocker, made_at}
 use Rattle.up_model.specs.Replies.{releasing, asked, unless_answered, answering_hurried, answering_last}
@@ -25,6 +25,7 @@ use Rattle.up_model.specs.Work.{moves_at}
 use Rattle.up_model.proofs.MoveLaws.{moves-few}
 use Rattle.up_model.proofs.Places.{count, one_if, bytes_refl, count-older, all_instances-older, instances-exist}
 use Rattle.up_model.proofs.Sparing.{same-append}
+use Rattle.up_model.proofs.JobOffers.{offer_next}
 use Rattle.up_book.specs.Keeps.{AreDistinct}
 use Rattle.up_book.proofs.One.{IsKnown, known-all, called, none-of-others, apart-back}
 use Rattle.up_job.specs.Lists.{nth}
@@ -32,6 +33,7 @@ use Rattle.up_engine.specs.Offering.{Asked, OfStop, OfStart}
 use Rattle.up_engine.specs.Settling.{settle_one, settle_each, settle_all, hear_stops, hear_start, hear, hear_all, ListsAfter}
 use Rattle.up_book.proofs.Keyed.{nth-get}
 use Rattle.up_engine.specs.Unfired.{NoneHolds}
+use Rattle.up_engine.proofs.JobMoves.{move_first, due-by}
 use Rattle.up_engine.proofs.Unfired.{none-stop, none-start, none-one}
 use Rattle.up_engine.proofs.Acts.{Fires, releases, stop-of, start-all}
 use Rattle.up_engine.proofs.Effects.{one-same, each-same, settled-rested}
@@ -43,7 +45,7 @@ use Rattle.up_engine.proofs.Opening.{About}
 use Rattle.up_engine.proofs.Passing.{AreApart, or-nil-first}
 use Rattle.up_engine.proofs.Resting.{lists-kept, move-leaves, move-keeps, goes-or-stays, without-one, once, all-middle, Rest}
 use Rattle.up_engine.proofs.Settled.{StandsStill, still-instances, gone-stays, one-stays, settled-one}
-use Rattle.up_engine.proofs.Shapes.{IsApart, AfterStart, started, started_at, started_who, start_env, after-stop, after-start, due-offer}
+use Rattle.up_engine.proofs.Shapes.{IsApart, AfterStart, started, started_at, started_who, start_name, after-stop, after-start, due-offer}
 
 -- the instances after one of them has settled
 pub record Settles (n : ℕ) (job : JobDef) (x : Instance) (c : Chronicle) : Type 0 where
@@ -148,7 +150,7 @@ stops-heard config e done job todo front (x ∷ its) left c distinct split h apa
         (ap (nth (length front)) list_d ∙ nth-middle front x its) (few-moves x.place d)
 
     same : rested config f ≡ rested config c
-    same = one.1 ∙ (due-offer config (OfStop job x.place) (all_stops job its ++ left) e c h).1
+    same = one.1 ∙ (due-offer config (OfStop job x.place) (all_stops job its ++ left) e c distinct h).1
 
     others : KeepsOthers job c f
     others =
@@ -267,8 +269,11 @@ started-stands config job e c p some = by_case (holds job.start_on (seen config 
     f : Chronicle
     f = Fired (StartOn job.name) events ∷ d
 
+    name : Option Bytes
+    name = start_name config job events f
+
     env : Bindings
-    env = start_env config job events f
+    env = start_env config (who_called job.name name) (events_at events f) f
 
     effect : List Entry
     effect = start_by config job events f
@@ -276,9 +281,9 @@ started-stands config job e c p some = by_case (holds job.start_on (seen config 
     order : ((effect ++ Fired (StartOn job.name) events ∷ []) ++ Offered (StartOn job.name) e ∷ []) ++ c ≡ effect ++ f
     order = append_assoc (effect ++ Fired (StartOn job.name) events ∷ []) (Offered (StartOn job.name) e ∷ []) c ∙ append_assoc effect (Fired (StartOn job.name) events ∷ []) d
 
-    by_case : (b : Bool) → (if b then started_who (who_called job.name (instance_name job env)) f else None) ≡ Some p
+    by_case : (b : Bool) → (if b then started_who (who_called job.name name) f else None) ≡ Some p
         → StandsIn p (instances_of job.name ((entries_if b (effect ++ Fired (StartOn job.name) events ∷ []) ++ Offered (StartOn job.name) e ∷ []) ++ c))
-    by_case true some = subst (λ g. StandsIn p (instances_of job.name g)) (sym order) (started-called job.name (instance_name job env) env events f p some)
+    by_case true some = subst (λ g. StandsIn p (instances_of job.name g)) (sym order) (started-called job.name name env events f p some)
     by_case false some = absurd cc
 
 -- instances that rest settle at once
@@ -329,7 +334,7 @@ start-heard config e done job todo left c distinct split h apart = by_case (star
     its = instances_of job.name d
 
     same : rested config d ≡ rested config c
-    same = (due-offer config (OfStart job) left e c h).1
+    same = (due-offer config (OfStart job) left e c distinct h).1
 
     others : KeepsOthers job c d
     others = start-others config job e c
@@ -438,14 +443,13 @@ asked-taken : (jobs : List JobDef) (e : ℕ) (c : Chronicle) → all_asked jobs 
 asked-taken [] e c = refl
 asked-taken (job ∷ jobs) e c = ap (λ rest. all_stops job (instances_of job.name c) ++ (OfStart job ∷ rest)) (asked-taken jobs e c)
 
-pub none-moves : (config : Configuration) (c : Chronicle) → due config c ≡ [] → move_first config.jobs c ≡ []
-unfolding due
-none-moves config c none = or-nil-first (move_first config.jobs c) (or_else (offer_next config (offering c) c) (answering_last c)) none
+pub none-moves : (config : Configuration) (c : Chronicle) → AreDistinct config.jobs → due config c ≡ [] → move_first config.jobs c ≡ []
+none-moves config c distinct none = or-nil-first (move_first config.jobs c) (or_else (offer_next config (offering c) c) (answering_last c)) (sym (due-by config c distinct) ∙ none)
 
 -- what is left to hear of an event that was just taken up: all
-pub all-left : (config : Configuration) (e : ℕ) (c : Chronicle) → due config c ≡ [] → IsHandling config.jobs e (all_asked config.jobs (Handled e ∷ Given Turn ∷ c)) (Handled e ∷ Given Turn ∷ c)
-all-left config e c none =
-    subst (λ left. IsHandling config.jobs e left (Handled e ∷ Given Turn ∷ c)) (sym (asked-taken config.jobs e c)) (taken-up config.jobs e c (none-moves config c none))
+pub all-left : (config : Configuration) (e : ℕ) (c : Chronicle) → AreDistinct config.jobs → due config c ≡ [] → IsHandling config.jobs e (all_asked config.jobs (Handled e ∷ Given Turn ∷ c)) (Handled e ∷ Given Turn ∷ c)
+all-left config e c distinct none =
+    subst (λ left. IsHandling config.jobs e left (Handled e ∷ Given Turn ∷ c)) (sym (asked-taken config.jobs e c)) (taken-up config.jobs e c (none-moves config c distinct none))
 
 -- so the step is done when all have heard of it
 pub heard-rested : (config : Configuration) (e : ℕ) (c : Chronicle) → AreDistinct config.jobs → due config c ≡ []
@@ -454,10 +458,10 @@ pub heard-rested : (config : Configuration) (e : ℕ) (c : Chronicle) → AreDis
 heard-rested config e c distinct none =
     let d : Chronicle = Handled e ∷ Given Turn ∷ c in
     let f = hear_all config config.jobs e d in
-    let all = jobs-heard config e [] config.jobs d distinct refl (all-left config e c none) in
+    let all = jobs-heard config e [] config.jobs d distinct refl (all-left config e c distinct none) in
     let unasked : asked f ≡ None = asked-heard config config.jobs e d in
     let quiet : answering_last f ≡ [] = ap (λ o. answering_hurried (unless_answered o f) f) unasked in
-    (sym (handled-all config e f all.0 quiet).1 ∙ all.1, all.2)
+    (sym (handled-all config e f distinct all.0 quiet).1 ∙ all.1, all.2)
 
 -- what is after an input that takes an event up, and after any other
 pub after-taken : (config : Configuration) (given : Input) (c : Chronicle) (e : ℕ) → AreDistinct config.jobs → due config c ≡ [] → effect config given c ++ c ≡ Handled e ∷ Given Turn ∷ c

@@ -5,16 +5,21 @@ use Rattle.std.proofs.lemmas.Option.{slice_get_read}
 use Rattle.up_conf.specs.declared.job.JobDef.{JobDef}
 use Rattle.up_job.specs.declared.instance_key.InstanceKey.{InstanceKey}
 use Rattle.up_book.specs.Keys.{job_at, name_at, instance_at, instance_place}
-use Rattle.up_book.specs.Keeps.{is_waiting}
+use Rattle.up_book.specs.Keeps.{is_waiting, AreDistinct}
 use Rattle.up_engine.proofs.HolderLemmas.{past-releasing}
 use Rattle.up_model.specs.declared.state.State.{State}
 use Rattle.up_model.specs.declared.state.State.TheVariants as state
 use Rattle.up_model.specs.Chronicle.{Chronicle, Entered, Signalled}
 use Rattle.up_model.specs.Clock.{kill, killing}
-use Rattle.up_model.specs.Configuration.{Configuration}
+use Rattle.up_model.specs.Configuration.{Configuration, job_named}
+use Rattle.up_model.specs.Files.{file_of}
 use Rattle.up_model.specs.Instances.{Instance, instances_of}
 use Rattle.up_model.specs.Replies.{releasing}
 use Rattle.up_model.specs.Values.{Bytes}
+use Rattle.up_model.proofs.FileLaws.{file_of-made}
+use Rattle.up_model.proofs.NameLaws.{called}
+use Rattle.up_book.proofs.Keyed.{nth-get}
+use Rattle.up_book.proofs.Outgoing.{made-there, named-there}
 
 -- the name of a job of the table
 pub named_there : (config : Configuration) (jobs : List JobDef) (n : ℕ) (job : JobDef) → jobs ≡ config.jobs → n < length jobs → job ≡ get_or jobs n job
@@ -61,6 +66,19 @@ there config c key job named within =
     let found = split (instances_of job c) key.at within in
     let is : instance_at config c key ≡ Some found.0 = ap (option_and_then (λ (name : Bytes). slice_get (instances_of name c) key.at)) named ∙ found.1.0 in
     record { instance = found.0; is = is; place = placed config c key found.0 is; rest = found.1.1 }
+
+-- the file of the instance of a key is its job's
+pub filed : (config : Configuration) (c : Chronicle) (key : InstanceKey) (job : JobDef) (x : Instance) → AreDistinct config.jobs → job_at config key.job ≡ Some job
+    → instance_at config c key ≡ Some x → file_of config x.place c ≡ Some job
+filed config c key job x distinct in_table there =
+    let at : slice_get (instances_of job.name c) key.at ≡ Some x =
+    sym (ap (option_and_then (λ (name : Bytes). slice_get (instances_of name c) key.at)) (job_name config key.job job in_table)) ∙ there in
+    file_of-made config (called job.name x.name) x.place c (made-there key.at job x c (nth-get key.at (instances_of job.name c) ∙ at))
+    ∙ named-there key.job config.jobs job (nth-get key.job config.jobs ∙ in_table) distinct
+
+-- so is that of the job of an index
+pub found-at : (config : Configuration) (n : ℕ) (job : JobDef) → AreDistinct config.jobs → job_at config n ≡ Some job → job_named job.name config.jobs ≡ Some job
+found-at config n job distinct in_table = named-there n config.jobs job (nth-get n config.jobs ∙ in_table) distinct
 
 -- an instance that enters a state other than waiting stays
 entered_of : (job : Bytes) (i : ℕ) (to : State) (c : Chronicle) → is_waiting to ≡ false → instances_of job (Entered i to ∷ c) ≡ instances_of job c

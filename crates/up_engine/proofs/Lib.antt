@@ -12,6 +12,7 @@ pub mod OutputLemmas
 pub mod SetupLemmas
 pub mod RunLemmas
 pub mod IsolationLemmas
+pub mod JobMoves
 pub mod Moving
 pub mod Offering
 pub mod Passing
@@ -34,3 +35,4 @@ pub mod Positions
 pub mod Unheard
 pub mod Alone
 pub mod Repeating
+pub mod Unblocked

@@ -4,13 +4,14 @@ use Rattle.std.specs.List.{AllByRecursion}
 use Rattle.up_conf.specs.declared.job.JobDef.{JobDef}
 use Rattle.up_model.specs.Chronicle.{Chronicle, Entry}
 use Rattle.up_model.specs.Instances.{Instance, instances_of}
-use Rattle.up_model.specs.Moves.{may_leave, move_of, move_in, move_first}
+use Rattle.up_model.specs.Moves.{may_leave, move_of}
 use Rattle.up_model.specs.Readings.{made_at}
 use Rattle.up_model.specs.Predicates.{or_else}
 use Rattle.up_model.proofs.Places.{count, one_if, all_instances-once, instances-exist}
 use Rattle.up_book.specs.Keeps.{AreDistinct}
 use Rattle.up_job.specs.Lists.{nth}
 use Rattle.up_book.proofs.One.{IsKnown, known-all, called, none-of-others, nth-all, nth-counted, nth-apart, apart-back}
+use Rattle.up_engine.proofs.JobMoves.{move_in, move_first}
 
 -- all instances but one stay where they are
 abbrev pub StayIn : ℕ → JobDef → List Instance → Chronicle → Type 0

@@ -5,10 +5,11 @@ use Rattle.up_model.specs.Chronicle.{Chronicle, Entry, Expression, Offered, Star
 use Rattle.up_model.specs.Configuration.{Configuration}
 use Rattle.up_model.specs.Due.{due}
 use Rattle.up_model.specs.Instances.{Instance, instances_of}
-use Rattle.up_model.specs.Offers.{is_newborn, is_open, stop_offer, stop_offer_in, start_offer, offer_first}
+use Rattle.up_model.specs.Offers.{is_newborn, is_open, stop_offer, start_offer}
 use Rattle.up_model.specs.Predicates.{entries_if, or_else}
 use Rattle.up_model.specs.Seen.{same_expression, was_offered}
 use Rattle.up_model.specs.Work.{work, settle}
+use Rattle.up_model.proofs.JobOffers.{stop_offer_in, offer_first}
 use Rattle.up_model.proofs.Settling.{settle_enough}
 use Rattle.up_engine.specs.Offering.{Asked, OfStop, OfStart, expression_of, open_stops, open_start, open_all, offer_at, offer_one}
 use Rattle.up_book.proofs.Lists.{cons_same}

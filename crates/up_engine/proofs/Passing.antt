@@ -5,11 +5,12 @@ use Rattle.up_conf.specs.declared.job.JobDef.{JobDef}
 use Rattle.up_model.specs.Life.{Wait, ForStart, ForEvent, ForAnswer, ForProcess, ForChange, ForMain, wait_in}
 use Rattle.up_model.specs.Chronicle.{Chronicle, Entry, Expression, Offered}
 use Rattle.up_model.specs.Instances.{Instance, instances_of}
-use Rattle.up_model.specs.Moves.{is_over, may_leave, move, move_of, move_in, move_first}
+use Rattle.up_model.specs.Moves.{is_over, may_leave, move, move_of}
 use Rattle.up_model.specs.Predicates.{entries_if, or_else}
 use Rattle.up_model.specs.Readings.{state_of}
 use Rattle.up_model.specs.Seen.{same_expression}
 use Rattle.up_engine.specs.Offering.{Asked, expression_of}
+use Rattle.up_engine.proofs.JobMoves.{move_in, move_first}
 use Rattle.up_engine.proofs.MoveLemmas.{filled_move}
 use Rattle.up_text.specs.Scripts.{is_filled}
 

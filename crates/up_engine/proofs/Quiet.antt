@@ -12,9 +12,10 @@ use Rattle.up_model.specs.Clock.{all_overdue, kill, killing}
 use Rattle.up_model.specs.Answers.{after}
 use Rattle.up_model.specs.Configuration.{Configuration}
 use Rattle.up_model.specs.Due.{due, turn_event, effect}
+use Rattle.up_model.specs.Files.{names_in_order}
 use Rattle.up_model.specs.Instances.{Instance, instances_of}
 use Rattle.up_model.specs.Life.{Wait, ForStart, ForEvent, ForAnswer, ForProcess, ForChange, ForMain, wait_in}
-use Rattle.up_model.specs.Moves.{is_over, may_leave, move_first}
+use Rattle.up_model.specs.Moves.{is_over, may_leave}
 use Rattle.up_model.specs.Offers.{offering}
 use Rattle.up_model.specs.Queue.{queue}
 use Rattle.up_model.specs.Readings.{goal, state_of, was_restarted, blocker, is_awaited, pid_of}
@@ -23,10 +24,12 @@ use Rattle.up_model.specs.Values.{Bytes}
 use Rattle.up_model.specs.Work.{work}
 use Rattle.up_model.proofs.Settling.{settle_still}
 use Rattle.up_model.proofs.Sparing.{same-append, all-append}
+use Rattle.up_engine.proofs.JobMoves.{move_first}
 use Rattle.up_engine.proofs.Effects.{none-due}
 use Rattle.up_engine.proofs.Firing.{stay-still, still-stay}
 use Rattle.up_engine.proofs.Hearing.{GivesNone, asked-same, none-moves}
 use Rattle.up_engine.proofs.Moving.{StayIn, Stay}
+use Rattle.up_book.specs.Keeps.{AreDistinct}
 
 -- an entry that says nothing of what an instance waits for, and takes no event up
 abbrev pub IsQuiet : Entry → Type 0
@@ -88,7 +91,7 @@ leave-same : (job : JobDef) (q : ℕ) (e : Entry) (c : Chronicle) → IsQuiet e 
 leave-same job q e c is = ap (λ s. is_over job q (wait_in s) (e ∷ c)) (state-same q e c is) ∙ over-same job q (wait_in (state_of q c)) e c is
 
 -- and all stay where they are
-lists-same : (job : Bytes) (e : Entry) (c : Chronicle) → IsQuiet e → instances_of job (e ∷ c) ≡ instances_of job c
+pub lists-same : (job : Bytes) (e : Entry) (c : Chronicle) → IsQuiet e → instances_of job (e ∷ c) ≡ instances_of job c
 lists-same job (Made other name) c is = absurd is
 lists-same job (Entered j entered) c is = absurd is
 lists-same job e c is = refl
@@ -102,7 +105,7 @@ stay-quiet i [] e c is stay = tt
 stay-quiet i (job ∷ jobs) e c is stay =
     (subst (λ (its : List Instance). StayIn i job its (e ∷ c)) (sym (lists-same job.name e c is)) (stayin-quiet i job (instances_of job.name c) e c is stay.0), stay-quiet i jobs e c is stay.1)
 
-stays-quiet : (i : ℕ) (jobs : List JobDef) (es c : List Entry) → AllByRecursion IsQuiet es → Stay i jobs c → Stay i jobs (es ++ c)
+pub stays-quiet : (i : ℕ) (jobs : List JobDef) (es c : List Entry) → AllByRecursion IsQuiet es → Stay i jobs c → Stay i jobs (es ++ c)
 stays-quiet i jobs [] c all stay = stay
 stays-quiet i jobs (e ∷ es) c all stay = stay-quiet i jobs e (es ++ c) all.0 (stays-quiet i jobs es c all.1 stay)
 
@@ -110,16 +113,16 @@ still-quiet : (jobs : List JobDef) (es c : List Entry) → AllByRecursion IsQuie
 still-quiet jobs es c all none = still-stay jobs (es ++ c) (stays-quiet (length (es ++ c)) jobs es c all (stay-still (length (es ++ c)) jobs c none))
 
 -- so nothing is due, if no event is taken up and no client asks
-none-asked : (c : Chronicle) → asked c ≡ None → answering_last c ≡ []
+pub none-asked : (c : Chronicle) → asked c ≡ None → answering_last c ≡ []
 none-asked c none = ap (λ o. answering_hurried (unless_answered o c) c) none
 
-quiet-due : (config : Configuration) (es c : List Entry) → AllByRecursion IsQuiet es → offering (es ++ c) ≡ None → asked (es ++ c) ≡ None → due config c ≡ [] → due config (es ++ c) ≡ []
-quiet-due config es c all offers none rests =
-    none-due config (es ++ c) (still-quiet config.jobs es c all (none-moves config c rests)) offers ∙ none-asked (es ++ c) none
+quiet-due : (config : Configuration) (es c : List Entry) → AreDistinct config.jobs → AllByRecursion IsQuiet es → offering (es ++ c) ≡ None → asked (es ++ c) ≡ None → due config c ≡ [] → due config (es ++ c) ≡ []
+quiet-due config es c distinct all offers none rests =
+    none-due config (es ++ c) distinct (still-quiet config.jobs es c all (none-moves config c distinct rests)) offers ∙ none-asked (es ++ c) none
 
-pub event-due : (config : Configuration) (event : Event) (c : Chronicle) → due config c ≡ [] → due config (effect config (input.Emit event) c ++ c) ≡ []
+pub event-due : (config : Configuration) (event : Event) (c : Chronicle) → AreDistinct config.jobs → due config c ≡ [] → due config (effect config (input.Emit event) c ++ c) ≡ []
 unfolding effect
-event-due config event c rests = quiet-due config (Queued (Outside (length c)) event ∷ Given (input.Emit event) ∷ []) c (tt, (tt, tt)) refl refl rests
+event-due config event c distinct rests = quiet-due config (Queued (Outside (length c)) event ∷ Given (input.Emit event) ∷ []) c distinct (tt, (tt, tt)) refl refl rests
 
 killing-quiet : (places : List ℕ) → AllByRecursion IsQuiet (killing places)
 killing-quiet [] = tt
@@ -129,18 +132,18 @@ killing-gives : (places : List ℕ) → AllByRecursion GivesNone (killing places
 killing-gives [] = tt
 killing-gives (place ∷ places) = all-append GivesNone (killing places) (Signalled place kill true ∷ []) (killing-gives places) (tt, tt)
 
-pub reading-due : (config : Configuration) (reading : ℕ) (c : Chronicle) → offering (effect config (input.Clock reading) c ++ c) ≡ None → due config c ≡ [] → due config (effect config (input.Clock reading) c ++ c) ≡ []
+pub reading-due : (config : Configuration) (reading : ℕ) (c : Chronicle) → AreDistinct config.jobs → offering (effect config (input.Clock reading) c ++ c) ≡ None → due config c ≡ [] → due config (effect config (input.Clock reading) c ++ c) ≡ []
 unfolding effect
-reading-due config reading c offers rests =
+reading-due config reading c distinct offers rests =
     let given : Entry = Given (input.Clock reading) in
-    let kills = killing (all_overdue config.jobs (given ∷ c)) in
-    let unasked : asked (kills ++ given ∷ c) ≡ None = same-append asked GivesNone asked-same kills (given ∷ c) (killing-gives (all_overdue config.jobs (given ∷ c))) in
-    quiet-due config (kills ++ given ∷ []) c (all-append IsQuiet kills (given ∷ []) (killing-quiet (all_overdue config.jobs (given ∷ c))) (tt, tt)) offers (ap asked (append_assoc kills (given ∷ []) c) ∙ unasked) rests
+    let kills = killing (all_overdue config (names_in_order config c) (given ∷ c)) in
+    let unasked : asked (kills ++ given ∷ c) ≡ None = same-append asked GivesNone asked-same kills (given ∷ c) (killing-gives (all_overdue config (names_in_order config c) (given ∷ c))) in
+    quiet-due config (kills ++ given ∷ []) c distinct (all-append IsQuiet kills (given ∷ []) (killing-quiet (all_overdue config (names_in_order config c) (given ∷ c))) (tt, tt)) offers (ap asked (append_assoc kills (given ∷ []) c) ∙ unasked) rests
 
 -- nor is it after a turn that finds no event
-pub idle-due : (config : Configuration) (c : Chronicle) → turn_event config (queue c) c ≡ None → due config c ≡ [] → due config (effect config input.Turn c ++ c) ≡ []
+pub idle-due : (config : Configuration) (c : Chronicle) → AreDistinct config.jobs → turn_event config (queue c) c ≡ None → due config c ≡ [] → due config (effect config input.Turn c ++ c) ≡ []
 unfolding effect
-idle-due config c none rests = rw none (quiet-due config (Given input.Turn ∷ []) c (tt, tt) refl refl rests)
+idle-due config c distinct none rests = rw none (quiet-due config (Given input.Turn ∷ []) c distinct (tt, tt) refl refl rests)
 
 -- so the step is done
 pub after-quiet : (config : Configuration) (given : Input) (c : Chronicle) → due config (effect config given c ++ c) ≡ [] → effect config given c ++ c ≡ after config c given

@@ -9,19 +9,21 @@ use Rattle.up_model.specs.Configuration.{Configuration}
 use Rattle.up_model.specs.Due.{due}
 use Rattle.up_model.specs.Instances.{Instance, without_instance, instances_of}
 use Rattle.up_model.specs.Life.{entering}
-use Rattle.up_model.specs.Moves.{may_leave, next_of, who_of, move, move_of, move_in, move_first}
-use Rattle.up_model.specs.Offers.{offering, offer_next}
+use Rattle.up_model.specs.Moves.{may_leave, next_of, who_of, move, move_of}
+use Rattle.up_model.specs.Offers.{offering}
 use Rattle.up_model.specs.Predicates.{entries_if, or_else}
 use Rattle.up_model.specs.Readings.{goal, state_of, blocker, made_at}
 use Rattle.up_model.specs.Replies.{answering_last}
 use Rattle.up_model.specs.Values.{Bytes}
 use Rattle.up_model.specs.Work.{moves_at}
+use Rattle.up_model.proofs.JobOffers.{offer_next}
 use Rattle.up_model.proofs.MoveLaws.{moves-few}
 use Rattle.up_model.proofs.Places.{count, one_if, all_instances-once, instances-exist}
 use Rattle.up_model.proofs.Sparing.{same-append}
 use Rattle.up_book.specs.Keeps.{AreDistinct}
 use Rattle.up_book.proofs.One.{IsKnown, known-all, called, none-of-others, apart-back}
 use Rattle.up_engine.specs.Settling.{settle_one, settle_each, settle_all, ListsAfter}
+use Rattle.up_engine.proofs.JobMoves.{move_in, move_first, due-by}
 use Rattle.up_engine.proofs.Entries.{or_else-some}
 use Rattle.up_engine.proofs.MoveLemmas.{filled_move}
 use Rattle.up_engine.proofs.Offering.{rested, rested-next}
@@ -156,12 +158,11 @@ reached-first config done job todo passed left x c h may =
     ∙ ap (λ es. or_else es (move_first todo c)) mine ∙ or_else-some (move job x c) (move_first todo c) (filled_move job x c)
 
 reached-rested : (config : Configuration) (done : List JobDef) (job : JobDef) (todo : List JobDef) (passed left : List Instance) (x : Instance) (c : Chronicle)
-    → Reached config done job todo passed (x ∷ left) c → may_leave job x.place c ≡ true → rested config (move job x c ++ c) ≡ rested config c
-unfolding due
-reached-rested config done job todo passed left x c h may =
+    → AreDistinct config.jobs → Reached config done job todo passed (x ∷ left) c → may_leave job x.place c ≡ true → rested config (move job x c ++ c) ≡ rested config c
+reached-rested config done job todo passed left x c distinct h may =
     let first = reached-first config done job todo passed left x c h may in
     let other = or_else (offer_next config (offering c) c) (answering_last c) in
-    let one : due config c ≡ move job x c = ap (λ es. or_else es other) first ∙ or_else-some (move job x c) other (filled_move job x c) in
+    let one : due config c ≡ move job x c = due-by config c distinct ∙ ap (λ es. or_else es other) first ∙ or_else-some (move job x c) other (filled_move job x c) in
     ap (λ es. rested config (es ++ c)) (sym one) ∙ rested-next config c
 
 -- the entries of one instance leave the others where they are
@@ -260,7 +261,7 @@ one-further (suc n) config done job todo passed left x c distinct h few =
         (record {
           passed = passed;
           reached = reached-after config done job todo passed left left x (move job x c) c distinct h (move-about job x c) (lists-kept false x c d lists) (lists job.name ∙ without-one job.name c passed left x h.list);
-          same = reached-rested config done job todo passed left x c h may;
+          same = reached-rested config done job todo passed left x c distinct h may;
         })
 
     goes_on : Again → may_leave job x.place c ≡ true → StandsStill (Entered x.place (next_of job x.place c)) → Further config done job todo left c (settle_one n job x d)
@@ -268,7 +269,7 @@ one-further (suc n) config done job todo passed left x c distinct h few =
         let lists = move-keeps job x c still in
         let reached = reached-after config done job todo passed left (x ∷ left) x (move job x c) c distinct h (move-about job x c) (lists-kept true x c d lists) (lists job.name ∙ h.list) in
         let end = again d reached (omega (arith, move-fewer job x c may, few)) in
-        record { passed = end.passed; reached = end.reached; same = end.same ∙ reached-rested config done job todo passed left x c h may }
+        record { passed = end.passed; reached = end.reached; same = end.same ∙ reached-rested config done job todo passed left x c distinct h may }
 
     by_case : (b : Bool) → may_leave job x.place c ≡ b → Again → Further config done job todo left c (if b then settle_one n job x d else c)
     by_case true may again = goes-or-stays (Further config done job todo left c (settle_one n job x d)) x.place (next_of job x.place c) (gone may) (goes_on again may)

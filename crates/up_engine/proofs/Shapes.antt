@@ -16,9 +16,9 @@ use Rattle.up_model.specs.Environments.{env_of_job, instance_name}
 use Rattle.up_model.specs.Events.{events_at, events_env, with_instance, stopped_by}
 use Rattle.up_model.specs.Instances.{Instance, instances_of, place_named, instance_named}
 use Rattle.up_model.specs.Life.{entering}
-use Rattle.up_model.specs.Moves.{has_process, emitting, ordering, enter, enter_whole, may_leave, next_of, who_of, move, move_first}
-use Rattle.up_model.specs.Offers.{is_newborn, is_open, stop_of, stop_by, stop_offer, max_instances, start_of, who_called, start_who, start_by, start_offer}
-use Rattle.up_model.specs.Predicates.{is_start, entries_if}
+use Rattle.up_model.specs.Moves.{has_process, emitting, ordering, enter, enter_whole, may_leave, next_of, who_of, move}
+use Rattle.up_model.specs.Offers.{is_newborn, is_open, stop_of, stop_by, stop_offer, max_instances, start_of, who_called, start_who, start_by, start_offer, start_env, offering}
+use Rattle.up_model.specs.Predicates.{is_start, entries_if, or_else}
 use Rattle.up_model.specs.Readings.{goal, state_of, lives}
 use Rattle.up_model.specs.Replies.{releasing, answering_last}
 use Rattle.up_model.specs.Seen.{same_expression, seen, holds, taken, was_offered}
@@ -26,10 +26,12 @@ use Rattle.up_model.specs.Values.{Bytes, Bindings}
 use Rattle.up_model.proofs.Places.{bytes_refl}
 use Rattle.up_model.proofs.ReplyLaws.{releasing-all}
 use Rattle.up_model.proofs.Sparing.{all-append, all-if}
+use Rattle.up_model.proofs.JobOffers.{offer_next}
 use Rattle.up_job.specs.Lists.{nth}
 use Rattle.up_book.specs.Keeps.{AreDistinct}
 use Rattle.up_engine.specs.Offering.{Asked, OfStop, OfStart, expression_of, open_stops, open_start, open_all, offer_at}
 use Rattle.up_book.proofs.Lists.{cons_same}
+use Rattle.up_engine.proofs.JobMoves.{move_first, due-by}
 use Rattle.up_engine.proofs.Moving.{first-moves}
 use Rattle.up_engine.proofs.Offering.{rested, rested-next, first-offer, offer-filled, all-left, is_left}
 use Rattle.up_engine.proofs.Entries.{or_else-some}
@@ -184,8 +186,9 @@ started-who jobs e left job (Some name) environment its f h closed =
     started-of jobs e left (record { job = job; instance = name }) (with_instance (record { job = job; instance = name }) environment) its (place_named name (instances_of job f)) f h
     (λ p found. named-closed name p (instances_of job f) f closed found)
 
-abbrev pub start_env : Configuration → JobDef → List ℕ → Chronicle → Bindings
-start_env config job events f = events_env (env_of_job config job.name) (events_at events f)
+-- the name of the instance that a start by events concerns
+abbrev pub start_name : Configuration → JobDef → List ℕ → Chronicle → Option Bytes
+start_name config job events f = instance_name job (events_env (env_of_job config job.name) (events_at events f))
 
 -- the instance that a firing of a `start on` concerns, if any
 abbrev pub started : Configuration → JobDef → (e : ℕ) → Chronicle → Option ℕ
@@ -193,7 +196,7 @@ started config job e c =
     let d = Offered (StartOn job.name) e ∷ c in
     let events = taken job.start_on (seen config (StartOn job.name) d) in
     let f = Fired (StartOn job.name) events ∷ d in
-    if holds job.start_on (seen config (StartOn job.name) d) then started_who (who_called job.name (instance_name job (start_env config job events f))) f else None
+    if holds job.start_on (seen config (StartOn job.name) d) then started_who (who_called job.name (start_name config job events f)) f else None
 
 still-fired : (jobs : List JobDef) (e : ℕ) (left : List Asked) (x : Expression) (events : List ℕ) (c : Chronicle) → IsHandling jobs e left c → IsHandling jobs e left (Fired x events ∷ c)
 still-fired jobs e left x events c h = record {
@@ -229,24 +232,24 @@ after-start config job left e c h apart = by_case (holds job.start_on (seen conf
     effect : List Entry
     effect = start_by config job events f
 
-    fired : AfterStart (started_who (who_called job.name (instance_name job (start_env config job events f))) f) config.jobs e left (effect ++ f)
-    fired = started-who config.jobs e left job.name (instance_name job (start_env config job events f)) (start_env config job events f) events f (still-fired config.jobs e left (StartOn job.name) events d offered) (same-closed (instances_of job.name c) closed)
+    fired : AfterStart (started_who (who_called job.name (start_name config job events f)) f) config.jobs e left (effect ++ f)
+    fired = started-who config.jobs e left job.name (start_name config job events f) (start_env config (who_called job.name (start_name config job events f)) (events_at events f) f) events f (still-fired config.jobs e left (StartOn job.name) events d offered) (same-closed (instances_of job.name c) closed)
 
     order : ((effect ++ Fired (StartOn job.name) events ∷ []) ++ Offered (StartOn job.name) e ∷ []) ++ c ≡ effect ++ f
     order = append_assoc (effect ++ Fired (StartOn job.name) events ∷ []) (Offered (StartOn job.name) e ∷ []) c ∙ append_assoc effect (Fired (StartOn job.name) events ∷ []) d
 
-    by_case : (b : Bool) → AfterStart (if b then started_who (who_called job.name (instance_name job (start_env config job events f))) f else None) config.jobs e left
+    by_case : (b : Bool) → AfterStart (if b then started_who (who_called job.name (start_name config job events f)) f else None) config.jobs e left
         ((entries_if b (effect ++ Fired (StartOn job.name) events ∷ []) ++ Offered (StartOn job.name) e ∷ []) ++ c)
-    by_case true = subst (AfterStart (started_who (who_called job.name (instance_name job (start_env config job events f))) f) config.jobs e left) (sym order) fired
+    by_case true = subst (AfterStart (started_who (who_called job.name (start_name config job events f)) f) config.jobs e left) (sym order) fired
     by_case false = offered
 
 -- what is due is the first of these offers, and the step ends alike after it
-pub due-offer : (config : Configuration) (a : Asked) (left : List Asked) (e : ℕ) (c : Chronicle) → IsHandling config.jobs e (a ∷ left) c
+pub due-offer : (config : Configuration) (a : Asked) (left : List Asked) (e : ℕ) (c : Chronicle) → AreDistinct config.jobs → IsHandling config.jobs e (a ∷ left) c
     → (due config c ≡ offer_at config a e c) × (rested config (offer_at config a e c ++ c) ≡ rested config c)
-unfolding due
-due-offer config a left e c h =
-    let one : due config c ≡ offer_at config a e c =
+due-offer config a left e c distinct h =
+    let parts : or_else (move_first config.jobs c) (or_else (offer_next config (offering c) c) (answering_last c)) ≡ offer_at config a e c =
     rw (still-stay config.jobs c (h.still (length c)), h.handles, first-offer config config.jobs e c, h.open_left) (offer-filled config a e c (answering_last c)) in
+    let one : due config c ≡ offer_at config a e c = due-by config c distinct ∙ parts in
     (one, ap (λ es. rested config (es ++ c)) (sym one) ∙ rested-next config c)
 
 -- a move of the instance leaves the rest to be offered, and the others where they are
@@ -279,10 +282,10 @@ after-move jobs e left job x c at =
 pub due-move : (config : Configuration) (e : ℕ) (left : List Asked) (place at : ℕ) (job : JobDef) (x : Instance) (c : Chronicle) → IsAt x.place config.jobs e left c → AreDistinct config.jobs
     → nth place config.jobs ≡ Some job → nth at (instances_of job.name c) ≡ Some x → may_leave job x.place c ≡ true
     → (due config c ≡ move job x c) × (rested config (move job x c ++ c) ≡ rested config c)
-unfolding due
 due-move config e left place at job x c h distinct there here may =
     let first : move_first config.jobs c ≡ move job x c = first-moves config.jobs place at job x c there here distinct h.stay ∙ ap (λ b. entries_if b (move job x c)) may in
-    let one : due config c ≡ move job x c = rw first (or_else-some (move job x c) _ (filled_move job x c)) in
+    let other = or_else (offer_next config (offering c) c) (answering_last c) in
+    let one : due config c ≡ move job x c = due-by config c distinct ∙ ap (λ es. or_else es other) first ∙ or_else-some (move job x c) other (filled_move job x c) in
     (one, ap (λ es. rested config (es ++ c)) (sym one) ∙ rested-next config c)
 
 -- when it may move no more, the next expression is offered the event

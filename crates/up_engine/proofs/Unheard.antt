@@ -4,8 +4,9 @@ use Rattle.std.specs.List.{AllByRecursion}
 use Rattle.up_conf.specs.declared.job.JobDef.{JobDef}
 use Rattle.up_job.specs.Lists.{nth}
 use Rattle.up_job.specs.declared.instance_key.InstanceKey.{InstanceKey}
-use Rattle.up_marks.specs.Skipping.{names_event, Stops, Starts}
-use Rattle.up_marks.proofs.SkipLemmas.{skipped_offer}
+use Rattle.up_marks.specs.Ruling.{may_hear}
+use Rattle.up_marks.specs.Skipping.{Stops, Starts}
+use Rattle.up_marks.proofs.Ruled.{unheard-offer, holds-unheard}
 use Rattle.up_model.specs.declared.event_id.EventId.{EventId}
 use Rattle.up_model.specs.declared.input.Input.TheVariants.{Turn}
 use Rattle.up_model.specs.Chronicle.{Chronicle, Expression, Given, Handled, Offered, StartOn, StopOn}
@@ -36,8 +37,8 @@ use Rattle.up_engine.proofs.Unfired.{none-entry, none-stop-offered}
 
 -- what an offer that changes nothing leaves to a book
 pub record PassesBy (stands : Chronicle → Type 0) (places : Chronicle → EventId → Option ℕ) (config : Configuration) : Type 0 where
-  pub start : (c : Chronicle) (n : ℕ) (job : JobDef) (e : ℕ) → stands c → job_at config n ≡ Some job → names_event job.start_on (event_at e c) ≡ false → stands (Offered (StartOn job.name) e ∷ c)
-  pub stop : (c : Chronicle) (key : InstanceKey) (job : JobDef) (i e : ℕ) → stands c → instance_place config c key ≡ Some i → job_at config key.job ≡ Some job → names_event job.stop_on (event_at e c) ≡ false
+  pub start : (c : Chronicle) (n : ℕ) (job : JobDef) (e : ℕ) → stands c → job_at config n ≡ Some job → may_hear job.start_on (event_at e c) ≡ false → stands (Offered (StartOn job.name) e ∷ c)
+  pub stop : (c : Chronicle) (key : InstanceKey) (job : JobDef) (i e : ℕ) → stands c → instance_place config c key ≡ Some i → job_at config key.job ≡ Some job → may_hear job.stop_on (event_at e c) ≡ false
       → stands (Offered (StopOn i) e ∷ c)
   pub events : (c : Chronicle) (x : Expression) (e : ℕ) (k : EventId) → places (Offered x e ∷ c) k ≡ places c k
 
@@ -76,7 +77,7 @@ passed-then : (stands : Chronicle → Type 0) (places : Chronicle → EventId �
 passed-then stands places config e event job c d f told lists p = record { stood = p.stood; known = p.known; told = p.told ∙ told; lists = p.lists ∙ lists; rest = p.rest; untrue = p.untrue }
 
 passed-stops : (stands : Chronicle → Type 0) (places : Chronicle → EventId → Option ℕ) (config : Configuration) → PassesBy stands places config → AreDistinct config.jobs → (e : ℕ) (event : EventId) (n : ℕ) (job : JobDef) → job_at config n ≡ Some job
-    → (front its : List Instance) (c : Chronicle) → instances_of job.name c ≡ front ++ its → stands c → places c event ≡ Some e → names_event job.stop_on (event_at e c) ≡ false → Rest job (instances_of job.name c) c → NoneHolds config c
+    → (front its : List Instance) (c : Chronicle) → instances_of job.name c ≡ front ++ its → stands c → places c event ≡ Some e → may_hear job.stop_on (event_at e c) ≡ false → Rest job (instances_of job.name c) c → NoneHolds config c
     → Passed stands places config e event job c (hear_stops config job its e c)
 passed-stops stands places config by distinct e event n job there front [] c list stood known deaf rest untrue =
     record { stood = stood; known = known; told = refl; lists = refl; rest = rest; untrue = untrue }
@@ -84,7 +85,7 @@ passed-stops stands places config by distinct e event n job there front (x ∷ i
     subst (λ f. Passed stands places config e event job c (hear_stops config job its e f)) (sym step)
     (passed-then stands places config e event job c d (hear_stops config job its e d) (event-same (StopOn x.place) e e c) refl
     (passed-stops stands places config by distinct e event n job there (front ++ x ∷ []) its d (list ∙ sym (append_assoc front (x ∷ []) its)) stood_d (by.events c (StopOn x.place) e event ∙ known)
-    (ap (names_event job.stop_on) (event-same (StopOn x.place) e e c) ∙ deaf) (rest-offered job (instances_of job.name c) c (StopOn x.place) e rest) untrue_d))
+    (ap (may_hear job.stop_on) (event-same (StopOn x.place) e e c) ∙ deaf) (rest-offered job (instances_of job.name c) c (StopOn x.place) e rest) untrue_d))
   where
     d : Chronicle
     d = Offered (StopOn x.place) e ∷ c
@@ -96,7 +97,7 @@ passed-stops stands places config by distinct e event n job there front (x ∷ i
     stays = all-middle (λ y. may_leave job y.place c ≡ false) front x its (subst (λ xs. Rest job xs c) list rest)
 
     offer : stop_offer config job x.place e c ≡ Offered (StopOn x.place) e ∷ []
-    offer = skipped_offer config (Stops job x.place) e c (record { unnamed = deaf; quiet = untrue.stops n x.place job x.name there its_own.1 })
+    offer = unheard-offer config (Stops job x.place) e c deaf (untrue.stops n x.place job x.name there its_own.1)
 
     step : settle_one 5 job x (stop_offer config job x.place e c ++ c) ≡ d
     step = ap (λ es. settle_one 5 job x (es ++ c)) offer ∙ one-stays 5 job x d (stays-offered job x.place c (StopOn x.place) e stays)
@@ -113,7 +114,7 @@ passed-stops stands places config by distinct e event n job there front (x ∷ i
     untrue_d : NoneHolds config d
     untrue_d =
         none-stop-offered config job n x.place e x.name c distinct there its_own.0 its_own.1
-        (Rattle.up_marks.proofs.SkipLemmas.holds_unnamed config job.stop_on (StopOn x.place) (StopOn x.place) e c deaf ∙ untrue.stops n x.place job x.name there its_own.1) untrue
+        (holds-unheard config job.stop_on (StopOn x.place) (StopOn x.place) e c deaf ∙ untrue.stops n x.place job x.name there its_own.1) untrue
 
 or-first : (a b : Bool) → (a || b) ≡ false → a ≡ false
 or-first true b none = absurd cc
@@ -128,13 +129,13 @@ passed-job : (stands : Chronicle → Type 0) (places : Chronicle → EventId →
     → (c : Chronicle) → stands c → places c event ≡ Some e → hears job (event_at e c) ≡ false → Rest job (instances_of job.name c) c → NoneHolds config c
     → stands (hear config job e c) × (places (hear config job e c) event ≡ Some e) × (event_at e (hear config job e c) ≡ event_at e c)
 passed-job stands places config by distinct e event n job there c stood known deaf rest untrue =
-    let unnamed : names_event job.stop_on (event_at e c) ≡ false = or-rest (names_event job.start_on (event_at e c)) (names_event job.stop_on (event_at e c)) deaf in
+    let unnamed : may_hear job.stop_on (event_at e c) ≡ false = or-rest (may_hear job.start_on (event_at e c)) (may_hear job.stop_on (event_at e c)) deaf in
     let f = hear_stops config job (instances_of job.name c) e c in
     let p = passed-stops stands places config by distinct e event n job there [] (instances_of job.name c) c refl stood known unnamed rest untrue in
     let x : Expression = StartOn job.name in
     let g : Chronicle = Offered x e ∷ f in
-    let quiet : names_event job.start_on (event_at e f) ≡ false = ap (names_event job.start_on) p.told ∙ or-first (names_event job.start_on (event_at e c)) (names_event job.stop_on (event_at e c)) deaf in
-    let offer : start_offer config job e f ≡ Offered x e ∷ [] = skipped_offer config (Starts job) e f (record { unnamed = quiet; quiet = p.untrue.starts n job there }) in
+    let quiet : may_hear job.start_on (event_at e f) ≡ false = ap (may_hear job.start_on) p.told ∙ or-first (may_hear job.start_on (event_at e c)) (may_hear job.stop_on (event_at e c)) deaf in
+    let offer : start_offer config job e f ≡ Offered x e ∷ [] = unheard-offer config (Starts job) e f quiet (p.untrue.starts n job there) in
     let step : hear config job e c ≡ g =
     ap (λ es. settle_each job (instances_of job.name (es ++ f)) (es ++ f)) offer ∙ each-still job (instances_of job.name f) g (rest-offered job (instances_of job.name f) f x e p.rest) in (
       subst stands (sym step) (by.start f n job e p.stood there quiet),
@@ -156,9 +157,9 @@ pub record HeardTo (stands : Chronicle → Type 0) (places : Chronicle → Event
   pub untrue : NoneHolds config d
 
 -- at first that is none of them
-pub heard-none : (stands : Chronicle → Type 0) (places : Chronicle → EventId → Option ℕ) (config : Configuration) (e : ℕ) (event : EventId) (c : Chronicle) → due config c ≡ [] → NoneHolds config c → stands (Handled e ∷ Given Turn ∷ c)
+pub heard-none : (stands : Chronicle → Type 0) (places : Chronicle → EventId → Option ℕ) (config : Configuration) (e : ℕ) (event : EventId) (c : Chronicle) → AreDistinct config.jobs → due config c ≡ [] → NoneHolds config c → stands (Handled e ∷ Given Turn ∷ c)
     → places (Handled e ∷ Given Turn ∷ c) event ≡ Some e → HeardTo stands places config e event 0 (Handled e ∷ Given Turn ∷ c)
-heard-none stands places config e event c none untrue stood known = record {
+heard-none stands places config e event c distinct none untrue stood known = record {
   d = Handled e ∷ Given Turn ∷ c;
   done = [];
   todo = config.jobs;
@@ -167,7 +168,7 @@ heard-none stands places config e event c none untrue stood known = record {
   stood = stood;
   known = known;
   same = refl;
-  handling = all-left config e c none;
+  handling = all-left config e c distinct none;
   untrue = none-entry config (Handled e) (Given Turn ∷ c) tt (none-entry config (Given Turn) c tt untrue);
 }
 

@@ -7,11 +7,12 @@ use Rattle.up_model.specs.Answers.{after}
 use Rattle.up_model.specs.Chronicle.{Chronicle, Entry, Given, Handled, Offered}
 use Rattle.up_model.specs.Configuration.{Configuration}
 use Rattle.up_model.specs.Due.{due, turn_event, effect}
-use Rattle.up_conf.specs.declared.job.JobDef.{JobDef}
+use Rattle.up_model.specs.Files.{names_in_order}
 use Rattle.up_model.specs.Moves.{move_first}
 use Rattle.up_model.specs.Predicates.{or_else}
 use Rattle.up_model.specs.Queue.{Live, queue}
 use Rattle.up_model.specs.Replies.{unanswered, answering_last}
+use Rattle.up_model.specs.Values.{Bytes}
 use Rattle.up_model.proofs.ReplyLaws.{answering_hurried-all}
 use Rattle.up_model.proofs.Settling.{after_rests}
 use Rattle.up_book.specs.Keeps.{AreDistinct}
@@ -63,13 +64,13 @@ after-untrue config input.Turn c distinct none untrue = by_event (turn_event con
 after-untrue config given c distinct none untrue = other-untrue config given c distinct (λ takes. takes) untrue
 
 -- nothing is due before anything has happened
-none-moves : (jobs : List JobDef) → move_first jobs [] ≡ []
-none-moves [] = refl
-none-moves (job ∷ jobs) = none-moves jobs
+none-moves : (config : Configuration) (names : List Bytes) → move_first config names [] ≡ []
+none-moves config [] = refl
+none-moves config (name ∷ names) = none-moves config names
 
 rests-first : (config : Configuration) → due config [] ≡ []
 unfolding due
-rests-first config = ap (λ es. or_else es []) (none-moves config.jobs)
+rests-first config = ap (λ es. or_else es []) (none-moves config (names_in_order config []))
 
 -- so a step comes to rest
 pub rest-after : (config : Configuration) (given : Input) (c : Chronicle) → AreDistinct config.jobs → IsAtRest config c → IsAtRest config (after config c given)

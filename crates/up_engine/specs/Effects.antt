@@ -45,3 +45,8 @@ Concerns places Anybody config given c = offering (effect config given c ++ c) �
 abbrev pub concern_of : Option InstanceKey → Concern
 concern_of None = Anybody
 concern_of (Some key) = Instance' key
+
+-- whom an event concerns that has finished, by the key of the instance that waited for it
+abbrev pub unblocked_concern : Option InstanceKey → Concern
+unblocked_concern None = Nobody
+unblocked_concern (Some key) = Instance' key

@@ -6,6 +6,6 @@ use Rattle.up_conf.specs.declared.job.JobDef.{JobDef}
 use Rattle.up_model.specs.Configuration.{Configuration}
 use Rattle.up_model.specs.declared.event.Event.{Event}
 
--- none of the jobs of a table from an index on, up to another, has an expression that names it
+-- none of the jobs of a table from an index on, up to another, has an expression that may match it
 abbrev pub AreUnheard : Configuration → Option Event → (from to : ℕ) → Type 0
 AreUnheard config event from to = (n : ℕ) (job : JobDef) → from ≤ n → n < to → job_at config n ≡ Some job → hears job event ≡ false

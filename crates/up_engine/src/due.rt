@@ -1,7 +1,8 @@
 //! What is due, the effect of an input, and whether it is expected.
-ghost use Rattle.std.specs.Prelude.{◌≡◌, ℕ, false, List, ◌∷◌, [], ◌++◌, map, Option, Some, option_map, IfOk, OnOk};
+ghost use Rattle.std.specs.Prelude.{◌≡◌, ℕ, true, false, List, ◌∷◌, [], ◌++◌, map, Option, Some, option_map, IfOk, OnOk};
 ghost use Rattle.up_book.specs.Keys.{Mode, Resting, Stepping, instance_place};
-ghost use Rattle.up_engine.specs.Effects.{Concerns, concern_of};
+ghost use Rattle.up_book.specs.Keeps.{AreDistinct};
+ghost use Rattle.up_engine.specs.Effects.{Concerns, concern_of, unblocked_concern};
 ghost use Rattle.up_model.specs.declared.input.Input.TheVariants as given_as;
 ghost use Rattle.up_book.specs.Turning.{is_finish};
 ghost use Rattle.up_model.specs.Answers as answer;
@@ -183,18 +184,33 @@ fn failed_event_of<B: Book>(
     Ok(told)
 }
 
+// Whom an event concerns that has finished: the instance that waited for it, if one did.
+fn unblocked_concern(on: Option<InstanceKey>) -> Concern
+    ensures { result ≡ unblocked_concern on }
+{
+    if let Some(key) = on {
+        return Concern::Instance(key);
+    }
+    Concern::Nobody
+}
+
 #[tactic(auto, using(crate::proofs::Entries::finishing_last))]
-fn finish<B: Book>(alloc: Global, book: &mut B, key: EventId) -> Result<(), AllocError>
-    ensures { OnOk result ((config : Configuration) (c : Chronicle) (e : ℕ)
+fn finish<B: Book>(alloc: Global, book: &mut B, key: EventId) -> Result<Concern, AllocError>
+    ensures after { OnOk result ((config : Configuration) (c : Chronicle) (e : ℕ)
         → B.stands book.old Resting config c
         → B.event_place book.old c key ≡ Some e → held.is_held config e c ≡ false
         → B.stands book.new Stepping config (model.finishing e (entry.Given given_as.Turn ∷ c)
         ++ entry.Given given_as.Turn ∷ c)) }
+    ensures concerns { IfOk result (λ concern. (config : Configuration) (c : Chronicle) (e : ℕ)
+        → AreDistinct config.jobs → B.stands book.old Resting config c
+        → B.event_place book.old c key ≡ Some e → held.is_held config e c ≡ false
+        → model.turn_event config (queue.queue c) c ≡ Some (queue.live_at e true)
+        → Concerns (B.event_place book.new) concern config given_as.Turn c) }
 {
     book.given(&Input::Turn, None);
     let told = failed_event_of(alloc, book, key)?;
-    book.finish(key, told)?;
-    Ok(())
+    let on = book.finish(key, told)?;
+    Ok(unblocked_concern(on))
 }
 
 fn handle<B: Book>(book: &mut B, key: EventId) -> Result<(), AllocError>
@@ -227,15 +243,15 @@ fn turn_by<B: Book>(
         → B.stands book.new Stepping config (model.turn_of (Some (queue.live_at e (is_finish kind)))
         (entry.Given given_as.Turn ∷ c) ++ entry.Given given_as.Turn ∷ c)) }
     ensures concerns { IfOk result (λ concern. (config : Configuration) (c : Chronicle) (e : ℕ)
-        → B.stands book.old Resting config c
+        → AreDistinct config.jobs → B.stands book.old Resting config c
         → B.event_place book.old c id ≡ Some e
         → model.turn_event config (queue.queue c) c ≡ Some (queue.live_at e (is_finish kind))
         → Concerns (B.event_place book.new) concern config given_as.Turn c) }
 {
     match kind {
         TurnKind::Finish => {
-            finish(alloc, book, id)?;
-            Ok(Concern::Anybody)
+            let concern = finish(alloc, book, id)?;
+            Ok(concern)
         }
         TurnKind::Handle => {
             handle(book, id)?;
@@ -249,7 +265,7 @@ fn take_turn<B: Book>(alloc: Global, book: &mut B) -> Result<Concern, AllocError
     ensures after { OnOk result ((config : Configuration) (c : Chronicle) → B.stands book.old Resting config c
         → B.stands book.new Stepping config (model.effect config given_as.Turn c ++ c)) }
     ensures concerns { IfOk result (λ concern. (config : Configuration) (c : Chronicle)
-        → B.stands book.old Resting config c
+        → AreDistinct config.jobs → B.stands book.old Resting config c
         → Concerns (B.event_place book.new) concern config given_as.Turn c) }
 {
     match book.turn() {
@@ -318,6 +334,7 @@ pub(crate) fn act<B: Book>(
             Ok(Concern::Nobody)
         }
         Input::Turn => {
+            setup.names_differ();
             let concern = take_turn(alloc, book)?;
             Ok(concern)
         }

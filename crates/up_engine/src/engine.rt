@@ -69,7 +69,7 @@ fn status_of<B: Book>(
     vars: &Env,
 ) -> Result<Answer, AllocError>
     ensures { IfOk result (λ answer. (c : Chronicle) → B.stands book.now Resting setup.now c
-        → answer ≡ answer_of (commands.status (commands.target_of setup.now job.now vars.now) c)) }
+        → answer ≡ answer_of (commands.status (commands.target_of setup.now job.now vars.now c) c)) }
 {
     let target = target_of(alloc, setup, job, vars)?;
     let answer = status(alloc, book, target)?;
@@ -134,7 +134,7 @@ impl Engine {
     /// (initctl(8)). Refused with `Memory`, which changes nothing, and with `Down` if the engine is.
     pub fn status(&self, job: &str, vars: &Env) -> Result<Answer, StepError>
         ensures meaning { (config : Configuration) (c : Chronicle) → Stands self.now config c
-            → TellsOf result (answer_of (commands.status (commands.target_of config job.now vars.now) c)) }
+            → TellsOf result (answer_of (commands.status (commands.target_of config job.now vars.now c) c)) }
         ensures down { IsDown self.now → result ≡ Err StepError.Down }
     {
         if self.down {

@@ -146,7 +146,7 @@ fn next_hearer<'a, B: Book>(
         × (found.0 < 18446744073709551615)) }
 {
     let jobs = setup.jobs();
-    match book.next_hearer(event, from) {
+    match book.next_hearer(jobs, event, from) {
         Some(index) => {
             if index < jobs.len() {
                 Some((index, &jobs[index]))
@@ -158,8 +158,8 @@ fn next_hearer<'a, B: Book>(
     }
 }
 
-/// Each job hears of the event that a turn takes up, one after another. The jobs that don't name it are passed by: what they remember of
-/// it is nothing.
+/// Each job hears of the event that a turn takes up, one after another. The jobs that don't name it, or that rule it out by the literal
+/// values of their leaves, are passed by: what they remember of it is nothing.
 pub(crate) fn hear_all<B: Book>(
     alloc: Global,
     setup: &Setup,

@@ -6,7 +6,7 @@ ghost use Rattle.std.specs.List.{list_any};
 ghost use Rattle.up_conf.specs.Jobs.{same_exit};
 ghost use Rattle.up_model.specs.Chronicle.{Chronicle, Entry as EntryValue};
 ghost use Rattle.up_model.specs.Configuration.{Configuration, job_named};
-ghost use Rattle.up_model.specs.Due.{end_of};
+ghost use Rattle.up_model.specs.Due.{end_of, end_by};
 ghost use Rattle.up_model.specs.Instances.{instance_named};
 ghost use Rattle.up_model.specs.Judgement as model;
 
@@ -148,8 +148,7 @@ pub(crate) fn verdict_on<B: Book>(
     end: End,
 ) -> Option<(InstanceKey, Verdict)>
     ensures { (mode : Mode) (c : Chronicle) → B.stands book.now mode setup.now c
-        → Judges setup.now result
-        (end_of (job_named who.now.job setup.now.jobs) (instance_named who.now c) process end c) c }
+        → Judges setup.now result (end_by setup.now who.now process end c) c }
 {
     match setup.job_named(who.job.as_str()) {
         Some((index, job)) => verdict_in(book, index, job, who, process, end),

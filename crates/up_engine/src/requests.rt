@@ -1,6 +1,7 @@
 //! What the requests of clients do (initctl(8)).
-ghost use Rattle.std.specs.Prelude.{◌≡◌, ℕ, true, false, List, length, ◌∷◌, [], ◌++◌, map, Option, None, Some, if◌then◌else◌, IfOk, OnOk};
+ghost use Rattle.std.specs.Prelude.{◌≡◌, ◌&&◌, ℕ, true, false, List, length, ◌∷◌, [], ◌++◌, map, Option, None, Some, if◌then◌else◌, IfOk, OnOk};
 ghost use Rattle.up_model.specs.declared.event_id.EventId.{EventId as EventIdValue};
+ghost use Rattle.up_book.specs.Asking.{given_place};
 ghost use Rattle.up_book.specs.Keys.{job_at, Mode, Resting, Stepping, held_as, request_place, name_at, instance_place};
 ghost use Rattle.up_engine.specs.Requests.{target_of as said_of, IsIndexed, answer_of, unless};
 ghost use Rattle.up_model.specs.declared.input.Input.{Input as InputValue};
@@ -13,8 +14,10 @@ ghost use Rattle.up_model.specs.Due.{effect};
 ghost use Rattle.up_model.specs.Events.{with_instance};
 ghost use Rattle.up_model.specs.Instances as model_instances;
 ghost use Rattle.up_model.specs.Offers as offer;
+ghost use Rattle.up_model.specs.Readings as read;
 ghost use Rattle.up_model.specs.Requests.{RequestValue};
 ghost use Rattle.up_model.specs.Values.{Bindings};
+ghost use Rattle.up_stanza.specs.declared.process.Process.TheVariants.{Main};
 
 use crate::events::event_of;
 use crate::life::{is_running, is_start};
@@ -23,13 +26,13 @@ use crate::setup::Setup;
 use crate::status::{list, status};
 use crate::target::{Target, target_of};
 use crate::texts::{
-    already_running, already_stopped, not_running, not_supported, too_many_events,
+    already_running, already_stopped, no_text, not_running, not_supported, too_many_events,
     too_many_instances, unknown_instance, version,
 };
 use std::alloc::{AllocError, Global};
 use up_book::{Book, Holders};
 use up_job::InstanceKey;
-use up_model::{Answer, Command, Input, JobDef, MAX_EVENTS, Request, Who};
+use up_model::{Answer, Command, Input, JobDef, MAX_EVENTS, Process, Request, Who};
 use up_text::{Env, Text};
 
 // A request is refused.
@@ -43,12 +46,11 @@ fn refuse<B: Book>(book: &mut B, text: Text) -> Result<(), AllocError>
     Ok(())
 }
 
-// A request is told a text at once.
+// A request is told a text.
 fn tell<B: Book>(book: &mut B, text: Text) -> Result<(), AllocError>
-    ensures { OnOk result ((config : Configuration) (c : Chronicle) (input : InputValue)
-        → B.stands book.old Stepping config (entry.Given input ∷ c)
-        → B.stands book.new Stepping config (entry.Replied (length c) (record { ok = true; text = text })
-        ∷ entry.Given input ∷ c)) }
+    ensures { OnOk result ((config : Configuration) (c : Chronicle) → B.stands book.old Stepping config c
+        → B.stands book.new Stepping config (entry.Replied (given_place c) (record { ok = true; text = text })
+        ∷ c)) }
 {
     book.reply(Answer { ok: true, text })?;
     Ok(())
@@ -291,6 +293,105 @@ fn stop<B: Book>(
     Ok(())
 }
 
+// Whether a client may have main of an instance reload.
+fn can_reload<B: Book>(book: &B, key: InstanceKey) -> bool
+    ensures { (mode : Mode) (config : Configuration) (c : Chronicle) (i : ℕ)
+        → B.stands book.now mode config c → instance_place config c key ≡ Some i
+        → result ≡ (model.is_running (read.state_of i c) && read.lives i Main c) }
+{
+    is_running(book.state_of(key)) && book.lives(key, Process::Main)
+}
+
+// Main of an instance is sent a signal, and the client is answered.
+fn signal_and_reply<B: Book>(
+    alloc: Global,
+    book: &mut B,
+    key: InstanceKey,
+    signal: u8,
+) -> Result<(), AllocError>
+    ensures { OnOk result ((config : Configuration) (c : Chronicle) (input : InputValue) (i : ℕ)
+        → B.stands book.old Stepping config (entry.Given input ∷ c)
+        → instance_place config (entry.Given input ∷ c) key ≡ Some i
+        → B.stands book.new Stepping config (model.reloading (length c) i signal ++ entry.Given input ∷ c)) }
+{
+    let nothing = no_text(alloc);
+    book.signal(key, signal)?;
+    tell(book, nothing)?;
+    Ok(())
+}
+
+// Main of an instance that exists is sent the job's reload signal, if it runs.
+fn reload_found<B: Book>(
+    alloc: Global,
+    book: &mut B,
+    job: &JobDef,
+    who: &Who,
+    key: InstanceKey,
+) -> Result<(), AllocError>
+    ensures { OnOk result ((config : Configuration) (c : Chronicle) (input : InputValue) (i : ℕ)
+        → B.stands book.old Stepping config (entry.Given input ∷ c)
+        → instance_place config (entry.Given input ∷ c) key ≡ Some i
+        → B.stands book.new Stepping config
+        (model.entries_of (length c) (model.reload_at (length c) (Some job.now) who.now (Some i)
+        (entry.Given input ∷ c))
+        ++ entry.Given input ∷ c)) }
+{
+    if can_reload(book, key) {
+        signal_and_reply(alloc, book, key, job.reload_signal.number())?;
+    } else {
+        let text = not_running(alloc, who)?;
+        refuse(book, text)?;
+    }
+    Ok(())
+}
+
+fn reload_who<B: Book>(
+    alloc: Global,
+    book: &mut B,
+    index: usize,
+    job: &JobDef,
+    who: &Who,
+) -> Result<(), AllocError>
+    ensures { OnOk result ((config : Configuration) (c : Chronicle) (input : InputValue)
+        → B.stands book.old Stepping config (entry.Given input ∷ c)
+        → name_at config index ≡ Some who.now.job
+        → B.stands book.new Stepping config
+        (model.entries_of (length c) (model.reload_at (length c) (Some job.now) who.now
+        (model_instances.instance_named who.now (entry.Given input ∷ c)) (entry.Given input ∷ c))
+        ++ entry.Given input ∷ c)) }
+{
+    match book.find(index, who.instance.as_str()) {
+        Some(key) => reload_found(alloc, book, job, who, key)?,
+        None => {
+            let text = unknown_instance(alloc, who)?;
+            refuse(book, text)?;
+        }
+    }
+    Ok(())
+}
+
+fn reload<B: Book>(alloc: Global, book: &mut B, target: Target) -> Result<(), AllocError>
+    ensures { OnOk result ((config : Configuration) (c : Chronicle) (input : InputValue)
+        → B.stands book.old Stepping config (entry.Given input ∷ c) → IsIndexed config target.entry
+        → B.stands book.new Stepping config
+        (model.entries_of (length c) (model.reload config (length c) (said_of target.entry) (entry.Given input ∷ c))
+        ++ entry.Given input ∷ c)) }
+{
+    match target {
+        Target::Nobody(text) => refuse(book, text)?,
+        Target::Concerns {
+            index,
+            job,
+            who,
+            environment,
+        } => {
+            drop(environment);
+            reload_who(alloc, book, index, job, &who)?;
+        }
+    }
+    Ok(())
+}
+
 // An instance that exists is restarted, if it runs.
 fn restart_found<B: Book>(
     alloc: Global,
@@ -399,7 +500,7 @@ fn emit<B: Book>(alloc: Global, book: &mut B, name: &str, vars: Env) -> Result<(
     Ok(())
 }
 
-// `start`, `stop` and `restart` of the instance that a request names.
+// What a request's command does.
 fn change<B: Book>(
     alloc: Global,
     setup: &Setup,
@@ -458,7 +559,12 @@ fn change<B: Book>(
             tell(book, text)?;
             Ok(())
         }
-        Command::Reload | Command::ReloadConfiguration => {
+        Command::Reload => {
+            let target = target_of(alloc, setup, name.as_str(), &vars)?;
+            reload(alloc, book, target)?;
+            Ok(())
+        }
+        Command::ReloadConfiguration => {
             let text = not_supported(alloc, command)?;
             refuse(book, text)?;
             Ok(())

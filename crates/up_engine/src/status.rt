@@ -5,6 +5,7 @@ ghost use Rattle.up_engine.specs.Requests.{target_of as said_of, IsIndexed, answ
 ghost use Rattle.up_model.specs.Chronicle.{Chronicle};
 ghost use Rattle.up_model.specs.Commands as model;
 ghost use Rattle.up_model.specs.Configuration.{Configuration};
+ghost use Rattle.up_model.specs.Files.{job_names};
 ghost use Rattle.up_model.specs.Instances as model_instances;
 ghost use Rattle.up_model.specs.Replies.{status_of};
 ghost use Rattle.up_model.specs.Values.{Bytes};
@@ -136,7 +137,7 @@ fn add_job<B: Book>(
 fn lines_of<B: Book>(alloc: Global, book: &B, jobs: &[JobDef]) -> Result<Vec<Text>, AllocError>
     ensures { IfOk result (λ lines. (mode : Mode) (config : Configuration) (c : Chronicle)
         → B.stands book.now mode config c → jobs.now ≡ config.jobs
-        → lines.items ≡ model.list_lines jobs.now c) }
+        → lines.items ≡ model.list_lines (job_names jobs.now) c) }
 {
     let mut lines = Vec::new(alloc);
     for (index, job) in jobs.iter().enumerate() {

@@ -2,8 +2,10 @@
 ghost use Rattle.std.specs.Prelude.{◌≡◌, Some, IfOk};
 ghost use Rattle.up_book.specs.Keys.{job_at};
 ghost use Rattle.up_engine.specs.Requests.{target_of as said_of, IsIndexed};
+ghost use Rattle.up_model.specs.Chronicle.{Chronicle};
 ghost use Rattle.up_model.specs.Commands as model;
 ghost use Rattle.up_model.specs.Configuration.{Configuration};
+ghost use Rattle.up_model.specs.Values.{Bindings};
 ghost use Rattle.up_text.specs.Expansion.{expand as expansion};
 
 use crate::setup::Setup;
@@ -48,8 +50,9 @@ fn target_in<'a>(
     job: &'a JobDef,
     environment: Env,
 ) -> Result<Target<'a>, AllocError>
-    ensures target { IfOk result (λ target. said_of target
-        ≡ model.target_as job.now environment (expansion job.now.instance environment)) }
+    ensures target { IfOk result (λ target. (config : Configuration) (vars : Bindings) (c : Chronicle)
+        → environment ≡ model.request_env config job.now vars
+        → said_of target ≡ model.target_as config job.now vars (expansion job.now.instance environment) c) }
     ensures index { IfOk result (λ target. (config : Configuration)
         → job_at config index ≡ Some job.now → IsIndexed config target) }
 {
@@ -78,7 +81,8 @@ pub(crate) fn target_of<'a>(
     name: &str,
     vars: &Env,
 ) -> Result<Target<'a>, AllocError>
-    ensures target { IfOk result (λ target. said_of target ≡ model.target_of setup.now name.now vars.now) }
+    ensures target { IfOk result (λ target. (c : Chronicle)
+        → said_of target ≡ model.target_of setup.now name.now vars.now c) }
     ensures index { IfOk result (λ target. IsIndexed setup.now target) }
 {
     match setup.job_named(name) {

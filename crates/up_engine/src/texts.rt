@@ -1,5 +1,5 @@
 //! What clients are told when a request is refused, and of jobs without instances.
-ghost use Rattle.std.specs.Prelude.{◌≡◌, ◌++◌, codes, IfOk};
+ghost use Rattle.std.specs.Prelude.{[], ◌≡◌, ◌++◌, codes, IfOk};
 ghost use Rattle.up_model.specs.Commands as model;
 ghost use Rattle.up_model.specs.Requests as request;
 ghost use Rattle.up_model.specs.Status.{who_name};
@@ -76,6 +76,12 @@ pub(crate) fn not_supported(alloc: Global, command: Command) -> Result<Text, All
     ensures { IfOk result (λ text. text ≡ request.not_supported command) }
 {
     join_all(alloc, "Not supported: ", command.name())
+}
+
+pub(crate) fn no_text(alloc: Global) -> Text
+    ensures { result ≡ [] }
+{
+    Text::new(String::new(alloc))
 }
 
 pub(crate) fn version(alloc: Global) -> Result<Text, AllocError>

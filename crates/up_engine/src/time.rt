@@ -1,9 +1,10 @@
 //! Times in milliseconds, and what the timer does.
 ghost use Rattle.std.specs.Prelude.{◌≡◌, ℕ, List, ◌∷◌, ◌++◌, [], map, Some, IfOk, OnOk};
-ghost use Rattle.up_book.specs.Keys.{Mode, Stepping, name_at, instance_place};
+ghost use Rattle.up_book.specs.Keys.{job_at, Mode, Stepping, instance_place};
 ghost use Rattle.up_model.specs.Chronicle.{Chronicle};
 ghost use Rattle.up_model.specs.Clock as clock;
 ghost use Rattle.up_model.specs.Configuration.{Configuration};
+ghost use Rattle.up_model.specs.Files.{names_in_order};
 ghost use Rattle.up_model.specs.Instances.{instances_of};
 ghost use Rattle.up_model.specs.Predicates.{entries_if};
 
@@ -91,10 +92,10 @@ fn add_overdue<B: Book>(
     keys: &mut Vec<InstanceKey>,
 ) -> Result<(), AllocError>
     ensures { OnOk result ((mode : Mode) (config : Configuration) (c : Chronicle) (done : List ℕ)
-        → B.stands book.now mode config c → name_at config index ≡ Some job.now.name
+        → B.stands book.now mode config c → job_at config index ≡ Some job.now
         → map (instance_place config c) keys.old.items ≡ map Some done
         → map (instance_place config c) keys.new.items
-        ≡ map Some (done ++ clock.overdue job.now (instances_of job.now.name c) c)) }
+        ≡ map Some (done ++ clock.overdue config (instances_of job.now.name c) c)) }
 {
     for at in 0..book.count(index) {
         add_if_due(book, job, InstanceKey { job: index, at }, keys)?;
@@ -115,7 +116,8 @@ fn all_overdue<B: Book>(
 ) -> Result<Vec<InstanceKey>, AllocError>
     ensures { IfOk result (λ keys. (mode : Mode) (config : Configuration) (c : Chronicle)
         → B.stands book.now mode config c → jobs.now ≡ config.jobs
-        → map (instance_place config c) keys.items ≡ map Some (clock.all_overdue jobs.now c)) }
+        → map (instance_place config c) keys.items
+        ≡ map Some (clock.all_overdue config (names_in_order config c) c)) }
 {
     let mut keys = no_keys(alloc);
     for (index, job) in jobs.iter().enumerate() {
@@ -145,7 +147,8 @@ pub(crate) fn kill_overdue<B: Book>(
 ) -> Result<(), AllocError>
     ensures { OnOk result ((config : Configuration) (c : Chronicle) → B.stands book.old Stepping config c
         → jobs.now ≡ config.jobs
-        → B.stands book.new Stepping config (clock.killing (clock.all_overdue jobs.now c) ++ c)) }
+        → B.stands book.new Stepping config
+        (clock.killing (clock.all_overdue config (names_in_order config c) c) ++ c)) }
 {
     let keys = all_overdue(alloc, book, jobs)?;
     kill_each(book, keys.as_slice())?;

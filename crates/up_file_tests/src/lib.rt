@@ -1,7 +1,9 @@
 //! The tests of the libraries that say what job files mean, over their public interfaces: `up_value`, `up_pattern`, `up_text`, `up_expr`,
-//! `up_stanza`, `up_conf`, `up_image`, and the types of `up_model`.
+//! `up_stanza`, `up_conf`, `up_advice`, `up_image`, and the types of `up_model`.
 #![tactic(auto)]
 
+#[cfg(test)]
+mod advice;
 #[cfg(test)]
 mod conf;
 #[cfg(test)]

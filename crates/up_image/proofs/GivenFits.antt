@@ -1,12 +1,12 @@
 -- Jobs that files can give have numbers and lists that an image can say.
-use Rattle.std.proofs.Common.{◌≡◌, ℕ, ◌+◌, ◌<◌, ◌≤◌, Bool, true, false, not, ◌&&◌, ◌||◌, nat_le, nat_eq, List, [], ◌∷◌, length, map, Option, None, Some, refl, sym, ap, ◌∙◌, arith}
+use Rattle.std.proofs.Common.{◌≡◌, ℕ, ◌+◌, ◌<◌, ◌≤◌, Bool, true, false, not, ◌&&◌, ◌||◌, nat_le, nat_eq, List, [], ◌∷◌, length, map, Option, None, Some, refl, ◌∙◌, arith}
 use Rattle.std.specs.List.{list_all, list_any, AllByRecursion, IsDistinct}
 use Rattle.std.proofs.lemmas.Bool.{and_from, and_parts, le-leb, leb-true, ne_eqb, eqb-true, eqb-false, false≢true}
 use Rattle.std.proofs.lemmas.List.{length-map}
 use Rattle.std.proofs.lemmas.Map.Steps.{length-le_from_distinct_below}
 use Rattle.up_expr.specs.declared.node.Node.{Node}
 use Rattle.up_expr.specs.declared.node.Node.TheVariants as node
-use Rattle.up_expr.specs.Flat.{nodes_of, size}
+use Rattle.up_expr.specs.Flat.{nodes_of}
 use Rattle.up_expr.specs.Trees.{Tree}
 use Rattle.up_stanza.specs.declared.action.Action.{Action}
 use Rattle.up_stanza.specs.declared.action.Action.TheVariants.{Words, Shell}
@@ -23,6 +23,7 @@ use Rattle.up_conf.specs.Jobs.{same_exit}
 use Rattle.up_image.specs.Compiling.{has_twice, read_paths}
 use Rattle.up_image.specs.Giving.{are_ascending, are_apart, are_exits, are_leaves, can_all_be_given, can_await, can_be_given, can_export, can_run, can_set, has_events, has_lists, has_numbers, has_processes, has_texts, is_exit, is_node, is_setting, is_shallow, is_test, is_word}
 use Rattle.up_image.specs.Image.{body_of, fits, fits_action, fits_condition, fits_lists, fits_node, fits_numbers, fits_processes, has_image, is_countable, is_short}
+use Rattle.up_image.specs.declared.version.Version.TheVariants.{Two}
 use Rattle.up_image.proofs.Fitting.{leaves_given}
 use Rattle.up_image.proofs.GivenJobs.{folder_given}
 
@@ -84,12 +85,13 @@ exits_fit xs is =
     le-leb (length xs) 65535
     (omega (arith, length-map xs code, length-le_from_distinct_below (map code xs) 288 (codes_distinct xs parts.0 parts.1) (λ q found. codes_small xs q parts.0 found)))
 
-numbers_fit : (job : JobDef) → has_numbers job ≡ true → fits_numbers job ≡ true
+numbers_fit : (job : JobDef) → has_numbers job ≡ true → fits_numbers Two job ≡ true
 numbers_fit job is =
-    let last = and_parts (nat_le job.limit.count 65535 && nat_le job.limit.interval 2147483647 && is_signal job.kill_signal) (nat_le job.kill_timeout 2147483647) is in
+    let end = and_parts (nat_le job.limit.count 65535 && nat_le job.limit.interval 2147483647 && is_signal job.kill_signal && nat_le job.kill_timeout 2147483647) (is_signal job.reload_signal) is in
+    let last = and_parts (nat_le job.limit.count 65535 && nat_le job.limit.interval 2147483647 && is_signal job.kill_signal) (nat_le job.kill_timeout 2147483647) end.0 in
     let front = and_parts (nat_le job.limit.count 65535 && nat_le job.limit.interval 2147483647) (is_signal job.kill_signal) last.0 in
     let limit = and_parts (nat_le job.limit.count 65535) (nat_le job.limit.interval 2147483647) front.0 in
-    and_from _ _ (and_from _ _ (le_more job.limit.count 65535 4294967295 limit.0 (omega arith)) (le_more job.limit.interval 2147483647 4294967295 limit.1 (omega arith)))
+    and_from _ _ (and_from _ _ (and_from _ _ (le_more job.limit.count 65535 4294967295 limit.0 (omega arith)) (le_more job.limit.interval 2147483647 4294967295 limit.1 (omega arith))) refl)
     (le_more job.kill_timeout 2147483647 4294967295 last.1 (omega arith))
 
 lists_fit : (job : JobDef) → has_lists job ≡ true → fits_lists job ≡ true
@@ -133,7 +135,7 @@ condition_fits (Some tree) is =
     and_from _ _ last.1 (nodes_fit (nodes_of 0 tree) (leaves_given 0 tree ∙ front.0))
 
 -- a job that files can give fits
-pub job_fits : (job : JobDef) → can_be_given job ≡ true → fits job ≡ true
+pub job_fits : (job : JobDef) → can_be_given job ≡ true → fits Two job ≡ true
 unfolding can_be_given fits
 job_fits job is =
     let four = and_parts (has_texts job && has_numbers job && has_lists job && has_processes job) (has_events job) is in
@@ -144,20 +146,20 @@ job_fits job is =
     and_from _ _ (and_from _ _ (and_from _ _ (numbers_fit job one.1) (lists_fit job two.1)) (processes_fit job three.1))
     (and_from _ _ (condition_fits job.start_on events.0) (condition_fits job.stop_on events.1))
 
-jobs_fit : (jobs : List JobDef) → list_all can_be_given jobs ≡ true → list_all fits jobs ≡ true
+jobs_fit : (jobs : List JobDef) → list_all can_be_given jobs ≡ true → list_all (fits Two) jobs ≡ true
 jobs_fit [] is = refl
 jobs_fit (job ∷ jobs) is =
     let parts = and_parts (can_be_given job) (list_all can_be_given jobs) is in
     and_from _ _ (job_fits job parts.0) (jobs_fit jobs parts.1)
 
 -- the jobs of a folder fit
-pub files_fit : (files : List File) → has_twice (read_paths files) ≡ false → list_all fits (jobs_of files) ≡ true
+pub files_fit : (files : List File) → has_twice (read_paths files) ≡ false → list_all (fits Two) (jobs_of files) ≡ true
 unfolding can_all_be_given
 files_fit files apart =
     jobs_fit (jobs_of files) (and_parts (are_ascending (map (λ (job : JobDef). job.name) (jobs_of files))) (list_all can_be_given (jobs_of files)) (folder_given files apart)).1
 
 -- so they have an image exactly if that isn't too long
 pub large_alone : (files : List File) → has_twice (read_paths files) ≡ false → nat_le (length (jobs_of files)) 1024 ≡ true
-    → has_image (jobs_of files) ≡ nat_le (12 + length (body_of (jobs_of files))) 16777216
+    → has_image (jobs_of files) ≡ nat_le (12 + length (body_of Two (jobs_of files))) 16777216
 unfolding has_image
 large_alone files apart few = rw (few, files_fit files apart) refl

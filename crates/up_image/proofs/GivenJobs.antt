@@ -11,15 +11,15 @@ use Rattle.up_stanza.specs.declared.action.Action.{Action}
 use Rattle.up_stanza.specs.declared.limit.Limit.{Limit}
 use Rattle.up_stanza.specs.declared.process.Process.TheVariants.{Main, PreStart, PostStart, PreStop, PostStop}
 use Rattle.up_stanza.specs.declared.stanza.Stanza.{Stanza}
-use Rattle.up_stanza.specs.declared.stanza.Stanza.TheVariants.{Env, Export, Manual, RespawnLimit, NormalExit, KillTimeout, KillSignal, Instance, Chdir, Runs, StartOn, StopOn}
+use Rattle.up_stanza.specs.declared.stanza.Stanza.TheVariants.{Env, Export, Manual, RespawnLimit, NormalExit, KillTimeout, KillSignal, ReloadSignal, Instance, Chdir, Runs, StartOn, StopOn}
 use Rattle.up_stanza.specs.Confs.{keys_set, keys_exported, total, has_few_keys, conf_of}
-use Rattle.up_stanza.specs.Signals.{is_signal, term}
+use Rattle.up_stanza.specs.Signals.{hup, is_signal, term}
 use Rattle.up_stanza.proofs.Conforming.{conf_is}
 use Rattle.up_stanza.proofs.Backward.{chosen}
 use Rattle.up_conf.specs.declared.folder.File.{File}
 use Rattle.up_conf.specs.declared.job.JobDef.{JobDef}
 use Rattle.up_conf.specs.Folders.{job_name, bytes_at, override_of, job_in, job_of_file, jobs_of}
-use Rattle.up_conf.specs.Jobs.{last_or, fold_stanzas, instance_in, dir_in, limit_in, kill_signal_in, kill_timeout_in, main_in, pre_start_in, post_start_in, pre_stop_in, post_stop_in, start_in, stop_in, env_with, export_with, normal_with, job_of}
+use Rattle.up_conf.specs.Jobs.{last_or, fold_stanzas, instance_in, dir_in, limit_in, kill_signal_in, kill_timeout_in, reload_signal_in, main_in, pre_start_in, post_start_in, pre_stop_in, post_stop_in, start_in, stop_in, env_with, export_with, normal_with, job_of}
 use Rattle.up_conf.specs.declared.report.Fault.{Fault}
 use Rattle.up_image.specs.Compiling.{Compiles, has_twice, read_paths}
 use Rattle.up_image.specs.Giving.{is_token, can_set, can_export, are_exits, can_run, can_await, can_be_given, can_all_be_given}
@@ -62,6 +62,10 @@ signal_said stanza good y is = absurd (cc)
 timeout_said : (stanza : Stanza) → StanzaGood stanza → (y : ℕ) → kill_timeout_in stanza ≡ Some y → nat_le y 2147483647 ≡ true
 timeout_said (KillTimeout seconds) good y is = let same : seconds ≡ y = cc in ap (λ n. nat_le n 2147483647) (sym same) ∙ good
 timeout_said stanza good y is = absurd (cc)
+
+reload_said : (stanza : Stanza) → StanzaGood stanza → (y : ℕ) → reload_signal_in stanza ≡ Some y → is_signal y ≡ true
+reload_said (ReloadSignal signal) good y is = let same : signal ≡ y = cc in ap is_signal (sym same) ∙ good
+reload_said stanza good y is = absurd (cc)
 
 main_said : (stanza : Stanza) → StanzaGood stanza → (y : Option Action) → main_in stanza ≡ Some y → can_run y ≡ true
 main_said (Runs Main action) good y is = let same : Some action ≡ y = cc in ap can_run (sym same) ∙ good
@@ -149,7 +153,8 @@ job_given name xs ys named good one other =
     let limit = last_good is_limit limit_in limit_said (record { count = 10; interval = 5 }) all refl good in
     and_from _ _ (and_from _ _ (and_from _ _ (and_from _ _
     (and_from _ _ (and_from _ _ (and_from _ _ named instance.0) instance.1) (last_good is_token dir_in dir_said [] all no_text good))
-    (and_from _ _ (and_from _ _ limit (last_good is_signal kill_signal_in signal_said term all refl good)) (last_good (λ n. nat_le n 2147483647) kill_timeout_in timeout_said 5 all refl good)))
+    (and_from _ _ (and_from _ _ (and_from _ _ limit (last_good is_signal kill_signal_in signal_said term all refl good)) (last_good (λ n. nat_le n 2147483647) kill_timeout_in timeout_said 5 all refl good))
+    (last_good is_signal reload_signal_in reload_said hup all refl good)))
     (and_from _ _ (and_from _ _ (env_given xs ys good one other) (export_given xs ys good one other)) (normal_given all good)))
     (and_from _ _ (and_from _ _ (and_from _ _ (and_from _ _ (last_good can_run main_in main_said None all refl good) (last_good can_run pre_start_in pre_start_said None all refl good)) (last_good can_run post_start_in post_start_said None all refl good)) (last_good can_run pre_stop_in pre_stop_said None all refl good)) (last_good can_run post_stop_in post_stop_said None all refl good)))
     (and_from _ _ (last_good can_await start_in start_said None all refl good) (last_good can_await stop_in stop_said None all refl good))

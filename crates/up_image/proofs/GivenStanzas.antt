@@ -236,6 +236,7 @@ StanzaGood (NormalExit exits) = list_all is_exit exits ≡ true
 StanzaGood (RespawnLimit limit) = is_limit limit ≡ true
 StanzaGood (KillTimeout seconds) = nat_le seconds 2147483647 ≡ true
 StanzaGood (KillSignal signal) = is_signal signal ≡ true
+StanzaGood (ReloadSignal signal) = is_signal signal ≡ true
 StanzaGood (Instance text) = (is_token text ≡ true) × (is_expandable text ≡ true)
 StanzaGood (Chdir text) = is_token text ≡ true
 StanzaGood (Runs process action) = can_run (Some action) ≡ true
@@ -265,7 +266,7 @@ stanza_good place (RespawnLimit limit) after good (texts, says, is) = (limit_goo
 stanza_good place (NormalExit exits) after good (texts, filled, says, is) = (exits_good texts exits says, (listed_good _ _ place after good is).1)
 stanza_good place (KillTimeout seconds) after good (text, says, is) = (number_most 0 2147483647 text seconds says, (listed_good _ _ place after good is).1)
 stanza_good place (KillSignal signal) after good (text, says, is) = (signal_good text signal says, (listed_good _ _ place after good is).1)
-stanza_good place (ReloadSignal signal) after good (text, says, is) = (tt, (listed_good _ _ place after good is).1)
+stanza_good place (ReloadSignal signal) after good (text, says, is) = (signal_good text signal says, (listed_good _ _ place after good is).1)
 stanza_good place (Instance text) after good (says, is) = let one = first_token _ text place after good is in ((one.0, says), one.1)
 stanza_good place (Console kind) after good (text, says, is) = (tt, (listed_good _ _ place after good is).1)
 stanza_good place (Chdir text) after good is = first_token _ text place after good is

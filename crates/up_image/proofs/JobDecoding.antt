@@ -1,5 +1,5 @@
 -- A job that files can give is found where its part stands.
-use Rattle.std.proofs.Common.{◌≡◌, ℕ, ◌+◌, ◌≤◌, Bool, true, false, ◌&&◌, List, [], ◌∷◌, ◌++◌, length, Option, None, Some, option_and_then, refl, ap, ◌∙◌, append_assoc, arith, nat_le}
+use Rattle.std.proofs.Common.{◌≡◌, ℕ, ◌+◌, ◌≤◌, Bool, true, false, ◌&&◌, List, [], ◌∷◌, ◌++◌, length, Option, None, Some, option_and_then, refl, sym, ap, ◌∙◌, append_assoc, arith, nat_le, eqb-true}
 use Rattle.std.specs.List.{flat_map, list_all}
 use Rattle.std.proofs.lemmas.Bool.{and_parts, leb-true, le-leb}
 use Rattle.byteorder.specs.Endian.{big_bytes}
@@ -8,12 +8,13 @@ use Rattle.up_expr.specs.Trees.{Tree}
 use Rattle.up_expr.proofs.Flattening.{length_nodes}
 use Rattle.up_stanza.specs.declared.exit.Exit.{Exit}
 use Rattle.up_stanza.specs.declared.setting.Setting.{Setting}
-use Rattle.up_stanza.specs.Signals.{is_signal}
+use Rattle.up_stanza.specs.Signals.{hup, is_signal}
 use Rattle.up_conf.specs.declared.job.JobDef.{JobDef}
 use Rattle.up_text.specs.Expansion.{is_expandable}
 use Rattle.up_text.specs.Names.{is_name, is_key}
 use Rattle.up_image.specs.declared.job_parts.Texts.{Texts}
 use Rattle.up_image.specs.declared.job_parts.Numbers.{Numbers}
+use Rattle.up_image.specs.declared.job_parts.Signals.{Signals}
 use Rattle.up_image.specs.declared.job_parts.Lists.{Lists}
 use Rattle.up_image.specs.declared.job_parts.Processes.{Processes}
 use Rattle.up_image.specs.declared.job_parts.Events.{Events}
@@ -22,6 +23,9 @@ use Rattle.up_image.specs.Giving as giving
 use Rattle.up_image.specs.Finding as found
 use Rattle.up_image.specs.Finding.{Found, name_at, text_at, list_at, number_at, items_at, setting_at, exit_at, action_at, trees_at, condition_at, texts_at, numbers_at, lists_at, processes_at, events_at, job_at}
 use Rattle.up_image.specs.Texts.{text_part}
+use Rattle.up_image.specs.Versions.{fits_reload}
+use Rattle.up_image.specs.declared.version.Version.{Version}
+use Rattle.up_image.specs.declared.version.Version.TheVariants.{One, Two}
 use Rattle.up_image.proofs.Decoding.{Decodes, shorter, two_found, four_found, list_decodes}
 use Rattle.up_image.proofs.PartDecoding.{name_decodes, key_decodes, token_decodes, setting_decodes, exit_decodes, action_decodes, trees_found, both_found}
 
@@ -91,29 +95,47 @@ texts_found job r is small =
 
 -- its numbers
 abbrev numbers : JobDef → Numbers
-numbers job = record { limit = job.limit; kill_signal = job.kill_signal; kill_timeout = job.kill_timeout }
+numbers job = record { limit = job.limit; kill_signal = job.kill_signal; kill_timeout = job.kill_timeout; reload_signal = job.reload_signal }
 
-numbers_by : (bytes i k t r : List ℕ) (count interval signal timeout : ℕ) → number_at 4 bytes ≡ Some (count, i) → number_at 4 i ≡ Some (interval, k) → found.byte_at k ≡ Some (signal, t) → number_at 4 t ≡ Some (timeout, r)
-    → numbers_at bytes ≡ Some (record { limit = record { count = count; interval = interval }; kill_signal = signal; kill_timeout = timeout }, r)
+numbers_by : (version : Version) (bytes i k s t r : List ℕ) (count interval signal reload timeout : ℕ) → number_at 4 bytes ≡ Some (count, i) → number_at 4 i ≡ Some (interval, k) → found.byte_at k ≡ Some (signal, s)
+    → found.reload_at version s ≡ Some (reload, t) → number_at 4 t ≡ Some (timeout, r)
+    → numbers_at version bytes ≡ Some (record { limit = record { count = count; interval = interval }; kill_signal = signal; kill_timeout = timeout; reload_signal = reload }, r)
 unfolding numbers_at
-numbers_by bytes i k t r count interval signal timeout one two three four = rw (one, two, three, four) refl
+numbers_by version bytes i k s t r count interval signal reload timeout one two three four five = rw (one, two, three, four, five) refl
 
-numbers_found : (job : JobDef) (r : List ℕ) → giving.has_numbers job ≡ true → numbers_at (image.number_parts job ++ r) ≡ Some (numbers job, r)
-numbers_found job r is =
-    let last = and_parts _ (nat_le job.kill_timeout 2147483647) is in
+-- in version 1 the signal is HUP
+reload_found : (version : Version) (job : JobDef) (r : List ℕ) → fits_reload version job.reload_signal ≡ true
+    → found.reload_at version (image.reload_part version job ++ r) ≡ Some (job.reload_signal, r)
+reload_found One job r fit = ap (λ signal. Some (signal, r)) (sym (eqb-true job.reload_signal hup fit))
+reload_found Two job r fit = refl
+
+numbers_found : (version : Version) (job : JobDef) (r : List ℕ) → image.fits_numbers version job ≡ true → giving.has_numbers job ≡ true → numbers_at version (image.number_parts version job ++ r) ≡ Some (numbers job, r)
+numbers_found version job r fit is =
+    let fits = and_parts _ (fits_reload version job.reload_signal) (and_parts _ (image.fits_number job.kill_timeout) fit).0 in
+    let end = and_parts _ (is_signal job.reload_signal) is in
+    let last = and_parts _ (nat_le job.kill_timeout 2147483647) end.0 in
     let front = and_parts _ (is_signal job.kill_signal) last.0 in
     let first = and_parts (nat_le job.limit.count 65535) (nat_le job.limit.interval 2147483647) front.0 in
     let t = big_bytes 4 job.kill_timeout ++ r in
-    let k = (job.kill_signal ∷ []) ++ t in
+    let s = image.reload_part version job ++ t in
+    let k = (job.kill_signal ∷ []) ++ s in
     let i = big_bytes 4 job.limit.interval ++ k in
-    numbers_by (big_bytes 4 job.limit.count ++ i) i k t r job.limit.count job.limit.interval job.kill_signal job.kill_timeout
+    ap (λ bytes. numbers_at version bytes) (five_apart (big_bytes 4 job.limit.count) (big_bytes 4 job.limit.interval) (job.kill_signal ∷ []) (image.reload_part version job) (big_bytes 4 job.kill_timeout) r)
+    ∙ numbers_by version (big_bytes 4 job.limit.count ++ i) i k s t r job.limit.count job.limit.interval job.kill_signal job.reload_signal job.kill_timeout
     (four_found job.limit.count i (omega (arith, leb-true job.limit.count 65535 first.0)))
     (four_found job.limit.interval k (omega (arith, leb-true job.limit.interval 2147483647 first.1)))
     refl
+    (reload_found version job t fits.1)
     (four_found job.kill_timeout r (omega (arith, leb-true job.kill_timeout 2147483647 last.1)))
 
-signal_found : (job : JobDef) → giving.has_numbers job ≡ true → found.signal_of job.kill_signal ≡ Some job.kill_signal
-signal_found job is = rw (and_parts _ (is_signal job.kill_signal) (and_parts _ (nat_le job.kill_timeout 2147483647) is).0).1 refl
+abbrev signals : JobDef → Signals
+signals job = record { kill = job.kill_signal; reload = job.reload_signal }
+
+signals_found : (job : JobDef) → giving.has_numbers job ≡ true → found.signals_of (numbers job) ≡ Some (signals job)
+signals_found job is =
+    let end = and_parts _ (is_signal job.reload_signal) is in
+    let last = and_parts _ (nat_le job.kill_timeout 2147483647) end.0 in
+    rw ((and_parts _ (is_signal job.kill_signal) last.0).1, end.1) refl
 
 -- its lists
 abbrev lists : JobDef → Lists
@@ -201,27 +223,27 @@ flags_read false true false = (refl, refl, refl)
 flags_read false false true = (refl, refl, refl)
 flags_read false false false = (refl, refl, refl)
 
-whole_job : (job : JobDef) → found.job_by (texts job) (numbers job) job.kill_signal (lists job) (processes job) (events job) ≡ job
+whole_job : (job : JobDef) → found.job_by (texts job) (numbers job) (signals job) (lists job) (processes job) (events job) ≡ job
 whole_job job = let read = flags_read job.task job.respawn job.silent in rw (read.0, read.1, read.2) refl
 
 -- a job
-abbrev pub is_found_job : JobDef → Bool
-is_found_job job = image.fits job && giving.can_be_given job
+abbrev pub is_found_job : Version → JobDef → Bool
+is_found_job version job = image.fits version job && giving.can_be_given job
 
-job_found : (job : JobDef) (r : List ℕ) → is_found_job job ≡ true → length (image.job_part job ++ r) ≤ 16777216 → job_at (image.job_part job ++ r) ≡ Some (job, r)
+job_found : (version : Version) (job : JobDef) (r : List ℕ) → is_found_job version job ≡ true → length (image.job_part version job ++ r) ≤ 16777216 → job_at version (image.job_part version job ++ r) ≡ Some (job, r)
 unfolding job_at image.job_part image.fits giving.can_be_given
-job_found job r is small =
-    let both = and_parts (image.fits job) (giving.can_be_given job) is in
+job_found version job r is small =
+    let both = and_parts (image.fits version job) (giving.can_be_given job) is in
     let fit_events = and_parts _ (image.fits_events job) both.0 in
     let fit_processes = and_parts _ (image.fits_processes job) fit_events.0 in
-    let fit_lists = and_parts (image.fits_numbers job) (image.fits_lists job) fit_processes.0 in
+    let fit_lists = and_parts (image.fits_numbers version job) (image.fits_lists job) fit_processes.0 in
     let few = (and_parts _ (image.is_countable job.normal) fit_lists.1).1 in
     let g4 = and_parts _ (giving.has_events job) both.1 in
     let g3 = and_parts _ (giving.has_processes job) g4.0 in
     let g2 = and_parts _ (giving.has_lists job) g3.0 in
     let g1 = and_parts (giving.has_texts job) (giving.has_numbers job) g2.0 in
     let t = image.text_parts job in
-    let n = image.number_parts job in
+    let n = image.number_parts version job in
     let s = image.set_part job in
     let p = image.process_part job in
     let e = image.event_part job in
@@ -234,12 +256,12 @@ job_found job r is small =
     rw (
       apart,
       texts_found job (n ++ (s ++ (p ++ (e ++ r)))) g1.0 s0,
-      numbers_found job (s ++ (p ++ (e ++ r))) g1.1,
-      signal_found job g1.1,
+      numbers_found version job (s ++ (p ++ (e ++ r))) fit_lists.0 g1.1,
+      signals_found job g1.1,
       lists_found job (p ++ (e ++ r)) g2.1 few s2,
       processes_found job (e ++ r) g3.1 s3,
       events_found job r g4.1 fit_events.1 s4,
     ) (ap (λ found. Some (found, r)) (whole_job job))
 
-pub job_decodes : Decodes image.job_part job_at is_found_job
-job_decodes = record { finds = job_found }
+pub job_decodes : (version : Version) → Decodes (image.job_part version) (job_at version) (is_found_job version)
+job_decodes version = record { finds = job_found version }

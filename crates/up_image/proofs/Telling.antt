@@ -1,5 +1,5 @@
 -- What the parts of a job tell.
-use Rattle.std.proofs.Common.{◌≡◌, ℕ, ◌+◌, ◌≤◌, Bool, true, false, ◌&&◌, List, [], ◌∷◌, ◌++◌, length, drop, map, Option, None, Some, refl, sym, ap, ◌∙◌, arith, nat_le}
+use Rattle.std.proofs.Common.{◌≡◌, ℕ, ◌+◌, ◌≤◌, Bool, true, false, ◌&&◌, List, [], ◌∷◌, ◌++◌, length, drop, map, Option, None, Some, refl, sym, ap, ◌∙◌, arith, nat_le, eqb-true}
 use Rattle.std.specs.List.{list_all}
 use Rattle.std.proofs.lemmas.Bool.{and_parts, le-leb, leb-true}
 use Rattle.std.proofs.lemmas.List.{map-id, length-map}
@@ -18,9 +18,13 @@ use Rattle.up_stanza.specs.declared.action.Action.TheVariants.{Words, Shell}
 use Rattle.up_stanza.specs.declared.exit.Exit.{Exit}
 use Rattle.up_stanza.specs.declared.exit.Exit.TheVariants as exit
 use Rattle.up_stanza.specs.declared.setting.Setting.{Setting}
+use Rattle.up_stanza.specs.Signals.{hup}
 use Rattle.up_conf.specs.declared.job.JobDef.{JobDef}
 use Rattle.up_image.specs.Image as image
 use Rattle.up_image.specs.Texts.{text_part}
+use Rattle.up_image.specs.Versions.{fits_reload}
+use Rattle.up_image.specs.declared.version.Version.{Version}
+use Rattle.up_image.specs.declared.version.Version.TheVariants as versions
 use Rattle.up_image.proofs.Prefixes.{Tells, any, all_any, same_four, same_text, text_tells, both_tell, of_tells, also_tells, list_tells}
 
 -- a list of things whose parts tell all of them
@@ -227,19 +231,28 @@ texts_tell =
     both_tell (both_tell (both_tell (of_tells (λ (job : JobDef). job.name) text_tells) flags_tell) (of_tells (λ (job : JobDef). job.instance) text_tells)) (of_tells (λ (job : JobDef). job.dir) text_tells)
 
 abbrev Numbers : Type 0
-Numbers = ((ℕ × ℕ) × ℕ) × ℕ
+Numbers = (((ℕ × ℕ) × ℕ) × ℕ) × ℕ
 
 abbrev numbers : JobDef → Numbers
-numbers job = (((job.limit.count, job.limit.interval), job.kill_signal), job.kill_timeout)
+numbers job = ((((job.limit.count, job.limit.interval), job.kill_signal), job.reload_signal), job.kill_timeout)
 
-numbers_tell : Tells image.number_parts numbers image.fits_numbers
-numbers_tell = also_tells image.fits_numbers (λ (n : Numbers). n) widened
-    (both_tell (both_tell (both_tell (of_tells (λ (job : JobDef). job.limit.count) number_tells) (of_tells (λ (job : JobDef). job.limit.interval) number_tells)) (of_tells (λ (job : JobDef). job.kill_signal) byte_tells)) (of_tells (λ (job : JobDef). job.kill_timeout) number_tells))
+-- version 1 tells the reload signal without a byte: it is HUP
+reload_tells : (version : Version) → Tells (image.reload_part version) (λ job. job.reload_signal) (λ job. fits_reload version job.reload_signal)
+reload_tells versions.One = record {
+  tells = λ x y r s tx ty small is. (eqb-true x.reload_signal hup tx ∙ sym (eqb-true y.reload_signal hup ty), is);
+}
+reload_tells versions.Two = of_tells (λ (job : JobDef). job.reload_signal) byte_tells
+
+numbers_tell : (version : Version) → Tells (image.number_parts version) numbers (image.fits_numbers version)
+numbers_tell version = also_tells (image.fits_numbers version) (λ (n : Numbers). n) widened
+    (both_tell (both_tell (both_tell (both_tell (of_tells (λ (job : JobDef). job.limit.count) number_tells) (of_tells (λ (job : JobDef). job.limit.interval) number_tells)) (of_tells (λ (job : JobDef). job.kill_signal) byte_tells)) (reload_tells version)) (of_tells (λ (job : JobDef). job.kill_timeout) number_tells))
   where
-    widened : (job : JobDef) → image.fits_numbers job ≡ true → (((image.fits_number job.limit.count && image.fits_number job.limit.interval) && true) && image.fits_number job.kill_timeout) ≡ true
+    widened : (job : JobDef) → image.fits_numbers version job ≡ true
+        → ((((image.fits_number job.limit.count && image.fits_number job.limit.interval) && true) && fits_reload version job.reload_signal) && image.fits_number job.kill_timeout) ≡ true
     widened job fit =
-        let parts = and_parts (image.fits_number job.limit.count && image.fits_number job.limit.interval) (image.fits_number job.kill_timeout) fit in
-        rw (parts.0, parts.1) refl
+        let parts = and_parts (image.fits_number job.limit.count && image.fits_number job.limit.interval && fits_reload version job.reload_signal) (image.fits_number job.kill_timeout) fit in
+        let front = and_parts (image.fits_number job.limit.count && image.fits_number job.limit.interval) (fits_reload version job.reload_signal) parts.0 in
+        rw (front.0, front.1, parts.1) refl
 
 -- its lists
 abbrev Sets : Type 0
@@ -291,9 +304,10 @@ job_from p =
       silent = t.0.0.1.1.1;
       instance = t.0.1;
       dir = t.1;
-      limit = record { count = n.0.0.0; interval = n.0.0.1 };
-      kill_signal = n.0.1;
+      limit = record { count = n.0.0.0.0; interval = n.0.0.0.1 };
+      kill_signal = n.0.0.1;
       kill_timeout = n.1;
+      reload_signal = n.0.1;
       env = s.0.0;
       export = s.0.1;
       normal = s.1;
@@ -306,11 +320,11 @@ job_from p =
       stop_on = p.1.1;
     }
 
-pub job_tells : Tells image.job_part (λ job. job) image.fits
+pub job_tells : (version : Version) → Tells (image.job_part version) (λ job. job) (image.fits version)
 unfolding image.fits image.job_part
-job_tells = also_tells image.fits job_from widened
-    (both_tell (both_tell (both_tell (both_tell texts_tell numbers_tell) sets_tell) processes_tell) events_tell)
+job_tells version = also_tells (image.fits version) job_from widened
+    (both_tell (both_tell (both_tell (both_tell texts_tell (numbers_tell version)) sets_tell) processes_tell) events_tell)
   where
-    widened : (job : JobDef) → image.fits job ≡ true
-        → ((((true && image.fits_numbers job) && image.fits_lists job) && image.fits_processes job) && image.fits_events job) ≡ true
+    widened : (job : JobDef) → image.fits version job ≡ true
+        → ((((true && image.fits_numbers version job) && image.fits_lists job) && image.fits_processes job) && image.fits_events job) ≡ true
     widened job fit = fit

@@ -13,16 +13,19 @@ use Rattle.up_stanza.specs.declared.action.Action.TheVariants.{Words, Shell}
 use Rattle.up_stanza.specs.declared.exit.Exit.{Exit}
 use Rattle.up_stanza.specs.declared.exit.Exit.TheVariants as exit
 use Rattle.up_stanza.specs.declared.setting.Setting.{Setting}
-use Rattle.up_stanza.specs.Signals.{is_signal}
+use Rattle.up_stanza.specs.Signals.{hup, is_signal}
 use Rattle.up_conf.specs.declared.job.JobDef.{JobDef}
 use Rattle.up_image.specs.declared.job_parts.Texts.{Texts}
 use Rattle.up_image.specs.declared.job_parts.Numbers.{Numbers}
+use Rattle.up_image.specs.declared.job_parts.Signals.{Signals}
 use Rattle.up_image.specs.declared.job_parts.Lists.{Lists}
 use Rattle.up_image.specs.declared.job_parts.Processes.{Processes}
 use Rattle.up_image.specs.declared.job_parts.Events.{Events}
 use Rattle.up_image.specs.declared.limits.TheConstants.{MAX_NODES}
 use Rattle.up_image.specs.declared.unread.Unread.{Unread}
 use Rattle.up_image.specs.declared.unread.Unread.TheVariants.{BadTable, Memory}
+use Rattle.up_image.specs.declared.version.Version.{Version}
+use Rattle.up_image.specs.declared.version.Version.TheVariants as version
 
 -- what is found and the bytes after it, if it is there
 abbrev pub Found : Type 0 → Type 0
@@ -182,16 +185,23 @@ texts_at bytes =
     record { name = name.0; flags = flags.0; instance = instance.0; dir = dir })
     (text_at instance.1)) (text_at flags.1)) (byte_at name.1)) (name_at bytes)
 
-unfoldable pub numbers_at : List ℕ → Found Numbers
-numbers_at bytes =
-    option_and_then (λ count. option_and_then (λ interval. option_and_then (λ signal. made (λ timeout.
+-- the reload signal, which in version 1 is HUP and has no byte
+abbrev pub reload_at : Version → List ℕ → Found ℕ
+reload_at version.One bytes = Some (hup, bytes)
+reload_at version.Two bytes = byte_at bytes
+
+unfoldable pub numbers_at : Version → List ℕ → Found Numbers
+numbers_at version bytes =
+    option_and_then (λ count. option_and_then (λ interval. option_and_then (λ signal. option_and_then
+    (λ reload. made (λ timeout.
     record {
       limit = record { count = count.0; interval = interval.0 };
-      kill_signal =
-          signal.0;
+      kill_signal = signal.0;
       kill_timeout = timeout;
+      reload_signal = reload.0;
     })
-    (number_at 4 signal.1)) (byte_at interval.1)) (number_at 4 count.1)) (number_at 4 bytes)
+    (number_at 4 reload.1)) (reload_at version signal.1)) (byte_at interval.1)) (number_at 4 count.1))
+    (number_at 4 bytes)
 
 unfoldable pub lists_at : List ℕ → Found Lists
 lists_at bytes =
@@ -223,13 +233,19 @@ events_at bytes =
     }) (condition_at start.1))
     (condition_at bytes)
 
+-- the signals of these numbers
+abbrev pub signals_of : Numbers → Option Signals
+signals_of numbers =
+    option_and_then (λ kill. option_map (λ reload. record { kill = kill; reload = reload })
+    (signal_of numbers.reload_signal)) (signal_of numbers.kill_signal)
+
 -- whether a flag is set
 abbrev pub has_flag : ℕ → ℕ → Bool
 has_flag flag flags = not (bit_and flags flag == 0)
 
 -- the job of its parts
-abbrev pub job_by : Texts → Numbers → ℕ → Lists → Processes → Events → JobDef
-job_by texts numbers signal lists processes events = record {
+abbrev pub job_by : Texts → Numbers → Signals → Lists → Processes → Events → JobDef
+job_by texts numbers signals lists processes events = record {
   name = texts.name;
   task = has_flag 1 texts.flags;
   respawn = has_flag 2 texts.flags;
@@ -237,8 +253,9 @@ job_by texts numbers signal lists processes events = record {
   instance = texts.instance;
   dir = texts.dir;
   limit = numbers.limit;
-  kill_signal = signal;
+  kill_signal = signals.kill;
   kill_timeout = numbers.kill_timeout;
+  reload_signal = signals.reload;
   env = lists.env;
   export = lists.export;
   normal = lists.normal;
@@ -251,14 +268,14 @@ job_by texts numbers signal lists processes events = record {
   stop_on = events.stop_on;
 }
 
-unfoldable pub job_at : List ℕ → Found JobDef
-job_at bytes =
+unfoldable pub job_at : Version → List ℕ → Found JobDef
+job_at version bytes =
     option_and_then (λ texts. option_and_then
-    (λ numbers. option_and_then (λ signal. option_and_then
+    (λ numbers. option_and_then (λ signals. option_and_then
     (λ lists. option_and_then (λ processes. made (λ events.
-    job_by texts.0 numbers.0 signal lists.0 processes.0 events)
-    (events_at processes.1)) (processes_at lists.1)) (lists_at numbers.1)) (signal_of numbers.0.kill_signal))
-    (numbers_at texts.1)) (texts_at bytes)
+    job_by texts.0 numbers.0 signals lists.0 processes.0 events)
+    (events_at processes.1)) (processes_at lists.1)) (lists_at numbers.1)) (signals_of numbers.0))
+    (numbers_at version texts.1)) (texts_at bytes)
 
 -- what a refused reading says: out of memory nothing, else that there is nothing to read
 abbrev pub Refuses : {Y : Type 0} → Unread → Option Y → Type 0

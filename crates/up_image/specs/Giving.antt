@@ -165,7 +165,7 @@ has_texts job = is_name job.name && is_token job.instance && is_expandable job.i
 
 abbrev pub has_numbers : JobDef → Bool
 has_numbers job = nat_le job.limit.count MAX_COUNT && nat_le job.limit.interval MAX_SECONDS
-    && is_signal job.kill_signal && nat_le job.kill_timeout MAX_SECONDS
+    && is_signal job.kill_signal && nat_le job.kill_timeout MAX_SECONDS && is_signal job.reload_signal
 
 abbrev pub has_lists : JobDef → Bool
 has_lists job = can_set job.env && can_export job.export && are_exits job.normal

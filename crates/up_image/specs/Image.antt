@@ -16,6 +16,9 @@ use Rattle.up_stanza.specs.declared.setting.Setting.{Setting}
 use Rattle.up_conf.specs.declared.job.JobDef.{JobDef}
 use Rattle.up_image.specs.Index.{entries_of, index_part}
 use Rattle.up_image.specs.Texts.{text_part}
+use Rattle.up_image.specs.Versions.{version_number, fits_reload}
+use Rattle.up_image.specs.declared.version.Version.{Version}
+use Rattle.up_image.specs.declared.version.Version.TheVariants as version
 use Rattle.up_image.specs.declared.limits.TheConstants.{MAX_IMAGE, MAX_ITEMS, MAX_JOBS, MAX_NODES}
 
 -- a list: how many items it has, then the items
@@ -66,12 +69,18 @@ flags job = bit 1 job.task + bit 2 job.respawn + bit 4 job.silent
 abbrev pub text_parts : JobDef → List ℕ
 text_parts job = text_part job.name ++ (flags job ∷ []) ++ text_part job.instance ++ text_part job.dir
 
-abbrev pub number_parts : JobDef → List ℕ
-number_parts job = big_bytes 4 job.limit.count ++ big_bytes 4 job.limit.interval ++ (job.kill_signal ∷ [])
-    ++ big_bytes 4 job.kill_timeout
+-- the reload signal, for which version 1 has no byte
+abbrev pub reload_part : Version → JobDef → List ℕ
+reload_part version.One job = []
+reload_part version.Two job = job.reload_signal ∷ []
 
-abbrev pub field_part : JobDef → List ℕ
-field_part job = text_parts job ++ number_parts job
+abbrev pub number_parts : Version → JobDef → List ℕ
+number_parts version job =
+    big_bytes 4 job.limit.count ++ big_bytes 4 job.limit.interval ++ (job.kill_signal ∷ [])
+    ++ reload_part version job ++ big_bytes 4 job.kill_timeout
+
+abbrev pub field_part : Version → JobDef → List ℕ
+field_part version job = text_parts job ++ number_parts version job
 
 abbrev pub set_part : JobDef → List ℕ
 set_part job = list_part setting_part job.env ++ list_part text_part job.export
@@ -85,8 +94,8 @@ process_part job =
 abbrev pub event_part : JobDef → List ℕ
 event_part job = list_part node_part (nodes_in job.start_on) ++ list_part node_part (nodes_in job.stop_on)
 
-unfoldable pub job_part : JobDef → List ℕ
-job_part job = field_part job ++ set_part job ++ process_part job ++ event_part job
+unfoldable pub job_part : Version → JobDef → List ℕ
+job_part version job = field_part version job ++ set_part job ++ process_part job ++ event_part job
 
 -- whether a number fits four bytes
 abbrev pub fits_number : ℕ → Bool
@@ -113,9 +122,9 @@ is_short (Some tree) = nat_le (size tree) MAX_NODES
 abbrev pub fits_condition : Option Tree → Bool
 fits_condition condition = is_short condition && list_all fits_node (nodes_in condition)
 
-abbrev pub fits_numbers : JobDef → Bool
-fits_numbers job = fits_number job.limit.count && fits_number job.limit.interval
-    && fits_number job.kill_timeout
+abbrev pub fits_numbers : Version → JobDef → Bool
+fits_numbers version job = fits_number job.limit.count && fits_number job.limit.interval
+    && fits_reload version job.reload_signal && fits_number job.kill_timeout
 
 abbrev pub fits_lists : JobDef → Bool
 fits_lists job = is_countable job.env && is_countable job.export && is_countable job.normal
@@ -128,26 +137,33 @@ fits_processes job =
 abbrev pub fits_events : JobDef → Bool
 fits_events job = fits_condition job.start_on && fits_condition job.stop_on
 
-unfoldable pub fits : JobDef → Bool
-fits job = fits_numbers job && fits_lists job && fits_processes job && fits_events job
+-- whether a version can say all of a job
+unfoldable pub fits : Version → JobDef → Bool
+fits version job = fits_numbers version job && fits_lists job && fits_processes job && fits_events job
 
 -- the jobs, and after them the index of the events
-abbrev pub body_of : List JobDef → List ℕ
-body_of jobs = flat_map job_part jobs ++ index_part (entries_of jobs)
+abbrev pub body_of : Version → List JobDef → List ℕ
+body_of version jobs = flat_map (job_part version) jobs ++ index_part (entries_of jobs)
 
 -- the mark of the format, its version, how many jobs there are, and how long the whole is
-abbrev pub head_of : ℕ → ℕ → List ℕ
-head_of jobs long = codes "UPTB" ++ big_bytes 2 1 ++ big_bytes 2 jobs ++ big_bytes 4 long
+abbrev pub head_of : Version → ℕ → ℕ → List ℕ
+head_of version jobs long =
+    codes "UPTB" ++ big_bytes 2 (version_number version) ++ big_bytes 2 jobs ++ big_bytes 4 long
 
--- whether jobs have an image: there are 1,024 at most, their numbers and lists fit, and the whole has 16 MiB at most
+-- whether jobs have an image, of the version that is written: there are 1,024 at most, their numbers and lists fit, and the whole
+-- has 16 MiB at most
 unfoldable pub has_image : List JobDef → Bool
-has_image jobs = nat_le (length jobs) MAX_JOBS && list_all fits jobs
-    && nat_le (12 + length (body_of jobs)) MAX_IMAGE
+has_image jobs = nat_le (length jobs) MAX_JOBS && list_all (fits version.Two) jobs
+    && nat_le (12 + length (body_of version.Two jobs)) MAX_IMAGE
 
--- bytes are the image of jobs: their head, which says how long they are, and their body; 16 MiB at most, 1,024 jobs at most, each
--- number as large as its bytes can say, and each list as long as its number can say
-pub record IsImage (bytes : List ℕ) (jobs : List JobDef) : Type 0 where
-  pub written : bytes ≡ head_of (length jobs) (length bytes) ++ body_of jobs
+-- bytes are the image of jobs in a version: their head, which says how long they are, and their body; 16 MiB at most, 1,024 jobs at
+-- most, each number as large as its bytes can say, each list as long as its number can say, and in version 1 the reload signal HUP
+pub record IsVersion (version : Version) (bytes : List ℕ) (jobs : List JobDef) : Type 0 where
+  pub written : bytes ≡ head_of version (length jobs) (length bytes) ++ body_of version jobs
   pub small : length bytes ≤ MAX_IMAGE
   pub few : length jobs ≤ MAX_JOBS
-  pub counted : list_all fits jobs ≡ true
+  pub counted : list_all (fits version) jobs ≡ true
+
+-- bytes are the image of jobs that is written
+abbrev pub IsImage : List ℕ → List JobDef → Type 0
+IsImage bytes jobs = IsVersion version.Two bytes jobs

@@ -2,6 +2,8 @@
 pub mod Texts
 -- The index of a table.
 pub mod Index
+-- The versions of an image, and what version 1 can't say.
+pub mod Versions
 -- How a table is kept as bytes.
 pub mod Image
 -- What a folder of job files is compiled to.

@@ -1,12 +1,14 @@
-//! Tells whether an image can say how long a table's lists are.
+//! Tells whether an image can say all of a table's jobs: how long their lists are, and the reload signals.
 ghost use Rattle.std.specs.Prelude.{◌≡◌};
 ghost use Rattle.std.specs.List.{list_all};
 ghost use Rattle.up_image.specs.Image as image;
+ghost use Rattle.up_image.specs.Versions.{fits_reload};
 
 use crate::limits::MAX_ITEMS;
+use crate::version::Version;
 use up_conf::JobDef;
 use up_expr::{Condition, Node};
-use up_stanza::Action;
+use up_stanza::{Action, Signal};
 
 fn fits_action(action: &Option<Action>) -> bool
     ensures { result ≡ image.fits_action action.now }
@@ -50,10 +52,22 @@ fn fits_number(_number: u32) -> bool
     true
 }
 
-fn fits_numbers(job: &JobDef) -> bool
-    ensures { result ≡ image.fits_numbers job.now }
+fn fits_reload(version: Version, signal: Signal) -> bool
+    ensures { result ≡ fits_reload version signal }
 {
-    fits_number(job.limit.count) && fits_number(job.limit.interval) && fits_number(job.kill_timeout)
+    match version {
+        Version::One => signal.number() == Signal::hup().number(),
+        Version::Two => true,
+    }
+}
+
+fn fits_numbers(version: Version, job: &JobDef) -> bool
+    ensures { result ≡ image.fits_numbers version job.now }
+{
+    fits_number(job.limit.count)
+        && fits_number(job.limit.interval)
+        && fits_reload(version, job.reload_signal)
+        && fits_number(job.kill_timeout)
 }
 
 fn fits_lists(job: &JobDef) -> bool
@@ -81,15 +95,15 @@ fn fits_events(job: &JobDef) -> bool
 }
 
 #[tactic(auto, unfolding(crate::specs::Image::fits))]
-fn fits(job: &JobDef) -> bool
-    ensures { result ≡ image.fits job.now }
+fn fits(version: Version, job: &JobDef) -> bool
+    ensures { result ≡ image.fits version job.now }
 {
-    fits_numbers(job) && fits_lists(job) && fits_processes(job) && fits_events(job)
+    fits_numbers(version, job) && fits_lists(job) && fits_processes(job) && fits_events(job)
 }
 
-/// Whether all lists of the jobs are as short as an image can say.
-pub(crate) fn all_fit(jobs: &[JobDef]) -> bool
-    ensures { result ≡ list_all image.fits jobs.now }
+/// Whether a version can say all of each job.
+pub(crate) fn all_fit(version: Version, jobs: &[JobDef]) -> bool
+    ensures { result ≡ list_all (image.fits version) jobs.now }
 {
-    jobs.iter().all(|job| fits(job))
+    jobs.iter().all(|job| fits(version, job))
 }

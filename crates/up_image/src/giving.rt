@@ -201,6 +201,7 @@ fn has_numbers(job: &JobDef) -> bool
         && job.limit.interval <= MAX_SECONDS
         && matches!(job.kill_signal.number(), 1..=31)
         && job.kill_timeout <= MAX_SECONDS
+        && matches!(job.reload_signal.number(), 1..=31)
 }
 
 fn has_lists(alloc: Global, job: &JobDef) -> Result<bool, AllocError>

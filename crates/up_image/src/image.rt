@@ -5,12 +5,14 @@ ghost use Rattle.byteorder.specs.Endian.{big_bytes};
 ghost use Rattle.up_image.specs.declared.limits.TheConstants.{MAX_IMAGE, MAX_JOBS};
 ghost use Rattle.up_image.specs.Image.{IsImage, body_of, fits, has_image, head_of};
 ghost use Rattle.up_image.specs.Index.{entries_of, index_part};
+ghost use Rattle.up_image.specs.declared.version.Version.TheVariants.{Two};
 
 use crate::bytes::{put_four, put_two};
 use crate::fits::all_fit;
 use crate::index::put_index;
 use crate::limits::{MAX_IMAGE, MAX_JOBS};
 use crate::put_job::{job_len, put_jobs};
+use crate::version::Version;
 use byteorder::{BigEndian, ByteOrder};
 use std::alloc::{AllocError, Global};
 use up_conf::JobDef;
@@ -18,14 +20,11 @@ use up_conf::JobDef;
 /// How many bytes stand before an image's jobs.
 pub(crate) const HEAD: usize = 12;
 
-/// The version of the format.
-pub(crate) const VERSION: u16 = 1;
-
-/// Whether an image can say how many jobs there are, and how long their lists are.
-pub(crate) fn is_countable(jobs: &[JobDef]) -> bool
-    ensures { result ≡ (nat_le (length jobs.now) MAX_JOBS && list_all fits jobs.now) }
+/// Whether an image of a version can say how many jobs there are, and all of each.
+pub(crate) fn is_countable(version: Version, jobs: &[JobDef]) -> bool
+    ensures { result ≡ (nat_le (length jobs.now) MAX_JOBS && list_all (fits version) jobs.now) }
 {
-    jobs.len() <= MAX_JOBS && all_fit(jobs)
+    jobs.len() <= MAX_JOBS && all_fit(version, jobs)
 }
 
 // How many bytes the index of jobs has.
@@ -42,7 +41,7 @@ fn index_len(alloc: Global, jobs: &[JobDef]) -> Result<usize, AllocError>
 #[tactic(auto, using(crate::proofs::Lengths::length_more, crate::proofs::Lengths::too_long))]
 fn is_small(alloc: Global, jobs: &[JobDef]) -> Result<bool, AllocError>
     requires { length jobs.now ≤ MAX_JOBS }
-    ensures { IfOk result (λ small. small ≡ nat_le (12 + length (body_of jobs.now)) MAX_IMAGE) }
+    ensures { IfOk result (λ small. small ≡ nat_le (12 + length (body_of Two jobs.now)) MAX_IMAGE) }
 {
     let mut bytes = Vec::new(alloc);
     let mut len = HEAD;
@@ -57,23 +56,28 @@ fn is_small(alloc: Global, jobs: &[JobDef]) -> Result<bool, AllocError>
     Ok(index <= MAX_IMAGE - len)
 }
 
-/// Whether jobs have an image.
+/// Whether jobs have an image of the version that is written.
 #[tactic(auto, unfolding(crate::specs::Image::has_image))]
 pub(crate) fn has_image(alloc: Global, jobs: &[JobDef]) -> Result<bool, AllocError>
     ensures { IfOk result (λ has. has ≡ has_image jobs.now) }
 {
-    if !is_countable(jobs) {
+    if !is_countable(Version::Two, jobs) {
         return Ok(false);
     }
     is_small(alloc, jobs)
 }
 
-/// Appends the head of an image with so many jobs and bytes.
-pub(crate) fn put_head(out: &mut Vec<u8>, jobs: usize, bytes: usize) -> Result<(), AllocError>
-    ensures { OnOk result (out.new.items ≡ out.old.items ++ head_of jobs bytes) }
+/// Appends the head of an image of a version with so many jobs and bytes.
+pub(crate) fn put_head(
+    out: &mut Vec<u8>,
+    version: Version,
+    jobs: usize,
+    bytes: usize,
+) -> Result<(), AllocError>
+    ensures { OnOk result (out.new.items ≡ out.old.items ++ head_of version jobs bytes) }
 {
     out.extend_from_slice(b"UPTB")?;
-    put_two(out, u64::from(VERSION))?;
+    put_two(out, u64::from(version.number()))?;
     put_two(out, jobs as u64)?;
     put_four(out, bytes as u64)?;
     Ok(())
@@ -82,10 +86,10 @@ pub(crate) fn put_head(out: &mut Vec<u8>, jobs: usize, bytes: usize) -> Result<(
 // The head, the jobs and the index. For the length, which isn't known yet, the head says 0.
 fn write_parts(alloc: Global, jobs: &[JobDef]) -> Result<Vec<u8>, AllocError>
     requires { length jobs.now ≤ MAX_JOBS }
-    ensures { IfOk result (λ bytes. bytes.items ≡ head_of (length jobs.now) 0 ++ body_of jobs.now) }
+    ensures { IfOk result (λ bytes. bytes.items ≡ head_of Two (length jobs.now) 0 ++ body_of Two jobs.now) }
 {
     let mut bytes = Vec::new(alloc);
-    put_head(&mut bytes, jobs.len(), 0)?;
+    put_head(&mut bytes, Version::Two, jobs.len(), 0)?;
     put_jobs(&mut bytes, jobs)?;
     put_index(alloc, &mut bytes, jobs)?;
     Ok(bytes)

@@ -1,7 +1,7 @@
 //! The parts of a job, as an image has them one after another.
 
 use up_expr::Condition;
-use up_stanza::{Action, Exit, Limit, Setting};
+use up_stanza::{Action, Exit, Limit, Setting, Signal};
 use up_text::{Items, Name, Text};
 
 /// Its name, its flags in one byte, its instance and its directory.
@@ -13,12 +13,20 @@ pub(crate) struct Texts {
     pub dir: Text,
 }
 
-/// Its numbers, that of the signal too.
+/// Its numbers, those of its signals too.
 #[derive(Clone, Copy)]
 pub(crate) struct Numbers {
     pub limit: Limit,
     pub kill_signal: u8,
     pub kill_timeout: u32,
+    pub reload_signal: u8,
+}
+
+/// Its signals.
+#[derive(Clone, Copy)]
+pub(crate) struct Signals {
+    pub kill: Signal,
+    pub reload: Signal,
 }
 
 /// What it sets and exports, and its normal exits.

@@ -174,8 +174,9 @@ fn add_numbers(alloc: Global, draft: &mut Draft, job: &JobDef) -> Result<(), All
     let interval = job.limit.interval;
     let signal = job.kill_signal.number();
     let timeout = job.kill_timeout;
+    let reload = job.reload_signal.number();
     let lines = format!(in alloc;
-        "respawn limit {count} {interval}\nkill signal {signal}\nkill timeout {timeout}\n"
+        "respawn limit {count} {interval}\nkill signal {signal}\nkill timeout {timeout}\nreload signal {reload}\n"
     )?;
     draft.add(lines.as_str(), false)?;
     Ok(())

@@ -1,5 +1,5 @@
 //! Laws: what holds of every image, and of what a folder is compiled to.
-ghost use Rattle.std.specs.Prelude.{◌≡◌, ◌+◌, ◌↔◌, ◌⊎◌, List, false, length, map, nat_le, true, ℕ, Result, Ok, Err};
+ghost use Rattle.std.specs.Prelude.{◌≡◌, ◌==◌, ◌+◌, ◌↔◌, ◌⊎◌, List, false, length, map, nat_le, true, ℕ, Result, Ok, Err};
 ghost use Rattle.std.specs.List.{list_all};
 ghost use Rattle.up_conf.specs.declared.folder.File.{File};
 ghost use Rattle.up_conf.specs.declared.job.JobDef.{JobDef};
@@ -7,26 +7,35 @@ ghost use Rattle.up_conf.specs.declared.report.Fault.{Fault};
 ghost use Rattle.up_conf.specs.Folders.{jobs_of};
 ghost use Rattle.up_image.specs.Compiling.{Compiles, has_twice, read_paths};
 ghost use Rattle.up_image.specs.Giving.{are_ascending, can_all_be_given};
-ghost use Rattle.up_image.specs.Image.{IsImage, body_of, fits, has_image};
+ghost use Rattle.up_image.specs.Image.{IsImage, IsVersion, body_of, fits, has_image};
+ghost use Rattle.up_image.specs.declared.version.Version.{Version};
+ghost use Rattle.up_image.specs.declared.version.Version.TheVariants.{One, Two};
+ghost use Rattle.up_stanza.specs.Signals.{hup};
 ghost use Rattle.up_image.specs.declared.limits.TheConstants.{MAX_IMAGE, MAX_JOBS};
 ghost use Rattle.up_image.specs.Index.{all_places, entries_of, event_of, is_entry, named, places_of};
 ghost use Rattle.up_image.specs.Reading.{ReadsImage, head_error};
 ghost use Rattle.up_image.specs.declared.image_error.ImageError.{ImageError};
 ghost use Rattle.up_image.specs.declared.image_error.ImageError.TheVariants.{Memory};
 
-/// A table has one image at most.
+/// A table has one image at most in each version.
 pub fn one_image()
-    ensures { (bytes other : List ℕ) (jobs : List JobDef) → IsImage bytes jobs → IsImage other jobs
-        → bytes ≡ other }
+    ensures { (version : Version) (bytes other : List ℕ) (jobs : List JobDef) → IsVersion version bytes jobs
+        → IsVersion version other jobs → bytes ≡ other }
 {}
 
-/// An image is that of one table at most.
+/// An image is that of one table at most, whatever its version.
 pub fn one_table()
-    ensures { (bytes : List ℕ) (jobs others : List JobDef) → IsImage bytes jobs → IsImage bytes others
-        → jobs ≡ others }
+    ensures { (version second : Version) (bytes : List ℕ) (jobs others : List JobDef)
+        → IsVersion version bytes jobs → IsVersion second bytes others → jobs ≡ others }
 {}
 
-/// Jobs have an image exactly if they are few, fit and are small.
+/// Only jobs that have HUP as their reload signal have an image of version 1.
+pub fn old_ones_have_hup()
+    ensures { (bytes : List ℕ) (jobs : List JobDef) → IsVersion One bytes jobs
+        → list_all (λ job. job.reload_signal == hup) jobs ≡ true }
+{}
+
+/// Jobs have an image of the version that is written exactly if they are few, fit and are small.
 pub fn some_image()
     ensures { (jobs : List JobDef) → (has_image jobs ≡ true) ↔ ((bytes : List ℕ) × IsImage bytes jobs) }
 {}
@@ -46,14 +55,14 @@ pub fn compiled_is_read()
 
 /// The jobs of a folder have numbers and lists that an image can say.
 pub fn files_fit()
-    ensures { (files : List File) → has_twice (read_paths files) ≡ false → list_all fits (jobs_of files) ≡ true }
+    ensures { (files : List File) → has_twice (read_paths files) ≡ false → list_all (fits Two) (jobs_of files) ≡ true }
 {}
 
 /// So a folder of at most 1,024 jobs has no image exactly if that would have more than 16 MiB.
 pub fn only_large_ones_have_none()
     ensures { (files : List File) → has_twice (read_paths files) ≡ false
         → nat_le (length (jobs_of files)) MAX_JOBS ≡ true
-        → has_image (jobs_of files) ≡ nat_le (12 + length (body_of (jobs_of files))) MAX_IMAGE }
+        → has_image (jobs_of files) ≡ nat_le (12 + length (body_of Two (jobs_of files))) MAX_IMAGE }
 {}
 
 /// The index of an image is whole: its events strictly ascend; each entry has places of one event alone; and the places of an event are

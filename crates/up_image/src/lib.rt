@@ -29,6 +29,7 @@ mod take_lists;
 mod take_nodes;
 mod twice;
 mod unread;
+pub mod version;
 
 pub use compiling::compile;
 pub use files::job_files;
@@ -37,3 +38,4 @@ pub use index::Place;
 pub use limits::MAX_JOBS;
 pub use refusal::CompileError;
 pub use table::Table;
+pub use version::Version;

@@ -1,11 +1,13 @@
 //! Writes jobs.
 ghost use Rattle.std.specs.Prelude.{◌≡◌, ◌++◌, ◌≤◌, IfOk, OnOk, length};
 ghost use Rattle.std.specs.List.{flat_map};
-ghost use Rattle.up_image.specs.Image.{bit, event_part, field_part, flags, job_part, number_parts, process_part, set_part, text_parts};
+ghost use Rattle.up_image.specs.Image.{bit, event_part, field_part, flags, job_part, number_parts, process_part, reload_part, set_part, text_parts};
+ghost use Rattle.up_image.specs.declared.version.Version.TheVariants.{Two};
 
 use crate::bytes::{put_byte, put_four, put_text};
 use crate::put_lists::{put_action, put_exits, put_settings, put_texts};
 use crate::put_nodes::put_condition;
+use crate::version::Version;
 use std::alloc::AllocError;
 use up_conf::JobDef;
 
@@ -32,21 +34,31 @@ fn put_texts_of(out: &mut Vec<u8>, job: &JobDef) -> Result<(), AllocError>
     Ok(())
 }
 
-fn put_numbers(out: &mut Vec<u8>, job: &JobDef) -> Result<(), AllocError>
-    ensures { OnOk result (out.new.items ≡ out.old.items ++ number_parts job.now) }
+fn put_reload(out: &mut Vec<u8>, version: Version, job: &JobDef) -> Result<(), AllocError>
+    ensures { OnOk result (out.new.items ≡ out.old.items ++ reload_part version job.now) }
+{
+    match version {
+        Version::One => Ok(()),
+        Version::Two => put_byte(out, job.reload_signal.number()),
+    }
+}
+
+fn put_numbers(out: &mut Vec<u8>, version: Version, job: &JobDef) -> Result<(), AllocError>
+    ensures { OnOk result (out.new.items ≡ out.old.items ++ number_parts version job.now) }
 {
     put_four(out, u64::from(job.limit.count))?;
     put_four(out, u64::from(job.limit.interval))?;
     put_byte(out, job.kill_signal.number())?;
+    put_reload(out, version, job)?;
     put_four(out, u64::from(job.kill_timeout))?;
     Ok(())
 }
 
-fn put_fields(out: &mut Vec<u8>, job: &JobDef) -> Result<(), AllocError>
-    ensures { OnOk result (out.new.items ≡ out.old.items ++ field_part job.now) }
+fn put_fields(out: &mut Vec<u8>, version: Version, job: &JobDef) -> Result<(), AllocError>
+    ensures { OnOk result (out.new.items ≡ out.old.items ++ field_part version job.now) }
 {
     put_texts_of(out, job)?;
-    put_numbers(out, job)?;
+    put_numbers(out, version, job)?;
     Ok(())
 }
 
@@ -79,31 +91,31 @@ fn put_events(out: &mut Vec<u8>, job: &JobDef) -> Result<(), AllocError>
 }
 
 #[tactic(auto, unfolding(crate::specs::Image::job_part))]
-pub(crate) fn put_job(out: &mut Vec<u8>, job: &JobDef) -> Result<(), AllocError>
-    ensures { OnOk result (out.new.items ≡ out.old.items ++ job_part job.now) }
+pub(crate) fn put_job(out: &mut Vec<u8>, version: Version, job: &JobDef) -> Result<(), AllocError>
+    ensures { OnOk result (out.new.items ≡ out.old.items ++ job_part version job.now) }
 {
-    put_fields(out, job)?;
+    put_fields(out, version, job)?;
     put_sets(out, job)?;
     put_processes(out, job)?;
     put_events(out, job)?;
     Ok(())
 }
 
-/// How many bytes a job has. They are written to `out`, in the place of what it had.
+/// How many bytes a job has as it is written. They are written to `out`, in the place of what it had.
 pub(crate) fn job_len(out: &mut Vec<u8>, job: &JobDef) -> Result<usize, AllocError>
-    ensures { IfOk result (λ len. len ≡ length (job_part job.now)) }
+    ensures { IfOk result (λ len. len ≡ length (job_part Two job.now)) }
 {
     out.clear();
-    put_job(out, job)?;
+    put_job(out, Version::Two, job)?;
     Ok(out.len())
 }
 
-/// Appends jobs.
+/// Appends jobs as they are written.
 pub(crate) fn put_jobs(out: &mut Vec<u8>, jobs: &[JobDef]) -> Result<(), AllocError>
-    ensures { OnOk result (out.new.items ≡ out.old.items ++ flat_map job_part jobs.now) }
+    ensures { OnOk result (out.new.items ≡ out.old.items ++ flat_map (job_part Two) jobs.now) }
 {
     for job in jobs {
-        put_job(out, job)?;
+        put_job(out, Version::Two, job)?;
     }
     Ok(())
 }

@@ -2,22 +2,25 @@
 //!
 //! The table that is found is taken only if files can give its jobs and its image is the bytes: so the places of nodes and the index
 //! need no look of their own.
-ghost use Rattle.std.specs.Prelude.{◌≡◌, ◌≤◌, IfErr, IfOk, OnOk, None, codes, drop, length, take, true, false};
+ghost use Rattle.std.specs.Prelude.{◌≡◌, ◌≤◌, IfErr, IfOk, OnOk, Some, codes, drop, length, take, true, false};
+ghost use Rattle.std.specs.Result.{result_err};
 ghost use Rattle.std.specs.Str.{bytes_eq};
 ghost use Rattle.byteorder.specs.Endian.{big_number};
-ghost use Rattle.up_image.specs.Image.{IsImage};
+ghost use Rattle.up_image.specs.Image.{IsVersion, has_image};
 ghost use Rattle.up_image.specs.Giving.{can_all_be_given};
-ghost use Rattle.up_image.specs.Reading.{HasNoTable, ReadsImage, claimed_length, head_error};
+ghost use Rattle.up_image.specs.Reading.{HasNoTable, IsStored, ReadsImage, claimed_length, head_error, version_at};
 ghost use Rattle.up_image.specs.declared.unread.Unread.TheVariants.{BadTable};
+ghost use Rattle.up_image.specs.declared.version.Version.TheVariants.{One};
 
 use crate::giving::can_all_be_given;
-use crate::image::{HEAD, VERSION};
+use crate::image::{HEAD, has_image};
 use crate::image_error::ImageError;
 use crate::limits::MAX_IMAGE;
 use crate::same_image::is_image;
 use crate::table::Table;
 use crate::take_job::take_jobs;
 use crate::unread::Unread;
+use crate::version::{Version, version_of};
 use byteorder::{BigEndian, ByteOrder};
 use std::alloc::Global;
 use up_conf::JobDef;
@@ -26,12 +29,12 @@ use up_text::Items;
 /// How an image begins.
 const MAGIC: &[u8; 4] = b"UPTB";
 
-// The version that an image says.
-fn version(bytes: &[u8]) -> u16
+// The version that an image says, if it is one.
+fn version(bytes: &[u8]) -> Option<Version>
     requires { 12 ≤ length bytes.now }
-    ensures { result ≡ big_number 2 (drop 4 bytes.now) }
+    ensures { result ≡ version_at bytes.now }
 {
-    BigEndian::read_u16(&bytes[4..])
+    version_of(BigEndian::read_u16(&bytes[4..]))
 }
 
 // How long an image says that it is.
@@ -57,39 +60,56 @@ fn has_magic(bytes: &[u8]) -> bool
     bytes[..len] == MAGIC[..len]
 }
 
-// What is wrong with the head of an image.
+// The version of an image, or what is wrong with its head.
 #[tactic(auto, unfolding(crate::specs::Reading::head_error))]
-fn head_error(bytes: &[u8]) -> Option<ImageError>
-    ensures error { result ≡ head_error bytes.now }
-    ensures long { result ≡ None → 12 ≤ length bytes.now }
+fn read_head(bytes: &[u8]) -> Result<Version, ImageError>
+    ensures error { result_err result ≡ head_error bytes.now }
+    ensures version { IfOk result (λ version. version_at bytes.now ≡ Some version) }
+    ensures long { OnOk result (12 ≤ length bytes.now) }
 {
     if !has_magic(bytes) {
-        return Some(ImageError::BadMagic);
+        return Err(ImageError::BadMagic);
     }
     if bytes.len() < HEAD {
-        return Some(ImageError::Truncated);
+        return Err(ImageError::Truncated);
     }
-    if version(bytes) != VERSION {
-        return Some(ImageError::BadVersion);
-    }
+    let Some(version) = version(bytes) else {
+        return Err(ImageError::BadVersion);
+    };
     if bytes.len() < claimed_length(bytes) as usize {
-        return Some(ImageError::Truncated);
+        return Err(ImageError::Truncated);
     }
     if (claimed_length(bytes) as usize) < bytes.len() {
-        return Some(ImageError::Trailing);
+        return Err(ImageError::Trailing);
     }
-    None
+    Ok(version)
 }
 
 // Refuses jobs that have another image than these bytes.
-fn check_image(alloc: Global, jobs: &[JobDef], bytes: &[u8]) -> Result<(), Unread>
-    ensures image { OnOk result (IsImage bytes.now jobs.now) }
-    ensures refused { IfErr result (λ unread. unread ≡ BadTable → IsImage bytes.now jobs.now → ⊥) }
+fn check_image(alloc: Global, version: Version, jobs: &[JobDef], bytes: &[u8]) -> Result<(), Unread>
+    ensures image { OnOk result (IsVersion version bytes.now jobs.now) }
+    ensures refused { IfErr result (λ unread. unread ≡ BadTable → IsVersion version bytes.now jobs.now → ⊥) }
 {
-    if is_image(alloc, jobs, bytes)? {
+    if is_image(alloc, version, jobs, bytes)? {
         return Ok(());
     }
     Err(Unread::BadTable)
+}
+
+// Refuses jobs of an old image that have no new one: that may be longer.
+fn check_new(alloc: Global, version: Version, jobs: &[JobDef]) -> Result<(), Unread>
+    ensures imaged { OnOk result (version ≡ One → has_image jobs.now ≡ true) }
+    ensures refused { IfErr result (λ unread. unread ≡ BadTable → has_image jobs.now ≡ false) }
+{
+    match version {
+        Version::One => {
+            if has_image(alloc, jobs)? {
+                return Ok(());
+            }
+            Err(Unread::BadTable)
+        }
+        Version::Two => Ok(()),
+    }
 }
 
 // Refuses jobs that no files give.
@@ -111,32 +131,49 @@ fn after_head(bytes: &[u8]) -> &[u8]
     &bytes[HEAD..]
 }
 
-// The jobs that were found, if files can give them and these bytes are their image.
-fn checked(alloc: Global, jobs: Vec<JobDef>, bytes: &[u8]) -> Result<Items<JobDef>, Unread>
-    ensures found { IfOk result (λ found. found ≡ jobs.items) }
-    ensures image { OnOk result (IsImage bytes.now jobs.items) }
-    ensures given { OnOk result (can_all_be_given jobs.items ≡ true) }
-    ensures refused { IfErr result (λ unread. unread ≡ BadTable → IsImage bytes.now jobs.items
-        → can_all_be_given jobs.items ≡ true → ⊥) }
+// Refuses jobs that no table has, or whose image in a version isn't these bytes.
+fn check_stored(
+    alloc: Global,
+    version: Version,
+    jobs: &[JobDef],
+    bytes: &[u8],
+) -> Result<(), Unread>
+    ensures stored { OnOk result (IsStored version bytes.now jobs.now) }
+    ensures refused { IfErr result (λ unread. unread ≡ BadTable → IsStored version bytes.now jobs.now → ⊥) }
 {
-    check_given(alloc, jobs.as_slice())?;
-    check_image(alloc, jobs.as_slice(), bytes)?;
+    check_given(alloc, jobs)?;
+    check_image(alloc, version, jobs, bytes)?;
+    check_new(alloc, version, jobs)?;
+    Ok(())
+}
+
+// The jobs that were found, if a table has them and these bytes are their image.
+fn checked(
+    alloc: Global,
+    version: Version,
+    jobs: Vec<JobDef>,
+    bytes: &[u8],
+) -> Result<Items<JobDef>, Unread>
+    ensures found { IfOk result (λ found. found ≡ jobs.items) }
+    ensures stored { OnOk result (IsStored version bytes.now jobs.items) }
+    ensures refused { IfErr result (λ unread. unread ≡ BadTable → IsStored version bytes.now jobs.items → ⊥) }
+{
+    check_stored(alloc, version, jobs.as_slice(), bytes)?;
     Ok(Items::new(jobs))
 }
 
-// The jobs whose image these bytes are, if their head is right.
-#[tactic(auto, using(crate::proofs::Readings::no_jobs))]
-fn read_body(alloc: Global, bytes: &[u8]) -> Result<Items<JobDef>, Unread>
-    requires { 12 ≤ length bytes.now }
-    ensures image { IfOk result (λ jobs. IsImage bytes.now jobs) }
-    ensures given { IfOk result (λ jobs. can_all_be_given jobs ≡ true) }
+// The jobs whose image these bytes are, if their head is right and says this version.
+fn read_body(alloc: Global, version: Version, bytes: &[u8]) -> Result<Items<JobDef>, Unread>
+    requires long { 12 ≤ length bytes.now }
+    requires version { version_at bytes.now ≡ Some version }
+    ensures stored { IfOk result (λ jobs. IsStored version bytes.now jobs) }
     ensures refused { IfErr result (λ unread. unread ≡ BadTable → HasNoTable bytes.now) }
 {
     if bytes.len() > MAX_IMAGE {
         return Err(Unread::BadTable);
     }
-    match take_jobs(alloc, after_head(bytes), job_count(bytes)) {
-        Ok((jobs, _index)) => match checked(alloc, jobs, bytes) {
+    match take_jobs(alloc, version, after_head(bytes), job_count(bytes)) {
+        Ok((jobs, _index)) => match checked(alloc, version, jobs, bytes) {
             Ok(jobs) => Ok(jobs),
             Err(unread) => Err(unread),
         },
@@ -148,9 +185,9 @@ fn read_body(alloc: Global, bytes: &[u8]) -> Result<Items<JobDef>, Unread>
 pub(crate) fn read_image(alloc: Global, bytes: &[u8]) -> Result<Table, ImageError>
     ensures { ReadsImage bytes.now (head_error bytes.now) result }
 {
-    match head_error(bytes) {
-        Some(error) => Err(error),
-        None => match read_body(alloc, bytes) {
+    match read_head(bytes) {
+        Err(error) => Err(error),
+        Ok(version) => match read_body(alloc, version, bytes) {
             Ok(jobs) => Ok(Table::new(jobs)),
             Err(Unread::BadTable) => Err(ImageError::BadTable),
             Err(Unread::Memory) => Err(ImageError::Memory),

@@ -2,13 +2,14 @@
 ghost use Rattle.std.specs.Prelude.{◌≡◌, ◌++◌, ◌≤◌, Decides, IfOk, List, MatchOption, length, ℕ};
 ghost use Rattle.std.specs.List.{flat_map};
 ghost use Rattle.up_image.specs.declared.limits.TheConstants.{MAX_JOBS};
-ghost use Rattle.up_image.specs.Image.{IsImage, body_of, head_of, job_part};
+ghost use Rattle.up_image.specs.Image.{IsVersion, body_of, head_of, job_part};
 ghost use Rattle.up_image.specs.Index.{entries_of, index_part};
 
 use crate::image::{is_countable, put_head};
 use crate::index::put_index;
 use crate::limits::MAX_IMAGE;
 use crate::put_job::put_job;
+use crate::version::Version;
 use std::alloc::{AllocError, Global};
 use up_conf::JobDef;
 
@@ -21,45 +22,52 @@ fn after<'a>(part: &[u8], bytes: &'a [u8]) -> Option<&'a [u8]>
 }
 
 // The bytes after the head of their image, if they begin with it.
-fn after_head(alloc: Global, jobs: usize, bytes: &[u8]) -> Result<Option<&[u8]>, AllocError>
+fn after_head(
+    alloc: Global,
+    version: Version,
+    jobs: usize,
+    bytes: &[u8],
+) -> Result<Option<&[u8]>, AllocError>
     ensures { IfOk result (λ after. MatchOption after
-        ((back : List ℕ) → bytes.now ≡ head_of jobs (length bytes.now) ++ back → ⊥)
-        (λ back. bytes.now ≡ head_of jobs (length bytes.now) ++ back.now)) }
+        ((back : List ℕ) → bytes.now ≡ head_of version jobs (length bytes.now) ++ back → ⊥)
+        (λ back. bytes.now ≡ head_of version jobs (length bytes.now) ++ back.now)) }
 {
     let mut head = Vec::new(alloc);
-    put_head(&mut head, jobs, bytes.len())?;
+    put_head(&mut head, version, jobs, bytes.len())?;
     Ok(after(head.as_slice(), bytes))
 }
 
 // The bytes after a job, if they begin with it. The job is written to `part`, in the place of what it had.
 fn after_job<'a>(
     part: &mut Vec<u8>,
+    version: Version,
     job: &JobDef,
     bytes: &'a [u8],
 ) -> Result<Option<&'a [u8]>, AllocError>
     ensures { IfOk result (λ after. MatchOption after
-        ((back : List ℕ) → bytes.now ≡ job_part job.now ++ back → ⊥)
-        (λ back. bytes.now ≡ job_part job.now ++ back.now)) }
+        ((back : List ℕ) → bytes.now ≡ job_part version job.now ++ back → ⊥)
+        (λ back. bytes.now ≡ job_part version job.now ++ back.now)) }
 {
     part.clear();
-    put_job(part, job)?;
+    put_job(part, version, job)?;
     Ok(after(part.as_slice(), bytes))
 }
 
 // The bytes after the jobs, if they begin with them.
 fn after_jobs<'a>(
     alloc: Global,
+    version: Version,
     jobs: &[JobDef],
     bytes: &'a [u8],
 ) -> Result<Option<&'a [u8]>, AllocError>
     ensures { IfOk result (λ after. MatchOption after
-        ((back : List ℕ) → bytes.now ≡ flat_map job_part jobs.now ++ back → ⊥)
-        (λ back. bytes.now ≡ flat_map job_part jobs.now ++ back.now)) }
+        ((back : List ℕ) → bytes.now ≡ flat_map (job_part version) jobs.now ++ back → ⊥)
+        (λ back. bytes.now ≡ flat_map (job_part version) jobs.now ++ back.now)) }
 {
     let mut part = Vec::new(alloc);
     let mut rest = bytes;
     for job in jobs {
-        match after_job(&mut part, job, rest)? {
+        match after_job(&mut part, version, job, rest)? {
             Some(back) => rest = back,
             None => return Ok(None),
         }
@@ -78,11 +86,16 @@ fn is_index(alloc: Global, jobs: &[JobDef], bytes: &[u8]) -> Result<bool, AllocE
 }
 
 // Whether bytes are the jobs and their index.
-fn is_body(alloc: Global, jobs: &[JobDef], bytes: &[u8]) -> Result<bool, AllocError>
+fn is_body(
+    alloc: Global,
+    version: Version,
+    jobs: &[JobDef],
+    bytes: &[u8],
+) -> Result<bool, AllocError>
     requires { length jobs.now ≤ MAX_JOBS }
-    ensures { IfOk result (λ is. Decides is (bytes.now ≡ body_of jobs.now)) }
+    ensures { IfOk result (λ is. Decides is (bytes.now ≡ body_of version jobs.now)) }
 {
-    match after_jobs(alloc, jobs, bytes)? {
+    match after_jobs(alloc, version, jobs, bytes)? {
         None => Ok(false),
         Some(index) => {
             let is = is_index(alloc, jobs, index)?;
@@ -91,20 +104,25 @@ fn is_body(alloc: Global, jobs: &[JobDef], bytes: &[u8]) -> Result<bool, AllocEr
     }
 }
 
-/// Whether bytes are the image of jobs.
-pub(crate) fn is_image(alloc: Global, jobs: &[JobDef], bytes: &[u8]) -> Result<bool, AllocError>
-    ensures { IfOk result (λ is. Decides is (IsImage bytes.now jobs.now)) }
+/// Whether bytes are the image of jobs in a version.
+pub(crate) fn is_image(
+    alloc: Global,
+    version: Version,
+    jobs: &[JobDef],
+    bytes: &[u8],
+) -> Result<bool, AllocError>
+    ensures { IfOk result (λ is. Decides is (IsVersion version bytes.now jobs.now)) }
 {
     if bytes.len() > MAX_IMAGE {
         return Ok(false);
     }
-    if !is_countable(jobs) {
+    if !is_countable(version, jobs) {
         return Ok(false);
     }
-    match after_head(alloc, jobs.len(), bytes)? {
+    match after_head(alloc, version, jobs.len(), bytes)? {
         None => Ok(false),
         Some(body) => {
-            let is = is_body(alloc, jobs, body)?;
+            let is = is_body(alloc, version, jobs, body)?;
             Ok(is)
         }
     }

@@ -86,7 +86,7 @@ impl Table {
         sorted_places(alloc, jobs.as_slice())
     }
 
-    /// The table's image. Refused only with `Memory`.
+    /// The table's image, of version 2. Refused only with `Memory`.
     pub fn to_bytes(&self, alloc: Global) -> Result<Vec<u8>, ImageError>
         ensures image { IfOk result (λ bytes. IsImage bytes.items self.now) }
         ensures refused { IfErr result (λ error. error ≡ Memory) }
@@ -98,7 +98,7 @@ impl Table {
         }
     }
 
-    /// The table whose image these bytes are. Takes no more memory than in proportion to the bytes, whatever lengths they claim: beside
+    /// The table whose image, of either version, these bytes are. Takes no more memory than in proportion to the bytes, whatever lengths they claim: beside
     /// them stand the jobs, and one job or the index as it is written for the comparison.
     pub fn from_bytes(alloc: Global, bytes: &[u8]) -> Result<Table, ImageError>
         ensures { ReadsImage bytes.now (head_error bytes.now) result }

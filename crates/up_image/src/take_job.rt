@@ -1,12 +1,13 @@
 //! Reads jobs.
 ghost use Rattle.std.specs.Prelude.{◌≡◌, [], option_map};
-ghost use Rattle.up_image.specs.Finding.{Reads, events_at, items_at, job_at, job_by, lists_at, number_at, numbers_at, processes_at, texts_at};
+ghost use Rattle.up_image.specs.Finding.{Reads, events_at, items_at, job_at, job_by, lists_at, number_at, numbers_at, processes_at, reload_at, signals_of, texts_at};
 
-use crate::job_parts::{Events, Lists, Numbers, Processes, Texts};
+use crate::job_parts::{Events, Lists, Numbers, Processes, Signals, Texts};
 use crate::take::{push, take_byte, take_four, take_name, take_text, take_texts};
 use crate::take_lists::{signal_of, take_action, take_exits, take_settings};
 use crate::take_nodes::take_condition;
 use crate::unread::Unread;
+use crate::version::Version;
 use std::alloc::Global;
 use up_conf::JobDef;
 use up_stanza::{Limit, Signal};
@@ -28,18 +29,30 @@ fn take_own_texts(alloc: Global, bytes: &[u8]) -> Result<(Texts, &[u8]), Unread>
     Ok((texts, rest))
 }
 
+// The number of the reload signal. In version 1 it is HUP and has no byte.
+fn take_reload(version: Version, bytes: &[u8]) -> Result<(u8, &[u8]), Unread>
+    ensures { Reads (λ x. (x.0, x.1.now)) result (reload_at version bytes.now) }
+{
+    match version {
+        Version::One => Ok((Signal::hup().number(), bytes)),
+        Version::Two => take_byte(bytes),
+    }
+}
+
 #[tactic(auto, unfolding(crate::specs::Finding::numbers_at))]
-fn take_numbers(bytes: &[u8]) -> Result<(Numbers, &[u8]), Unread>
-    ensures { Reads (λ x. (x.0, x.1.now)) result (numbers_at bytes.now) }
+fn take_numbers(version: Version, bytes: &[u8]) -> Result<(Numbers, &[u8]), Unread>
+    ensures { Reads (λ x. (x.0, x.1.now)) result (numbers_at version bytes.now) }
 {
     let (count, rest) = take_four(bytes)?;
     let (interval, rest) = take_four(rest)?;
     let (kill_signal, rest) = take_byte(rest)?;
+    let (reload_signal, rest) = take_reload(version, rest)?;
     let (kill_timeout, rest) = take_four(rest)?;
     let numbers = Numbers {
         limit: Limit { count, interval },
         kill_signal,
         kill_timeout,
+        reload_signal,
     };
     Ok((numbers, rest))
 }
@@ -87,16 +100,25 @@ fn take_events(alloc: Global, bytes: &[u8]) -> Result<(Events, &[u8]), Unread>
     Ok((Events { start_on, stop_on }, rest))
 }
 
+// The signals of these numbers.
+fn signals_of(numbers: Numbers) -> Result<Signals, Unread>
+    ensures { Reads (λ signals. signals) result (signals_of numbers) }
+{
+    let kill = signal_of(numbers.kill_signal)?;
+    let reload = signal_of(numbers.reload_signal)?;
+    Ok(Signals { kill, reload })
+}
+
 // The job of these parts.
 fn job_of(
     texts: Texts,
     numbers: Numbers,
-    signal: Signal,
+    signals: Signals,
     lists: Lists,
     processes: Processes,
     events: Events,
 ) -> JobDef
-    ensures { result ≡ job_by texts numbers signal lists processes events }
+    ensures { result ≡ job_by texts numbers signals lists processes events }
 {
     JobDef {
         name: texts.name,
@@ -106,8 +128,9 @@ fn job_of(
         instance: texts.instance,
         dir: texts.dir,
         limit: numbers.limit,
-        kill_signal: signal,
+        kill_signal: signals.kill,
         kill_timeout: numbers.kill_timeout,
+        reload_signal: signals.reload,
         env: lists.env,
         export: lists.export,
         normal: lists.normal,
@@ -122,34 +145,35 @@ fn job_of(
 }
 
 #[tactic(auto, unfolding(crate::specs::Finding::job_at))]
-fn take_job(alloc: Global, bytes: &[u8]) -> Result<(JobDef, &[u8]), Unread>
-    ensures { Reads (λ x. (x.0, x.1.now)) result (job_at bytes.now) }
+fn take_job(alloc: Global, version: Version, bytes: &[u8]) -> Result<(JobDef, &[u8]), Unread>
+    ensures { Reads (λ x. (x.0, x.1.now)) result (job_at version bytes.now) }
 {
     let (texts, rest) = take_own_texts(alloc, bytes)?;
-    let (numbers, rest) = take_numbers(rest)?;
-    let signal = signal_of(numbers.kill_signal)?;
+    let (numbers, rest) = take_numbers(version, rest)?;
+    let signals = signals_of(numbers)?;
     let (lists, rest) = take_lists(alloc, rest)?;
     let (processes, rest) = take_processes(alloc, rest)?;
     let (events, rest) = take_events(alloc, rest)?;
     Ok((
-        job_of(texts, numbers, signal, lists, processes, events),
+        job_of(texts, numbers, signals, lists, processes, events),
         rest,
     ))
 }
 
-/// The first so many jobs. What stands after them is left to the caller.
+/// The first so many jobs of an image of a version. What stands after them is left to the caller.
 #[tactic(auto, using(crate::proofs::Counting::items_left))]
 pub(crate) fn take_jobs(
     alloc: Global,
+    version: Version,
     bytes: &[u8],
     count: u16,
 ) -> Result<(Vec<JobDef>, &[u8]), Unread>
-    ensures { Reads (λ x. (x.0.items, x.1.now)) result (items_at job_at count [] bytes.now) }
+    ensures { Reads (λ x. (x.0.items, x.1.now)) result (items_at (job_at version) count [] bytes.now) }
 {
     let mut rest = bytes;
     let mut jobs = Vec::new(alloc);
     for i in 0..count {
-        let (job, after) = take_job(alloc, rest)?;
+        let (job, after) = take_job(alloc, version, rest)?;
         push(&mut jobs, job)?;
         rest = after;
     }

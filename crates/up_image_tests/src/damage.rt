@@ -1,5 +1,5 @@
 //! Images that were damaged.
-use crate::folders::{BOTH, MANY, STARTUP_IMAGE, again, image_of, refusal};
+use crate::folders::{BOTH, MANY, OLD_STARTUP_IMAGE, STARTUP_IMAGE, again, image_of, refusal};
 use crate::images::comes_back;
 use std::alloc::Global;
 use std::test::Fail;
@@ -49,16 +49,34 @@ fn longer(alloc: Global, image: &[u8]) -> Result<Option<ImageError>, Fail> {
     Ok(refusal(alloc, bytes.as_slice()))
 }
 
-static HEAD: [Change; 2] = [
+static HEAD: [Change; 4] = [
     (0, 0x56, Some(ImageError::BadMagic)),
-    (5, 2, Some(ImageError::BadVersion)),
+    (5, 0, Some(ImageError::BadVersion)),
+    (5, 1, Some(ImageError::BadTable)),
+    (5, 3, Some(ImageError::BadVersion)),
 ];
 
 #[test]
 fn damaged_images(rt: HostRuntime) -> Result<(), Fail> {
-    assert!(rt; first_whole(rt.alloc(), STARTUP_IMAGE) == 112);
+    assert!(rt; first_whole(rt.alloc(), STARTUP_IMAGE) == 113);
     assert!(rt; longer(rt.alloc(), STARTUP_IMAGE)? == Some(ImageError::Trailing));
     assert_eq!(rt; first_other(rt.alloc(), STARTUP_IMAGE, &HEAD)?, None);
+    Ok(())
+}
+
+static OLD_HEAD: [Change; 2] = [
+    (5, 2, Some(ImageError::BadTable)),
+    (5, 3, Some(ImageError::BadVersion)),
+];
+
+#[test]
+fn damaged_images_of_version_1(rt: HostRuntime) -> Result<(), Fail> {
+    assert!(rt; first_whole(rt.alloc(), OLD_STARTUP_IMAGE) == 112);
+    assert!(rt; longer(rt.alloc(), OLD_STARTUP_IMAGE)? == Some(ImageError::Trailing));
+    assert_eq!(rt;
+        first_other(rt.alloc(), OLD_STARTUP_IMAGE, &OLD_HEAD)?,
+        None
+    );
     Ok(())
 }
 
@@ -109,7 +127,7 @@ fn a_node_names_no_later_one(rt: HostRuntime) -> Result<(), Fail> {
 
 // The lengths and numbers of the first job's name, its processes and the index.
 const LENGTHS: &'static [usize] = &[
-    12, 18, 22, 39, 41, 43, 46, 48, 61, 70, 73, 84, 86, 88, 92, 103,
+    12, 18, 22, 40, 42, 44, 47, 49, 62, 71, 74, 85, 87, 89, 93, 104,
 ];
 
 // The first of some places at which an image has this byte and isn't refused.
@@ -181,31 +199,52 @@ fn push_word(bytes: &mut Vec<u8>, len: u32) -> Result<(), Fail> {
     Ok(())
 }
 
-// The image of one job whose second word has so many bytes. The length of the image stands at 8, and the word after its own at 61.
-fn with_long_word(alloc: Global, len: u32) -> Result<Vec<u8>, Fail> {
+// An image of one job with so many bytes for its second word, the `x` at a place. The length of the image stands at 8, and that of the word
+// before it.
+fn with_long_word(alloc: Global, image: &[u8], word: usize, len: u32) -> Result<Vec<u8>, Fail> {
     let mut bytes: Vec<u8> = Vec::new(alloc);
-    for (place, byte) in STARTUP_IMAGE.iter().enumerate() {
-        match place {
-            8 => bytes.extend_from_slice(&len.saturating_add(111).to_be_bytes())?,
-            61 => bytes.extend_from_slice(&len.to_be_bytes())?,
-            65 => push_word(&mut bytes, len)?,
-            9 | 10 | 11 | 62 | 63 | 64 => {}
-            _ => bytes.push(*byte)?,
+    let whole = u32::try_from(image.len()).unwrap_or(u32::MAX);
+    let long = whole.saturating_add(len).saturating_sub(1);
+    for (place, byte) in image.iter().enumerate() {
+        if place == 8 {
+            bytes.extend_from_slice(&long.to_be_bytes())?;
+        } else if place.saturating_add(4) == word {
+            bytes.extend_from_slice(&len.to_be_bytes())?;
+        } else if place == word {
+            push_word(&mut bytes, len)?;
+        } else if !matches!(place, 9..=11) && !(place < word && word - place < 4) {
+            bytes.push(*byte)?;
         }
     }
     Ok(bytes)
 }
 
 fn reads_long_word(alloc: Global, len: u32) -> Result<bool, Fail> {
-    let image = with_long_word(alloc, len)?;
+    let image = with_long_word(alloc, STARTUP_IMAGE, 66, len)?;
     Ok(comes_back(alloc, image.as_slice())?)
 }
 
 // No job file with such a word is read, but one could have it.
 #[test]
 fn a_word_longer_than_files_is_read(rt: HostRuntime) -> Result<(), Fail> {
-    let one = with_long_word(rt.alloc(), 1)?;
+    let one = with_long_word(rt.alloc(), STARTUP_IMAGE, 66, 1)?;
     assert!(rt; one.as_slice() == STARTUP_IMAGE && reads_long_word(rt.alloc(), 3_000_000)?);
+    Ok(())
+}
+
+// Why an image of version 1 with such a word is refused.
+fn old_refusal(alloc: Global, len: u32) -> Result<Option<ImageError>, Fail> {
+    let image = with_long_word(alloc, OLD_STARTUP_IMAGE, 65, len)?;
+    Ok(refusal(alloc, image.as_slice()))
+}
+
+// With a word of 16,777,105 bytes it has 16,777,216, and that of version 2 would have one more.
+#[test]
+fn an_old_image_without_a_new_one_is_refused(rt: HostRuntime) -> Result<(), Fail> {
+    let one = with_long_word(rt.alloc(), OLD_STARTUP_IMAGE, 65, 1)?;
+    assert!(rt; one.as_slice() == OLD_STARTUP_IMAGE);
+    assert!(rt; old_refusal(rt.alloc(), 16_777_104)? == None);
+    assert!(rt; old_refusal(rt.alloc(), 16_777_105)? == Some(ImageError::BadTable));
     Ok(())
 }
 
@@ -219,13 +258,13 @@ fn all_refused(alloc: Global, image: &[u8], place: usize, bytes: &[u8]) -> Resul
     Ok(true)
 }
 
-// The word `x` of the job stands at 65, and the name of its event from 77 on.
+// The word `x` of the job stands at 66, and the name of its event from 78 on.
 #[test]
 fn texts_that_no_file_gives_are_refused(rt: HostRuntime) -> Result<(), Fail> {
-    assert!(rt; all_refused(rt.alloc(), STARTUP_IMAGE, 65, b"\0\t\n #$;'\"\\()~")?);
-    assert!(rt; all_refused(rt.alloc(), STARTUP_IMAGE, 77, b"\0\t\n #$='\"\\()")?);
+    assert!(rt; all_refused(rt.alloc(), STARTUP_IMAGE, 66, b"\0\t\n #$;'\"\\()~")?);
+    assert!(rt; all_refused(rt.alloc(), STARTUP_IMAGE, 78, b"\0\t\n #$='\"\\()")?);
     assert_eq!(rt;
-        first_other(rt.alloc(), STARTUP_IMAGE, &[(65, b'y', None)])?,
+        first_other(rt.alloc(), STARTUP_IMAGE, &[(66, b'y', None)])?,
         None
     );
     Ok(())
@@ -234,19 +273,19 @@ fn texts_that_no_file_gives_are_refused(rt: HostRuntime) -> Result<(), Fail> {
 /// A job of the shell.
 const SHELL: &'static [(&'static str, &'static [u8])] = &[("a.conf", b"exec /a 'b' c\n")];
 
-// At 62 stands the `c`.
-static TAKEN: [Change; 3] = [(62, b'c', None), (62, b'd', None), (62, b'\n', None)];
+// At 63 stands the `c`.
+static TAKEN: [Change; 3] = [(63, b'c', None), (63, b'd', None), (63, b'\n', None)];
 
 // Whether an image is taken with these bytes, and refused with others.
 fn reads_as_itself(alloc: Global, image: &[u8]) -> Result<bool, Fail> {
     Ok(
         first_other(alloc, image, &TAKEN)? == None
-            && all_refused(alloc, image, 62, b" \t\0#\\'\"")?
-            && all_refused(alloc, image, 55, b" \t\n\0#'\"")?,
+            && all_refused(alloc, image, 63, b" \t\0#\\'\"")?
+            && all_refused(alloc, image, 56, b" \t\n\0#'\"")?,
     )
 }
 
-// What the shell gets is `exec /a 'b' c`, from 50 on. With a line feed for the `c` it is a script.
+// What the shell gets is `exec /a 'b' c`, from 51 on. With a line feed for the `c` it is a script.
 #[test]
 fn commands_that_do_not_read_as_themselves_are_refused(rt: HostRuntime) -> Result<(), Fail> {
     let image = image_of(rt.alloc(), SHELL)?;

@@ -13,10 +13,18 @@ pub(crate) const STARTUP: &'static [(&'static str, &'static [u8])] = &[(
 
 /// Its image.
 pub(crate) const STARTUP_IMAGE: &'static [u8] =
+    b"\x55\x50\x54\x42\x00\x02\x00\x01\x00\x00\x00\x71\x00\x00\x00\x01\x61\x00\x00\x00\x00\x00\x00\x00\x00\x00\x00\x00\x00\x0a\x00\x00\x00\x05\x0f\x01\x00\x00\x00\x05\x00\x00\x00\x00\x00\x00\x01\x00\x02\x00\x00\x00\x09\x2f\x62\x69\x6e\x2f\x74\x72\x75\x65\x00\x00\x00\x01\x78\x00\x00\x00\x00\x00\x01\x00\x00\x00\x00\x07\x73\x74\x61\x72\x74\x75\x70\x00\x00\x00\x00\x00\x00\x00\x01\x00\x00\x00\x07\x73\x74\x61\x72\x74\x75\x70\x00\x00\x00\x01\x00\x00\x01\x00\x00";
+
+/// Its image of version 1.
+pub(crate) const OLD_STARTUP_IMAGE: &'static [u8] =
     b"\x55\x50\x54\x42\x00\x01\x00\x01\x00\x00\x00\x70\x00\x00\x00\x01\x61\x00\x00\x00\x00\x00\x00\x00\x00\x00\x00\x00\x00\x0a\x00\x00\x00\x05\x0f\x00\x00\x00\x05\x00\x00\x00\x00\x00\x00\x01\x00\x02\x00\x00\x00\x09\x2f\x62\x69\x6e\x2f\x74\x72\x75\x65\x00\x00\x00\x01\x78\x00\x00\x00\x00\x00\x01\x00\x00\x00\x00\x07\x73\x74\x61\x72\x74\x75\x70\x00\x00\x00\x00\x00\x00\x00\x01\x00\x00\x00\x07\x73\x74\x61\x72\x74\x75\x70\x00\x00\x00\x01\x00\x00\x01\x00\x00";
 
 /// The image of an empty folder.
 pub(crate) const EMPTY_IMAGE: &'static [u8] =
+    b"\x55\x50\x54\x42\x00\x02\x00\x00\x00\x00\x00\x10\x00\x00\x00\x00";
+
+/// Its image of version 1.
+pub(crate) const OLD_EMPTY_IMAGE: &'static [u8] =
     b"\x55\x50\x54\x42\x00\x01\x00\x00\x00\x00\x00\x10\x00\x00\x00\x00";
 
 /// A job that waits for two events.
@@ -29,7 +37,7 @@ pub(crate) const BOTH: &'static [(&'static str, &'static [u8])] = &[(
 pub(crate) const MANY: &'static [(&'static str, &'static [u8])] = &[
     (
         "net/b.conf",
-        b"task\nrespawn\nrespawn limit 7 9\nconsole none\ninstance $TTY\nchdir \"/a b\"\nkill signal HUP\nkill timeout 8\nnormal exit 0 7 TERM\nenv A=1\nenv B\nenv C=\"x 'y' \\\"z\\\"\"\nenv D=\nexport A B\nexec /bin/true a b\npre-start script\necho hi # \"all\"\nend script\npost-start exec echo $A | cat\npre-stop script\nend script\npost-stop exec /bin/x\nstart on (a X=1 or b Y!=\"2 3\") and (c \"p q\" Z=4 or d) and \"and\"\nstop on (b or (a and c))\n",
+        b"task\nrespawn\nrespawn limit 7 9\nconsole none\ninstance $TTY\nchdir \"/a b\"\nkill signal HUP\nreload signal USR1\nkill timeout 8\nnormal exit 0 7 TERM\nenv A=1\nenv B\nenv C=\"x 'y' \\\"z\\\"\"\nenv D=\nexport A B\nexec /bin/true a b\npre-start script\necho hi # \"all\"\nend script\npost-start exec echo $A | cat\npre-stop script\nend script\npost-stop exec /bin/x\nstart on (a X=1 or b Y!=\"2 3\") and (c \"p q\" Z=4 or d) and \"and\"\nstop on (b or (a and c))\n",
     ),
     (
         "a.conf",

@@ -1,5 +1,7 @@
 //! Tables and their images.
-use crate::folders::{EMPTY_IMAGE, MANY, STARTUP, STARTUP_IMAGE, again, image_of};
+use crate::folders::{
+    EMPTY_IMAGE, MANY, OLD_EMPTY_IMAGE, OLD_STARTUP_IMAGE, STARTUP, STARTUP_IMAGE, again, image_of,
+};
 use std::alloc::Global;
 use std::test::Fail;
 use up_image::{ImageError, Table};
@@ -49,6 +51,19 @@ fn an_image_gives_its_table_back(rt: HostRuntime) -> Result<(), Fail> {
     assert!(rt; reads_one(rt.alloc(), STARTUP_IMAGE, "a")?);
     assert!(rt; comes_back(rt.alloc(), STARTUP_IMAGE)?);
     assert!(rt; count(rt.alloc(), EMPTY_IMAGE)? == 0);
+    Ok(())
+}
+
+// Whether the table of an image has this image.
+fn becomes(alloc: Global, image: &[u8], wanted: &[u8]) -> Result<bool, ImageError> {
+    let second = again(alloc, image)?;
+    Ok(second.as_slice() == wanted)
+}
+
+#[test]
+fn an_image_of_version_1_gives_its_table(rt: HostRuntime) -> Result<(), Fail> {
+    assert!(rt; becomes(rt.alloc(), OLD_STARTUP_IMAGE, STARTUP_IMAGE)?);
+    assert!(rt; becomes(rt.alloc(), OLD_EMPTY_IMAGE, EMPTY_IMAGE)?);
     Ok(())
 }
 

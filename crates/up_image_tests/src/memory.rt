@@ -1,7 +1,9 @@
 //! Calls of which a request for memory may be refused: each answers as with ample memory, or that memory ran out.
 //!
 //! `rt try --test --fail-alloc N -- memory` refuses the Nth request; `bench/faults` goes through all of them with the built tests.
-use crate::folders::{BOTH, EMPTY_IMAGE, MANY, STARTUP, STARTUP_IMAGE, again, folder_of, refusal};
+use crate::folders::{
+    BOTH, EMPTY_IMAGE, MANY, OLD_STARTUP_IMAGE, STARTUP, STARTUP_IMAGE, again, folder_of, refusal,
+};
 use std::alloc::{AllocError, Global};
 use up_conf::{Fault, Folder, Report};
 use up_image::{CompileError, ImageError, Table, compile};
@@ -91,11 +93,11 @@ fn writes(alloc: Global, table: &Table, image: &[u8]) -> Came {
     }
 }
 
-// What comes of an image that is good: a table whose image it is.
-fn reads(alloc: Global, image: &[u8]) -> Came {
+// What comes of an image that is good: a table that has this one.
+fn reads(alloc: Global, image: &[u8], written: &[u8]) -> Came {
     match Table::from_bytes(alloc, image) {
         Ok(table) => {
-            let came = writes(alloc, &table, image);
+            let came = writes(alloc, &table, written);
             drop(table);
             came
         }
@@ -104,7 +106,12 @@ fn reads(alloc: Global, image: &[u8]) -> Came {
     }
 }
 
-static IMAGES: [&[u8]; 2] = [STARTUP_IMAGE, EMPTY_IMAGE];
+// Images, each with that of its table.
+static IMAGES: [(&[u8], &[u8]); 3] = [
+    (STARTUP_IMAGE, STARTUP_IMAGE),
+    (OLD_STARTUP_IMAGE, STARTUP_IMAGE),
+    (EMPTY_IMAGE, EMPTY_IMAGE),
+];
 
 // What comes of an image that is refused so.
 fn refuses(alloc: Global, image: &[u8], wanted: ImageError) -> Came {
@@ -117,9 +124,9 @@ fn refuses(alloc: Global, image: &[u8], wanted: ImageError) -> Came {
 // How an image is damaged: what stands before its end, what after it, and why it is refused then.
 static DAMAGED: [(usize, &[u8], ImageError); 4] = [
     (0, b"", ImageError::Truncated),
-    (111, b"", ImageError::Truncated),
-    (112, b"\0", ImageError::Trailing),
-    (111, b"\x02", ImageError::BadTable),
+    (112, b"", ImageError::Truncated),
+    (113, b"\0", ImageError::Trailing),
+    (112, b"\x02", ImageError::BadTable),
 ];
 
 fn damaged(alloc: Global, len: usize, end: &[u8]) -> Result<Vec<u8>, AllocError> {
@@ -210,8 +217,8 @@ fn of_folders(alloc: Global) -> Sum {
 
 fn of_images(alloc: Global) -> Sum {
     let mut sum = nothing_yet();
-    for image in &IMAGES {
-        sum.add(reads(alloc, image));
+    for (image, written) in &IMAGES {
+        sum.add(reads(alloc, image, written));
     }
     sum.add(comes_of_many(alloc));
     sum

@@ -13,6 +13,7 @@ use Rattle.up_model.specs.Instances.{Instance, instances_of}
 use Rattle.up_model.specs.Readings.{entry_at, event_at}
 use Rattle.up_model.specs.Seen.{seen}
 use Rattle.up_model.specs.Values.{Bytes, Bindings}
+use Rattle.up_model.proofs.JobOffers.{offer_first, first-by-jobs}
 use Rattle.up_model.proofs.Places.{bytes_refl}
 use Rattle.up_isolation.specs.Views.{jobs_called}
 use Rattle.up_isolation.specs.Parts.{content}
@@ -23,10 +24,11 @@ use Rattle.up_isolation.proofs.Pairs.{Pair, Carries}
 use Rattle.std.proofs.Common.{append_assoc, not, ◌||◌, zero, suc}
 use Rattle.up_model.specs.Due.{due}
 use Rattle.up_model.specs.Moves.{move, move_first}
-use Rattle.up_model.specs.Offers.{is_newborn, is_open, stop_of, stop_by, stop_offer, start_of, start_who}
-use Rattle.up_model.specs.Offers.{start_by, who_called, start_offer, offer_first, offering, offer_next}
+use Rattle.up_model.specs.Offers.{is_newborn, is_open, stop_of, stop_by, stop_offer, start_of, start_who, start_env}
+use Rattle.up_model.specs.Offers.{start_by, who_called, start_offer, offering, offer_next}
 use Rattle.up_model.specs.Events.{events_at, events_env, stopped_by}
 use Rattle.up_model.specs.Environments.{env_of_job, instance_name}
+use Rattle.up_model.specs.Files.{names_in_order}
 use Rattle.up_model.specs.Predicates.{entries_if, or_else, is_start}
 use Rattle.up_model.specs.Readings.{event_of, goal}
 use Rattle.up_model.specs.Replies.{releasing, unanswered, answering_hurried, answering_last}
@@ -321,7 +323,7 @@ start_rest-given : (config : Configuration) (def : JobDef) (p : ℕ) (c : Chroni
 start_rest-given config def p c =
     all-if NotGiven (holds def.start_on ss) (start_by config def ps fired ++ Fired (StartOn def.name) ps ∷ [])
     (all-append NotGiven (start_by config def ps fired) (Fired (StartOn def.name) ps ∷ [])
-    (start_by-given (who_called def.name (instance_name def environment)) environment ps fired) (tt, tt))
+    (start_by-given (who_called def.name name) environment ps fired) (tt, tt))
   where
     ss : List Sight
     ss = seen config (StartOn def.name) (Offered (StartOn def.name) p ∷ c)
@@ -332,8 +334,11 @@ start_rest-given config def p c =
     fired : Chronicle
     fired = Fired (StartOn def.name) ps ∷ Offered (StartOn def.name) p ∷ c
 
+    name : Option Bytes
+    name = instance_name def (events_env (env_of_job config def.name) (events_at ps fired))
+
     environment : Bindings
-    environment = events_env (env_of_job config def.name) (events_at ps fired)
+    environment = start_env config (who_called def.name name) (events_at ps fired) fired
 
 pub start-given : (config : Configuration) (def : JobDef) (p : ℕ) (c : Chronicle)
     → AllByRecursion NotGiven (start_offer config def p c)
@@ -390,7 +395,7 @@ start-tame config def p c =
     all-append IsTame (start_rest config def p c) (Offered (StartOn def.name) p ∷ [])
     (all-if IsTame (holds def.start_on ss) (start_by config def ps fired ++ Fired (StartOn def.name) ps ∷ [])
     (all-append IsTame (start_by config def ps fired) (Fired (StartOn def.name) ps ∷ [])
-    (start_by-tame (who_called def.name (instance_name def environment)) environment ps fired) (tt, tt)))
+    (start_by-tame (who_called def.name name) environment ps fired) (tt, tt)))
     (tt, tt)
   where
     ss : List Sight
@@ -402,8 +407,11 @@ start-tame config def p c =
     fired : Chronicle
     fired = Fired (StartOn def.name) ps ∷ Offered (StartOn def.name) p ∷ c
 
+    name : Option Bytes
+    name = instance_name def (events_env (env_of_job config def.name) (events_at ps fired))
+
     environment : Bindings
-    environment = events_env (env_of_job config def.name) (events_at ps fired)
+    environment = start_env config (who_called def.name name) (events_at ps fired) fired
 
 offering-started : (job : Bytes) (config : Configuration) (def : JobDef) (p q : ℕ) (c d : Chronicle)
     → def.name ≡ job → offering c ≡ Some p → offering d ≡ Some q
@@ -501,19 +509,19 @@ plain-due job config c d facts plain = by_moves (moves-first job config config.j
     rest_there : List Entry
     rest_there = or_else (offer_next (only job config) (offering d) d) (answering_last d)
 
-    first : (es : List Entry) → move_first config.jobs c ≡ es → (es ≡ [] → ⊥) → due config c ≡ es
-    first es is some = or_else-first (move_first config.jobs c) rest (λ none. some (sym is ∙ none)) ∙ is
+    first : (es : List Entry) → move_first config (names_in_order config c) c ≡ es → (es ≡ [] → ⊥) → due config c ≡ es
+    first es is some = or_else-first (move_first config (names_in_order config c) c) rest (λ none. some (sym is ∙ none)) ∙ is
 
-    second : move_first config.jobs c ≡ [] → due config c ≡ rest
-    second none = or_else-second (move_first config.jobs c) rest none
+    second : move_first config (names_in_order config c) c ≡ [] → due config c ≡ rest
+    second none = or_else-second (move_first config (names_in_order config c) c) rest none
 
-    first_there : (es : List Entry) → move_first (jobs_called job config.jobs) d ≡ es → (es ≡ [] → ⊥)
+    first_there : (es : List Entry) → move_first (only job config) (names_in_order (only job config) d) d ≡ es → (es ≡ [] → ⊥)
         → due (only job config) d ≡ es
-    first_there es is some = or_else-first (move_first (jobs_called job config.jobs) d) rest_there
+    first_there es is some = or_else-first (move_first (only job config) (names_in_order (only job config) d) d) rest_there
         (λ none. some (sym is ∙ none)) ∙ is
 
-    second_there : move_first (jobs_called job config.jobs) d ≡ [] → due (only job config) d ≡ rest_there
-    second_there none = or_else-second (move_first (jobs_called job config.jobs) d) rest_there none
+    second_there : move_first (only job config) (names_in_order (only job config) d) d ≡ [] → due (only job config) d ≡ rest_there
+    second_there none = or_else-second (move_first (only job config) (names_in_order (only job config) d) d) rest_there none
 
     far : (es : List Entry) → due config c ≡ es → (es ≡ [] → ⊥) → AreStrange job es c → Did job config c d
     far es is some are = Far (λ none. some (sym is ∙ none))
@@ -543,9 +551,11 @@ plain-due job config c d facts plain = by_moves (moves-first job config config.j
 
         here : due config c ≡ or_else es (answering_last c)
         here = one ∙ ap (λ o. or_else (offer_next config o c) (answering_last c)) some
+            ∙ ap (λ xs. or_else xs (answering_last c)) (first-by-jobs config p c)
 
         there : due (only job config) d ≡ or_else fs (answering_last d)
         there = other ∙ ap (λ o. or_else (offer_next (only job config) o d) (answering_last d)) same
+            ∙ ap (λ xs. or_else xs (answering_last d)) (first-by-jobs (only job config) q d)
 
         by_offers : Offers job config p q c d config.jobs es fs → Did job config c d
         by_offers (offers.Idle none void) =
@@ -601,18 +611,21 @@ plain-due job config c d facts plain = by_moves (moves-first job config config.j
         by_spent : Spent job c es fs → Did job config c d
         by_spent (offers.Nothing none void) =
             Rest (one ∙ ap (λ o. or_else (offer_next config o c) (answering_last c)) some
+            ∙ ap (λ xs. or_else xs (answering_last c)) (first-by-jobs config p c)
             ∙ or_else-second es (answering_last c) none ∙ last-none c plain.silent)
             (other ∙ ap (λ o. or_else (offer_next (only job config) o d) (answering_last d)) same
+            ∙ ap (λ xs. or_else xs (answering_last d)) (first-by-jobs (only job config) q d)
             ∙ or_else-second fs (answering_last d) void ∙ last-none d plain.silent_there)
         by_spent (offers.Something something are) =
             far es (one ∙ ap (λ o. or_else (offer_next config o c) (answering_last c)) some
+            ∙ ap (λ xs. or_else xs (answering_last c)) (first-by-jobs config p c)
             ∙ or_else-first es (answering_last c) something) something are
 
-    by_moves : Moves job c d (move_first config.jobs c) (move_first (jobs_called job config.jobs) d)
+    by_moves : Moves job c d (move_first config (names_in_order config c) c) (move_first (only job config) (names_in_order (only job config) d) d)
         → Did job config c d
     by_moves (movers.Idle none void) = idle (second none) (second_there void) plain.offers
     by_moves (movers.Away some are) =
-        far (move_first config.jobs c) (first (move_first config.jobs c) refl some) some are
+        far (move_first config (names_in_order config c) c) (first (move_first config (names_in_order config c) c) refl some) some are
     by_moves (movers.Two def x y at left right) =
         near (move def x c) (move def y d) (first (move def x c) left (move-some def x c))
         (first_there (move def y d) right (move-some def y d)) (move-some def x c) (move-some def y d)

@@ -1,5 +1,5 @@
 -- The job alone: what it does by what comes to its notice, and nothing else.
-use Rattle.std.proofs.Common.{◌≡◌, ℕ, ◌<◌, Bool, true, false, List, [], ◌∷◌, ◌++◌, Option, None, Some, length}
+use Rattle.std.proofs.Common.{◌≡◌, ℕ, ◌<◌, Bool, true, false, List, [], ◌∷◌, ◌++◌, Option, None, Some, length, subst₂}
 use Rattle.std.proofs.Common.{bytes_eq, refl, sym, ◌∙◌, ap, subst, arith, eq-eqb}
 use Rattle.std.specs.List.{AllByRecursion}
 use Rattle.up_conf.specs.declared.job.JobDef.{JobDef}
@@ -11,6 +11,7 @@ use Rattle.up_model.specs.Configuration.{Configuration, job_named}
 use Rattle.up_model.specs.Instances.{Instance, instances_of}
 use Rattle.up_model.specs.Replies.{request_at}
 use Rattle.up_model.specs.Values.{Bytes}
+use Rattle.up_model.proofs.FileLaws.{end_of-named}
 use Rattle.up_model.proofs.Places.{bytes_same}
 use Rattle.up_model.proofs.NameLaws.{called}
 use Rattle.up_isolation.specs.Views.{Notice, jobs_called, is_of, was_asked}
@@ -21,7 +22,8 @@ use Rattle.up_model.specs.declared.input.Input.TheVariants as input
 use Rattle.up_model.specs.declared.failure.End.{End}
 use Rattle.up_model.specs.declared.failure.End.TheVariants as end
 use Rattle.up_model.specs.declared.process.How.{How}
-use Rattle.up_model.specs.Due.{due, effect, end_of}
+use Rattle.up_model.specs.Due.{due, effect, end_of, end_by}
+use Rattle.up_model.specs.Files.{own_file, names_in_order}
 use Rattle.up_model.specs.Instances.{place_named, instance_named}
 use Rattle.up_model.specs.Moves.{move_first}
 use Rattle.up_model.specs.Offers.{offering}
@@ -84,9 +86,9 @@ or-none [] others none = refl
 or-none (e ∷ es) others none = absurd (cc)
 
 pub still-of : (job : Bytes) (config : Configuration) (d : Chronicle) → due (only job config) d ≡ []
-    → move_first (jobs_called job config.jobs) d ≡ []
+    → move_first (only job config) (names_in_order (only job config) d) d ≡ []
 unfolding due
-still-of job config d none = or-none (move_first (jobs_called job config.jobs) d) _ none
+still-of job config d none = or-none (move_first (only job config) (names_in_order (only job config) d) d) _ none
 
 -- entries that begin no step aren't noticed
 mute-view : (job : Bytes) (config : Configuration) (e : Entry) (c : Chronicle) → IsMute e
@@ -189,13 +191,13 @@ effect-spawned job config who its pid c d base = by_case (bytes_eq who.job job) 
         unnoticed job config g [] c d base other tt tt (no-asks job (Given g ∷ c) (Given g ∷ c) refl)
 
 -- an end or a refusal of one
-end-like : (job : Bytes) (config : Configuration) (given : Input) (who : Who) (its : Process) (how : End)
+end-named : (job : Bytes) (config : Configuration) (given : Input) (who : Who) (its : Process) (how : End)
     (c d : Chronicle) → bytes_eq who.job job ≡ true → Like job config c d
     → Like job config (end_of (job_named who.job config.jobs) (instance_named who c) its how (Given given ∷ c)
     ++ Given given ∷ c)
     (end_of (job_named who.job (jobs_called job config.jobs)) (instance_named who d) its how (Given given ∷ d)
     ++ Given given ∷ d)
-end-like job config given who its how c d is like =
+end-named job config given who its how c d is like =
     by_found (found job config c d who.instance (instances_of job c) (instances_of job d) like.twins)
   where
     name : who.job ≡ job
@@ -238,6 +240,16 @@ end-like job config given who its how c d is like =
         (pair_end job config def (Given given ∷ c) (Given given ∷ d) x y its how
         (pair-at job config (Given given ∷ c) (Given given ∷ d) x y at next))
 
+end-like : (job : Bytes) (config : Configuration) (given : Input) (who : Who) (its : Process) (how : End)
+    (c d : Chronicle) → bytes_eq who.job job ≡ true → Like job config c d
+    → Like job config (end_by config who its how (Given given ∷ c) ++ Given given ∷ c)
+    (end_by (only job config) who its how (Given given ∷ d) ++ Given given ∷ d)
+end-like job config given who its how c d is like =
+    subst₂ (λ es fs. Like job config (es ++ Given given ∷ c) (fs ++ Given given ∷ d))
+    (sym (end_of-named config who its how (Given given ∷ c)))
+    (sym (end_of-named (only job config) who its how (Given given ∷ d)))
+    (end-named job config given who its how c d is like)
+
 other-end : (job : Bytes) (given : Input) (who : Who) (c : Chronicle) → bytes_eq who.job job ≡ false → (i : ℕ)
     → instance_named who c ≡ Some i → IsOther job i (Given given ∷ c)
 other-end job given who c other i some =
@@ -253,17 +265,16 @@ effect-refused job config who its c d base = rw append_assoc (by_case (bytes_eq 
     g = input.Refused who its
 
     es : List Entry
-    es = end_of (job_named who.job config.jobs) (instance_named who c) its end.Refused (Given g ∷ c)
+    es = end_by config who its end.Refused (Given g ∷ c)
 
     fs : List Entry
-    fs = end_of (job_named who.job (jobs_called job config.jobs)) (instance_named who d) its end.Refused
-        (Given g ∷ d)
+    fs = end_by (only job config) who its end.Refused (Given g ∷ d)
 
     mute : AllByRecursion IsMute es
-    mute = mute-end (job_named who.job config.jobs) (instance_named who c) its end.Refused (Given g ∷ c)
+    mute = mute-end (own_file config who (Given g ∷ c)) (instance_named who c) its end.Refused (Given g ∷ c)
 
     mute_there : AllByRecursion IsMute fs
-    mute_there = mute-end (job_named who.job (jobs_called job config.jobs)) (instance_named who d) its
+    mute_there = mute-end (own_file (only job config) who (Given g ∷ d)) (instance_named who d) its
         end.Refused (Given g ∷ d)
 
     by_case : (b : Bool) → bytes_eq who.job job ≡ b → Effected job config c d (es ++ Given g ∷ c)
@@ -280,7 +291,7 @@ effect-refused job config who its c d base = rw append_assoc (by_case (bytes_eq 
         }))
     by_case false other =
         unnoticed job config g es c d base other mute
-        (apart-end job config (job_named who.job config.jobs) (instance_named who c) its end.Refused
+        (apart-end job config (own_file config who (Given g ∷ c)) (instance_named who c) its end.Refused
         (Given g ∷ c) (fair_more job (Given g) c base.like.fair tt) (other-end job g who c other))
         (no-asks job (Given g ∷ c) (es ++ Given g ∷ c) refl)
 
@@ -294,17 +305,16 @@ effect-ended job config who its how c d base = rw append_assoc (by_case (bytes_e
     g = input.Ended who its how
 
     es : List Entry
-    es = end_of (job_named who.job config.jobs) (instance_named who c) its (end.Ended how) (Given g ∷ c)
+    es = end_by config who its (end.Ended how) (Given g ∷ c)
 
     fs : List Entry
-    fs = end_of (job_named who.job (jobs_called job config.jobs)) (instance_named who d) its (end.Ended how)
-        (Given g ∷ d)
+    fs = end_by (only job config) who its (end.Ended how) (Given g ∷ d)
 
     mute : AllByRecursion IsMute es
-    mute = mute-end (job_named who.job config.jobs) (instance_named who c) its (end.Ended how) (Given g ∷ c)
+    mute = mute-end (own_file config who (Given g ∷ c)) (instance_named who c) its (end.Ended how) (Given g ∷ c)
 
     mute_there : AllByRecursion IsMute fs
-    mute_there = mute-end (job_named who.job (jobs_called job config.jobs)) (instance_named who d) its
+    mute_there = mute-end (own_file (only job config) who (Given g ∷ d)) (instance_named who d) its
         (end.Ended how) (Given g ∷ d)
 
     by_case : (b : Bool) → bytes_eq who.job job ≡ b → Effected job config c d (es ++ Given g ∷ c)
@@ -321,7 +331,7 @@ effect-ended job config who its how c d base = rw append_assoc (by_case (bytes_e
         }))
     by_case false other =
         unnoticed job config g es c d base other mute
-        (apart-end job config (job_named who.job config.jobs) (instance_named who c) its (end.Ended how)
+        (apart-end job config (own_file config who (Given g ∷ c)) (instance_named who c) its (end.Ended how)
         (Given g ∷ c) (fair_more job (Given g) c base.like.fair tt) (other-end job g who c other))
         (no-asks job (Given g ∷ c) (es ++ Given g ∷ c) refl)
 

@@ -1,19 +1,18 @@
 -- Requests that name the job.
-use Rattle.std.proofs.Common.{◌≡◌, ℕ, ◌==◌, Bool, true, false, ◌&&◌, List, [], ◌∷◌, ◌++◌, Option, None, Some}
+use Rattle.std.proofs.Common.{◌≡◌, ℕ, Bool, true, false, ◌&&◌, List, [], ◌∷◌, ◌++◌, Option, None, Some}
 use Rattle.std.proofs.Common.{length, if◌then◌else◌, bytes_eq, refl, sym, ◌∙◌, ap, subst, subst₂, arith}
 use Rattle.std.proofs.Common.{eq-eqb}
 use Rattle.std.specs.List.{AllByRecursion}
 use Rattle.up_conf.specs.declared.job.JobDef.{JobDef}
 use Rattle.up_text.specs.Bindings.{set_all}
-use Rattle.up_model.specs.declared.request.Answer.{Answer}
-use Rattle.up_model.specs.declared.state.Goal.{Goal}
 use Rattle.up_model.specs.declared.who.Who.{Who}
-use Rattle.up_model.specs.Chronicle.{Chronicle, Entry, Given, Made, Aimed, Restarted, Replied}
+use Rattle.up_model.specs.Chronicle.{Chronicle, Entry, Given, Made, Aimed, Restarted, Signalled, Replied}
 use Rattle.up_model.specs.Configuration.{Configuration, job_named}
 use Rattle.up_model.specs.Instances.{Instance, instances_of}
 use Rattle.up_model.specs.Readings.{entry_at, holders}
 use Rattle.up_model.specs.Values.{Bytes, Bindings}
-use Rattle.up_model.proofs.Places.{bytes_same, bytes_refl}
+use Rattle.up_model.proofs.FileLaws.{named-name, reload_at-named, target_as-one, target_as_one}
+use Rattle.up_model.proofs.Places.{bytes_same}
 use Rattle.up_model.proofs.NameLaws.{called}
 use Rattle.up_isolation.specs.Views.{jobs_called, was_asked}
 use Rattle.up_isolation.specs.Parts.{contents}
@@ -21,8 +20,8 @@ use Rattle.up_isolation.proofs.Lives.{Life}
 use Rattle.up_isolation.proofs.Twins.{Twins}
 use Rattle.up_isolation.proofs.Known.{AreOlder}
 use Rattle.up_isolation.proofs.Likes.{only, Twin, Like}
-use Rattle.up_isolation.proofs.Pairs.{Pair, Carries, made-same}
-use Rattle.std.proofs.Common.{append_assoc, not}
+use Rattle.up_isolation.proofs.Pairs.{Pair, made-same}
+use Rattle.std.proofs.Common.{append_assoc, not, is_some}
 use Rattle.up_model.specs.declared.input.Input.{Input}
 use Rattle.up_model.specs.declared.input.Input.TheVariants as input
 use Rattle.up_model.specs.Due.{effect}
@@ -45,16 +44,19 @@ use Rattle.up_text.specs.Scripts.{is_filled}
 use Rattle.up_model.specs.declared.request.Command.{Command}
 use Rattle.up_model.specs.declared.request.Command.TheVariants as command
 use Rattle.up_model.specs.declared.state.Goal.TheVariants.{Start, Stop}
-use Rattle.up_model.specs.Commands.{Refused, Told as Said, Done, Target, Nobody, Concerns, target_as}
+use Rattle.up_model.specs.Commands.{Refused, Told as Said, Done, Target, Nobody, Concerns, request_env}
 use Rattle.up_model.specs.Commands.{target_in, target_of, start_at, start, stop_at, stop, is_running}
-use Rattle.up_model.specs.Commands.{restart_at, restart, status_at, status, holders_of, outcome_by}
+use Rattle.up_model.specs.Commands.{restart_at, restart, reloading, reload_at, reload, status_at, status}
+use Rattle.up_model.specs.Commands.{holders_of, outcome_by}
 use Rattle.up_model.specs.Commands.{outcome_of, entries_of}
 use Rattle.up_model.specs.Environments.{env_of_job}
 use Rattle.up_model.specs.Events.{with_instance}
+use Rattle.up_model.specs.Files.{own_file}
 use Rattle.up_model.specs.Offers.{max_instances, start_of, stop_of}
 use Rattle.up_model.specs.Predicates.{is_start}
-use Rattle.up_model.specs.Readings.{goal, state_of}
-use Rattle.up_model.specs.Replies.{request_in, was_answered, unless_answered, request_instance, status_of}
+use Rattle.up_stanza.specs.declared.process.Process.TheVariants.{Main}
+use Rattle.up_model.specs.Readings.{goal, state_of, lives}
+use Rattle.up_model.specs.Replies.{request_in, unless_answered, status_of}
 use Rattle.up_model.specs.Replies.{releasing}
 use Rattle.up_model.specs.Requests.{RequestValue}
 use Rattle.up_model.proofs.ReplyLaws.{outcome-all}
@@ -63,201 +65,14 @@ use Rattle.up_isolation.specs.Parts.{content_of}
 use Rattle.up_isolation.proofs.Releases.{entry-append}
 use Rattle.up_isolation.proofs.Alone.{begin, Effected, Noticed, Hurried, Base, mutes-view, given-view}
 use Rattle.up_isolation.proofs.Alone.{mutes-offering, mutes-asked}
-use Rattle.up_isolation.proofs.Requesting.{named-name, target-name, mute-allows}
+use Rattle.up_isolation.proofs.Requesting.{target-name, mute-allows}
 use Rattle.up_isolation.proofs.Twins.{at-twins}
-use Rattle.up_isolation.proofs.Making.{instance-at, twins-with, twins-names}
-use Rattle.up_isolation.proofs.Entries.{pair_aimed, pair_restarted}
+use Rattle.up_isolation.proofs.Entries.{pair_signalled}
 use Rattle.up_isolation.proofs.Others.{like_replied, env-only}
-use Rattle.up_isolation.proofs.Releases.{carries-append, pair_releasing, later-contents, later-older}
 use Rattle.up_isolation.proofs.Releases.{status-same}
-use Rattle.up_isolation.proofs.Offering.{pair_start_new, twins-length}
-use Rattle.up_isolation.proofs.Locals.{IsMoving}
-use Rattle.up_isolation.proofs.Hurry.{below, movings-held, IsUnsaid, unsaid-releasing, unsaid-same}
-use Rattle.up_isolation.proofs.Hurry.{twins-more, twins-more_there}
-use Rattle.up_model.proofs.Sparing.{same-append}
-use Rattle.up_model.proofs.ReplyLaws.{releasing-all}
-
--- all that the instances hold is below a place
-abbrev Held : Bytes → ℕ → Chronicle → Chronicle → Type 0
-Held job r c d = Twins (λ u v. below r (holders u.place c) ≡ true) (instances_of job c) (instances_of job d)
-
-abbrev HeldThere : Bytes → ℕ → Chronicle → Chronicle → Type 0
-HeldThere job q c d =
-    Twins (λ u v. true ≡ below q (holders v.place d)) (instances_of job c) (instances_of job d)
-
--- what a request of the job does in both: it is answered, or it acts on two instances
-data Does (job : Bytes) (config : Configuration) (r q : ℕ) (its hers : List ℕ) (c d : Chronicle)
-    (es fs : List Entry) : Type 0 where
-  Reply : (answer : Answer) → es ≡ Replied r answer ∷ [] → fs ≡ Replied q answer ∷ []
-      → Does job config r q its hers c d es fs
-  Act : (x y : Instance) → Pair job config (es ++ c) (fs ++ d) x y → request_instance (es ++ c) ≡ Some x.place
-      → request_instance (fs ++ d) ≡ Some y.place
-      → was_answered r (es ++ c) ≡ false → was_answered q (fs ++ d) ≡ false
-      → (its ≡ [] → Held job r (es ++ c) (fs ++ d)) → (hers ≡ [] → HeldThere job q (es ++ c) (fs ++ d))
-      → Does job config r q its hers c d es fs
-
-releasing-moving : (i : ℕ) (c : Chronicle) → AllByRecursion IsMoving (releasing i false c)
-releasing-moving i c = releasing-all IsMoving (λ request answer. tt) i false tt c
-
--- the goal of two that are there changes, or a restart is taken
-record Acts (job : Bytes) (config : Configuration) (r q : ℕ) (c d : Chronicle) : Type 0 where
-  like : Like job config c d
-  held : Held job r c d
-  held_there : HeldThere job q c d
-  unsaid : was_answered r c ≡ false
-  unsaid_there : was_answered q d ≡ false
-
-aimed-held : (r i k : ℕ) (aim : Goal) (environment : Bindings) (c : Chronicle) → below r (holders k c) ≡ true
-    → below r (holders k (Aimed i aim environment [] ∷ c)) ≡ true
-aimed-held r i k aim environment c h = by_case (i == k)
-  where
-    by_case : (b : Bool) → below r (if b then [] else holders k c) ≡ true
-    by_case true = refl
-    by_case false = h
-
-restarted-held : (r i k : ℕ) (c : Chronicle) → below r (holders k c) ≡ true
-    → below r (holders k (Restarted i [] ∷ c)) ≡ true
-restarted-held r i k c h = by_case (i == k)
-  where
-    by_case : (b : Bool) → below r (if b then [] else holders k c) ≡ true
-    by_case true = refl
-    by_case false = h
-
-act-aimed : (job : Bytes) (config : Configuration) (r q : ℕ) (its hers : List ℕ) (c d : Chronicle)
-    (x y : Instance) (aim : Goal) (environment : Bindings) → At x y (instances_of job c) (instances_of job d)
-    → contents its c ≡ contents hers d → AreOlder (length c) its → AreOlder (length d) hers
-    → Acts job config r q c d
-    → Does job config r q its hers c d (Aimed x.place aim environment its ∷ releasing x.place false c)
-    (Aimed y.place aim environment hers ∷ releasing y.place false d)
-act-aimed job config r q its hers c d x y aim environment at same older there acts =
-    Act x y carries.pair refl refl
-    (same-append (was_answered r) (IsUnsaid r) (unsaid-same r) (releasing x.place false c) c
-    (unsaid-releasing r x.place false c (at-twins (λ u v. below r (holders u.place c) ≡ true) x y
-    (instances_of job c) (instances_of job d) at acts.held)) ∙ acts.unsaid)
-    (same-append (was_answered q) (IsUnsaid q) (unsaid-same q) (releasing y.place false d) d
-    (unsaid-releasing q y.place false d
-    (sym (at-twins (λ u v. true ≡ below q (holders v.place d)) x y (instances_of job c)
-    (instances_of job d) at acts.held_there))) ∙ acts.unsaid_there)
-    (λ none. subst (λ (ps : List ℕ). Held job r (Aimed x.place aim environment ps ∷ releasing x.place false c
-    ++ c) ((Aimed y.place aim environment hers ∷ releasing y.place false d) ++ d)) (sym none)
-    (twins-more (λ u. below r (holders u.place c)) (λ u. true)
-    (λ u. below r (holders u.place (Aimed x.place aim environment [] ∷ releasing x.place false c ++ c)))
-    (λ u. true) _ _
-    (λ u h. aimed-held r x.place u.place aim environment (releasing x.place false c ++ c)
-    (movings-held r u.place (releasing x.place false c) c (releasing-moving x.place c) h))
-    (carries.shrinks (λ u. below r (holders u.place c)) (λ v. true) acts.held)))
-    (λ none. subst (λ (ps : List ℕ). HeldThere job q
-    ((Aimed x.place aim environment its ∷ releasing x.place false c) ++ c)
-    (Aimed y.place aim environment ps ∷ releasing y.place false d ++ d)) (sym none)
-    (twins-more_there (λ v. below q (holders v.place d))
-    (λ v. below q (holders v.place (Aimed y.place aim environment [] ∷ releasing y.place false d ++ d))) _
-    _
-    (λ v h. aimed-held q y.place v.place aim environment (releasing y.place false d ++ d)
-    (movings-held q v.place (releasing y.place false d) d (releasing-moving y.place d) h))
-    (carries.shrinks (λ u. true) (λ v. below q (holders v.place d)) acts.held_there)))
-  where
-    pair : Pair job config c d x y
-    pair = pair-at job config c d x y at acts.like
-
-    carries : Carries job config c d ((Aimed x.place aim environment its ∷ releasing x.place false c) ++ c)
-        ((Aimed y.place aim environment hers ∷ releasing y.place false d) ++ d) x y
-    carries =
-        carries-append job config c d x y (Aimed x.place aim environment its ∷ []) (releasing x.place false c)
-        (Aimed y.place aim environment hers ∷ []) (releasing y.place false d)
-        (pair_releasing job config c d x y false pair)
-        (λ next. pair_aimed job config (releasing x.place false c ++ c) (releasing y.place false d ++ d) x y
-        aim environment its hers
-        (later-contents its c (releasing x.place false c) older ∙ same
-        ∙ sym (later-contents hers d (releasing y.place false d) there))
-        (later-older its c (releasing x.place false c) older)
-        (later-older hers d (releasing y.place false d) there) next)
-
-act-restarted : (job : Bytes) (config : Configuration) (r q : ℕ) (its hers : List ℕ) (c d : Chronicle)
-    (x y : Instance) → At x y (instances_of job c) (instances_of job d)
-    → contents its c ≡ contents hers d → AreOlder (length c) its → AreOlder (length d) hers
-    → Acts job config r q c d
-    → Does job config r q its hers c d (Restarted x.place its ∷ releasing x.place false c)
-    (Restarted y.place hers ∷ releasing y.place false d)
-act-restarted job config r q its hers c d x y at same older there acts =
-    Act x y carries.pair refl refl
-    (same-append (was_answered r) (IsUnsaid r) (unsaid-same r) (releasing x.place false c) c
-    (unsaid-releasing r x.place false c (at-twins (λ u v. below r (holders u.place c) ≡ true) x y
-    (instances_of job c) (instances_of job d) at acts.held)) ∙ acts.unsaid)
-    (same-append (was_answered q) (IsUnsaid q) (unsaid-same q) (releasing y.place false d) d
-    (unsaid-releasing q y.place false d
-    (sym (at-twins (λ u v. true ≡ below q (holders v.place d)) x y (instances_of job c)
-    (instances_of job d) at acts.held_there))) ∙ acts.unsaid_there)
-    (λ none. subst (λ (ps : List ℕ). Held job r (Restarted x.place ps ∷ releasing x.place false c ++ c)
-    ((Restarted y.place hers ∷ releasing y.place false d) ++ d)) (sym none)
-    (twins-more (λ u. below r (holders u.place c)) (λ u. true)
-    (λ u. below r (holders u.place (Restarted x.place [] ∷ releasing x.place false c ++ c))) (λ u. true) _
-    _
-    (λ u h. restarted-held r x.place u.place (releasing x.place false c ++ c)
-    (movings-held r u.place (releasing x.place false c) c (releasing-moving x.place c) h))
-    (carries.shrinks (λ u. below r (holders u.place c)) (λ v. true) acts.held)))
-    (λ none. subst (λ (ps : List ℕ). HeldThere job q ((Restarted x.place its ∷ releasing x.place false c)
-    ++ c) (Restarted y.place ps ∷ releasing y.place false d ++ d)) (sym none)
-    (twins-more_there (λ v. below q (holders v.place d))
-    (λ v. below q (holders v.place (Restarted y.place [] ∷ releasing y.place false d ++ d))) _ _
-    (λ v h. restarted-held q y.place v.place (releasing y.place false d ++ d)
-    (movings-held q v.place (releasing y.place false d) d (releasing-moving y.place d) h))
-    (carries.shrinks (λ u. true) (λ v. below q (holders v.place d)) acts.held_there)))
-  where
-    pair : Pair job config c d x y
-    pair = pair-at job config c d x y at acts.like
-
-    carries : Carries job config c d ((Restarted x.place its ∷ releasing x.place false c) ++ c)
-        ((Restarted y.place hers ∷ releasing y.place false d) ++ d) x y
-    carries =
-        carries-append job config c d x y (Restarted x.place its ∷ []) (releasing x.place false c)
-        (Restarted y.place hers ∷ []) (releasing y.place false d)
-        (pair_releasing job config c d x y false pair)
-        (λ next. pair_restarted job config (releasing x.place false c ++ c) (releasing y.place false d ++ d) x
-        y its hers
-        (later-contents its c (releasing x.place false c) older ∙ same
-        ∙ sym (later-contents hers d (releasing y.place false d) there))
-        (later-older its c (releasing x.place false c) older)
-        (later-older hers d (releasing y.place false d) there) next)
-
-act-new : (job : Bytes) (config : Configuration) (r q : ℕ) (its hers : List ℕ) (c d : Chronicle)
-    (name : Bytes) (environment : Bindings) → instance_named (called job name) c ≡ None
-    → contents its c ≡ contents hers d → AreOlder (length c) its → AreOlder (length d) hers
-    → Acts job config r q c d
-    → Does job config r q its hers c d (Aimed (length c) Start environment its ∷ Made job name ∷ [])
-    (Aimed (length d) Start environment hers ∷ Made job name ∷ [])
-act-new job config r q its hers c d name environment none same older there acts =
-    Act (instance-at (length c) name) (instance-at (length d) name)
-    (pair_start_new job config c d name environment its hers same older there none acts.like) refl refl
-    acts.unsaid acts.unsaid_there
-    (λ empty. subst (λ (ps : List ℕ). Held job r (Aimed (length c) Start environment ps ∷ Made job name ∷ c)
-    (Aimed (length d) Start environment hers ∷ Made job name ∷ d)) (sym empty)
-    (rw (bytes_refl job) (twins-with (λ u v. below r (holders u.place e) ≡ true) x y (instances_of job c)
-    (instances_of job d) refl (rw (eq-eqb (length c) (length c) refl) refl) names
-    (twins-more (λ u. below r (holders u.place c)) (λ u. true) (λ u. below r (holders u.place e)) (λ u. true)
-    (instances_of job c) (instances_of job d)
-    (λ u h. aimed-held r (length c) u.place Start environment (Made job name ∷ c) h) acts.held))))
-    (λ empty. subst (λ (ps : List ℕ). HeldThere job q (Aimed (length c) Start environment its ∷ Made job name
-    ∷ c) (Aimed (length d) Start environment ps ∷ Made job name ∷ d)) (sym empty)
-    (rw (bytes_refl job) (twins-with (λ u v. true ≡ below q (holders v.place f)) x y (instances_of job c)
-    (instances_of job d) refl (rw (eq-eqb (length d) (length d) refl) refl) names
-    (twins-more_there (λ v. below q (holders v.place d)) (λ v. below q (holders v.place f))
-    (instances_of job c) (instances_of job d)
-    (λ v h. aimed-held q (length d) v.place Start environment (Made job name ∷ d) h) acts.held_there))))
-  where
-    x : Instance
-    x = instance-at (length c) name
-
-    y : Instance
-    y = instance-at (length d) name
-
-    e : Chronicle
-    e = Aimed (length c) Start environment [] ∷ Made job name ∷ c
-
-    f : Chronicle
-    f = Aimed (length d) Start environment [] ∷ Made job name ∷ d
-
-    names : Twins (λ u v. u.name ≡ v.name) (instances_of job c) (instances_of job d)
-    names = twins-names job config c d (instances_of job c) (instances_of job d) acts.like.twins
+use Rattle.up_isolation.proofs.Offering.{twins-length}
+use Rattle.up_isolation.proofs.Hurry.{below}
+use Rattle.up_isolation.proofs.Changing.{Acts, Does, Reply, Signal, Act, act-aimed, act-restarted, act-new}
 
 -- `start`
 does-start : (job : Bytes) (config : Configuration) (r q : ℕ) (its hers : List ℕ) (c d : Chronicle)
@@ -406,6 +221,77 @@ does-restart job config r q its hers c d name same older there acts =
         (at-twins (Twin job config c d) x y (instances_of job c) (instances_of job d) at
         acts.like.twins).bond.alike))
 
+-- `reload`
+does-reload-by : (job : Bytes) (config : Configuration) (def : JobDef) (r q : ℕ) (its hers : List ℕ)
+    (c d : Chronicle) (name : Bytes) → Acts job config r q c d
+    → Does job config r q its hers c d
+    (entries_of r (reload_at r (Some def) (called job name) (instance_named (called job name) c) c))
+    (entries_of q (reload_at q (Some def) (called job name) (instance_named (called job name) d) d))
+does-reload-by job config def r q its hers c d name acts =
+    by_found (found job config c d name (instances_of job c) (instances_of job d) acts.like.twins)
+  where
+    who : Who
+    who = called job name
+
+    by_state : (x y : Instance) → Pair job config c d x y → (b a : Bool) → b ≡ a
+        → Does job config r q its hers c d
+        (entries_of r (if b then Done (reloading r x.place def.reload_signal)
+        else Refused (codes "Job is not running: " ++ who_name who)))
+        (entries_of q (if a then Done (reloading q y.place def.reload_signal)
+        else Refused (codes "Job is not running: " ++ who_name who)))
+    by_state x y pair true true equal = Signal x y def.reload_signal pair refl refl
+    by_state x y pair false false equal = Reply _ refl refl
+    by_state x y pair true false equal = absurd (cc)
+    by_state x y pair false true equal = absurd (cc)
+
+    by_found : Found name (instances_of job c) (instances_of job d)
+        → Does job config r q its hers c d (entries_of r (reload_at r (Some def) who (instance_named who c) c))
+        (entries_of q (reload_at q (Some def) who (instance_named who d) d))
+    by_found (Neither none void) =
+        subst₂ (λ o u. Does job config r q its hers c d (entries_of r (reload_at r (Some def) who o c))
+        (entries_of q (reload_at q (Some def) who u d))) (sym none) (sym void) (Reply _ refl refl)
+    by_found (Two x y at left right) =
+        let pair = pair-at job config c d x y at acts.like in
+        subst₂ (λ o u. Does job config r q its hers c d (entries_of r (reload_at r (Some def) who o c))
+        (entries_of q (reload_at q (Some def) who u d))) (sym left) (sym right)
+        (by_state x y pair (is_running (state_of x.place c) && lives x.place Main c)
+        (is_running (state_of y.place d) && lives y.place Main d)
+        (ap (λ (l : Life). is_running l.state && is_some (l.pid Main)) pair.twin.bond.alike))
+
+-- by the files that the instances have
+does-reload : (job : Bytes) (config : Configuration) (r q : ℕ) (its hers : List ℕ) (c d : Chronicle)
+    (name : Bytes) → Acts job config r q c d
+    → Does job config r q its hers c d
+    (entries_of r (reload_at r (own_file config (called job name) c) (called job name)
+    (instance_named (called job name) c) c))
+    (entries_of q (reload_at q (own_file (only job config) (called job name) d) (called job name)
+    (instance_named (called job name) d) d))
+does-reload job config r q its hers c d name acts =
+    subst₂ (λ one other. Does job config r q its hers c d (entries_of r one) (entries_of q other))
+    (sym (reload_at-named config r who c))
+    (sym (reload_at-named (only job config) q who d
+    ∙ ap (λ file. reload_at q file who (instance_named who d) d) (sym (named-only job config.jobs))))
+    (by_file (job_named job config.jobs))
+  where
+    who : Who
+    who = called job name
+
+    by_found : Found name (instances_of job c) (instances_of job d)
+        → Does job config r q its hers c d (entries_of r (reload_at r None who (instance_named who c) c))
+        (entries_of q (reload_at q None who (instance_named who d) d))
+    by_found (Neither none void) =
+        subst₂ (λ o u. Does job config r q its hers c d (entries_of r (reload_at r None who o c))
+        (entries_of q (reload_at q None who u d))) (sym none) (sym void) (Reply _ refl refl)
+    by_found (Two x y at left right) =
+        subst₂ (λ o u. Does job config r q its hers c d (entries_of r (reload_at r None who o c))
+        (entries_of q (reload_at q None who u d))) (sym left) (sym right) (Reply _ refl refl)
+
+    by_file : (file : Option JobDef)
+        → Does job config r q its hers c d (entries_of r (reload_at r file who (instance_named who c) c))
+        (entries_of q (reload_at q file who (instance_named who d) d))
+    by_file None = by_found (found job config c d name (instances_of job c) (instances_of job d) acts.like.twins)
+    by_file (Some def) = does-reload-by job config def r q its hers c d name acts
+
 -- `status`
 does-status : (job : Bytes) (config : Configuration) (def : JobDef) (r q : ℕ) (its hers : List ℕ)
     (c d : Chronicle) (name : Bytes) → Acts job config r q c d
@@ -440,25 +326,28 @@ does-status job config def r q its hers c d name acts =
         (sym (status-same x.place y.place c d (made-same job config c d x y pair) pair.twin.bond.alike))))
 
 -- whom it names is the same
-target-same : (job : Bytes) (config : Configuration) (name : Bytes) (vars : Bindings) → name ≡ job
-    → target_of config name vars ≡ target_of (only job config) name vars
-target-same job config name vars is =
-    by_job (job_named name config.jobs) refl ∙ ap (λ o. target_in (only job config) name o vars) defs
+target-same : (job : Bytes) (config : Configuration) (name : Bytes) (vars : Bindings) (c d : Chronicle)
+    → name ≡ job → target_of config name vars c ≡ target_of (only job config) name vars d
+target-same job config name vars c d is =
+    by_job (job_named name config.jobs) refl ∙ ap (λ o. target_in (only job config) name o vars d) defs
   where
     defs : job_named name config.jobs ≡ job_named name (jobs_called job config.jobs)
     defs = ap (λ k. job_named k config.jobs) is ∙ named-only job config.jobs
         ∙ ap (λ k. job_named k (jobs_called job config.jobs)) (sym is)
 
     by_job : (o : Option JobDef) → job_named name config.jobs ≡ o
-        → target_in config name o vars ≡ target_in (only job config) name o vars
+        → target_in config name o vars c ≡ target_in (only job config) name o vars d
     by_job None some = refl
     by_job (Some def) some =
         let called : def.name ≡ job = named-name name config.jobs def some ∙ is in
         let same : env_of_job config def.name ≡ env_of_job (only job config) def.name =
         ap (λ k. env_of_job config k) called ∙ env-only job config ∙ ap (λ k. env_of_job (only job config) k)
         (sym called) in
-        ap (λ (environment : Bindings). target_as def (set_all environment vars)
+        target_as-one config def vars (expand def.instance (request_env config def vars)) c
+        ∙ ap (λ (environment : Bindings). target_as_one def (set_all environment vars)
         (expand def.instance (set_all environment vars))) same
+        ∙ sym (target_as-one (only job config) def vars
+        (expand def.instance (request_env (only job config) def vars)) d)
 
 whom : (job : Bytes) (who : Who) → who.job ≡ job → called job who.instance ≡ who
 whom job who is = ap (λ (k : Bytes). called k who.instance) (sym is)
@@ -487,15 +376,15 @@ does-outcome job config r q request c d asks same older there acts = by_command 
     name = bytes_same request.name job (named (names_job request.command) asks)
 
     target : Target
-    target = target_of config request.name request.vars
+    target = target_of config request.name request.vars c
 
-    target_there : target ≡ target_of (only job config) request.name request.vars
-    target_there = target-same job config request.name request.vars name
+    target_there : target ≡ target_of (only job config) request.name request.vars d
+    target_there = target-same job config request.name request.vars c d name
 
     whose : (t : Target) → target ≡ t → (def : JobDef) (who : Who) (environment : Bindings)
         → t ≡ Concerns def who environment → who.job ≡ job
     whose t is def who environment some =
-        target-name config request.name request.vars def who environment (is ∙ some) ∙ name
+        target-name config request.name request.vars c def who environment (is ∙ some) ∙ name
 
     starts : (t : Target) → target ≡ t
         → Does job config r q its hers c d (entries_of r (start its t c)) (entries_of q (start hers t d))
@@ -539,6 +428,17 @@ does-outcome job config r q request c d asks same older there acts = by_command 
         (whom job who (whose (Concerns def who environment) is def who environment refl))
         (does-status job config def r q its hers c d who.instance acts)
 
+    reloads : (t : Target) → target ≡ t
+        → Does job config r q its hers c d (entries_of r (reload config r t c))
+        (entries_of q (reload (only job config) q t d))
+    reloads (Nobody text) is = Reply _ refl refl
+    reloads (Concerns def who environment) is =
+        subst (λ (w : Who). Does job config r q its hers c d
+        (entries_of r (reload_at r (own_file config w c) w (instance_named w c) c))
+        (entries_of q (reload_at q (own_file (only job config) w d) w (instance_named w d) d)))
+        (whom job who (whose (Concerns def who environment) is def who environment refl))
+        (does-reload job config r q its hers c d who.instance acts)
+
     not-named : (asked : Command) → request.command ≡ asked → names_job asked ≡ false → ⊥
     not-named asked is none = bad (names_job request.command) (ap names_job is ∙ none) asks
       where
@@ -564,7 +464,10 @@ does-outcome job config r q request c d asks same older there acts = by_command 
     by_command command.List is = absurd (not-named command.List is refl)
     by_command command.Emit is = absurd (not-named command.Emit is refl)
     by_command command.Version is = absurd (not-named command.Version is refl)
-    by_command command.Reload is = absurd (not-named command.Reload is refl)
+    by_command command.Reload is = subst
+        (λ t. Does job config r q its hers c d (entries_of r (reload config r target c))
+        (entries_of q (reload (only job config) q t d)))
+        target_there (reloads target refl)
     by_command command.ReloadConfiguration is = absurd (not-named command.ReloadConfiguration is refl)
 
 -- a request that names the job
@@ -661,10 +564,11 @@ effect-own job config id request c d own base =
     }
 
     mute : AllByRecursion IsMute es
-    mute = outcome-all IsMute mute-allows (λ its name. tt) config r request e
+    mute = outcome-all IsMute mute-allows (λ its name. tt) config r request e (λ i signal runs. tt)
 
     mute_there : AllByRecursion IsMute fs
     mute_there = outcome-all IsMute mute-allows (λ its name. tt) (only job config) q request f
+        (λ i signal runs. tt)
 
     noticed-view : view job config (es ++ e) ≡ Received g ∷ view job config c
     noticed-view = mutes-view job config es e mute ∙ given-view job config g c own
@@ -695,6 +599,17 @@ effect-own job config id request c d own base =
     does-like (Reply answer left right) =
         subst₂ (λ (s t : List Entry). Like job config (s ++ e) (t ++ f)) (sym left) (sym right)
         (like_replied job config e f r q answer (here ∙ sym there) next)
+    does-like (Signal x y signal pair left right) =
+        subst₂ (λ (s t : List Entry). Like job config (s ++ e) (t ++ f)) (sym left) (sym right)
+        (like_replied job config (Signalled x.place signal false ∷ e) (Signalled y.place signal false ∷ f) r q
+        (record { ok = true; text = [] }) (later ∙ sym later_there)
+        (pair_signalled job config e f x y signal false pair).pair.like)
+      where
+        later : entry_at r (Signalled x.place signal false ∷ e) ≡ Some (Given g)
+        later = (entry-append r (Signalled x.place signal false ∷ []) e (omega arith)).1 ∙ here
+
+        later_there : entry_at q (Signalled y.place signal false ∷ f) ≡ Some (Given g)
+        later_there = (entry-append q (Signalled y.place signal false ∷ []) f (omega arith)).1 ∙ there
     does-like (Act x y pair acted acted_there silent silent_there held held_there) = pair.like
 
     asking : (wait : Bool) → request.wait ≡ wait → asked (es ++ e) ≡ (if wait then None else Some r)
@@ -710,6 +625,12 @@ effect-own job config id request c d own base =
         (ap (λ o. unless_answered o (fs ++ f)) (asking_there true is))
     by_does false is (Reply answer left right) =
         plain (does-like (Reply answer left right))
+        (ap (λ o. unless_answered o (es ++ e)) (asking false is)
+        ∙ ap (λ (s : List Entry). unless_answered (Some r) (s ++ e)) left ∙ rw (eq-eqb r r refl) refl)
+        (ap (λ o. unless_answered o (fs ++ f)) (asking_there false is)
+        ∙ ap (λ (t : List Entry). unless_answered (Some q) (t ++ f)) right ∙ rw (eq-eqb q q refl) refl)
+    by_does false is (Signal x y signal pair left right) =
+        plain (does-like (Signal x y signal pair left right))
         (ap (λ o. unless_answered o (es ++ e)) (asking false is)
         ∙ ap (λ (s : List Entry). unless_answered (Some r) (s ++ e)) left ∙ rw (eq-eqb r r refl) refl)
         (ap (λ o. unless_answered o (fs ++ f)) (asking_there false is)

@@ -22,9 +22,10 @@ use Rattle.up_expr.specs.Truth as truth
 use Rattle.up_model.specs.Due.{due}
 use Rattle.up_model.specs.Events.{events_at, stopped_by, events_env}
 use Rattle.up_model.specs.Environments.{env_of_job, instance_name}
-use Rattle.up_model.specs.Moves.{may_leave, move, move_of, move_in, move_first}
-use Rattle.up_model.specs.Offers.{is_open, stop_of, stop_by, stop_offer, stop_offer_in, start_of, start_who}
-use Rattle.up_model.specs.Offers.{start_by, who_called, start_offer, offer_in, offer_first, offering}
+use Rattle.up_model.specs.Files.{file_of, job_names}
+use Rattle.up_model.specs.Moves.{may_leave, move, move_in, move_first, move_by}
+use Rattle.up_model.specs.Offers.{is_open, stop_of, stop_by, stop_offer, start_of, start_who, start_env}
+use Rattle.up_model.specs.Offers.{start_by, who_called, start_offer, offering}
 use Rattle.up_model.specs.Offers.{offer_next}
 use Rattle.up_model.specs.Predicates.{entries_if, or_else, is_start}
 use Rattle.up_model.specs.Readings.{goal}
@@ -33,6 +34,7 @@ use Rattle.up_model.specs.Seen.{holds, taken, was_offered}
 use Rattle.up_model.specs.Work.{settle}
 use Rattle.up_model.proofs.Sparing.{same-append, all-if, all-weaker}
 use Rattle.up_model.proofs.ReplyLaws.{releasing-all}
+use Rattle.up_model.proofs.JobOffers.{stop_offer_in, offer_in, offer_first, first-by-jobs}
 use Rattle.up_isolation.proofs.Locals.{IsMoving, move-moving}
 use Rattle.up_isolation.proofs.Resting.{IsCalm}
 
@@ -177,8 +179,11 @@ calm-start_offer config def p d calm =
     fired : Chronicle
     fired = Fired (StartOn job) ps ∷ offered
 
+    name : Option Bytes
+    name = instance_name def (events_env (env_of_job A job) (events_at ps fired))
+
     environment : Bindings
-    environment = events_env (env_of_job A job) (events_at ps fired)
+    environment = start_env A (who_called job name) (events_at ps fired) fired
 
     by_case : (b : Bool) → holds def.start_on ss ≡ b
         → IsCalm job config (entries_if b (start_by A def ps fired ++ Fired (StartOn job) ps ∷ []) ++ offered)
@@ -187,7 +192,7 @@ calm-start_offer config def p d calm =
         subst (λ (t : Chronicle). IsCalm job config t def)
         (sym (append_assoc (start_by A def ps fired) (Fired (StartOn job) ps ∷ []) offered))
         (calm-blind job config def (start_by A def ps fired) fired
-        (start_by-blind (who_called job (instance_name def environment)) environment ps fired)
+        (start_by-blind (who_called job name) environment ps fired)
         (record {
           start = rw (bytes_refl job) (nothing-holds def.start_on);
           stop = calm.stop;
@@ -212,14 +217,19 @@ keeps-if job config def d true es calm keeps = keeps
 keeps-if job config def d false es calm keeps = calm
 
 calm-moves : (job : Bytes) (config : Configuration) (def : JobDef) (d : Chronicle) (xs : List Instance)
-    → IsCalm job config d def → Keeps job config def d (move_in def xs d)
+    → IsCalm job config d def → Keeps job config def d (move_in (only job config) xs d)
 calm-moves job config def d [] calm = calm
 calm-moves job config def d (x ∷ xs) calm =
-    keeps-or job config def d (move_of def x d) (move_in def xs d)
-    (keeps-if job config def d (may_leave def x.place d) (move def x d) calm
-    (calm-blind job config def (move def x d) d
-    (all-weaker IsMoving IsBlind moving-blind (move def x d) (move-moving def x d)) calm))
+    keeps-or job config def d (move_by (file_of (only job config) x.place d) x d)
+    (move_in (only job config) xs d) (by_file (file_of (only job config) x.place d))
     (calm-moves job config def d xs calm)
+  where
+    by_file : (file : Option JobDef) → Keeps job config def d (move_by file x d)
+    by_file None = calm
+    by_file (Some its) =
+        keeps-if job config def d (may_leave its x.place d) (move its x d) calm
+        (calm-blind job config def (move its x d) d
+        (all-weaker IsMoving IsBlind moving-blind (move its x d) (move-moving its x d)) calm)
 
 calm-stops : (job : Bytes) (config : Configuration) (def : JobDef) (p : ℕ) (d : Chronicle)
     (xs : List Instance) → IsCalm job config d def
@@ -243,9 +253,10 @@ pub calm-due : (config : Configuration) (def : JobDef) (d : Chronicle)
     → IsCalm def.name config (due (only def.name config) d ++ d) def
 unfolding due
 calm-due config def d one calm =
-    keeps-or job config def d (move_first own d) (or_else (offer_next A (offering d) d) (answering_last d))
-    (subst (λ js. Keeps job config def d (move_first js d)) (sym one)
-    (keeps-or job config def d (move_in def (instances_of job d) d) []
+    keeps-or job config def d (move_first A (job_names own) d)
+    (or_else (offer_next A (offering d) d) (answering_last d))
+    (subst (λ js. Keeps job config def d (move_first A (job_names js) d)) (sym one)
+    (keeps-or job config def d (move_in A (instances_of job d) d) []
     (calm-moves job config def d (instances_of job d) calm) calm))
     (keeps-or job config def d (offer_next A (offering d) d) (answering_last d) (by_offer (offering d))
     (calm-last job config def d (unanswered d) calm))
@@ -262,13 +273,14 @@ calm-due config def d one calm =
     by_offer : (o : Option ℕ) → Keeps job config def d (offer_next A o d)
     by_offer None = calm
     by_offer (Some p) =
-        subst (λ js. Keeps job config def d (offer_first A js p d)) (sym one)
+        subst (Keeps job config def d) (sym (first-by-jobs A p d))
+        (subst (λ js. Keeps job config def d (offer_first A js p d)) (sym one)
         (keeps-or job config def d (offer_in A def p d) []
         (keeps-or job config def d (stop_offer_in A def (instances_of job d) p d)
         (entries_if (not (was_offered (StartOn job) d)) (start_offer A def p d))
         (calm-stops job config def p d (instances_of job d) calm)
         (keeps-if job config def d (not (was_offered (StartOn job) d)) (start_offer A def p d) calm
-        (calm-start_offer config def p d calm))) calm)
+        (calm-start_offer config def p d calm))) calm))
 
 pub calm-settle : (n : ℕ) (config : Configuration) (def : JobDef) (d : Chronicle)
     → jobs_called def.name config.jobs ≡ def ∷ [] → IsCalm def.name config d def

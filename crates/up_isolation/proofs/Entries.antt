@@ -14,6 +14,7 @@ use Rattle.up_model.specs.declared.who.Who.{Who}
 use Rattle.up_model.specs.Chronicle.{Chronicle, Entry, Queued, Aimed, Restarted, Released, Entered, Ordered}
 use Rattle.up_model.specs.Chronicle.{Signalled, Entering}
 use Rattle.up_model.specs.Configuration.{Configuration, job_named}
+use Rattle.up_model.specs.Files.{file_by}
 use Rattle.up_model.specs.Instances.{Instance}
 use Rattle.up_model.specs.Outputs.{order_of, order_by, signal_of}
 use Rattle.up_model.specs.Readings.{made_at, has_stop_env, process_env, pid_of}
@@ -67,13 +68,18 @@ pair_queued job config c d x y to event other same pair =
     })
 
 -- an order
-pub order-same : (job : Bytes) (config : Configuration) (its : Process) (who : Who) (o u : Option Who)
-    (environment other : Bindings) → who.job ≡ job → o ≡ Some who → u ≡ Some who
-    → environment ≡ other → order_of config o its environment ≡ order_of (only job config) u its other
-order-same job config its who o u environment other name one two same =
-    rw (one, two, same) (ap (λ (def : Option JobDef). order_by def who its other)
-    (ap (λ k. job_named k config.jobs) name ∙ named-only job config.jobs
-    ∙ ap (λ k. job_named k (jobs_called job config.jobs)) (sym name)))
+pub file-same : (job : Bytes) (config : Configuration) (c d : Chronicle) (who : Who) (o u : Option Who) → who.job ≡ job
+    → o ≡ Some who → u ≡ Some who → file_by config o c ≡ file_by (only job config) u d
+file-same job config c d who o u name one two =
+    rw (one, two) (ap (λ k. job_named k config.jobs) name ∙ named-only job config.jobs
+    ∙ ap (λ k. job_named k (jobs_called job config.jobs)) (sym name))
+
+pub order-same : (job : Bytes) (config : Configuration) (its : Process) (c d : Chronicle) (who : Who) (o u : Option Who)
+    (environment other : Bindings) → who.job ≡ job → o ≡ Some who → u ≡ Some who → environment ≡ other
+    → order_by (file_by config o c) o its environment ≡ order_by (file_by (only job config) u d) u its other
+order-same job config its c d who o u environment other name one two same =
+    ap₂ (λ def w. order_by def w its environment) (file-same job config c d who o u name one two) (one ∙ sym two)
+    ∙ ap (λ env. order_by (file_by (only job config) u d) u its env) same
 
 env-same : (its : Process) (i j : ℕ) (c d : Chronicle) → life i c ≡ life j d
     → process_env i its c ≡ process_env j its d
@@ -91,10 +97,9 @@ pair_ordered job config c d x y its pair =
     (shows-item job config (Ordered x.place its) (Ordered y.place its) c d x y
     (λ name. parts.Ordered name its) pair refl
     (outputs-own (owns job x.place c) (owns job y.place d)
-    (order_of config (made_at x.place c) its (process_env x.place its c))
-    (order_of (only job config) (made_at y.place d) its (process_env y.place its d))
+    (order_of config x.place its c) (order_of (only job config) y.place its d)
     (own-true job c x pair.left) (own-true job d y pair.right)
-    (order-same job config its (called job x.name) (made_at x.place c) (made_at y.place d)
+    (order-same job config its c d (called job x.name) (made_at x.place c) (made_at y.place d)
     (process_env x.place its c) (process_env y.place its d) refl pair.left.1
     (sym (made-same job config c d x y pair) ∙ pair.left.1)
     (env-same its x.place y.place c d pair.twin.bond.alike)))

@@ -29,6 +29,7 @@ job_on_go name = record {
   limit = record { count = 10; interval = 5 };
   kill_signal = 15;
   kill_timeout = 5;
+  reload_signal = 1;
   env = [];
   export = [];
   normal = [];

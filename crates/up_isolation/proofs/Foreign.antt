@@ -33,7 +33,7 @@ use Rattle.up_model.specs.Events.{events_at, events_env, with_instance, stopped_
 use Rattle.up_model.specs.Instances.{instance_named}
 use Rattle.up_model.specs.Life.{entering}
 use Rattle.up_model.specs.Moves.{has_process, who_of, emitting, ordering, enter, next_of, move}
-use Rattle.up_model.specs.Offers.{stop_of, stop_by, stop_offer, max_instances, start_of, who_called}
+use Rattle.up_model.specs.Offers.{stop_of, stop_by, stop_offer, max_instances, start_of, who_called, start_env}
 use Rattle.up_model.specs.Offers.{start_who, start_by, start_offer}
 use Rattle.up_model.specs.Predicates.{is_start, entries_if}
 use Rattle.up_model.specs.Readings.{goal, event_of, made_of, state_of, lives}
@@ -341,8 +341,8 @@ strange-start_offer job config def event c fair other =
     (strange-if job (holds def.start_on ss) (start_by config def ps fired ++ Fired (StartOn def.name) ps ∷ [])
     offered
     (strange-append job (start_by config def ps fired) (Fired (StartOn def.name) ps ∷ []) offered
-    (strange-start_who job def.name (events_env (env_of_job config def.name) (events_at ps fired)) ps
-    (instance_name def (events_env (env_of_job config def.name) (events_at ps fired))) fired
+    (strange-start_who job def.name (start_env config (who_called def.name name) (events_at ps fired) fired) ps
+    name fired
     (fair-strange job config (Fired (StartOn def.name) ps ∷ Offered (StartOn def.name) event ∷ []) c
     (other, (other, tt)) fair) other
     (taken-foreign job def.start_on ss fired (known-sights-later (Fired (StartOn def.name) ps) offered ss
@@ -360,3 +360,6 @@ strange-start_offer job config def event c fair other =
 
     fired : Chronicle
     fired = Fired (StartOn def.name) ps ∷ offered
+
+    name : Option Bytes
+    name = instance_name def (events_env (env_of_job config def.name) (events_at ps fired))

@@ -17,14 +17,15 @@ use Rattle.up_model.specs.Readings.{entry_at, holders}
 use Rattle.up_model.specs.Replies.{request_at}
 use Rattle.up_model.specs.Values.{Bytes}
 use Rattle.up_model.proofs.NameLaws.{called}
-use Rattle.up_isolation.specs.Views.{jobs_called, was_asked}
+use Rattle.up_isolation.specs.Views.{was_asked}
 use Rattle.up_isolation.proofs.Twins.{Twins, Match}
 use Rattle.up_isolation.proofs.Known.{IsKnown}
 use Rattle.up_isolation.proofs.Likes.{only, Like}
 use Rattle.up_isolation.proofs.Pairs.{Guest, Carries, known-one}
 use Rattle.std.proofs.Common.{zero, suc}
 use Rattle.up_model.specs.Due.{due}
-use Rattle.up_model.specs.Moves.{move, move_first}
+use Rattle.up_model.specs.Files.{file_of, names_in_order}
+use Rattle.up_model.specs.Moves.{move, move_first, move_by}
 use Rattle.up_model.specs.Offers.{offering, offer_next}
 use Rattle.up_model.specs.Predicates.{entries_if, or_else}
 use Rattle.up_model.specs.Replies.{releasing, request_in, asked, was_answered, unless_answered, unanswered}
@@ -45,7 +46,7 @@ use Rattle.std.proofs.Common.{nat_lt, ltb-true}
 use Rattle.up_model.specs.declared.life.Entry as table
 use Rattle.up_model.specs.declared.life.JobEvent.{JobEvent}
 use Rattle.up_model.specs.Life.{entering}
-use Rattle.up_model.specs.Moves.{may_leave, move_of, move_in, has_process, who_of, emitting, ordering, enter}
+use Rattle.up_model.specs.Moves.{may_leave, move_in, has_process, who_of, emitting, ordering, enter}
 use Rattle.up_model.specs.Moves.{next_of}
 use Rattle.up_model.specs.Readings.{state_of, lives}
 use Rattle.up_model.specs.Replies.{status_of, answering_one, answering}
@@ -368,16 +369,23 @@ or-moving : (es fs : List Entry) → AllByRecursion IsMoving es → AllByRecursi
 or-moving [] fs all other = other
 or-moving (e ∷ es) fs all other = all
 
-in-moving : (def : JobDef) (xs : List Instance) (c : Chronicle) → AllByRecursion IsMoving (move_in def xs c)
-in-moving def [] c = tt
-in-moving def (x ∷ xs) c =
-    or-moving (move_of def x c) (move_in def xs c) (all-if IsMoving (may_leave def x.place c) (move def x c)
-    (move-moving def x c)) (in-moving def xs c)
+by-moving : (file : Option JobDef) (x : Instance) (c : Chronicle) → AllByRecursion IsMoving (move_by file x c)
+by-moving None x c = tt
+by-moving (Some def) x c = all-if IsMoving (may_leave def x.place c) (move def x c) (move-moving def x c)
 
-first-moving : (js : List JobDef) (c : Chronicle) → AllByRecursion IsMoving (move_first js c)
-first-moving [] c = tt
-first-moving (def ∷ js) c = or-moving (move_in def (instances_of def.name c) c) (move_first js c)
-    (in-moving def (instances_of def.name c) c) (first-moving js c)
+in-moving : (config : Configuration) (xs : List Instance) (c : Chronicle)
+    → AllByRecursion IsMoving (move_in config xs c)
+in-moving config [] c = tt
+in-moving config (x ∷ xs) c =
+    or-moving (move_by (file_of config x.place c) x c) (move_in config xs c)
+    (by-moving (file_of config x.place c) x c) (in-moving config xs c)
+
+first-moving : (config : Configuration) (names : List Bytes) (c : Chronicle)
+    → AllByRecursion IsMoving (move_first config names c)
+first-moving config [] c = tt
+first-moving config (name ∷ names) c =
+    or-moving (move_in config (instances_of name c) c) (move_first config names c)
+    (in-moving config (instances_of name c) c) (first-moving config names c)
 
 -- what becomes of it by what is due
 data Went (job : Bytes) (config : Configuration) (c d : Chronicle) (r q : ℕ) (x y : Instance) : Type 0 where
@@ -442,28 +450,28 @@ waits-due job config c d r q x y waits = by_moves (moves-first job config config
       silent_there = over d q answer_there waits.asking_there;
     }
 
-    by_moves : Moves job c d (move_first config.jobs c) (move_first (jobs_called job config.jobs) d)
+    by_moves : Moves job c d (move_first config (names_in_order config c) c) (move_first (only job config) (names_in_order (only job config) d) d)
         → Went job config c d r q x y
     by_moves (movers.Idle none void) =
         let here : due config c ≡ Replied r answer ∷ [] =
-        or_else-second (move_first config.jobs c) rest none ∙ last in
+        or_else-second (move_first config (names_in_order config c) c) rest none ∙ last in
         let there : due (only job config) d ≡ Replied q answer_there ∷ [] =
-        or_else-second (move_first (jobs_called job config.jobs) d) rest_there void ∙ last_there in
+        or_else-second (move_first (only job config) (names_in_order (only job config) d) d) rest_there void ∙ last_there in
         Last (λ bad. cons-some (Replied r answer) [] (sym here ∙ bad))
         (λ bad. cons-some (Replied q answer_there) [] (sym there ∙ bad))
         (subst₂ (λ (s t : List Entry). Plain job config (s ++ c) (t ++ d)) (sym here) (sym there) done)
     by_moves (movers.Away some are) =
-        let here : due config c ≡ move_first config.jobs c =
-        or_else-first (move_first config.jobs c) rest some in
+        let here : due config c ≡ move_first config (names_in_order config c) c =
+        or_else-first (move_first config (names_in_order config c) c) rest some in
         Away (λ none. some (sym here ∙ none))
         (subst (λ (t : List Entry). Waits job config (t ++ c) d r q x y) (sym here)
-        (waits-strange job config (move_first config.jobs c) c d r q x y are (first-moving config.jobs c)
+        (waits-strange job config (move_first config (names_in_order config c) c) c d r q x y are (first-moving config (names_in_order config c) c)
         waits))
     by_moves (movers.Two def u v at left right) =
-        let here : due config c ≡ move def u c = or_else-first (move_first config.jobs c) rest
+        let here : due config c ≡ move def u c = or_else-first (move_first config (names_in_order config c) c) rest
         (λ none. move-some def u c (sym left ∙ none)) ∙ left in
         let there : due (only job config) d ≡ move def v d = or_else-first
-        (move_first (jobs_called job config.jobs) d) rest_there
+        (move_first (only job config) (names_in_order (only job config) d) d) rest_there
         (λ none. move-some def v d (sym right ∙ none)) ∙ right in
         Together (λ none. move-some def u c (sym here ∙ none)) (λ none. move-some def v d (sym there ∙ none))
         (subst₂ (λ (s t : List Entry). Waits job config (s ++ c) (t ++ d) r q x y) (sym here) (sym there)

@@ -23,6 +23,7 @@ pub mod Alone
 pub mod Turning
 pub mod Hurry
 pub mod Requesting
+pub mod Changing
 pub mod Asking
 pub mod Runs
 pub mod Telling

@@ -1,23 +1,26 @@
 -- The first move: of another job's instance, or of the two that stand side by side.
-use Rattle.std.proofs.Common.{◌≡◌, inl, inr, Bool, true, false, ◌&&◌, List, [], ◌∷◌, ◌++◌, if◌then◌else◌}
+use Rattle.std.proofs.Common.{◌≡◌, inl, inr, Bool, true, false, ◌&&◌, List, [], ◌∷◌, ◌++◌, if◌then◌else◌, Option, None, Some}
 use Rattle.std.proofs.Common.{bytes_eq, refl, sym, ◌∙◌, ap, subst, subst₂}
 use Rattle.std.specs.List.{AllByRecursion}
 use Rattle.up_conf.specs.declared.job.JobDef.{JobDef}
 use Rattle.up_stanza.specs.declared.process.Process.TheVariants.{Main}
 use Rattle.up_model.specs.declared.state.State.{State}
 use Rattle.up_model.specs.Chronicle.{Chronicle, Entry, Entered, Signalled}
-use Rattle.up_model.specs.Configuration.{Configuration}
+use Rattle.up_model.specs.Configuration.{Configuration, job_named}
+use Rattle.up_model.specs.Files.{file_of, job_names}
 use Rattle.up_model.specs.Instances.{Instance, instances_of}
 use Rattle.up_model.specs.Values.{Bytes}
+use Rattle.up_model.proofs.FileLaws.{moves_by, move_in-job}
 use Rattle.up_model.proofs.Places.{bytes_same}
 use Rattle.up_isolation.specs.Views.{jobs_called, is_of}
+use Rattle.up_isolation.proofs.Entries.{named-only}
 use Rattle.up_isolation.proofs.Twins.{Twins}
 use Rattle.up_isolation.proofs.Known.{IsKnown}
-use Rattle.up_isolation.proofs.Likes.{Twin, Like, Fair}
+use Rattle.up_isolation.proofs.Likes.{Twin, Like, Fair, only}
 use Rattle.std.proofs.Common.{append_assoc}
 use Rattle.up_model.specs.declared.life.Entry as table
 use Rattle.up_model.specs.Life.{entering}
-use Rattle.up_model.specs.Moves.{who_of, emitting, ordering, enter, may_leave, next_of, move, move_of}
+use Rattle.up_model.specs.Moves.{who_of, emitting, ordering, enter, may_leave, next_of, move, move_of, move_by}
 use Rattle.up_model.specs.Moves.{move_in, move_first}
 use Rattle.up_model.specs.Predicates.{entries_if, or_else}
 use Rattle.up_model.specs.Readings.{state_of, lives}
@@ -100,10 +103,10 @@ moves-or job c d es others fs rest (Two def x y at left right) other =
 -- among instances of the job
 moves-in : (job : Bytes) (config : Configuration) (def : JobDef) (c d : Chronicle) (xs ys : List Instance)
     → ((x y : Instance) → At x y xs ys → At x y (instances_of job c) (instances_of job d))
-    → Twins (Twin job config c d) xs ys → Moves job c d (move_in def xs c) (move_in def ys d)
+    → Twins (Twin job config c d) xs ys → Moves job c d (moves_by (Some def) xs c) (moves_by (Some def) ys d)
 moves-in job config def c d [] [] at twins = Idle refl refl
 moves-in job config def c d (x ∷ xs) (y ∷ ys) at twins =
-    moves-or job c d (move_of def x c) (move_in def xs c) (move_of def y d) (move_in def ys d)
+    moves-or job c d (move_of def x c) (moves_by (Some def) xs c) (move_of def y d) (moves_by (Some def) ys d)
     (by_case (may_leave def x.place c) (may_leave def y.place d)
     (leave-same def x.place y.place c d twins.0.bond.alike))
     (moves-in job config def c d xs ys (λ u v there. at u v (inr there)) twins.1)
@@ -116,39 +119,67 @@ moves-in job config def c d (x ∷ xs) (y ∷ ys) at twins =
 moves-in job config def c d [] (y ∷ ys) at twins = absurd twins
 moves-in job config def c d (x ∷ xs) [] at twins = absurd twins
 
--- among those of another job
-away-in : (job : Bytes) (config : Configuration) (def : JobDef) (c d : Chronicle) (xs : List Instance)
-    → Fair job c → bytes_eq def.name job ≡ false → AllByRecursion (IsKnown def.name c) xs
-    → Moves job c d (move_in def xs c) []
-away-in job config def c d [] fair other known = Idle refl refl
-away-in job config def c d (x ∷ xs) fair other known =
-    moves-or job c d (move_of def x c) (move_in def xs c) [] [] (by_case (may_leave def x.place c))
-    (away-in job config def c d xs fair other known.1)
+-- by the file that they have
+no-moves : (xs : List Instance) (c : Chronicle) → moves_by None xs c ≡ []
+no-moves [] c = refl
+no-moves (x ∷ xs) c = no-moves xs c
+
+moves-own : (job : Bytes) (config : Configuration) (c d : Chronicle) → Like job config c d
+    → Moves job c d (move_in config (instances_of job c) c) (move_in (only job config) (instances_of job d) d)
+moves-own job config c d like =
+    subst₂ (λ es fs. Moves job c d es fs) (sym (move_in-job config job c))
+    (sym (move_in-job (only job config) job d
+    ∙ ap (λ file. moves_by file (instances_of job d) d) (sym (named-only job config.jobs))))
+    (by_file (job_named job config.jobs))
   where
-    by_case : (b : Bool) → Moves job c d (entries_if b (move def x c)) []
-    by_case true = Away (move-some def x c)
+    by_file : (file : Option JobDef)
+        → Moves job c d (moves_by file (instances_of job c) c) (moves_by file (instances_of job d) d)
+    by_file None = Idle (no-moves (instances_of job c) c) (no-moves (instances_of job d) d)
+    by_file (Some def) =
+        moves-in job config def c d (instances_of job c) (instances_of job d) (λ x y at. at) like.twins
+
+-- among those of another job
+away-in : (job : Bytes) (config : Configuration) (name : Bytes) (c d : Chronicle) (xs : List Instance)
+    → Fair job c → bytes_eq name job ≡ false → AllByRecursion (IsKnown name c) xs
+    → Moves job c d (move_in config xs c) []
+away-in job config name c d [] fair other known = Idle refl refl
+away-in job config name c d (x ∷ xs) fair other known =
+    moves-or job c d (move_by (file_of config x.place c) x c) (move_in config xs c) [] []
+    (by_file (file_of config x.place c)) (away-in job config name c d xs fair other known.1)
+  where
+    by_case : (def : JobDef) (b : Bool) → Moves job c d (entries_if b (move def x c)) []
+    by_case def true = Away (move-some def x c)
         (strange-move job config def x c fair (ap (is_of job) known.0.1 ∙ other, known.0.0))
-    by_case false = Idle refl refl
+    by_case def false = Idle refl refl
+
+    by_file : (file : Option JobDef) → Moves job c d (move_by file x c) []
+    by_file None = Idle refl refl
+    by_file (Some def) = by_case def (may_leave def x.place c)
 
 -- job by job
 pub moves-first : (job : Bytes) (config : Configuration) (js : List JobDef) (c d : Chronicle)
     → Like job config c d
-    → Moves job c d (move_first js c) (move_first (jobs_called job js) d)
+    → Moves job c d (move_first config (job_names js) c)
+    (move_first (only job config) (job_names (jobs_called job js)) d)
 moves-first job config [] c d like = Idle refl refl
 moves-first job config (def ∷ js) c d like =
     by_case (bytes_eq def.name job) refl (moves-first job config js c d like)
   where
+    A : Configuration
+    A = only job config
+
     by_case : (b : Bool) → bytes_eq def.name job ≡ b
-        → Moves job c d (move_first js c) (move_first (jobs_called job js) d)
-        → Moves job c d (or_else (move_in def (instances_of def.name c) c) (move_first js c))
-        (move_first (if b then def ∷ jobs_called job js else jobs_called job js) d)
+        → Moves job c d (move_first config (job_names js) c) (move_first A (job_names (jobs_called job js)) d)
+        → Moves job c d
+        (or_else (move_in config (instances_of def.name c) c) (move_first config (job_names js) c))
+        (move_first A (job_names (if b then def ∷ jobs_called job js else jobs_called job js)) d)
     by_case true is ih =
-        moves-or job c d (move_in def (instances_of def.name c) c) (move_first js c)
-        (move_in def (instances_of def.name d) d) (move_first (jobs_called job js) d)
-        (subst (λ name. Moves job c d (move_in def (instances_of name c) c)
-        (move_in def (instances_of name d) d)) (sym (bytes_same def.name job is))
-        (moves-in job config def c d (instances_of job c) (instances_of job d) (λ x y at. at) like.twins)) ih
+        moves-or job c d (move_in config (instances_of def.name c) c) (move_first config (job_names js) c)
+        (move_in A (instances_of def.name d) d) (move_first A (job_names (jobs_called job js)) d)
+        (subst (λ name. Moves job c d (move_in config (instances_of name c) c)
+        (move_in A (instances_of name d) d)) (sym (bytes_same def.name job is))
+        (moves-own job config c d like)) ih
     by_case false is ih =
-        moves-or job c d (move_in def (instances_of def.name c) c) (move_first js c) []
-        (move_first (jobs_called job js) d)
-        (away-in job config def c d (instances_of def.name c) like.fair is (known def.name c)) ih
+        moves-or job c d (move_in config (instances_of def.name c) c) (move_first config (job_names js) c) []
+        (move_first A (job_names (jobs_called job js)) d)
+        (away-in job config def.name c d (instances_of def.name c) like.fair is (known def.name c)) ih

@@ -13,6 +13,7 @@ use Rattle.up_model.specs.Instances.{Instance, instances_of}
 use Rattle.up_model.specs.Readings.{entry_at, event_at}
 use Rattle.up_model.specs.Seen.{seen}
 use Rattle.up_model.specs.Values.{Bytes, Bindings}
+use Rattle.up_model.proofs.FileLaws.{start_by-one}
 use Rattle.up_model.proofs.NameLaws.{called}
 use Rattle.up_isolation.specs.Views.{jobs_called}
 use Rattle.up_isolation.specs.Parts.{Content, contents, content}
@@ -526,6 +527,9 @@ like_start_offer config def c d p q covered same stands twice like =
         (known-sights-later (Fired (StartOn job) ps) offered ss known-left)
         (known-sights-later (Fired (StartOn job) qs) offered_there rs known-right) next.starts
 
+    there : Bindings
+    there = events_env (env_of_job (only job config) job) (events_at qs fired_there)
+
     environments : events_env (env_of_job config job) (events_at ps fired)
         ≡ events_env (env_of_job (only job config) job) (events_at qs fired_there)
     environments = ap₂ events_env (env-only job config) later.events
@@ -533,15 +537,17 @@ like_start_offer config def c d p q covered same stands twice like =
     started : Like job config (start_by config def ps fired ++ fired)
         (start_by (only job config) def qs fired_there ++ fired_there)
     started =
-        subst (λ environment. Like job config
+        subst₂ (λ es fs. Like job config (es ++ fired) (fs ++ fired_there))
+        (sym (start_by-one config def ps fired)) (sym (start_by-one (only job config) def qs fired_there))
+        (subst (λ environment. Like job config
         (start_who environment ps (who_called job (instance_name def environment)) fired ++ fired)
-        (start_by (only job config) def qs fired_there ++ fired_there))
+        (start_who there qs (who_called job (instance_name def there)) fired_there ++ fired_there))
         (sym environments)
         (like_start_who job config fired fired_there
         (instance_name def (events_env (env_of_job (only job config) job) (events_at qs fired_there)))
         (events_env (env_of_job (only job config) job) (events_at qs fired_there)) ps qs later.contents
         later.older later.older_there
-        (like_fired job config offered offered_there ps qs takes.contents next))
+        (like_fired job config offered offered_there ps qs takes.contents next)))
 
     by_case : (b a : Bool) → b ≡ a
         → Like job config (entries_if b front ++ offered) (entries_if a front_there ++ offered_there)

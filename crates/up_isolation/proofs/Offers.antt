@@ -8,13 +8,14 @@ use Rattle.up_model.specs.Chronicle.{Chronicle, Entry, Offered, StartOn, StopOn}
 use Rattle.up_model.specs.Configuration.{Configuration, job_named}
 use Rattle.up_model.specs.Instances.{Instance, instances_of}
 use Rattle.up_model.specs.Values.{Bytes}
+use Rattle.up_model.proofs.JobOffers.{stop_offer_in, offer_in, offer_first}
 use Rattle.up_model.proofs.Places.{bytes_same}
 use Rattle.up_isolation.specs.Views.{jobs_called, is_of}
 use Rattle.up_isolation.proofs.Twins.{Twins}
 use Rattle.up_isolation.proofs.Known.{IsKnown}
 use Rattle.up_isolation.proofs.Likes.{only, Like, Fair}
 use Rattle.std.proofs.Common.{not}
-use Rattle.up_model.specs.Offers.{is_open, stop_offer, stop_offer_in, start_offer, offer_in, offer_first}
+use Rattle.up_model.specs.Offers.{is_open, stop_offer, start_offer}
 use Rattle.up_model.specs.Predicates.{entries_if, or_else}
 use Rattle.up_model.specs.Seen.{was_offered}
 use Rattle.up_isolation.proofs.Twins.{At}

@@ -14,7 +14,8 @@ use Rattle.up_model.specs.declared.who.Who.{Who}
 use Rattle.up_model.specs.Answers.{after, answers, is_expected, next}
 use Rattle.up_model.specs.Chronicle.{Chronicle, Given, Queued, Ordered, Signalled, Replied}
 use Rattle.up_model.specs.Chronicle.{Entering, Spoilt}
-use Rattle.up_model.specs.Configuration.{Configuration, job_named}
+use Rattle.up_model.specs.Configuration.{Configuration}
+use Rattle.up_model.specs.Files.{file_of}
 use Rattle.up_model.specs.Moves.{action_of}
 use Rattle.up_model.specs.Outputs.{outputs_of, order_for, order_by, order_of, signal_of, reply_of}
 use Rattle.up_model.specs.Readings.{made_at, id_at, process_env, pid_of}
@@ -40,22 +41,23 @@ orders-for job def who its None environment other = refl
 orders-for job def who its (Some action) environment other = rw other refl
 
 orders-by : (job : Bytes) (def : Option JobDef) (who : Who) (its : Process) (environment : Bindings)
-    → bytes_eq who.job job ≡ false → orders_of job (order_by def who its environment) ≡ []
+    → bytes_eq who.job job ≡ false → orders_of job (order_by def (Some who) its environment) ≡ []
 orders-by job None who its environment other = refl
 orders-by job (Some def) who its environment other = orders-for job def who its (action_of def its) environment other
 
-orders-ordered : (job : Bytes) (config : Configuration) (w : Option Who) (its : Process) (environment : Bindings)
-    → orders_of job (order_of config w its environment)
-    ≡ orders_of job (outputs_if (is_of job w) (order_of config w its environment))
-orders-ordered job config None its environment = refl
-orders-ordered job config (Some who) its environment = by_case (bytes_eq who.job job) refl
+orders-ordered : (job : Bytes) (def : Option JobDef) (w : Option Who) (its : Process) (environment : Bindings)
+    → orders_of job (order_by def w its environment)
+    ≡ orders_of job (outputs_if (is_of job w) (order_by def w its environment))
+orders-ordered job None None its environment = refl
+orders-ordered job (Some def) None its environment = refl
+orders-ordered job def (Some who) its environment = by_case (bytes_eq who.job job) refl
   where
     its_order : List Output
-    its_order = order_by (job_named who.job config.jobs) who its environment
+    its_order = order_by def (Some who) its environment
 
     by_case : (b : Bool) → bytes_eq who.job job ≡ b → orders_of job its_order ≡ orders_of job (outputs_if b its_order)
     by_case true is = refl
-    by_case false is = orders-by job (job_named who.job config.jobs) who its environment is
+    by_case false is = orders-by job def who its environment is
 
 orders-signalled : (job : Bytes) (w : Option Who) (signal : ℕ) (pid : Option ℕ)
     → orders_of job (signal_of w signal pid) ≡ orders_of job (outputs_if (is_of job w) (signal_of w signal pid))
@@ -96,9 +98,9 @@ unfolding outputs_of deeds_in
 orders-step job config [] = refl
 orders-step job config (Given given ∷ c) = refl
 orders-step job config (Ordered i its ∷ c) =
-    orders-both job (outputs_of config c) (order_of config (made_at i c) its (process_env i its c)) (deeds_in job config c)
-    (outputs_if (owns job i c) (order_of config (made_at i c) its (process_env i its c)))
-    (orders-step job config c) (orders-ordered job config (made_at i c) its (process_env i its c))
+    orders-both job (outputs_of config c) (order_of config i its c) (deeds_in job config c)
+    (outputs_if (owns job i c) (order_of config i its c))
+    (orders-step job config c) (orders-ordered job (file_of config i c) (made_at i c) its (process_env i its c))
 orders-step job config (Signalled i signal by_timer ∷ c) =
     orders-both job (outputs_of config c) (signal_of (made_at i c) signal (pid_of i Main c)) (deeds_in job config c)
     (outputs_if (owns job i c) (signal_of (made_at i c) signal (pid_of i Main c)))

@@ -5,13 +5,12 @@ use Rattle.std.specs.List.{AllByRecursion}
 use Rattle.up_conf.specs.declared.job.JobDef.{JobDef}
 use Rattle.up_model.specs.declared.request.Answer.{Answer}
 use Rattle.up_model.specs.declared.who.Who.{Who}
-use Rattle.up_model.specs.Chronicle.{Chronicle, Entry, Given, Restarted, Replied}
+use Rattle.up_model.specs.Chronicle.{Chronicle, Entry, Given, Restarted, Signalled, Replied}
 use Rattle.up_model.specs.Configuration.{Configuration, job_named}
 use Rattle.up_model.specs.Instances.{instances_of}
-use Rattle.up_model.specs.Readings.{env}
 use Rattle.up_model.specs.Replies.{request_at}
 use Rattle.up_model.specs.Values.{Bytes, Bindings}
-use Rattle.up_model.proofs.Places.{bytes_same}
+use Rattle.up_model.proofs.FileLaws.{named-name}
 use Rattle.up_isolation.specs.Views.{is_of, was_asked}
 use Rattle.up_isolation.proofs.Likes.{Fair, fair_more}
 use Rattle.std.proofs.Common.{append_assoc}
@@ -31,13 +30,16 @@ use Rattle.up_model.specs.declared.request.Command.{Command}
 use Rattle.up_model.specs.declared.request.Command.TheVariants as command
 use Rattle.up_model.specs.Commands.{Outcome, Done, Target, Nobody, Concerns, target_as, request_env}
 use Rattle.up_model.specs.Commands.{target_in, target_of, start_at, start, stop_at, stop, is_running}
-use Rattle.up_model.specs.Commands.{restart_at, restart, status_at, status, max_events, holders_of}
+use Rattle.up_model.specs.Commands.{restart_at, restart, reloading, reload_at, reload, status_at, status}
+use Rattle.up_model.specs.Commands.{max_events, holders_of}
 use Rattle.up_model.specs.Commands.{outcome_by, outcome_of, entries_of}
 use Rattle.up_model.specs.Events.{with_instance}
+use Rattle.up_model.specs.Files.{own_file}
 use Rattle.up_model.specs.Offers.{max_instances, start_of, stop_of}
 use Rattle.up_model.specs.Predicates.{is_start}
 use Rattle.up_model.specs.Queue.{queue}
-use Rattle.up_model.specs.Readings.{goal, state_of}
+use Rattle.up_stanza.specs.declared.process.Process.TheVariants.{Main}
+use Rattle.up_model.specs.Readings.{goal, state_of, lives}
 use Rattle.up_model.specs.Replies.{request_in, releasing}
 use Rattle.up_model.specs.Requests.{RequestValue}
 use Rattle.up_model.proofs.ReplyLaws.{Allows, outcome-all}
@@ -48,35 +50,24 @@ use Rattle.up_isolation.proofs.Foreign.{strange-start_of, strange-releasing, oth
 use Rattle.up_isolation.proofs.Resting.{strange-apart}
 use Rattle.up_isolation.proofs.Alone.{Effected, Base, unnoticed}
 
--- a job that is found has the name by which it is
-pub named-name : (name : Bytes) (js : List JobDef) (def : JobDef) → job_named name js ≡ Some def
-    → def.name ≡ name
-named-name name [] def some = absurd (cc)
-named-name name (its ∷ js) def some = by_case (bytes_eq its.name name) refl some (named-name name js def)
-  where
-    by_case : (b : Bool) → bytes_eq its.name name ≡ b → (if b then Some its else job_named name js) ≡ Some def
-        → (job_named name js ≡ Some def → def.name ≡ name) → def.name ≡ name
-    by_case true is some ih =
-        let same : its ≡ def = cc in ap (λ (k : JobDef). k.name) (sym same) ∙ bytes_same its.name name is
-    by_case false is some ih = ih some
-
 -- whom a request names bears its name
-pub target-name : (config : Configuration) (name : Bytes) (vars : Bindings) (def : JobDef) (who : Who)
-    (environment : Bindings) → target_of config name vars ≡ Concerns def who environment → who.job ≡ name
-target-name config name vars def who environment is = by_job (job_named name config.jobs) refl is
+pub target-name : (config : Configuration) (name : Bytes) (vars : Bindings) (c : Chronicle) (def : JobDef)
+    (who : Who) (environment : Bindings) → target_of config name vars c ≡ Concerns def who environment
+    → who.job ≡ name
+target-name config name vars c def who environment is = by_job (job_named name config.jobs) refl is
   where
-    by_text : (its : JobDef) (env : Bindings) (x : Expansion) → its.name ≡ name
-        → target_as its env x ≡ Concerns def who environment → who.job ≡ name
-    by_text its env (Expands text) same is =
+    by_text : (its : JobDef) (x : Expansion) → its.name ≡ name
+        → target_as config its vars x c ≡ Concerns def who environment → who.job ≡ name
+    by_text its (Expands text) same is =
         let whom : record { job = its.name; instance = text } ≡ who = cc in
         ap (λ (w : Who). w.job) (sym whom) ∙ same
-    by_text its env (Lacks key) same is = absurd (cc)
-    by_text its env Malformed same is = absurd (cc)
+    by_text its (Lacks key) same is = absurd (cc)
+    by_text its Malformed same is = absurd (cc)
 
     by_job : (o : Option JobDef) → job_named name config.jobs ≡ o
-        → target_in config name o vars ≡ Concerns def who environment → who.job ≡ name
+        → target_in config name o vars c ≡ Concerns def who environment → who.job ≡ name
     by_job None some is = absurd (cc)
-    by_job (Some its) some is = by_text its (request_env config its vars)
+    by_job (Some its) some is = by_text its
         (expand its.instance (request_env config its vars)) (named-name name config.jobs its some) is
 
 -- a request that doesn't name the job
@@ -167,6 +158,26 @@ other-restart job config given its (Concerns def who environment) c fair reply a
           strange-apart job config (releasing i false c) c (strange-releasing job i false c fair whose.0),
         ) (reply, tt)
 
+other-reload : (job : Bytes) (config : Configuration) (given : ℕ) (target : Target) (c : Chronicle)
+    → given < length c → was_asked job (request_at given c) ≡ false
+    → ((def : JobDef) (who : Who) (environment : Bindings) → target ≡ Concerns def who environment
+    → bytes_eq who.job job ≡ false)
+    → AreApart job config (entries_of given (reload config given target c)) c
+other-reload job config given (Nobody text) c older reply other = (reply, tt)
+other-reload job config given (Concerns def who environment) c older reply other =
+    by_case (own_file config who c) (instance_named who c) refl
+  where
+    by_case : (file : Option JobDef) (o : Option ℕ) → instance_named who c ≡ o
+        → AreApart job config (entries_of given (reload_at given file who o c)) c
+    by_case file None is = (reply, tt)
+    by_case None (Some i) is = (reply, tt)
+    by_case (Some its) (Some i) is =
+        let whose = other-of job who c i (other def who environment refl) is in
+        let later = entry-append given (Signalled i its.reload_signal false ∷ []) c older in
+        other-if job config given (is_running (state_of i c) && lives i Main c)
+        (Done (reloading given i its.reload_signal)) _ c
+        (ap (λ o. was_asked job (request_in o)) later.1 ∙ reply, (whose, tt)) (reply, tt)
+
 other-status : (job : Bytes) (config : Configuration) (given : ℕ) (target : Target) (c : Chronicle)
     → was_asked job (request_at given c) ≡ false → AreApart job config (entries_of given (status target c)) c
 other-status job config given (Nobody text) c reply = (reply, tt)
@@ -205,31 +216,32 @@ other-outcome job config given request c fair older is other = by_command reques
 
     whose : (asked : Command) → request.command ≡ asked → names_job asked ≡ true
         → (def : JobDef) (who : Who) (environment : Bindings)
-        → target_of config request.name request.vars ≡ Concerns def who environment
+        → target_of config request.name request.vars c ≡ Concerns def who environment
         → bytes_eq who.job job ≡ false
     whose asked same names def who environment target =
-        ap (λ name. bytes_eq name job) (target-name config request.name request.vars def who environment
+        ap (λ name. bytes_eq name job) (target-name config request.name request.vars c def who environment
         target)
         ∙ differs (names_job request.command) (ap names_job same ∙ names) other
 
     by_command : (asked : Command) → request.command ≡ asked
         → AreApart job config (entries_of given (outcome_by asked config given request c)) c
     by_command command.Start same = other-start job config given (holders_of given request.wait)
-        (target_of config request.name request.vars) c fair reply (are request.wait)
+        (target_of config request.name request.vars c) c fair reply (are request.wait)
         (whose command.Start same refl)
     by_command command.Stop same = other-stop job config given (holders_of given request.wait) request.vars
-        (target_of config request.name request.vars) c fair reply (are request.wait)
+        (target_of config request.name request.vars c) c fair reply (are request.wait)
         (whose command.Stop same refl)
     by_command command.Restart same = other-restart job config given (holders_of given request.wait)
-        (target_of config request.name request.vars) c fair reply (are request.wait)
+        (target_of config request.name request.vars c) c fair reply (are request.wait)
         (whose command.Restart same refl)
     by_command command.Status same =
-        other-status job config given (target_of config request.name request.vars) c reply
+        other-status job config given (target_of config request.name request.vars c) c reply
     by_command command.List same = (reply, tt)
     by_command command.Emit same = other-if job config given (nat_lt (length (queue c)) max_events) _ _ c
         ((older, reply), tt) (reply, tt)
     by_command command.Version same = (reply, tt)
-    by_command command.Reload same = (reply, tt)
+    by_command command.Reload same = other-reload job config given
+        (target_of config request.name request.vars c) c older reply (whose command.Reload same refl)
     by_command command.ReloadConfiguration same = (reply, tt)
 
 pub effect-other : (job : Bytes) (config : Configuration) (id : ℕ) (request : RequestValue) (c d : Chronicle)
@@ -252,7 +264,7 @@ effect-other job config id request c d other base = rw append_assoc
     here = rw (eq-eqb (length c) (length c) refl) refl
 
     mute : AllByRecursion IsMute es
-    mute = outcome-all IsMute mute-allows (λ its name. tt) config (length c) request e
+    mute = outcome-all IsMute mute-allows (λ its name. tt) config (length c) request e (λ i signal runs. tt)
 
     are : AreApart job config es e
     are = other-outcome job config (length c) request e (fair_more job (Given g) c base.like.fair tt)

@@ -11,6 +11,7 @@ use Rattle.up_model.specs.Readings.{event_at}
 use Rattle.up_model.specs.Replies.{request_at}
 use Rattle.up_model.specs.Seen.{seen, sight_of, env_of}
 use Rattle.up_model.specs.Values.{Bytes}
+use Rattle.up_model.proofs.JobOffers.{stop_offer_in, offer_in, offer_first, first-by-jobs}
 use Rattle.up_model.proofs.Places.{bytes_same}
 use Rattle.up_isolation.specs.Views.{jobs_called, is_of, was_asked}
 use Rattle.up_isolation.specs.Parts.{is_named_event}
@@ -20,9 +21,10 @@ use Rattle.up_isolation.proofs.Known.{IsKnown}
 use Rattle.up_isolation.proofs.Likes.{only, Twin, Like, Fair}
 use Rattle.std.proofs.Common.{not, zero, suc}
 use Rattle.up_model.specs.Due.{due}
+use Rattle.up_model.specs.Files.{names_in_order}
 use Rattle.up_model.specs.Moves.{move_first}
-use Rattle.up_model.specs.Offers.{is_open, stop_by, stop_offer, stop_offer_in, start_by, start_offer}
-use Rattle.up_model.specs.Offers.{offer_in, offer_first, offering, offer_next}
+use Rattle.up_model.specs.Offers.{is_open, stop_by, stop_offer, start_by, start_offer}
+use Rattle.up_model.specs.Offers.{offering, offer_next}
 use Rattle.up_model.specs.Predicates.{entries_if, or_else}
 use Rattle.up_model.specs.Readings.{event_of}
 use Rattle.up_model.specs.Replies.{request_in, asked, was_answered, unless_answered, answering_hurried}
@@ -70,7 +72,7 @@ pub record IsCalm (job : Bytes) (config : Configuration) (d : Chronicle) (def : 
 -- nothing is due of the job, and this step offers it no event that it names
 pub record Resting (job : Bytes) (config : Configuration) (c d : Chronicle) : Type 0 where
   pub like : Like job config c d
-  pub still : move_first (jobs_called job config.jobs) d ≡ []
+  pub still : move_first (only job config) (names_in_order (only job config) d) d ≡ []
   pub calm : AllByRecursion (IsCalm job config d) (jobs_called job config.jobs)
   pub offers : (p : ℕ) → offering c ≡ Some p
       → (p < length c) × (is_named_event (jobs_called job config.jobs) (event_at p c) ≡ false)
@@ -227,22 +229,23 @@ pub resting-due : (job : Bytes) (config : Configuration) (c d : Chronicle) → R
     → AreApart job config (due config c) c
 unfolding due
 resting-due job config c d resting =
-    apart-or job config (move_first config.jobs c)
+    apart-or job config (move_first config (names_in_order config c) c)
     (or_else (offer_next config (offering c) c) (answering_last c)) c
     (by_moves (moves-first job config config.jobs c d resting.like))
     (apart-or job config (offer_next config (offering c) c) (answering_last c) c (by_offer (offering c) refl)
     (by_asked (asked c) refl))
   where
-    by_moves : Moves job c d (move_first config.jobs c) (move_first (jobs_called job config.jobs) d)
-        → AreApart job config (move_first config.jobs c) c
+    by_moves : Moves job c d (move_first config (names_in_order config c) c) (move_first (only job config) (names_in_order (only job config) d) d)
+        → AreApart job config (move_first config (names_in_order config c) c) c
     by_moves (Idle none void) = subst (λ es. AreApart job config es c) (sym none) tt
-    by_moves (Away some strange) = strange-apart job config (move_first config.jobs c) c strange
+    by_moves (Away some strange) = strange-apart job config (move_first config (names_in_order config c) c) c strange
     by_moves (Two def x y at left right) = absurd (move-some def y d (sym right ∙ resting.still))
 
     by_offer : (o : Option ℕ) → offering c ≡ o → AreApart job config (offer_next config o c) c
     by_offer None is = tt
     by_offer (Some p) is =
-        quiet-first job config config.jobs c d p resting.calm (resting.offers p is).1 resting.like
+        subst (λ es. AreApart job config es c) (sym (first-by-jobs config p c))
+        (quiet-first job config config.jobs c d p resting.calm (resting.offers p is).1 resting.like)
 
     by_answered : (r : ℕ) (b : Bool) → was_asked job (request_at r c) ≡ false
         → AreApart job config (answering_hurried (if b then None else Some r) c) c

@@ -8,7 +8,7 @@ use Rattle.up_model.specs.declared.event.Event.{Event}
 use Rattle.up_model.specs.Chronicle.{Chronicle, Entry, Given, Queued, Handled, Offered, Fired, Finished, Made}
 use Rattle.up_model.specs.Chronicle.{Aimed, Restarted, Released, Failed, Respawned, Entered, Ordered}
 use Rattle.up_model.specs.Chronicle.{Signalled, Replied, Entering, Outside}
-use Rattle.up_model.specs.Configuration.{Configuration, job_named}
+use Rattle.up_model.specs.Configuration.{Configuration}
 use Rattle.up_model.specs.Readings.{event_at}
 use Rattle.up_model.specs.Replies.{request_at}
 use Rattle.up_model.specs.Seen.{seen}
@@ -26,7 +26,7 @@ use Rattle.up_model.specs.declared.input.Input.{Input}
 use Rattle.up_model.specs.declared.input.Input.TheVariants as input
 use Rattle.up_model.specs.declared.failure.End.TheVariants as end
 use Rattle.up_model.specs.Clock.{all_overdue, kill, killing}
-use Rattle.up_model.specs.Due.{due, effect, end_of}
+use Rattle.up_model.specs.Due.{due, effect, end_by}
 use Rattle.up_model.specs.Instances.{instance_named}
 use Rattle.up_model.specs.Moves.{move_first}
 use Rattle.up_model.specs.Predicates.{or_else}
@@ -44,6 +44,7 @@ use Rattle.up_model.specs.Due.{finishing, turn_event, turn_of, failed_event_of, 
 use Rattle.up_model.specs.Held.{is_spoilt}
 use Rattle.up_model.specs.Queue.{Live, queue}
 use Rattle.up_model.specs.Commands.{outcome_of, entries_of}
+use Rattle.up_model.specs.Files.{own_file, names_in_order}
 use Rattle.up_model.specs.Replies.{waiter, answering_waiter}
 use Rattle.up_model.proofs.ReplyLaws.{outcome-all, answering_waiter-all}
 use Rattle.up_model.proofs.Settling.{settle_rests}
@@ -201,26 +202,26 @@ effect-blind config (input.Request id request) c =
     (mutes-blind (entries_of (length c)
     (outcome_of config (length c) request (Given (input.Request id request) ∷ c)))
     (outcome-all IsMute mute-allows (λ its name. tt) config (length c) request
-    (Given (input.Request id request) ∷ c))) (tt, tt)
+    (Given (input.Request id request) ∷ c) (λ i signal runs. tt))) (tt, tt)
 effect-blind config (input.Spawned who its pid) c = (tt, tt)
 effect-blind config (input.Refused who its) c =
-    all-append IsBlind (end_of (job_named who.job config.jobs) (instance_named who c) its end.Refused
+    all-append IsBlind (end_by config who its end.Refused
     (Given (input.Refused who its) ∷ c)) (Given (input.Refused who its) ∷ [])
-    (mutes-blind (end_of (job_named who.job config.jobs) (instance_named who c) its end.Refused
+    (mutes-blind (end_by config who its end.Refused
     (Given (input.Refused who its) ∷ c))
-    (mute-end (job_named who.job config.jobs) (instance_named who c) its end.Refused
+    (mute-end (own_file config who (Given (input.Refused who its) ∷ c)) (instance_named who (Given (input.Refused who its) ∷ c)) its end.Refused
     (Given (input.Refused who its) ∷ c))) (tt, tt)
 effect-blind config (input.Ended who its how) c =
-    all-append IsBlind (end_of (job_named who.job config.jobs) (instance_named who c) its (end.Ended how)
+    all-append IsBlind (end_by config who its (end.Ended how)
     (Given (input.Ended who its how) ∷ c)) (Given (input.Ended who its how) ∷ [])
-    (mutes-blind (end_of (job_named who.job config.jobs) (instance_named who c) its (end.Ended how)
+    (mutes-blind (end_by config who its (end.Ended how)
     (Given (input.Ended who its how) ∷ c))
-    (mute-end (job_named who.job config.jobs) (instance_named who c) its (end.Ended how)
+    (mute-end (own_file config who (Given (input.Ended who its how) ∷ c)) (instance_named who (Given (input.Ended who its how) ∷ c)) its (end.Ended how)
     (Given (input.Ended who its how) ∷ c))) (tt, tt)
 effect-blind config (input.Clock reading) c =
-    all-append IsBlind (killing (all_overdue config.jobs (Given (input.Clock reading) ∷ c)))
+    all-append IsBlind (killing (all_overdue config (names_in_order config c) (Given (input.Clock reading) ∷ c)))
     (Given (input.Clock reading) ∷ [])
-    (killing-blind (all_overdue config.jobs (Given (input.Clock reading) ∷ c))) (tt, tt)
+    (killing-blind (all_overdue config (names_in_order config c) (Given (input.Clock reading) ∷ c))) (tt, tt)
 effect-blind config input.Turn c =
     all-append IsBlind (turn_of (turn_event config (queue c) c) (Given input.Turn ∷ c))
     (Given input.Turn ∷ []) (turn-blind (turn_event config (queue c) c) (Given input.Turn ∷ c)) (tt, tt)
@@ -392,9 +393,9 @@ calm-nil job config (def ∷ js) covered = (
   calm-nil job config js covered.1,
 )
 
-first-none : (js : List JobDef) → move_first js [] ≡ []
-first-none [] = refl
-first-none (def ∷ js) = first-none js
+first-none : (config : Configuration) (names : List Bytes) → move_first config names [] ≡ []
+first-none config [] = refl
+first-none config (name ∷ names) = first-none config names
 
 pub tracks-nil : (job : Bytes) (config : Configuration) → Tracks job config []
 unfolding view alone part deeds due
@@ -410,7 +411,7 @@ tracks-nil job config = record {
     part = refl;
     deeds = refl;
   };
-  rest = ap (λ (es : List Entry). or_else es []) (first-none (jobs_called job config.jobs));
+  rest = ap (λ (es : List Entry). or_else es []) (first-none (only job config) (names_in_order (only job config) []));
   calm = calm-nil job config (jobs_called job config.jobs) (facts-of job config).covered;
   facts = facts-of job config;
 }

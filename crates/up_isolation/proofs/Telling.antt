@@ -13,13 +13,14 @@ use Rattle.up_model.specs.Chronicle.{Chronicle, Entry, Given, Queued, Handled, F
 use Rattle.up_model.specs.Chronicle.{Replied, Entering, Outside, Spoilt}
 use Rattle.up_model.specs.Clock.{all_overdue, kill, killing}
 use Rattle.up_model.specs.Commands.{outcome_of, entries_of}
-use Rattle.up_model.specs.Configuration.{Configuration, job_named}
-use Rattle.up_model.specs.Due.{due, effect, end_of, turn_event, turn_of, finishing, telling, failed_event_of}
+use Rattle.up_model.specs.Configuration.{Configuration}
+use Rattle.up_model.specs.Due.{due, effect, turn_event, turn_of, finishing, telling, failed_event_of, end_by}
+use Rattle.up_model.specs.Files.{own_file, names_in_order}
 use Rattle.up_model.specs.Held.{is_spoilt}
 use Rattle.up_model.specs.Instances.{instance_named}
 use Rattle.up_model.specs.Outputs.{outputs_of, order_of, signal_of, reply_of}
 use Rattle.up_model.specs.Queue.{Live, queue}
-use Rattle.up_model.specs.Readings.{made_at, id_at, process_env, pid_of}
+use Rattle.up_model.specs.Readings.{made_at, id_at, pid_of}
 use Rattle.up_model.specs.Replies.{request_at, waiter, answering_waiter}
 use Rattle.up_model.specs.Values.{Bytes}
 use Rattle.up_model.specs.Work.{work, settle}
@@ -65,10 +66,10 @@ deeds-among job config [] = tt
 deeds-among job config (Given given ∷ c) = tt
 deeds-among job config (Ordered i its ∷ c) =
     among-append (deeds_in job config c) (outputs_of config c)
-    (outputs_if (owns job i c) (order_of config (made_at i c) its (process_env i its c)))
-    (order_of config (made_at i c) its (process_env i its c))
+    (outputs_if (owns job i c) (order_of config i its c))
+    (order_of config i its c)
     (deeds-among job config c)
-    (among-if (owns job i c) (order_of config (made_at i c) its (process_env i its c)))
+    (among-if (owns job i c) (order_of config i its c))
 deeds-among job config (Signalled i signal by_timer ∷ c) =
     among-append (deeds_in job config c) (outputs_of config c)
     (outputs_if (owns job i c) (signal_of (made_at i c) signal (pid_of i Main c)))
@@ -180,25 +181,23 @@ effect-step config (input.Request id request) c =
     (mute-plain (entries_of (length c)
     (outcome_of config (length c) request (Given (input.Request id request) ∷ c)))
     (outcome-all IsMute mute-allows (λ its name. tt) config (length c) request
-    (Given (input.Request id request) ∷ c)))
+    (Given (input.Request id request) ∷ c) (λ i signal runs. tt)))
 effect-step config (input.Spawned who its pid) c = step-of (input.Spawned who its pid) [] c tt
 effect-step config (input.Refused who its) c =
-    step-of (input.Refused who its) (end_of (job_named who.job config.jobs) (instance_named who c) its
-    end.Refused (Given (input.Refused who its) ∷ c)) c
-    (mute-plain (end_of (job_named who.job config.jobs) (instance_named who c) its end.Refused
+    step-of (input.Refused who its) (end_by config who its end.Refused (Given (input.Refused who its) ∷ c)) c
+    (mute-plain (end_by config who its end.Refused
     (Given (input.Refused who its) ∷ c))
-    (mute-end (job_named who.job config.jobs) (instance_named who c) its end.Refused
+    (mute-end (own_file config who (Given (input.Refused who its) ∷ c)) (instance_named who (Given (input.Refused who its) ∷ c)) its end.Refused
     (Given (input.Refused who its) ∷ c)))
 effect-step config (input.Ended who its how) c =
-    step-of (input.Ended who its how) (end_of (job_named who.job config.jobs) (instance_named who c) its
-    (end.Ended how) (Given (input.Ended who its how) ∷ c)) c
-    (mute-plain (end_of (job_named who.job config.jobs) (instance_named who c) its (end.Ended how)
+    step-of (input.Ended who its how) (end_by config who its (end.Ended how) (Given (input.Ended who its how) ∷ c)) c
+    (mute-plain (end_by config who its (end.Ended how)
     (Given (input.Ended who its how) ∷ c))
-    (mute-end (job_named who.job config.jobs) (instance_named who c) its (end.Ended how)
+    (mute-end (own_file config who (Given (input.Ended who its how) ∷ c)) (instance_named who (Given (input.Ended who its how) ∷ c)) its (end.Ended how)
     (Given (input.Ended who its how) ∷ c)))
 effect-step config (input.Clock reading) c =
-    step-of (input.Clock reading) (killing (all_overdue config.jobs (Given (input.Clock reading) ∷ c))) c
-    (killing-plain (all_overdue config.jobs (Given (input.Clock reading) ∷ c)))
+    step-of (input.Clock reading) (killing (all_overdue config (names_in_order config c) (Given (input.Clock reading) ∷ c))) c
+    (killing-plain (all_overdue config (names_in_order config c) (Given (input.Clock reading) ∷ c)))
 effect-step config input.Turn c =
     step-of input.Turn (turn_of (turn_event config (queue c) c) (Given input.Turn ∷ c)) c
     (turn-plain (turn_event config (queue c) c) (Given input.Turn ∷ c))

@@ -8,12 +8,13 @@ use Rattle.up_stanza.specs.declared.process.Process.TheVariants.{Main}
 use Rattle.up_model.specs.declared.event.Event.{Event}
 use Rattle.up_model.specs.Chronicle.{Chronicle, Entry, Given, Queued, Handled, Finished, Signalled, Entering}
 use Rattle.up_model.specs.Chronicle.{Outside}
-use Rattle.up_model.specs.Clock.{now}
-use Rattle.up_model.specs.Configuration.{Configuration}
+use Rattle.up_model.specs.Clock.{now, kill_due_by}
+use Rattle.up_model.specs.Configuration.{Configuration, job_named}
 use Rattle.up_model.specs.Instances.{Instance, instances_of}
 use Rattle.up_model.specs.Readings.{entry_at, made_at, event_at}
 use Rattle.up_model.specs.Replies.{request_at}
 use Rattle.up_model.specs.Values.{Bytes}
+use Rattle.up_model.proofs.FileLaws.{overdue_by, overdue-job}
 use Rattle.up_model.proofs.Places.{bytes_same}
 use Rattle.up_model.proofs.NameLaws.{called}
 use Rattle.up_isolation.specs.Views.{jobs_called, is_named, is_of, was_asked}
@@ -22,12 +23,12 @@ use Rattle.up_isolation.proofs.Lives.{Life, life}
 use Rattle.up_isolation.proofs.Sights.{told}
 use Rattle.up_isolation.proofs.Twins.{Twins, Match}
 use Rattle.up_isolation.proofs.Known.{IsKnown}
-use Rattle.up_isolation.proofs.Likes.{Twin, Like}
+use Rattle.up_isolation.proofs.Likes.{Twin, Like, only}
 use Rattle.up_isolation.proofs.Pairs.{Pair}
 use Rattle.std.proofs.Common.{append_assoc, not, suc}
 use Rattle.up_model.specs.declared.input.Input.{Input}
 use Rattle.up_model.specs.declared.input.Input.TheVariants as input
-use Rattle.up_model.specs.Clock.{kill_due, overdue, all_overdue, kill, killing, milliseconds, has_passed}
+use Rattle.up_model.specs.Clock.{overdue, all_overdue, kill, killing, milliseconds, has_passed}
 use Rattle.up_model.specs.Clock.{is_killed}
 use Rattle.up_model.specs.Due.{effect}
 use Rattle.up_model.specs.Instances.{place_named, instance_named}
@@ -46,6 +47,7 @@ use Rattle.up_isolation.proofs.Ends.{IsMute}
 use Rattle.up_isolation.proofs.Resting.{AreApart, like-apart}
 use Rattle.up_isolation.proofs.Acting.{Plain, None', Open}
 use Rattle.up_model.specs.Due.{telling, failed_event_of, finishing, turn_event, turn_of}
+use Rattle.up_model.specs.Files.{file_of, job_names, names_in_order}
 use Rattle.up_model.specs.Held.{is_spoilt}
 use Rattle.up_model.specs.Offers.{is_open}
 use Rattle.up_model.specs.Queue.{Live, queue}
@@ -59,7 +61,7 @@ use Rattle.up_isolation.proofs.Known.{known, entry-later}
 use Rattle.up_isolation.proofs.Releases.{entry-append}
 use Rattle.up_model.proofs.Sparing.{same-append}
 use Rattle.up_isolation.proofs.Likes.{IsOuter}
-use Rattle.up_isolation.proofs.Entries.{pair_signalled}
+use Rattle.up_isolation.proofs.Entries.{pair_signalled, named-only}
 use Rattle.up_isolation.proofs.Steps.{like_turn, like_queued, like_handled, like_finished, waits-own}
 use Rattle.up_isolation.proofs.Steps.{blocker-own, emitter}
 use Rattle.up_isolation.proofs.Twins.{at-twins, twins_map}
@@ -76,9 +78,10 @@ use Rattle.up_isolation.proofs.Alone.{mutes-asked, unnoticed, mute-given}
 use Rattle.up_isolation.proofs.Acting.{same-later}
 
 -- KILL by the timer
-due-same : (def : JobDef) (i j : ℕ) (c d : Chronicle) → life i c ≡ life j d → now c ≡ now d
-    → kill_due def i c ≡ kill_due def j d
-due-same def i j c d same today =
+due-same : (def : Option JobDef) (i j : ℕ) (c d : Chronicle) → life i c ≡ life j d → now c ≡ now d
+    → kill_due_by def i c ≡ kill_due_by def j d
+due-same None i j c d same today = refl
+due-same (Some def) i j c d same today =
     ap₂ (λ (l : Life) n. (is_killed l.state && is_some (l.pid Main)) && has_passed l.kill n
     (milliseconds def.kill_timeout)) same today
 
@@ -94,17 +97,17 @@ kill-one i is true c = append_assoc (killing is) (Signalled i kill true ∷ []) 
 kill-one i is false c = refl
 
 -- of the job's instances, after what was done to those before
-kill-own : (job : Bytes) (config : Configuration) (def : JobDef) (c d later after : Chronicle)
+kill-own : (job : Bytes) (config : Configuration) (def : Option JobDef) (c d later after : Chronicle)
     (xs ys : List Instance) → now c ≡ now d → Twins (Twin job config c d) xs ys
     → ((x y : Instance) → At x y xs ys → At x y (instances_of job later) (instances_of job after))
     → Like job config later after
-    → Like job config (killing (overdue def xs c) ++ later) (killing (overdue def ys d) ++ after)
+    → Like job config (killing (overdue_by def xs c) ++ later) (killing (overdue_by def ys d) ++ after)
 kill-own job config def c d later after [] [] today twins at like = like
 kill-own job config def c d later after (x ∷ xs) (y ∷ ys) today twins at like =
     subst₂ (λ (s t : Chronicle). Like job config s t)
-    (sym (kill-one x.place (overdue def xs c) (kill_due def x.place c) later))
-    (sym (kill-one y.place (overdue def ys d) (kill_due def y.place d) after))
-    (by_case (kill_due def x.place c) (kill_due def y.place d)
+    (sym (kill-one x.place (overdue_by def xs c) (kill_due_by def x.place c) later))
+    (sym (kill-one y.place (overdue_by def ys d) (kill_due_by def y.place d) after))
+    (by_case (kill_due_by def x.place c) (kill_due_by def y.place d)
     (due-same def x.place y.place c d twins.0.bond.alike today)
     (λ s t more grown. kill-own job config def c d s t xs ys today twins.1
     (λ u v there. more u v (at u v (inr there))) grown))
@@ -112,10 +115,10 @@ kill-own job config def c d later after (x ∷ xs) (y ∷ ys) today twins at lik
     by_case : (b a : Bool) → b ≡ a
         → ((s t : Chronicle) → ((u v : Instance) → At u v (instances_of job later) (instances_of job after)
         → At u v (instances_of job s) (instances_of job t)) → Like job config s t
-        → Like job config (killing (overdue def xs c) ++ s) (killing (overdue def ys d) ++ t))
-        → Like job config (killing (overdue def xs c)
+        → Like job config (killing (overdue_by def xs c) ++ s) (killing (overdue_by def ys d) ++ t))
+        → Like job config (killing (overdue_by def xs c)
         ++ (entries_if b (Signalled x.place kill true ∷ []) ++ later))
-        (killing (overdue def ys d) ++ (entries_if a (Signalled y.place kill true ∷ []) ++ after))
+        (killing (overdue_by def ys d) ++ (entries_if a (Signalled y.place kill true ∷ []) ++ after))
     by_case true true same next =
         next (Signalled x.place kill true ∷ later) (Signalled y.place kill true ∷ after) (λ u v there. there)
         (pair_signalled job config later after x y kill true
@@ -127,14 +130,14 @@ kill-own job config def c d later after [] (y ∷ ys) today twins at like = absu
 kill-own job config def c d later after (x ∷ xs) [] today twins at like = absurd twins
 
 -- of another job's
-kill-other : (job : Bytes) (config : Configuration) (def : JobDef) (c later d : Chronicle)
+kill-other : (job : Bytes) (config : Configuration) (c later d : Chronicle)
     (xs : List Instance) → AllByRecursion (λ x. IsOther job x.place later) xs → Like job config later d
-    → Like job config (killing (overdue def xs c) ++ later) d
-kill-other job config def c later d [] other like = like
-kill-other job config def c later d (x ∷ xs) other like =
+    → Like job config (killing (overdue config xs c) ++ later) d
+kill-other job config c later d [] other like = like
+kill-other job config c later d (x ∷ xs) other like =
     subst (λ (s : Chronicle). Like job config s d)
-    (sym (kill-one x.place (overdue def xs c) (kill_due def x.place c) later))
-    (by_case (kill_due def x.place c) (λ s all grown. kill-other job config def c s d xs all grown))
+    (sym (kill-one x.place (overdue config xs c) (kill_due_by (file_of config x.place c) x.place c) later))
+    (by_case (kill_due_by (file_of config x.place c) x.place c) (λ s all grown. kill-other job config c s d xs all grown))
   where
     more : (ys : List Instance) → AllByRecursion (λ y. IsOther job y.place later) ys
         → AllByRecursion (λ y. IsOther job y.place (Signalled x.place kill true ∷ later)) ys
@@ -150,8 +153,8 @@ kill-other job config def c later d (x ∷ xs) other like =
 
     by_case : (b : Bool)
         → ((s : Chronicle) → AllByRecursion (λ y. IsOther job y.place s) xs → Like job config s d
-        → Like job config (killing (overdue def xs c) ++ s) d)
-        → Like job config (killing (overdue def xs c)
+        → Like job config (killing (overdue config xs c) ++ s) d)
+        → Like job config (killing (overdue config xs c)
         ++ (entries_if b (Signalled x.place kill true ∷ []) ++ later)) d
     by_case true next = next (Signalled x.place kill true ∷ later) (more xs other.1)
         (foreign job config (Signalled x.place kill true) later d other.0 like)
@@ -202,27 +205,31 @@ others-later job name c later (x ∷ xs) other l known =
 kill-all : (job : Bytes) (config : Configuration) (js : List JobDef) (c d later after : Chronicle)
     → Like job config c d → Later c later → Later d after
     → Like job config later after
-    → Like job config (killing (all_overdue js c) ++ later) (killing (all_overdue (jobs_called job js) d)
-    ++ after)
+    → Like job config (killing (all_overdue config (job_names js) c) ++ later)
+    (killing (all_overdue (only job config) (job_names (jobs_called job js)) d) ++ after)
 kill-all job config [] c d later after base l m like = like
 kill-all job config (def ∷ js) c d later after base l m like =
     by_case (bytes_eq def.name job) refl (λ s t grown more like. kill-all job config js c d s t base grown
     more like)
   where
     here : List ℕ
-    here = overdue def (instances_of def.name c) c
+    here = overdue config (instances_of def.name c) c
 
     there : List ℕ
-    there = overdue def (instances_of def.name d) d
+    there = overdue (only job config) (instances_of def.name d) d
 
     own : def.name ≡ job → Like job config (killing here ++ later) (killing there ++ after)
     own name =
-        subst (λ k. Like job config (killing (overdue def (instances_of k c) c) ++ later)
-        (killing (overdue def (instances_of k d) d) ++ after)) (sym name)
-        (kill-own job config def c d later after (instances_of job c) (instances_of job d) base.today
+        subst (λ k. Like job config (killing (overdue config (instances_of k c) c) ++ later)
+        (killing (overdue (only job config) (instances_of k d) d) ++ after)) (sym name)
+        (subst₂ (λ is js. Like job config (killing is ++ later) (killing js ++ after))
+        (sym (overdue-job config job c))
+        (sym (overdue-job (only job config) job d
+        ∙ ap (λ file. overdue_by file (instances_of job d) d) (sym (named-only job config.jobs))))
+        (kill-own job config (job_named job config.jobs) c d later after (instances_of job c) (instances_of job d) base.today
         base.twins
         (λ x y at. subst₂ (λ (xs ys : List Instance). At x y xs ys) (sym (l.instances job))
-        (sym (m.instances job)) at) like)
+        (sym (m.instances job)) at) like))
 
     joined : (is js : List ℕ) (t : Chronicle) → killing (is ++ js) ++ t ≡ killing js ++ (killing is ++ t)
     joined is js t =
@@ -230,20 +237,22 @@ kill-all job config (def ∷ js) c d later after base l m like =
 
     by_case : (b : Bool) → bytes_eq def.name job ≡ b
         → ((s t : Chronicle) → Later c s → Later d t → Like job config s t
-        → Like job config (killing (all_overdue js c) ++ s) (killing (all_overdue (jobs_called job js) d)
-        ++ t))
-        → Like job config (killing (here ++ all_overdue js c) ++ later)
-        (killing (all_overdue (if b then def ∷ jobs_called job js else jobs_called job js) d) ++ after)
+        → Like job config (killing (all_overdue config (job_names js) c) ++ s)
+        (killing (all_overdue (only job config) (job_names (jobs_called job js)) d) ++ t))
+        → Like job config (killing (here ++ all_overdue config (job_names js) c) ++ later)
+        (killing (all_overdue (only job config) (job_names (if b then def ∷ jobs_called job js
+        else jobs_called job js)) d) ++ after)
     by_case true is next =
-        subst₂ (λ (s t : Chronicle). Like job config s t) (sym (joined here (all_overdue js c) later))
-        (sym (joined there (all_overdue (jobs_called job js) d) after))
+        subst₂ (λ (s t : Chronicle). Like job config s t) (sym (joined here (all_overdue config (job_names js) c) later))
+        (sym (joined there (all_overdue (only job config) (job_names (jobs_called job js)) d) after))
         (next (killing here ++ later) (killing there ++ after) (later-kills here c later l)
         (later-kills there d after m) (own (bytes_same def.name job is)))
     by_case false is next =
-        subst (λ (s : Chronicle). Like job config s (killing (all_overdue (jobs_called job js) d) ++ after))
-        (sym (joined here (all_overdue js c) later))
+        subst (λ (s : Chronicle). Like job config s
+        (killing (all_overdue (only job config) (job_names (jobs_called job js)) d) ++ after))
+        (sym (joined here (all_overdue config (job_names js) c) later))
         (next (killing here ++ later) after (later-kills here c later l) m
-        (kill-other job config def c later after (instances_of def.name c)
+        (kill-other job config c later after (instances_of def.name c)
         (others-later job def.name c later (instances_of def.name c) is l (known def.name c)) like))
 
 pub effect-clock : (job : Bytes) (config : Configuration) (reading : ℕ) (c d : Chronicle)
@@ -274,16 +283,16 @@ effect-clock job config reading c d base = rw append_assoc
         all-append IsMute (killing is) (Signalled i kill true ∷ []) (killing-mute is) (tt, tt)
 
     es : List Entry
-    es = killing (all_overdue config.jobs (Given g ∷ c))
+    es = killing (all_overdue config (names_in_order config c) (Given g ∷ c))
 
     fs : List Entry
-    fs = killing (all_overdue (jobs_called job config.jobs) (Given g ∷ d))
+    fs = killing (all_overdue (only job config) (names_in_order (only job config) d) (Given g ∷ d))
 
     mute : AllByRecursion IsMute es
-    mute = killing-mute (all_overdue config.jobs (Given g ∷ c))
+    mute = killing-mute (all_overdue config (names_in_order config c) (Given g ∷ c))
 
     mute_there : AllByRecursion IsMute fs
-    mute_there = killing-mute (all_overdue (jobs_called job config.jobs) (Given g ∷ d))
+    mute_there = killing-mute (all_overdue (only job config) (names_in_order (only job config) d) (Given g ∷ d))
 
 clash : (o : Option ℕ) (a : ℕ) → o ≡ None → o ≡ Some a → ⊥
 clash o a none some = absurd (cc)

@@ -20,7 +20,7 @@ use Rattle.up_model.specs.Chronicle.{Replied, Entering}
 use Rattle.up_model.specs.Configuration.{Configuration}
 use Rattle.up_model.specs.Instances.{Instance, instances_of}
 use Rattle.up_model.specs.Outputs.{order_of, signal_of, reply_of}
-use Rattle.up_model.specs.Readings.{event_at, made_at, id_at, blocker, pid_of, process_env}
+use Rattle.up_model.specs.Readings.{event_at, made_at, id_at, blocker, pid_of}
 use Rattle.up_model.specs.Replies.{request_at}
 use Rattle.up_model.specs.Requests.{RequestValue}
 use Rattle.up_model.specs.Values.{Bytes}
@@ -53,6 +53,7 @@ names_job command.Start = true
 names_job command.Stop = true
 names_job command.Restart = true
 names_job command.Status = true
+names_job command.Reload = true
 names_job other = false
 
 -- whether a request names this job
@@ -129,7 +130,7 @@ outputs_if false outputs = []
 -- and the answers to the requests that name it
 abbrev pub deeds_by : Bytes → Configuration → Entry → Chronicle → List Output
 deeds_by job config (Ordered instance its) c =
-    outputs_if (owns job instance c) (order_of config (made_at instance c) its (process_env instance its c))
+    outputs_if (owns job instance c) (order_of config instance its c)
 deeds_by job config (Signalled instance signal by_timer) c =
     outputs_if (owns job instance c) (signal_of (made_at instance c) signal (pid_of instance Main c))
 deeds_by job config (Queued (Entering instance state) event) c =

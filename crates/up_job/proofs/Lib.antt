@@ -4,3 +4,4 @@ pub mod InstanceLemmas
 pub mod JobLemmas
 pub mod MomentLemmas
 pub mod TimerLemmas
+pub mod Blocked

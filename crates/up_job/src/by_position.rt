@@ -8,7 +8,7 @@ ghost use Rattle.up_job.specs.JobLists.{changed_at, changed_in, instance_at, ins
 ghost use Rattle.up_job.specs.Lending.{stop_on_of, LendsStopOnAt};
 ghost use Rattle.up_job.specs.Lists.{nth, with_at, position_in};
 ghost use Rattle.up_job.specs.Named as by_name;
-ghost use Rattle.up_job.specs.Unblocking.{unblocked_in};
+ghost use Rattle.up_job.specs.Unblocking.{IsBlocked, key_from, unblocked_in};
 
 use crate::change::Change;
 use crate::fault::JobFault;
@@ -77,6 +77,19 @@ fn unblock(jobs: &mut Vec<JobInstances>, id: EventId)
     for i in 0..jobs.len() {
         unblock_in(&mut jobs[i], id);
     }
+}
+
+// The first instance that waits for this event.
+#[tactic(auto, using(crate::proofs::Blocked::key_left))]
+fn first_blocked(jobs: &[JobInstances], id: EventId) -> Option<InstanceKey>
+    ensures { result ≡ key_from id 0 jobs.now }
+{
+    for (job, its) in jobs.iter().enumerate() {
+        if let Some(at) = its.instances.first_blocked(id) {
+            return Some(InstanceKey { job, at });
+        }
+    }
+    None
 }
 
 fn add_in(
@@ -215,10 +228,17 @@ impl Instances {
         job.instances.stop_on_mut(key.at)
     }
 
-    /// No instance waits for this event any more.
-    pub fn unblock(&mut self, event: EventId)
-        ensures { self.new ≡ map (unblocked_in event) self.old }
+    /// No instance waits for this event any more; returns one that did, if there is one.
+    pub fn unblock(&mut self, event: EventId) -> Option<InstanceKey>
+        ensures after { self.new ≡ map (unblocked_in event) self.old }
+        ensures blocked { IsBlocked event self.old result }
     {
-        unblock(&mut self.jobs, event);
+        match first_blocked(self.jobs.as_slice(), event) {
+            Some(key) => {
+                unblock(&mut self.jobs, event);
+                Some(key)
+            }
+            None => None,
+        }
     }
 }

@@ -8,12 +8,12 @@ ghost use Rattle.up_job.specs.InstanceLists.{max_instances, name_of, named, new_
 ghost use Rattle.up_job.specs.Lists.{nth, position_in, with_at, without_at};
 ghost use Rattle.up_job.specs.Lending.{stop_on_of, LendsStopOn};
 ghost use Rattle.up_job.specs.Named as by_name;
-ghost use Rattle.up_job.specs.Unblocking.{unblocked};
+ghost use Rattle.up_job.specs.Unblocking.{blocked_from, unblocked};
 
 use crate::change::{Change, apply};
 use crate::fault::JobFault;
 use crate::instance::{Instance, new_instance};
-use crate::unblocking::unblock_all;
+use crate::unblocking::{first_blocked, unblock_all};
 use std::alloc::{AllocError, Global};
 use std::marker::Model;
 use up_marks::Trigger;
@@ -255,6 +255,13 @@ impl InstanceList {
     {
         let instance = &mut self.instances[at];
         &mut instance.stop_on
+    }
+
+    /// The place of the first that waits for this event.
+    pub(crate) fn first_blocked(&self, id: EventId) -> Option<usize>
+        ensures { result ≡ blocked_from id 0 self.now }
+    {
+        first_blocked(self.instances.as_slice(), id)
     }
 
     /// None of them waits for this event any more.

@@ -1,6 +1,6 @@
 //! An event that finishes blocks nobody any more.
 ghost use Rattle.std.specs.Prelude.{◌≡◌, map};
-ghost use Rattle.up_job.specs.Unblocking.{is_event, unblocked};
+ghost use Rattle.up_job.specs.Unblocking.{blocked_from, is_event, unblocked};
 
 use crate::instance::Instance;
 use up_model::EventId;
@@ -29,4 +29,23 @@ pub(crate) fn unblock_all(instances: &mut Vec<Instance>, id: EventId)
     for i in 0..instances.len() {
         unblock(&mut instances[i], id);
     }
+}
+
+fn is_blocked(instance: &Instance, id: EventId) -> bool
+    ensures { result ≡ is_event id instance.now.blocker }
+{
+    is_event(instance.blocker, id)
+}
+
+/// The first of these that waits for this event.
+#[tactic(auto, using(crate::proofs::Blocked::blocked_left))]
+pub(crate) fn first_blocked(instances: &[Instance], id: EventId) -> Option<usize>
+    ensures { result ≡ blocked_from id 0 instances.now }
+{
+    for (at, instance) in instances.iter().enumerate() {
+        if is_blocked(instance, id) {
+            return Some(at);
+        }
+    }
+    None
 }

@@ -1,17 +1,9 @@
 -- Places in byte order of events, and the run of one event among them.
 use Rattle.std.proofs.Common.{not, subst, ◌≡◌, ℕ, zero, suc, ◌<◌, ◌≤◌, Bool, true, false, cond, List, [], ◌∷◌, length, get_or, take, drop, bytes_eq, refl, sym, ◌∙◌, ap, arith}
-use Rattle.std.specs.Cmp.{IsStrictWeakOrder}
 use Rattle.std.specs.List.Sorted.{IsPartitionPoint, IsPartitionedBy}
-use Rattle.std.specs.declared.cmp.Ordering.{Ordering}
-use Rattle.std.specs.declared.cmp.Ordering.TheVariants.{Less, Equal, Greater}
-use Rattle.std.specs.Ordering.{is_lt, is_eq, nat_cmp, ordering_reverse}
-use Rattle.std.specs.Cmp.Lexicographic.{slice_cmp}
-use Rattle.std.proofs.lemmas.Cmp.{nat_list_cmp_total}
-use Rattle.std.proofs.lemmas.List.Sorted.{ranks_by}
-use Rattle.std.proofs.lemmas.Map.Text.{is_eq-slice_cmp}
 use Rattle.std.proofs.lemmas.Slice.Eq.{bytes_eq-Decides}
 use Rattle.up_value.specs.Values.{Bytes}
-use Rattle.up_conf.specs.Order.{is_below, put_by, sort_by_order, in_order}
+use Rattle.up_conf.specs.Order.{is_below}
 use Rattle.up_image.specs.declared.index.Place.{Place}
 use Rattle.up_image.specs.Index.{named, NoneBelow, IsAscending}
 use Rattle.up_image.proofs.PlaceOrder.{above, below_not_same, less, order}

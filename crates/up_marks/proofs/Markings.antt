@@ -1,6 +1,5 @@
--- The marks of an expression: how many there are, what its root has, and what one event more changes.
-use Rattle.std.proofs.Common.{◌≡◌, ℕ, ◌+◌, ◌-◌, ◌<◌, ◌≤◌, ◌==◌, Bool, true, false, ◌&&◌, ◌||◌, List, [], ◌∷◌, ◌++◌, None, refl, sym, ap, ◌∙◌, length, take, drop, get_or, arith, length-append, cond, is_some, append_assoc, replicate, zero, suc, eq-eqb}
-use Rattle.std.proofs.lemmas.Bool.{ne_eqb}
+-- The marks of an expression: how many there are, what its root has, and what they keep.
+use Rattle.std.proofs.Common.{◌≡◌, ℕ, ◌+◌, ◌-◌, ◌<◌, ◌==◌, true, false, ◌&&◌, ◌||◌, List, [], ◌∷◌, ◌++◌, None, refl, sym, ap, ◌∙◌, length, take, drop, get_or, arith, length-append, append_assoc, replicate, zero, suc, eq-eqb}
 use Rattle.std.proofs.lemmas.List.{length_push, get_or_at, take_at, drop_at, append-nil, take_more, take_all, drop_all, replicate-append-replicate}
 use Rattle.up_expr.specs.Flat.{size}
 use Rattle.up_expr.specs.Trees.{Tree, One, Both, Either}
@@ -42,44 +41,6 @@ pub back_is : (start : ℕ) (l r : Tree) (kept : Kept) (below back : List Mark) 
     → n ≡ size l → back ≡ drop n below → back ≡ marks_of (start + size l) r kept
 back_is start l r kept below back n is long left =
     left ∙ ap (λ ms. drop n ms) is ∙ drop_at (marks_of start l kept) (marks_of (start + size l) r kept) n (length-marks start l kept ∙ sym long)
-
--- an event more at a place outside leaves it
-other_place : (node place : ℕ) (event : EventId) (kept : Kept) → (place == node) ≡ false → with_kept node event kept place ≡ kept place
-other_place node place event kept other = rw other refl
-
-pub marks_apart : (start : ℕ) (tree : Tree) (f g : Kept) → ((n : ℕ) → start ≤ n → n < start + size tree → f n ≡ g n) → (truth start tree f ≡ truth start tree g) × (marks_of start tree f ≡ marks_of start tree g)
-marks_apart start (One leaf) f g same =
-    let e : f start ≡ g start = same start (omega arith) (omega arith) in
-    (ap is_some e, ap (λ o. record { holds = is_some o; kept = o } ∷ []) e)
-marks_apart start (Both l r) f g same =
-    let left = marks_apart start l f g (λ n low high. same n low (omega arith)) in
-    let right = marks_apart (start + size l) r f g (λ n low high. same n (omega arith) (omega arith)) in
-    (rw (left.0, right.0) refl, rw (left.0, right.0, left.1, right.1) refl)
-marks_apart start (Either l r) f g same =
-    let left = marks_apart start l f g (λ n low high. same n low (omega arith)) in
-    let right = marks_apart (start + size l) r f g (λ n low high. same n (omega arith) (omega arith)) in
-    (rw (left.0, right.0) refl, rw (left.0, right.0, left.1, right.1) refl)
-
-not_eq : (a b : ℕ) → (a ≡ b → ⊥) → (a == b) ≡ false
-not_eq a b apart = ne_eqb a b apart
-
-pub apart_below : (start node : ℕ) (tree : Tree) (event : EventId) (kept : Kept) → node < start → marks_of start tree kept ≡ marks_of start tree (with_kept node event kept)
-apart_below start node tree event kept less =
-    (marks_apart start tree kept (with_kept node event kept) (λ n low high. sym (other_place node n event kept (not_eq n node (λ e. omega arith))))).1
-
-pub apart_above : (start node : ℕ) (tree : Tree) (event : EventId) (kept : Kept) → start + size tree ≤ node → marks_of start tree kept ≡ marks_of start tree (with_kept node event kept)
-apart_above start node tree event kept more =
-    (marks_apart start tree kept (with_kept node event kept) (λ n low high. sym (other_place node n event kept (not_eq n node (λ e. omega arith))))).1
-
-pub join_sides : {a b x y : List Mark} → a ≡ x → b ≡ y → a ++ b ≡ x ++ y
-join_sides p q = cc
-
--- what a test chooses
-pub when_true : {X : Type 0} (b : Bool) (x y z : X) → b ≡ true → z ≡ x → z ≡ cond b x y
-when_true b x y z e is = rw e is
-
-pub when_false : {X : Type 0} (b : Bool) (x y z : X) → b ≡ false → z ≡ y → z ≡ cond b x y
-when_false b x y z e is = rw e is
 
 kept_in-append : (xs ys : List Mark) → kept_in (xs ++ ys) ≡ kept_in xs ++ kept_in ys
 kept_in-append [] ys = refl

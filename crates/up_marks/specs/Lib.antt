@@ -9,3 +9,7 @@ pub mod Naming
 pub mod Skipping
 -- What it means that a trigger agrees with what an expression has seen, which a job file may not have.
 pub mod Triggers
+-- Which events an expression can't match, whatever its values expand to.
+pub mod Ruling
+-- When marks are those of an expression's nodes, told of each node by itself and those that it joins.
+pub mod Settling

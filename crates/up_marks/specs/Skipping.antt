@@ -7,6 +7,7 @@ use Rattle.up_text.specs.Scripts.{is_filled}
 use Rattle.up_model.specs.declared.event.Event.{Event}
 use Rattle.up_model.specs.Chronicle.{Chronicle, Entry, Offered, Expression, StartOn, StopOn}
 use Rattle.up_model.specs.Configuration.{Configuration}
+use Rattle.up_model.specs.Files.{names_in_order}
 use Rattle.up_model.specs.Instances.{Instance, instances_of}
 use Rattle.up_model.specs.Moves.{move_first}
 use Rattle.up_model.specs.Offers.{is_open, offering, stop_offer, start_offer}
@@ -78,7 +79,7 @@ skip_of config moving (Some event) (Some next) c =
 
 abbrev pub next_skip : Configuration → Chronicle → Option Entry
 next_skip config c =
-    skip_of config (is_filled (move_first config.jobs c)) (offering c) (next_offer config.jobs c) c
+    skip_of config (is_filled (move_first config (names_in_order config c) c)) (offering c) (next_offer config.jobs c) c
 
 abbrev pub with_note : (Chronicle → Chronicle) → Option Entry → Chronicle → Chronicle
 with_note more None c = c

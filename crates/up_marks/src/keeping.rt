@@ -1,11 +1,14 @@
 //! How a leaf comes to keep an event, and the nodes above it come true.
-ghost use Rattle.std.specs.Prelude.{◌≡◌, ℕ, ◌+◌, ◌<◌, ◌^◌, ◌&&◌, ◌||◌, ◌++◌, length};
-ghost use Rattle.up_expr.specs.Flat.{size};
+ghost use Rattle.std.specs.Prelude.{◌≡◌, ℕ, ◌<◌, length};
+ghost use Rattle.up_expr.specs.Flat.{nodes_of, size};
 ghost use Rattle.up_expr.specs.Trees.{Tree};
 ghost use Rattle.up_marks.specs.Marking.{Kept, all_kept, truth, marks_of, with_kept};
+ghost use Rattle.up_marks.specs.Settling.{IsSettledBut, holds_by, true_at};
 
+use crate::joining::node_above;
 use crate::mark::Mark;
-use up_expr::{Branch, Root};
+use crate::ruling::leaf_in;
+use up_expr::{Condition, Node};
 use up_model::EventId;
 
 // Whether the last of these nodes is true.
@@ -17,104 +20,84 @@ pub(crate) fn root_holds(marks: &[Mark]) -> bool
     marks[marks.len() - 1].holds
 }
 
-// Whether the roots of both sides are true.
-fn both_hold(left: &Branch, right: &Branch, below: &[Mark]) -> bool
-    requires { length below.now ≡ size left.now + size right.now }
-    ensures { (start : ℕ) (kept : Kept)
-        → below.now ≡ marks_of start left.now kept ++ marks_of (start + size left.now) right.now kept
-        → result ≡ (truth start left.now kept && truth (start + size left.now) right.now kept) }
+// Whether the node at a place is marked as true.
+fn true_at(marks: &[Mark], place: usize) -> bool
+    ensures { result ≡ true_at marks.now place }
 {
-    let (front, back) = below.split_at(left.len());
-    root_holds(front) && root_holds(back)
+    match marks.get(place) {
+        Some(mark) => mark.holds,
+        None => false,
+    }
 }
 
-// Whether the root of a side is true.
-fn either_holds(left: &Branch, right: &Branch, below: &[Mark]) -> bool
-    requires { length below.now ≡ size left.now + size right.now }
-    ensures { (start : ℕ) (kept : Kept)
-        → below.now ≡ marks_of start left.now kept ++ marks_of (start + size left.now) right.now kept
-        → result ≡ (truth start left.now kept || truth (start + size left.now) right.now kept) }
+// Whether a node is true, by what it keeps and by the marks of its sides.
+fn holds_by(node: &Node, mark: Mark, marks: &[Mark]) -> bool
+    ensures { result ≡ holds_by node.now mark.kept marks.now }
 {
-    let (front, back) = below.split_at(left.len());
-    root_holds(front) || root_holds(back)
-}
-
-// The leaf at a place, where the part's first node has this one, keeps an event, and the nodes above it come
-// true by that.
-#[cycle(keeping)]
-pub(crate) fn keep(part: &Branch, start: usize, marks: &mut [Mark], node: usize, event: EventId)
-    requires long { length marks.old ≡ size part.now }
-    requires within { start + size part.now < 2 ^ 64 }
-    ensures { (kept : Kept) → marks.old ≡ marks_of start part.now kept
-        → marks.new ≡ marks_of start part.now (with_kept node event kept) }
-{
-    match part.root() {
-        Root::Leaf(_) => {
-            if node == start {
-                marks[0] = Mark {
-                    holds: true,
-                    kept: Some(event),
-                };
-            }
+    match node {
+        Node::Leaf(_) => mark.kept.is_some(),
+        Node::And(left, right) => {
+            true_at(marks, usize::from(*left)) && true_at(marks, usize::from(*right))
         }
-        Root::And(left, right) => {
-            let (below, root) = marks.split_at_mut(left.len() + right.len());
-            keep_below(&left, &right, start, below, node, event);
-            let holds = both_hold(&left, &right, below);
-            root[0] = Mark { holds, kept: None };
-        }
-        Root::Or(left, right) => {
-            let (below, root) = marks.split_at_mut(left.len() + right.len());
-            keep_below(&left, &right, start, below, node, event);
-            let holds = either_holds(&left, &right, below);
-            root[0] = Mark { holds, kept: None };
+        Node::Or(left, right) => {
+            true_at(marks, usize::from(*left)) || true_at(marks, usize::from(*right))
         }
     }
 }
 
-// The same in the nodes of both sides.
-#[cycle(keeping)]
-fn keep_below(
-    left: &Branch,
-    right: &Branch,
-    start: usize,
-    below: &mut [Mark],
+// Marks the node at a place as true if it is, and so those above it, up to the first whose mark stays.
+fn settle(nodes: &[Node], hints: &[u16], marks: &mut [Mark], from: usize)
+    requires { length marks.old ≡ length nodes.now }
+    ensures { (kept : Kept) (tree : Tree) → nodes.now ≡ nodes_of 0 tree
+        → IsSettledBut from nodes.now kept marks.old → marks.new ≡ marks_of 0 tree kept }
+{
+    let mut place = from;
+    while place < nodes.len() {
+        let holds = holds_by(&nodes[place], marks[place], marks);
+        let mark = &mut marks[place];
+        if mark.holds == holds {
+            return;
+        }
+        mark.holds = holds;
+        place = node_above(nodes, hints, place);
+    }
+}
+
+/// The leaf at a place keeps an event, and the nodes above it come true by that.
+pub(crate) fn keep(
+    condition: &Condition,
+    hints: &[u16],
+    marks: &mut [Mark],
     node: usize,
     event: EventId,
 )
-    requires long { length below.old ≡ size left.now + size right.now }
-    requires within { start + size left.now + size right.now < 2 ^ 64 }
-    ensures { (kept : Kept)
-        → below.old ≡ marks_of start left.now kept ++ marks_of (start + size left.now) right.now kept
-        → below.new ≡ marks_of start left.now (with_kept node event kept)
-        ++ marks_of (start + size left.now) right.now (with_kept node event kept) }
+    requires { length marks.old ≡ size condition.now }
+    ensures { (kept : Kept) → marks.old ≡ marks_of 0 condition.now kept
+        → marks.new ≡ marks_of 0 condition.now (with_kept node event kept) }
 {
-    let middle = start + left.len();
-    let (front, back) = below.split_at_mut(left.len());
-    if node < middle {
-        keep(left, start, front, node, event);
-    } else {
-        keep(right, middle, back, node, event);
+    match leaf_in(Some(condition), node) {
+        Some(_leaf) => {
+            let mark = &mut marks[node];
+            mark.kept = Some(event);
+            settle(condition.nodes().as_slice(), hints, marks, node);
+        }
+        None => {}
     }
 }
 
-// The leaves at these places keep an event.
-fn keep_all(part: &Branch, marks: &mut [Mark], nodes: &[u16], event: EventId)
-    requires { length marks.old ≡ size part.now }
-    ensures { (kept : Kept) → marks.old ≡ marks_of 0 part.now kept
-        → marks.new ≡ marks_of 0 part.now (all_kept nodes.now event kept) }
+/// The leaves at these places keep an event.
+pub(crate) fn keep_all(
+    condition: &Condition,
+    hints: &[u16],
+    marks: &mut [Mark],
+    nodes: &[u16],
+    event: EventId,
+)
+    requires { length marks.old ≡ size condition.now }
+    ensures { (kept : Kept) → marks.old ≡ marks_of 0 condition.now kept
+        → marks.new ≡ marks_of 0 condition.now (all_kept nodes.now event kept) }
 {
     for node in nodes {
-        keep(part, 0, marks, usize::from(*node), event);
+        keep(condition, hints, marks, usize::from(*node), event);
     }
-}
-
-/// The same in a vector of marks.
-#[tactic(auto, using(crate::proofs::Markings::written))]
-pub(crate) fn keep_each(part: &Branch, marks: &mut Vec<Mark>, nodes: &[u16], event: EventId)
-    requires { length marks.old.items ≡ size part.now }
-    ensures { (kept : Kept) → marks.old.items ≡ marks_of 0 part.now kept
-        → marks.new.items ≡ marks_of 0 part.now (all_kept nodes.now event kept) }
-{
-    keep_all(part, marks.as_mut_slice(), nodes, event);
 }

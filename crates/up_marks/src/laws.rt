@@ -11,9 +11,11 @@ ghost use Rattle.up_marks.specs.declared.mark.Mark.{Mark};
 ghost use Rattle.up_marks.specs.Agreeing.{Agrees, sight_of};
 ghost use Rattle.up_marks.specs.Marking.{uses};
 ghost use Rattle.up_marks.specs.Naming.{names};
+ghost use Rattle.up_marks.specs.Ruling.{may_hear};
 ghost use Rattle.up_model.specs.Chronicle.{Chronicle, Expression, Offered};
 ghost use Rattle.up_model.specs.Configuration.{Configuration};
 ghost use Rattle.up_model.specs.Due.{due};
+ghost use Rattle.up_model.specs.Files.{names_in_order};
 ghost use Rattle.up_model.specs.Moves.{move_first};
 ghost use Rattle.up_model.specs.Offers.{offer_first, offering};
 ghost use Rattle.up_model.specs.Readings.{event_at};
@@ -34,21 +36,21 @@ pub fn unnamed_changes_nothing()
 
 /// What the model offers is an offer to the first expression that is still to be offered the event.
 pub fn next_is_offered()
-    ensures { (config : Configuration) (jobs : List JobDef) (e : ℕ) (c : Chronicle)
-        → offer_first config jobs e c ≡ offer_to config (next_offer jobs c) e c }
+    ensures { (config : Configuration) (e : ℕ) (c : Chronicle)
+        → offer_first config (names_in_order config c) e c ≡ offer_to config (next_offer config.jobs c) e c }
 {}
 
 /// If no instance may move, and the next expression names the event in no leaf and isn't true, the offer to
 /// it is all that is due; the step ends as it would without it, and no instance may move after it.
 pub fn skipped()
     ensures { (config : Configuration) (next : Next) (e : ℕ) (c : Chronicle)
-        → move_first config.jobs c ≡ [] → offering c ≡ Some e → next_offer config.jobs c ≡ Some next
-        → IsSkipped config next e c
+        → move_first config (names_in_order config c) c ≡ [] → offering c ≡ Some e
+        → next_offer config.jobs c ≡ Some next → IsSkipped config next e c
         → (due config c ≡ Offered (expression_of next) e ∷ [])
         × (settle (work config (Offered (expression_of next) e ∷ c)) config (Offered
         (expression_of next) e ∷ c)
         ≡ settle (work config c) config c)
-        × (move_first config.jobs (Offered (expression_of next) e ∷ c) ≡ []) }
+        × (move_first config (names_in_order config c) (Offered (expression_of next) e ∷ c) ≡ []) }
 {}
 
 /// Marks that agree with what an expression has seen agree with that and an event that no leaf names.
@@ -80,7 +82,7 @@ pub fn skipping_comes_to_rest()
 /// Where none is left, and no instance may move, the next expression names the event, if it isn't true
 /// already.
 pub fn next_is_named()
-    ensures { (config : Configuration) (next : Next) (e : ℕ) (c : Chronicle) → move_first config.jobs c ≡ []
+    ensures { (config : Configuration) (next : Next) (e : ℕ) (c : Chronicle) → move_first config (names_in_order config c) c ≡ []
         → offering c ≡ Some e → next_offer config.jobs c ≡ Some next → next_skip config c ≡ None
         → holds (condition_of next) (seen config (expression_of next) c) ≡ false
         → names_event (condition_of next) (event_at e c) ≡ true }
@@ -102,4 +104,14 @@ pub fn held_by_uses()
         (e : ℕ) → Agrees event_of marks tree sights → event_of id ≡ Some e
         → ((other : EventId) → 0 < uses other marks → event_of other ≡ Some e → other.key ≡ id.key)
         → has e (truth.kept tree sights) ≡ nat_lt 0 (uses id marks) }
+{}
+
+/// An offer of an event that each leaf of an expression rules out leaves it as true as it was, with the same events kept and taken.
+pub fn ruled_out_changes_nothing()
+    ensures { (config : Configuration) (condition : Option Tree) (x other : Expression) (e : ℕ)
+        (c : Chronicle)
+        → may_hear condition (event_at e c) ≡ false
+        → (holds condition (seen config x (Offered other e ∷ c)) ≡ holds condition (seen config x c))
+        × (kept condition (seen config x (Offered other e ∷ c)) ≡ kept condition (seen config x c))
+        × (taken condition (seen config x (Offered other e ∷ c)) ≡ taken condition (seen config x c)) }
 {}

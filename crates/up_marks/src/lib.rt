@@ -3,17 +3,21 @@
 #![tactic(auto)]
 
 pub mod index;
+mod joining;
 mod keeping;
 pub mod laws;
 pub mod mark;
 pub mod marks;
 mod matching;
+mod offers;
 mod reset;
+pub mod ruling;
 mod taking;
 pub mod trigger;
 
 pub use index::Index;
 pub use mark::Mark;
 pub use marks::{Marks, Offer};
+pub use ruling::{admits, rules_out};
 pub use trigger::{Firing, Trigger};
 pub use up_image::Place;

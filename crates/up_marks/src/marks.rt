@@ -8,9 +8,10 @@ ghost use Rattle.up_model.specs.declared.event_id.EventId.{EventId as EventIdVal
 ghost use Rattle.up_marks.specs.Agreeing.{Agrees, naming, newly, sight_of};
 ghost use Rattle.up_marks.specs.Marking.{kept_in, uses};
 
-use crate::keeping::{keep_each, root_holds};
+use crate::joining::hints_of;
+use crate::keeping::root_holds;
 use crate::mark::Mark;
-use crate::matching::newly_matching;
+use crate::offers::offer_in;
 use crate::reset::{reset_all, unset_marks};
 use crate::taking::{add_all_kept, add_taken};
 use std::alloc::{AllocError, Global};
@@ -25,6 +26,8 @@ use up_text::{Env, Items};
 #[derive(Debug, Drop)]
 pub struct Marks {
     marks: Vec<Mark>,
+    // where the node above each is
+    hints: Vec<u16>,
 }
 
 impl Model for Marks {
@@ -51,8 +54,9 @@ impl Marks {
         ensures { IfOk result (λ marks. (event_of : EventIdValue → Option ℕ)
             → Agrees event_of marks condition.now []) }
     {
+        let hints = hints_of(alloc, condition.nodes().as_slice())?;
         let marks = unset_marks(alloc, condition.nodes().len())?;
-        Ok(Marks { marks })
+        Ok(Marks { marks, hints })
     }
 
     fn as_slice(&self) -> &[Mark]
@@ -115,14 +119,19 @@ impl Marks {
             → uses other self.new ≡ uses other self.old + (if id.key == other.key then offer.kept else 0)) }
         ensures unchanged { OnErr result (self.new ≡ self.old) }
     {
-        let root = condition.root();
-        let matched = newly_matching(alloc, &root, self.as_slice(), places, event, env)?;
-        keep_each(&root, &mut self.marks, matched.as_slice(), id);
+        let hints = self.hints.as_slice();
+        let kept = offer_in(
+            alloc,
+            condition,
+            hints,
+            &mut self.marks,
+            places,
+            id,
+            event,
+            env,
+        )?;
         let holds = self.holds();
-        Ok(Offer {
-            kept: matched.len(),
-            holds,
-        })
+        Ok(Offer { kept, holds })
     }
 
     /// The events by which the expression is true, from left to right.

@@ -22,27 +22,29 @@ use Rattle.up_model.specs.declared.who.Who.{Who}
 use Rattle.up_model.specs.Answers.{after, next, is_expected, after_all}
 use Rattle.up_model.specs.Blocks.{IsPatient, unfinished}
 use Rattle.up_model.specs.Chronicle.{Chronicle, Entry, Given, Queued, Handled, Offered, Fired, Finished, Made, Aimed, Failed, Entered, Ordered, Signalled, Outside, Entering, Spoilt, StartOn, StopOn}
-use Rattle.up_model.specs.Clock.{is_killed, kill_due, overdue, all_overdue, has_passed, kill_moment, now, milliseconds, kill, killing}
-use Rattle.up_model.specs.Configuration.{Configuration, job_named}
-use Rattle.up_model.specs.Due.{due, end_of, telling, failed_event_of, finishing, turn_event, turn_of, effect}
+use Rattle.up_model.specs.Clock.{is_killed, kill_due, overdue, all_overdue, has_passed, kill_moment, now, milliseconds, kill, killing, kill_due_by}
+use Rattle.up_model.specs.Configuration.{Configuration}
+use Rattle.up_model.specs.Due.{due, end_of, telling, failed_event_of, finishing, turn_event, turn_of, effect, end_by}
 use Rattle.up_model.specs.Environments.{env_of_job, instance_name}
 use Rattle.up_model.specs.Events.{events_at, events_env, with_instance, stopped_by}
 use Rattle.up_model.specs.Held.{is_spoilt}
 use Rattle.up_model.specs.Instances.{Instance, instances_of, instance_named}
 use Rattle.up_model.specs.Judgement.{end_itself, keep_failure, fail, carry_out, verdict_on_end}
 use Rattle.up_model.specs.Life.{wait_in, entering}
-use Rattle.up_model.specs.Moves.{has_process, job_event, emitting, ordering, enter, enter_whole, is_over, may_leave, next_of, who_of, move, move_of, move_in, move_first}
-use Rattle.up_model.specs.Offers.{is_open, stop_of, stop_by, stop_offer, stop_offer_in, max_instances, start_of, who_called, start_who, start_by, start_offer, offer_in, offer_first, offering, offer_next}
+use Rattle.up_model.specs.Moves.{has_process, job_event, emitting, ordering, enter, enter_whole, is_over, may_leave, next_of, who_of, move, move_of, move_in, move_first, move_by}
+use Rattle.up_model.specs.Offers.{is_open, stop_of, stop_by, stop_offer, max_instances, start_of, who_called, start_who, start_by, start_offer, offering, offer_next, start_env}
 use Rattle.up_model.specs.Queue.{Live, queue}
 use Rattle.up_model.specs.Readings.{goal, state_of, failure, holders, is_blocking, without, blocker, lives}
-use Rattle.up_model.specs.Commands.{outcome_of, entries_of}
+use Rattle.up_model.specs.Commands.{outcome_of, entries_of, is_running}
+use Rattle.up_model.specs.Files.{own_file, names_in_order, file_of}
 use Rattle.up_model.specs.Replies.{releasing, waiter, answering_waiter, unanswered, answering_last}
 use Rattle.up_model.specs.Seen.{seen, holds, taken, was_offered}
 use Rattle.up_model.specs.Predicates.{is_start, entries_if, or_else}
-use Rattle.up_model.specs.Values.{Bindings}
+use Rattle.up_model.specs.Values.{Bindings, Bytes}
 use Rattle.up_model.specs.Work.{work, settle}
 use Rattle.up_model.proofs.ReplyLaws.{Allows, releasing-all, answering_waiter-all, answering_hurried-all, start_of-all, stop_of-all, outcome-all}
 use Rattle.up_model.proofs.Sparing.{all-append, all-if}
+use Rattle.up_model.proofs.JobOffers.{stop_offer_in, offer_in, offer_first, first-by-jobs}
 
 -- an event, if there is one
 abbrev pub listed : Option ℕ → List ℕ
@@ -129,6 +131,57 @@ ordered-keeps p its c free keeps = record { waiting = keeps.waiting; single = ke
 -- its main gets a signal
 signalled-keeps : (p signal : ℕ) (by_timer : Bool) (c : Chronicle) → blocker p c ≡ None → Keeps c → Keeps (Signalled p signal by_timer ∷ c)
 signalled-keeps p signal by_timer c free keeps = record { waiting = keeps.waiting; single = keeps.single; patient = (none-unfinished p c free keeps, keeps.patient) }
+
+-- an idle entry, or a signal to an instance that waits for no event in this chronicle
+abbrev IsSafe : Chronicle → Entry → Type 0
+IsSafe c (Queued (Entering instance entered) event) = ⊥
+IsSafe c (Entered instance entered) = ⊥
+IsSafe c (Ordered instance process) = ⊥
+IsSafe c (Signalled instance signal by_timer) = blocker instance c ≡ None
+IsSafe c entry = Unit {0}
+
+-- by it no instance comes to wait
+safe-free : (p : ℕ) (e : Entry) (c d : Chronicle) → IsSafe d e → blocker p c ≡ None → blocker p (e ∷ c) ≡ None
+safe-free p (Queued (Entering instance entered) event) c d safe free = absurd safe
+safe-free p (Entered instance entered) c d safe free = absurd safe
+safe-free p (Ordered instance process) c d safe free = absurd safe
+safe-free p (Queued (Outside given) event) c d safe free = free
+safe-free p (Queued (Spoilt spoilt) event) c d safe free = free
+safe-free p (Finished event) c d safe free = ap (without event) free
+safe-free p e c d safe free = free
+
+safes-free : (p : ℕ) (es c : Chronicle) → AllByRecursion (IsSafe c) es → blocker p c ≡ None → blocker p (es ++ c) ≡ None
+safes-free p [] c safe free = free
+safes-free p (e ∷ es) c safe free = safe-free p e (es ++ c) c safe.0 (safes-free p es c safe.1 free)
+
+safe-keeps : (e : Entry) (c d : Chronicle) → IsSafe d e → ((p : ℕ) → blocker p d ≡ None → blocker p c ≡ None) → Keeps c → Keeps (e ∷ c)
+safe-keeps (Signalled p signal by_timer) c d safe free keeps = signalled-keeps p signal by_timer c (free p safe) keeps
+safe-keeps (Queued (Entering instance entered) event) c d safe free keeps = absurd safe
+safe-keeps (Queued (Outside given) event) c d safe free keeps = idle-keeps (Queued (Outside given) event) c tt keeps
+safe-keeps (Queued (Spoilt spoilt) event) c d safe free keeps = idle-keeps (Queued (Spoilt spoilt) event) c tt keeps
+safe-keeps (Entered instance entered) c d safe free keeps = absurd safe
+safe-keeps (Ordered instance process) c d safe free keeps = absurd safe
+safe-keeps e c d safe free keeps = idle-keeps e c safe keeps
+
+-- several leave the rules kept
+safes-keep : (es c : Chronicle) → AllByRecursion (IsSafe c) es → Keeps c → Keeps (es ++ c)
+safes-keep [] c safe keeps = keeps
+safes-keep (e ∷ es) c safe keeps = safe-keeps e (es ++ c) c safe.0 (λ p. safes-free p es c safe.1) (safes-keep es c safe.1 keeps)
+
+safe-allows : (c : Chronicle) → Allows (IsSafe c)
+safe-allows c = record {
+  replied = λ request answer. tt;
+  released = λ instance failed. tt;
+  aimed = λ instance aim environment its. tt;
+  restarted = λ instance its. tt;
+  queued = λ given event. tt;
+}
+
+-- an instance that runs waits for no event
+running-apart : (its : State) → is_running its ≡ true → is_blocking its ≡ false
+running-apart Starting h = cc
+running-apart Stopping h = cc
+running-apart its h = refl
 
 -- an instance emits the event of the state that it is in
 queued-keeps : (p : ℕ) (to : State) (event : Event) (c : Chronicle) → state_of p c ≡ to → blocker p c ≡ None → Keeps c → Keeps (Queued (Entering p to) event ∷ c)
@@ -261,14 +314,19 @@ move_of-keeps job x c keeps = by_case (may_leave job x.place c) refl
         (leave-free job x.place from c refl may keeps) keeps
     by_case false stays = keeps
 
-move_in-keeps : (job : JobDef) (xs : List Instance) (c : Chronicle) → Keeps c → Keeps (move_in job xs c ++ c)
-move_in-keeps job [] c keeps = keeps
-move_in-keeps job (x ∷ xs) c keeps = or_else-keeps (move_of job x c) (move_in job xs c) c (move_of-keeps job x c keeps) (move_in-keeps job xs c keeps)
+move_by-keeps : (file : Option JobDef) (x : Instance) (c : Chronicle) → Keeps c → Keeps (move_by file x c ++ c)
+move_by-keeps None x c keeps = keeps
+move_by-keeps (Some job) x c keeps = move_of-keeps job x c keeps
 
-move_first-keeps : (jobs : List JobDef) (c : Chronicle) → Keeps c → Keeps (move_first jobs c ++ c)
-move_first-keeps [] c keeps = keeps
-move_first-keeps (job ∷ jobs) c keeps =
-    or_else-keeps (move_in job (instances_of job.name c) c) (move_first jobs c) c (move_in-keeps job (instances_of job.name c) c keeps) (move_first-keeps jobs c keeps)
+move_in-keeps : (config : Configuration) (xs : List Instance) (c : Chronicle) → Keeps c → Keeps (move_in config xs c ++ c)
+move_in-keeps config [] c keeps = keeps
+move_in-keeps config (x ∷ xs) c keeps =
+    or_else-keeps (move_by (file_of config x.place c) x c) (move_in config xs c) c (move_by-keeps (file_of config x.place c) x c keeps) (move_in-keeps config xs c keeps)
+
+move_first-keeps : (config : Configuration) (names : List Bytes) (c : Chronicle) → Keeps c → Keeps (move_first config names c ++ c)
+move_first-keeps config [] c keeps = keeps
+move_first-keeps config (name ∷ names) c keeps =
+    or_else-keeps (move_in config (instances_of name c) c) (move_first config names c) c (move_in-keeps config (instances_of name c) c keeps) (move_first-keeps config names c keeps)
 
 -- an offer to an instance's `stop on` is idle
 stop_by-idle : (p : ℕ) (events : List ℕ) (c : Chronicle) → AllByRecursion IsIdle (stop_by p events c)
@@ -314,7 +372,7 @@ start_offer-idle : (config : Configuration) (job : JobDef) (event : ℕ) (c : Ch
 start_offer-idle config job event c =
     all-append IsIdle (entries_if (holds job.start_on sights) fires) (Offered (StartOn job.name) event ∷ [])
     (all-if IsIdle (holds job.start_on sights) fires
-    (all-append IsIdle (start_by config job events fired) (Fired (StartOn job.name) events ∷ []) (start_who-idle environment events (who_called job.name (instance_name job environment)) fired) (tt, tt)))
+    (all-append IsIdle (start_by config job events fired) (Fired (StartOn job.name) events ∷ []) (start_who-idle environment events (who_called job.name name) fired) (tt, tt)))
     (tt, tt)
   where
     sights : List Sight
@@ -326,8 +384,11 @@ start_offer-idle config job event c =
     fired : Chronicle
     fired = Fired (StartOn job.name) events ∷ Offered (StartOn job.name) event ∷ c
 
+    name : Option Bytes
+    name = instance_name job (events_env (env_of_job config job.name) (events_at events fired))
+
     environment : Bindings
-    environment = events_env (env_of_job config job.name) (events_at events fired)
+    environment = start_env config (who_called job.name name) (events_at events fired) fired
 
     fires : List Entry
     fires = start_by config job events fired ++ Fired (StartOn job.name) events ∷ []
@@ -345,13 +406,13 @@ offer_first-keeps config (job ∷ jobs) event c keeps =
 
 offer_next-keeps : (config : Configuration) (event : Option ℕ) (c : Chronicle) → Keeps c → Keeps (offer_next config event c ++ c)
 offer_next-keeps config None c keeps = keeps
-offer_next-keeps config (Some event) c keeps = offer_first-keeps config config.jobs event c keeps
+offer_next-keeps config (Some event) c keeps = subst (λ es. Keeps (es ++ c)) (sym (first-by-jobs config event c)) (offer_first-keeps config config.jobs event c keeps)
 
 -- what is due leaves the rules kept
 due-keeps : (config : Configuration) (c : Chronicle) → Keeps c → Keeps (due config c ++ c)
 unfolding due
 due-keeps config c keeps =
-    or_else-keeps (move_first config.jobs c) (or_else (offer_next config (offering c) c) (answering_last c)) c (move_first-keeps config.jobs c keeps)
+    or_else-keeps (move_first config (names_in_order config c) c) (or_else (offer_next config (offering c) c) (answering_last c)) c (move_first-keeps config (names_in_order config c) c keeps)
     (or_else-keeps (offer_next config (offering c) c) (answering_last c) c (offer_next-keeps config (offering c) c keeps)
     (idles-keep (answering_last c) c (answering_hurried-all IsIdle (λ request answer. tt) (unanswered c) c) keeps))
 
@@ -403,19 +464,24 @@ due-free job p c h keeps =
     keeps.waiting p (killed-apart (state_of p c) (and-left (is_killed (state_of p c)) (lives p Main c)
     (and-left (is_killed (state_of p c) && lives p Main c) (has_passed (kill_moment p c) (now c) (milliseconds job.kill_timeout)) h)))
 
-overdue-free : (job : JobDef) (xs : List Instance) (c : Chronicle) → Keeps c → AreFree c (overdue job xs c)
-overdue-free job [] c keeps = tt
-overdue-free job (x ∷ xs) c keeps =
-    free-append c (entries_if (kill_due job x.place c) (x.place ∷ [])) (overdue job xs c) (by_case (kill_due job x.place c) refl) (overdue-free job xs c keeps)
+due_by-free : (file : Option JobDef) (p : ℕ) (c : Chronicle) → kill_due_by file p c ≡ true → Keeps c → blocker p c ≡ None
+due_by-free None p c h keeps = absurd cc
+due_by-free (Some job) p c h keeps = due-free job p c h keeps
+
+overdue-free : (config : Configuration) (xs : List Instance) (c : Chronicle) → Keeps c → AreFree c (overdue config xs c)
+overdue-free config [] c keeps = tt
+overdue-free config (x ∷ xs) c keeps =
+    free-append c (entries_if (kill_due_by (file_of config x.place c) x.place c) (x.place ∷ [])) (overdue config xs c)
+    (by_case (kill_due_by (file_of config x.place c) x.place c) refl) (overdue-free config xs c keeps)
   where
-    by_case : (b : Bool) → kill_due job x.place c ≡ b → AreFree c (entries_if b (x.place ∷ []))
-    by_case true h = (due-free job x.place c h keeps, tt)
+    by_case : (b : Bool) → kill_due_by (file_of config x.place c) x.place c ≡ b → AreFree c (entries_if b (x.place ∷ []))
+    by_case true h = (due_by-free (file_of config x.place c) x.place c h keeps, tt)
     by_case false h = tt
 
-all_overdue-free : (jobs : List JobDef) (c : Chronicle) → Keeps c → AreFree c (all_overdue jobs c)
-all_overdue-free [] c keeps = tt
-all_overdue-free (job ∷ jobs) c keeps =
-    free-append c (overdue job (instances_of job.name c) c) (all_overdue jobs c) (overdue-free job (instances_of job.name c) c keeps) (all_overdue-free jobs c keeps)
+all_overdue-free : (config : Configuration) (names : List Bytes) (c : Chronicle) → Keeps c → AreFree c (all_overdue config names c)
+all_overdue-free config [] c keeps = tt
+all_overdue-free config (name ∷ names) c keeps =
+    free-append c (overdue config (instances_of name c) c) (all_overdue config names c) (overdue-free config (instances_of name c) c keeps) (all_overdue-free config names c keeps)
 
 -- so the timer's signals leave the rules kept
 killing-keeps : (places : List ℕ) (c : Chronicle) → AreFree c places → Keeps c → Keeps (killing places ++ c)
@@ -452,21 +518,23 @@ unfolding effect
 effect-keeps config (input.Emit event) c keeps = idles-keep (Queued (Outside (length c)) event ∷ Given (input.Emit event) ∷ []) c (tt, (tt, tt)) keeps
 effect-keeps config (input.Request id request) c keeps =
     let d : Chronicle = Given (input.Request id request) ∷ c in
-    given-keeps (entries_of (length c) (outcome_of config (length c) request d)) (input.Request id request) c
-    (outcome-all IsIdle idle-allows (λ job name. tt) config (length c) request d) keeps
+    let given : Keeps d = idle-keeps (Given (input.Request id request)) c tt keeps in
+    rw append_assoc (safes-keep (entries_of (length c) (outcome_of config (length c) request d)) d
+    (outcome-all (IsSafe d) (safe-allows d) (λ job name. tt) config (length c) request d
+    (λ p signal runs. given.waiting p (running-apart (state_of p d) runs))) given)
 effect-keeps config (input.Spawned who process pid) c keeps = idle-keeps (Given (input.Spawned who process pid)) c tt keeps
 effect-keeps config (input.Refused who process) c keeps =
     let d : Chronicle = Given (input.Refused who process) ∷ c in
-    given-keeps (end_of (job_named who.job config.jobs) (instance_named who c) process end.Refused d) (input.Refused who process) c
-    (end_of-idle (job_named who.job config.jobs) (instance_named who c) process end.Refused d) keeps
+    given-keeps (end_by config who process end.Refused d) (input.Refused who process) c
+    (end_of-idle (own_file config who d) (instance_named who d) process end.Refused d) keeps
 effect-keeps config (input.Ended who process how) c keeps =
     let d : Chronicle = Given (input.Ended who process how) ∷ c in
-    given-keeps (end_of (job_named who.job config.jobs) (instance_named who c) process (end.Ended how) d) (input.Ended who process how) c
-    (end_of-idle (job_named who.job config.jobs) (instance_named who c) process (end.Ended how) d) keeps
+    given-keeps (end_by config who process (end.Ended how) d) (input.Ended who process how) c
+    (end_of-idle (own_file config who d) (instance_named who d) process (end.Ended how) d) keeps
 effect-keeps config (input.Clock reading) c keeps =
     let d : List Entry = Given (input.Clock reading) ∷ c in
     let given : Keeps d = idle-keeps (Given (input.Clock reading)) c tt keeps in
-    rw append_assoc (killing-keeps (all_overdue config.jobs d) d (all_overdue-free config.jobs d given) given)
+    rw append_assoc (killing-keeps (all_overdue config (names_in_order config d) d) d (all_overdue-free config (names_in_order config d) d given) given)
 effect-keeps config input.Turn c keeps =
     given-keeps (turn_of (turn_event config (queue c) c) (Given input.Turn ∷ c)) input.Turn c
     (turn-idle (turn_event config (queue c) c) (Given input.Turn ∷ c)) keeps

@@ -27,18 +27,20 @@ use Rattle.up_model.specs.Chronicle.{Chronicle, Entry, Given, Queued, Handled, F
 use Rattle.up_model.specs.Clock.{all_overdue, kill, killing}
 use Rattle.up_model.specs.Configuration.{Configuration, job_named}
 use Rattle.up_model.specs.Due.{due, effect, end_of}
+use Rattle.up_model.specs.Files.{own_file, file_of, names_in_order}
 use Rattle.up_model.specs.Instances.{Instance, without_instance, instances_of, instance_named, all_instances}
 use Rattle.up_model.specs.Judgement.{verdict_on_end, end_itself, keep_failure, fail, carry_out}
 use Rattle.up_model.specs.Left.{left_in, left_at, left_among, left, is_calm, spawns, Spends}
 use Rattle.up_model.specs.Life.{next_state, entering}
-use Rattle.up_model.specs.Moves.{has_process, emitting, ordering, enter, enter_whole, may_leave, next_of, who_of, move, move_of, move_in, move_first}
+use Rattle.up_model.specs.Moves.{has_process, emitting, ordering, enter, enter_whole, may_leave, next_of, who_of, move, move_in, move_first, move_by}
 use Rattle.up_model.specs.Offers.{offering, offer_next}
 use Rattle.up_model.specs.Outputs.{order_for, order_by, order_of, signal_of, reply_of, outputs_of}
 use Rattle.up_model.specs.Readings.{made_at, id_at, goal, state_of, process_env, is_blocking, blocker, failure, holders, pid_of, lives}
 use Rattle.up_model.specs.Replies.{releasing, unanswered, answering_last}
 use Rattle.up_model.specs.Predicates.{is_start, entries_if, or_else}
-use Rattle.up_model.specs.Values.{Bindings}
+use Rattle.up_model.specs.Values.{Bindings, Bytes}
 use Rattle.up_model.specs.Work.{work, settle}
+use Rattle.up_model.proofs.FileLaws.{file_of-job, named-name}
 use Rattle.up_model.proofs.LeftSums.{IsKept, among-no_more, kept-fewer, gone-no_more}
 use Rattle.up_model.proofs.MoveLaws.{Leaves, leaves, IsMove, move-goal, move-is_of, enter-moves, enter-state, is_waiting, enter-all_instances}
 use Rattle.up_model.proofs.Places.{count, all-counted, instances-exist}
@@ -221,17 +223,25 @@ if-spends : (c : Chronicle) (b : Bool) (es : List Entry) → (b ≡ true → Spe
 if-spends c true es spent = spent refl
 if-spends c false es spent = none-spent c
 
-move_in-spends : (job : JobDef) (xs : List Instance) (c : Chronicle) → AllByRecursion (λ x. 0 < count x.place (instances_of job.name c)) xs → Spent c (move_in job xs c)
-move_in-spends job [] c there = none-spent c
-move_in-spends job (x ∷ xs) c there =
-    or_else-spends c (move_of job x c) (move_in job xs c) (if-spends c (may_leave job x.place c) (move job x c) (λ may. move-spends job x c there.0 may))
-    (move_in-spends job xs c there.1)
+move_in-spends : (config : Configuration) (name : Bytes) (xs : List Instance) (c : Chronicle) → AllByRecursion (λ x. file_of config x.place c ≡ job_named name config.jobs) xs
+    → AllByRecursion (λ x. 0 < count x.place (instances_of name c)) xs → Spent c (move_in config xs c)
+move_in-spends config name [] c files there = none-spent c
+move_in-spends config name (x ∷ xs) c files there =
+    or_else-spends c (move_by (file_of config x.place c) x c) (move_in config xs c) (by_file (job_named name config.jobs) refl)
+    (move_in-spends config name xs c files.1 there.1)
+  where
+    by_file : (file : Option JobDef) → job_named name config.jobs ≡ file → Spent c (move_by (file_of config x.place c) x c)
+    by_file None none = rw (files.0 ∙ none) (none-spent c)
+    by_file (Some job) found =
+        let own : 0 < count x.place (instances_of job.name c) = subst (λ n. 0 < count x.place (instances_of n c)) (sym (named-name name config.jobs job found)) there.0 in
+        rw (files.0 ∙ found) (if-spends c (may_leave job x.place c) (move job x c) (λ may. move-spends job x c own may))
 
-move_first-spends : (jobs : List JobDef) (c : Chronicle) → Spent c (move_first jobs c)
-move_first-spends [] c = none-spent c
-move_first-spends (job ∷ jobs) c =
-    or_else-spends c (move_in job (instances_of job.name c) c) (move_first jobs c) (move_in-spends job (instances_of job.name c) c (all-counted (instances_of job.name c)))
-    (move_first-spends jobs c)
+move_first-spends : (config : Configuration) (names : List Bytes) (c : Chronicle) → Spent c (move_first config names c)
+move_first-spends config [] c = none-spent c
+move_first-spends config (name ∷ names) c =
+    or_else-spends c (move_in config (instances_of name c) c) (move_first config names c)
+    (move_in-spends config name (instances_of name c) c (file_of-job config name c) (all-counted (instances_of name c)))
+    (move_first-spends config names c)
 
 -- an entry of the effect of an input that is no turn and no request, or of an answer
 abbrev IsCalm : Entry → Type 0
@@ -303,7 +313,7 @@ offer-spends config (Some event) c none = absurd cc
 due-spends : (config : Configuration) (c : Chronicle) → offering c ≡ None → Spent c (due config c)
 unfolding due
 due-spends config c none =
-    or_else-spends c (move_first config.jobs c) (or_else (offer_next config (offering c) c) (answering_last c)) (move_first-spends config.jobs c)
+    or_else-spends c (move_first config (names_in_order config c) c) (or_else (offer_next config (offering c) c) (answering_last c)) (move_first-spends config (names_in_order config c) c)
     (or_else-spends c (offer_next config (offering c) c) (answering_last c) (offer-spends config (offering c) c none)
     (calm-spends (answering_last c) c (answering_hurried-all IsCalm (λ request answer. tt) (unanswered c) c)))
 
@@ -324,13 +334,10 @@ for-few : (job : JobDef) (who : Who) (its : Process) (o : Option Action) (enviro
 for-few job who its None environment = omega arith
 for-few job who its (Some action) environment = omega arith
 
-by-few : (o : Option JobDef) (who : Who) (its : Process) (environment : Bindings) → spawns (order_by o who its environment) ≤ 1
-by-few None who its environment = omega arith
-by-few (Some job) who its environment = for-few job who its _ environment
-
-order-few : (config : Configuration) (o : Option Who) (its : Process) (environment : Bindings) → spawns (order_of config o its environment) ≤ 1
-order-few config None its environment = omega arith
-order-few config (Some who) its environment = by-few (job_named who.job config.jobs) who its environment
+order-few : (file : Option JobDef) (o : Option Who) (its : Process) (environment : Bindings) → spawns (order_by file o its environment) ≤ 1
+order-few None o its environment = omega arith
+order-few (Some job) None its environment = omega arith
+order-few (Some job) (Some who) its environment = for-few job who its _ environment
 
 signal-none : (o : Option Who) (signal : ℕ) (pid : Option ℕ) → spawns (signal_of o signal pid) ≡ 0
 signal-none None signal pid = refl
@@ -345,7 +352,7 @@ output-few : (config : Configuration) (e : Entry) (c : Chronicle) → spawns (ou
 unfolding outputs_of
 output-few config (Given given) c = omega arith
 output-few config (Ordered instance its) c =
-    omega (arith, spawns-append (outputs_of config c) (order_of config (made_at instance c) its (process_env instance its c)), order-few config (made_at instance c) its (process_env instance its c))
+    omega (arith, spawns-append (outputs_of config c) (order_of config instance its c), order-few (file_of config instance c) (made_at instance c) its (process_env instance its c))
 output-few config (Signalled instance signal by_timer) c =
     omega (arith, spawns-append (outputs_of config c) (signal_of (made_at instance c) signal (pid_of instance Main c)), signal-none (made_at instance c) signal (pid_of instance Main c))
 output-few config (Queued (Entering instance entered) event) c = omega (arith, spawns-append (outputs_of config c) (output.Emitted event ∷ []))
@@ -420,11 +427,11 @@ effect-begins config input.Turn c calm = absurd cc
 effect-begins config (input.Emit event) c calm = begins config (Queued (Outside _) event ∷ []) (input.Emit event) c (tt, tt)
 effect-begins config (input.Spawned who its pid) c calm = begins config [] (input.Spawned who its pid) c tt
 effect-begins config (input.Refused who its) c calm =
-    begins config _ (input.Refused who its) c (end_of-calm (job_named who.job config.jobs) (instance_named who c) its end.Refused (Given (input.Refused who its) ∷ c))
+    begins config _ (input.Refused who its) c (end_of-calm (own_file config who (Given (input.Refused who its) ∷ c)) (instance_named who (Given (input.Refused who its) ∷ c)) its end.Refused (Given (input.Refused who its) ∷ c))
 effect-begins config (input.Ended who its how) c calm =
-    begins config _ (input.Ended who its how) c (end_of-calm (job_named who.job config.jobs) (instance_named who c) its (end.Ended how) (Given (input.Ended who its how) ∷ c))
+    begins config _ (input.Ended who its how) c (end_of-calm (own_file config who (Given (input.Ended who its how) ∷ c)) (instance_named who (Given (input.Ended who its how) ∷ c)) its (end.Ended how) (Given (input.Ended who its how) ∷ c))
 effect-begins config (input.Clock reading) c calm =
-    begins config _ (input.Clock reading) c (killing-calm (all_overdue config.jobs (Given (input.Clock reading) ∷ c)))
+    begins config _ (input.Clock reading) c (killing-calm (all_overdue config (names_in_order config c) (Given (input.Clock reading) ∷ c)))
 
 -- by an input that is no turn and no request fewer can be ordered, by those that it orders
 pub spends : (config : Configuration) (c : Chronicle) (given : Input) → is_calm given ≡ true → Spends config c given

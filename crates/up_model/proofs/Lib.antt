@@ -11,6 +11,8 @@ pub mod HeldLaws
 pub mod TurnLaws
 pub mod BlockLaws
 pub mod NameLaws
+pub mod FileLaws
+pub mod JobOffers
 pub mod MainLaws
 pub mod LeftSums
 pub mod LeftLaws

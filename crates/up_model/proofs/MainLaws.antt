@@ -24,20 +24,21 @@ use Rattle.up_model.specs.declared.state.State.{State}
 use Rattle.up_model.specs.declared.state.State.TheVariants.{Waiting, Starting, PreStart, Spawned, PostStart, Running, PreStop, Stopping, Killed, PostStop}
 use Rattle.up_model.specs.declared.who.Who.{Who}
 use Rattle.up_model.specs.Answers.{after, next, awaits, is_expected, after_all}
-use Rattle.up_model.specs.Blocks.{AreFound, IsLone}
+use Rattle.up_model.specs.Blocks.{IsLone}
 use Rattle.up_model.specs.Chronicle.{Chronicle, Entry, Given, Queued, Handled, Offered, Fired, Finished, Made, Aimed, Failed, Entered, Ordered, Signalled, Replied, Outside, StartOn, StopOn}
 use Rattle.up_model.specs.Clock.{all_overdue, kill, killing}
 use Rattle.up_model.specs.Commands.{Refused, Done, Target, Nobody, Concerns, refusal, target_of, start_at, start, holders_of, outcome_by, outcome_of, entries_of}
 use Rattle.up_model.specs.Configuration.{Configuration, job_named}
-use Rattle.up_model.specs.Due.{due, end_of, telling, failed_event_of, finishing, turn_event, turn_of, effect}
+use Rattle.up_model.specs.Due.{due, end_of, telling, failed_event_of, finishing, turn_event, turn_of, effect, end_by}
 use Rattle.up_model.specs.Environments.{env_of_job, instance_name}
 use Rattle.up_model.specs.Events.{events_at, events_env, with_instance, stopped_by}
+use Rattle.up_model.specs.Files.{own_file, names_in_order, file_of}
 use Rattle.up_model.specs.Held.{is_spoilt}
 use Rattle.up_model.specs.Instances.{Instance, instances_of, instance_named}
 use Rattle.up_model.specs.Judgement.{end_itself, keep_failure, fail, carry_out, verdict_on_end}
 use Rattle.up_model.specs.Life.{next_state, wait_in, entering}
-use Rattle.up_model.specs.Moves.{has_process, emitting, ordering, enter, enter_whole, is_over, may_leave, next_of, who_of, move, move_of, move_in, move_first}
-use Rattle.up_model.specs.Offers.{is_open, stop_of, stop_by, stop_offer, stop_offer_in, max_instances, start_of, who_called, start_who, start_by, start_offer, offer_in, offer_first, offering, offer_next}
+use Rattle.up_model.specs.Moves.{has_process, emitting, ordering, enter, enter_whole, is_over, may_leave, next_of, who_of, move, move_of, move_in, move_first, move_by}
+use Rattle.up_model.specs.Offers.{is_open, stop_of, stop_by, stop_offer, max_instances, start_of, who_called, start_who, start_by, start_offer, offering, offer_next, start_env}
 use Rattle.up_model.specs.Queue.{Live, queue}
 use Rattle.up_model.specs.Readings.{goal, state_of, failure, holders, made_at, speaks_of, is_awaited, pid_of, lives}
 use Rattle.up_model.specs.Replies.{releasing, waiter, answering_waiter, unanswered, answering_last}
@@ -47,10 +48,12 @@ use Rattle.up_model.specs.Predicates.{same_process, same_who, is_start, entries_
 use Rattle.up_model.specs.Values.{Bytes, Bindings}
 use Rattle.up_model.specs.Work.{work, settle}
 use Rattle.up_model.proofs.BlockLaws.{five, and-left}
+use Rattle.up_model.proofs.FileLaws.{file_of-job, named-name, named-again}
 use Rattle.up_model.proofs.NameLaws.{called, made-named, AreSingle, Singles, entered-singles, entered-named, made-singles, made-found}
 use Rattle.up_model.proofs.Places.{bytes_same}
-use Rattle.up_model.proofs.ReplyLaws.{Allows, releasing-all, answering_waiter-all, answering_hurried-all, start_of-all, stop_of-all, stop-all, restart-all, status-all, emit-all}
+use Rattle.up_model.proofs.ReplyLaws.{Allows, releasing-all, answering_waiter-all, answering_hurried-all, start_of-all, stop_of-all, stop-all, restart-all, reload-all, status-all, emit-all}
 use Rattle.up_model.proofs.Sparing.{all-append, all-if}
+use Rattle.up_model.proofs.JobOffers.{stop_offer_in, offer_in, offer_first, first-by-jobs}
 
 -- the states in which main may live
 abbrev may_live : State → Bool
@@ -448,18 +451,24 @@ move_of-keeps config job x c found there keeps = by_case (may_leave job x.place 
     by_case true may = move-keeps config job x c found there may keeps
     by_case false stays = keeps
 
-move_in-keeps : (config : Configuration) (job : JobDef) (xs : List Instance) (c : Chronicle) → job_named job.name config.jobs ≡ Some job
-    → AreSingle (instances_of job.name c) xs → Keeps config c → Keeps config (move_in job xs c ++ c)
-move_in-keeps config job [] c found single keeps = keeps
-move_in-keeps config job (x ∷ xs) c found single keeps =
-    or_else-keeps config (move_of job x c) (move_in job xs c) c (move_of-keeps config job x c found single.0 keeps) (move_in-keeps config job xs c found single.1 keeps)
+move_in-keeps : (config : Configuration) (name : Bytes) (xs : List Instance) (c : Chronicle) → AllByRecursion (λ x. file_of config x.place c ≡ job_named name config.jobs) xs
+    → AreSingle (instances_of name c) xs → Keeps config c → Keeps config (move_in config xs c ++ c)
+move_in-keeps config name [] c files single keeps = keeps
+move_in-keeps config name (x ∷ xs) c files single keeps =
+    or_else-keeps config (move_by (file_of config x.place c) x c) (move_in config xs c) c (by_file (job_named name config.jobs) refl) (move_in-keeps config name xs c files.1 single.1 keeps)
+  where
+    by_file : (file : Option JobDef) → job_named name config.jobs ≡ file → Keeps config (move_by (file_of config x.place c) x c ++ c)
+    by_file None none = rw (files.0 ∙ none) keeps
+    by_file (Some job) found =
+        let there : instance_named (called job.name x.name) c ≡ Some x.place =
+        subst (λ n. instance_named (called n x.name) c ≡ Some x.place) (sym (named-name name config.jobs job found)) single.0 in
+        rw (files.0 ∙ found) (move_of-keeps config job x c (named-again name config.jobs job found) there keeps)
 
-move_first-keeps : (config : Configuration) (jobs : List JobDef) (c : Chronicle) → AllByRecursion (λ job. job_named job.name config.jobs ≡ Some job) jobs
-    → Keeps config c → Keeps config (move_first jobs c ++ c)
-move_first-keeps config [] c found keeps = keeps
-move_first-keeps config (job ∷ jobs) c found keeps =
-    or_else-keeps config (move_in job (instances_of job.name c) c) (move_first jobs c) c
-    (move_in-keeps config job (instances_of job.name c) c found.0 (keeps.single job.name) keeps) (move_first-keeps config jobs c found.1 keeps)
+move_first-keeps : (config : Configuration) (names : List Bytes) (c : Chronicle) → Keeps config c → Keeps config (move_first config names c ++ c)
+move_first-keeps config [] c keeps = keeps
+move_first-keeps config (name ∷ names) c keeps =
+    or_else-keeps config (move_in config (instances_of name c) c) (move_first config names c) c
+    (move_in-keeps config name (instances_of name c) c (file_of-job config name c) (keeps.single name) keeps) (move_first-keeps config names c keeps)
 
 -- an offer to an instance's `stop on` is still
 stop_by-still : (p : ℕ) (events : List ℕ) (c : Chronicle) → AllByRecursion IsStill (stop_by p events c)
@@ -521,8 +530,11 @@ start_offer-keeps config job event c keeps = by_case (holds job.start_on sights)
     fired : Chronicle
     fired = Fired (StartOn job.name) events ∷ Offered (StartOn job.name) event ∷ c
 
+    name : Option Bytes
+    name = instance_name job (events_env (env_of_job config job.name) (events_at events fired))
+
     environment : Bindings
-    environment = events_env (env_of_job config job.name) (events_at events fired)
+    environment = start_env config (who_called job.name name) (events_at events fired) fired
 
     done : Keeps config fired
     done = stills-keep config (Fired (StartOn job.name) events ∷ Offered (StartOn job.name) event ∷ []) c (tt, (tt, tt)) keeps
@@ -530,7 +542,7 @@ start_offer-keeps config job event c keeps = by_case (holds job.start_on sights)
     by_case : (b : Bool) → Keeps config ((entries_if b (start_by config job events fired ++ Fired (StartOn job.name) events ∷ []) ++ Offered (StartOn job.name) event ∷ []) ++ c)
     by_case true =
         subst (Keeps config) (sym (three (start_by config job events fired) c (Fired (StartOn job.name) events) (Offered (StartOn job.name) event)))
-        (start_who-keeps config environment events (who_called job.name (instance_name job environment)) fired done)
+        (start_who-keeps config environment events (who_called job.name name) fired done)
     by_case false = still-keeps config (Offered (StartOn job.name) event) c tt keeps
 
 offer_in-keeps : (config : Configuration) (job : JobDef) (event : ℕ) (c : Chronicle) → Keeps config c → Keeps config (offer_in config job event c ++ c)
@@ -546,20 +558,20 @@ offer_first-keeps config (job ∷ jobs) event c keeps =
 
 offer_next-keeps : (config : Configuration) (event : Option ℕ) (c : Chronicle) → Keeps config c → Keeps config (offer_next config event c ++ c)
 offer_next-keeps config None c keeps = keeps
-offer_next-keeps config (Some event) c keeps = offer_first-keeps config config.jobs event c keeps
+offer_next-keeps config (Some event) c keeps = subst (λ es. Keeps config (es ++ c)) (sym (first-by-jobs config event c)) (offer_first-keeps config config.jobs event c keeps)
 
 -- what is due leaves the rules kept
-due-keeps : (config : Configuration) (c : Chronicle) → AreFound config.jobs → Keeps config c → Keeps config (due config c ++ c)
+due-keeps : (config : Configuration) (c : Chronicle) → Keeps config c → Keeps config (due config c ++ c)
 unfolding due
-due-keeps config c found keeps =
-    or_else-keeps config (move_first config.jobs c) (or_else (offer_next config (offering c) c) (answering_last c)) c (move_first-keeps config config.jobs c found keeps)
+due-keeps config c keeps =
+    or_else-keeps config (move_first config (names_in_order config c) c) (or_else (offer_next config (offering c) c) (answering_last c)) c (move_first-keeps config (names_in_order config c) c keeps)
     (or_else-keeps config (offer_next config (offering c) c) (answering_last c) c (offer_next-keeps config (offering c) c keeps)
     (stills-keep config (answering_last c) c (answering_hurried-all IsStill (λ request answer. tt) (unanswered c) c) keeps))
 
-settle-keeps : (n : ℕ) (config : Configuration) (c : Chronicle) → AreFound config.jobs → Keeps config c → Keeps config (settle n config c)
+settle-keeps : (n : ℕ) (config : Configuration) (c : Chronicle) → Keeps config c → Keeps config (settle n config c)
 unfolding settle
-settle-keeps zero config c found keeps = keeps
-settle-keeps (suc n) config c found keeps = settle-keeps n config (due config c ++ c) found (due-keeps config c found keeps)
+settle-keeps zero config c keeps = keeps
+settle-keeps (suc n) config c keeps = settle-keeps n config (due config c ++ c) (due-keeps config c keeps)
 
 -- that an instance ends itself is still, and that it fails, and what an end does
 end_itself-still : (p : ℕ) (c : Chronicle) → AllByRecursion IsStill (end_itself p c)
@@ -638,14 +650,14 @@ request-keeps : (config : Configuration) (given : ℕ) (request : RequestValue) 
 request-keeps config given request c keeps = by_case request.command
   where
     by_case : (asked : Command) → Keeps config (entries_of given (outcome_by asked config given request c) ++ c)
-    by_case command.Start = start-keeps config given (holders_of given request.wait) (target_of config request.name request.vars) c keeps
-    by_case command.Stop = stills-keep config _ c (stop-all IsStill still-allows given (holders_of given request.wait) request.vars (target_of config request.name request.vars) c) keeps
-    by_case command.Restart = stills-keep config _ c (restart-all IsStill still-allows given (holders_of given request.wait) (target_of config request.name request.vars) c) keeps
-    by_case command.Status = stills-keep config _ c (status-all IsStill still-allows given (target_of config request.name request.vars) c) keeps
+    by_case command.Start = start-keeps config given (holders_of given request.wait) (target_of config request.name request.vars c) c keeps
+    by_case command.Stop = stills-keep config _ c (stop-all IsStill still-allows given (holders_of given request.wait) request.vars (target_of config request.name request.vars c) c) keeps
+    by_case command.Restart = stills-keep config _ c (restart-all IsStill still-allows given (holders_of given request.wait) (target_of config request.name request.vars c) c) keeps
+    by_case command.Status = stills-keep config _ c (status-all IsStill still-allows given (target_of config request.name request.vars c) c) keeps
     by_case command.List = still-keeps config (Replied given _) c tt keeps
     by_case command.Emit = stills-keep config _ c (emit-all IsStill still-allows given request c) keeps
     by_case command.Version = still-keeps config (Replied given _) c tt keeps
-    by_case command.Reload = still-keeps config (Replied given _) c tt keeps
+    by_case command.Reload = stills-keep config _ c (reload-all IsStill still-allows config given (target_of config request.name request.vars c) c (λ p signal runs. tt)) keeps
     by_case command.ReloadConfiguration = still-keeps config (Replied given _) c tt keeps
 
 -- an answer that is expected is awaited
@@ -662,41 +674,41 @@ effect-keeps config (input.Request id request) c expected keeps =
 effect-keeps config (input.Spawned who its pid) c expected keeps = spawned-keeps config who its pid c (expected_spawned who its pid c expected) keeps
 effect-keeps config (input.Refused who its) c expected keeps =
     let d : Chronicle = Given (input.Refused who its) ∷ c in
-    given-keeps config (end_of (job_named who.job config.jobs) (instance_named who c) its end.Refused d) (input.Refused who its) c
-    (end_of-still (job_named who.job config.jobs) (instance_named who c) its end.Refused d) (refused-keeps config who its c keeps)
+    given-keeps config (end_by config who its end.Refused d) (input.Refused who its) c
+    (end_of-still (own_file config who d) (instance_named who d) its end.Refused d) (refused-keeps config who its c keeps)
 effect-keeps config (input.Ended who its how) c expected keeps =
     let d : Chronicle = Given (input.Ended who its how) ∷ c in
-    given-keeps config (end_of (job_named who.job config.jobs) (instance_named who c) its (end.Ended how) d) (input.Ended who its how) c
-    (end_of-still (job_named who.job config.jobs) (instance_named who c) its (end.Ended how) d) (ended-keeps config who its how c keeps)
+    given-keeps config (end_by config who its (end.Ended how) d) (input.Ended who its how) c
+    (end_of-still (own_file config who d) (instance_named who d) its (end.Ended how) d) (ended-keeps config who its how c keeps)
 effect-keeps config (input.Clock reading) c expected keeps =
-    given-keeps config (killing (all_overdue config.jobs (Given (input.Clock reading) ∷ c))) (input.Clock reading) c
-    (killing-still (all_overdue config.jobs (Given (input.Clock reading) ∷ c))) (still-keeps config (Given (input.Clock reading)) c tt keeps)
+    given-keeps config (killing (all_overdue config (names_in_order config c) (Given (input.Clock reading) ∷ c))) (input.Clock reading) c
+    (killing-still (all_overdue config (names_in_order config c) (Given (input.Clock reading) ∷ c))) (still-keeps config (Given (input.Clock reading)) c tt keeps)
 effect-keeps config input.Turn c expected keeps =
     given-keeps config (turn_of (turn_event config (queue c) c) (Given input.Turn ∷ c)) input.Turn c
     (turn-still (turn_event config (queue c) c) (Given input.Turn ∷ c)) (still-keeps config (Given input.Turn) c tt keeps)
 
 -- so do inputs, one after another
-after-keeps : (config : Configuration) (c : Chronicle) (given : Input) → AreFound config.jobs → is_expected given c ≡ true → Keeps config c → Keeps config (after config c given)
+after-keeps : (config : Configuration) (c : Chronicle) (given : Input) → is_expected given c ≡ true → Keeps config c → Keeps config (after config c given)
 unfolding after
-after-keeps config c given found expected keeps =
-    settle-keeps (work config (effect config given c ++ c)) config (effect config given c ++ c) found (effect-keeps config given c expected keeps)
+after-keeps config c given expected keeps =
+    settle-keeps (work config (effect config given c ++ c)) config (effect config given c ++ c) (effect-keeps config given c expected keeps)
 
-next-keeps : (config : Configuration) (c : Chronicle) (given : Input) → AreFound config.jobs → Keeps config c → Keeps config (next config c given)
-next-keeps config c given found keeps = by_case (is_expected given c) refl
+next-keeps : (config : Configuration) (c : Chronicle) (given : Input) → Keeps config c → Keeps config (next config c given)
+next-keeps config c given keeps = by_case (is_expected given c) refl
   where
     by_case : (b : Bool) → is_expected given c ≡ b → Keeps config (if b then after config c given else c)
-    by_case true expected = after-keeps config c given found expected keeps
+    by_case true expected = after-keeps config c given expected keeps
     by_case false other = keeps
 
-after_all-keeps : (config : Configuration) (c : Chronicle) (inputs : List Input) → AreFound config.jobs → Keeps config c → Keeps config (after_all config c inputs)
+after_all-keeps : (config : Configuration) (c : Chronicle) (inputs : List Input) → Keeps config c → Keeps config (after_all config c inputs)
 unfolding after_all
-after_all-keeps config c [] found keeps = keeps
-after_all-keeps config c (given ∷ inputs) found keeps = after_all-keeps config (next config c given) inputs found (next-keeps config c given found keeps)
+after_all-keeps config c [] keeps = keeps
+after_all-keeps config c (given ∷ inputs) keeps = after_all-keeps config (next config c given) inputs (next-keeps config c given keeps)
 
 -- at the start no instance exists
 empty-keeps : (config : Configuration) → Keeps config []
 empty-keeps config = record { single = λ job. tt; fits = λ who p found. record { alive = λ so. absurd (cc); asked = λ so. absurd (cc) }; lone = tt }
 
 -- so no instance orders its main while that lives
-pub lone : (config : Configuration) (inputs : List Input) → AreFound config.jobs → IsLone (after_all config [] inputs)
-lone config inputs found = (after_all-keeps config [] inputs found (empty-keeps config)).lone
+pub lone : (config : Configuration) (inputs : List Input) → IsLone (after_all config [] inputs)
+lone config inputs = (after_all-keeps config [] inputs (empty-keeps config)).lone

@@ -15,7 +15,7 @@ abbrev pub called : Bytes → Bytes → Who
 called job name = record { job = job; instance = name }
 
 -- an instance that was made at its place, under its name
-abbrev IsKnown : Bytes → Chronicle → Instance → Type 0
+abbrev pub IsKnown : Bytes → Chronicle → Instance → Type 0
 IsKnown job c x = (x.place < length c) × (made_at x.place c ≡ Some (called job x.name))
 
 -- it stays so
@@ -33,7 +33,7 @@ all-with P y (z ∷ zs) h all = by_case (is_before z y) (all-with P y zs h all.1
     by_case false ih = (h, all)
 
 -- each instance of a job is known
-known : (job : Bytes) (c : Chronicle) → AllByRecursion (IsKnown job c) (instances_of job c)
+pub known : (job : Bytes) (c : Chronicle) → AllByRecursion (IsKnown job c) (instances_of job c)
 known job [] = tt
 known job (Made other name ∷ c) = by_case (bytes_eq other job) refl (known-later job (Made other name) c (instances_of job c) (known job c))
   where

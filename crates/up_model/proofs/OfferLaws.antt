@@ -11,7 +11,7 @@ use Rattle.up_model.specs.Configuration.{Configuration}
 use Rattle.up_model.specs.Environments.{env_of_job, instance_name}
 use Rattle.up_model.specs.Events.{events_at, events_env, with_instance, stopped_by}
 use Rattle.up_model.specs.Instances.{instances_of, all_instances, instance_named}
-use Rattle.up_model.specs.Offers.{is_newborn, is_open, stop_of, stop_by, stop_offer, max_instances, start_of, who_called, start_who, start_by, start_offer}
+use Rattle.up_model.specs.Offers.{is_newborn, is_open, stop_of, stop_by, stop_offer, max_instances, start_of, who_called, start_who, start_by, start_offer, start_env}
 use Rattle.up_model.specs.Readings.{goal, state_of, blocker}
 use Rattle.up_model.specs.Replies.{releasing}
 use Rattle.up_model.specs.Seen.{seen, holds, taken, was_offered}
@@ -350,9 +350,12 @@ start_offer-lessens config job event c left = by_case (holds job.start_on sights
     fired : Chronicle
     fired = Fired (StartOn job.name) events ∷ Offered (StartOn job.name) event ∷ c
 
+    name : Option Bytes
+    name = instance_name job (events_env (env_of_job config job.name) (events_at events fired))
+
     environment : Bindings
-    environment = events_env (env_of_job config job.name) (events_at events fired)
+    environment = start_env config (who_called job.name name) (events_at events fired) fired
 
     by_case : (b : Bool) → Lessens true job.name c (entries_if b (start_by config job events fired ++ Fired (StartOn job.name) events ∷ []) ++ Offered (StartOn job.name) event ∷ [])
-    by_case true = start-lessens job.name event events environment c (instance_name job environment) true left
+    by_case true = start-lessens job.name event events environment c name true left
     by_case false = start-lessens job.name event events environment c None false left

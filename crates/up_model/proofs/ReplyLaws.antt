@@ -1,6 +1,7 @@
 -- What releases, answers and requests are made of.
-use Rattle.std.proofs.Common.{ℕ, nat_lt, Bool, true, false, not, List, [], ◌∷◌, Option, None, Some, if◌then◌else◌, length}
+use Rattle.std.proofs.Common.{◌≡◌, ℕ, nat_lt, Bool, true, false, ◌&&◌, not, refl, List, [], ◌∷◌, Option, None, Some, if◌then◌else◌, length, codes}
 use Rattle.std.specs.List.{AllByRecursion}
+use Rattle.up_stanza.specs.declared.process.Process.TheVariants.{Main}
 use Rattle.up_text.specs.Scripts.{is_filled}
 use Rattle.up_model.specs.declared.event.Event.{Event}
 use Rattle.up_model.specs.declared.request.Answer.{Answer}
@@ -9,19 +10,21 @@ use Rattle.up_model.specs.declared.request.Command.TheVariants as command
 use Rattle.up_model.specs.declared.state.Goal.{Goal}
 use Rattle.up_model.specs.declared.state.Goal.TheVariants.{Start, Stop}
 use Rattle.up_model.specs.declared.who.Who.{Who}
-use Rattle.up_model.specs.Chronicle.{Chronicle, Entry, Queued, Made, Aimed, Restarted, Released, Replied, Outside}
-use Rattle.up_model.specs.Commands.{Outcome, Done, Target, Nobody, Concerns, target_of, start_at, start, stop_at, stop, is_running, restart_at, restart, status_at, status, emit, max_events, holders_of, outcome_by, outcome_of, entries_of}
+use Rattle.up_model.specs.Chronicle.{Chronicle, Entry, Queued, Made, Aimed, Restarted, Released, Signalled, Replied, Outside}
+use Rattle.up_model.specs.Commands.{Outcome, Done, Target, Nobody, Concerns, target_of, start_at, start, stop_at, stop, is_running, restart_at, restart, reloading, reload_at, reload, status_at, status, emit, max_events, holders_of, outcome_by, outcome_of, entries_of, refusal}
 use Rattle.up_model.specs.Configuration.{Configuration}
 use Rattle.up_model.specs.Events.{with_instance}
+use Rattle.up_model.specs.Files.{own_file}
 use Rattle.up_model.specs.Instances.{instances_of, instance_named}
 use Rattle.up_model.specs.Offers.{max_instances, stop_of, start_of}
 use Rattle.up_model.specs.Queue.{queue}
-use Rattle.up_model.specs.Readings.{goal, state_of, holders}
+use Rattle.up_model.specs.Readings.{goal, state_of, holders, lives}
 use Rattle.up_model.specs.Replies.{status_of, request_at, answering_one, answering, releasing, answering_waiter, answering_hurried}
 use Rattle.up_model.specs.Requests.{RequestValue}
 use Rattle.up_model.specs.Predicates.{is_start}
 use Rattle.up_model.specs.Values.{Bytes, Bindings}
 use Rattle.up_model.proofs.Sparing.{all-append, all-if}
+use Rattle.up_conf.specs.declared.job.JobDef.{JobDef}
 
 -- answers are replies
 answering_one-all : (P : Entry → Type 0) → ((request : ℕ) (answer : Answer) → P (Replied request answer)) → (place : ℕ) (o : Option RequestValue) (failed : Bool) (told : Bytes)
@@ -98,6 +101,23 @@ restart-all P allows given its (Concerns job who environment) c = by_case (insta
         if-all P given (is_running (state_of p c)) (Done (Restarted p its ∷ releasing p false c)) _
         (allows.restarted p its, releasing-all P allows.replied p false (allows.released p false) c) (allows.replied given _, tt)
 
+-- `reload`, if the signal to an instance that runs is such too
+pub reload-all : (P : Entry → Type 0) → Allows P → (config : Configuration) (given : ℕ) (target : Target) (c : Chronicle)
+    → ((p signal : ℕ) → is_running (state_of p c) ≡ true → P (Signalled p signal false)) → AllByRecursion P (entries_of given (reload config given target c))
+reload-all P allows config given (Nobody text) c signals = (allows.replied given _, tt)
+reload-all P allows config given (Concerns job who environment) c signals = by_case (own_file config who c) (instance_named who c)
+  where
+    by_state : (p signal : ℕ) (runs alive : Bool) → is_running (state_of p c) ≡ runs
+        → AllByRecursion P (entries_of given (if runs && alive then Done (reloading given p signal) else refusal (codes "Job is not running: ") who))
+    by_state p signal true true runs = (allows.replied given _, (signals p signal runs, tt))
+    by_state p signal true false runs = (allows.replied given _, tt)
+    by_state p signal false alive runs = (allows.replied given _, tt)
+
+    by_case : (file : Option JobDef) (o : Option ℕ) → AllByRecursion P (entries_of given (reload_at given file who o c))
+    by_case file None = (allows.replied given _, tt)
+    by_case None (Some p) = (allows.replied given _, tt)
+    by_case (Some its) (Some p) = by_state p its.reload_signal (is_running (state_of p c)) (lives p Main c) refl
+
 -- `status`
 pub status-all : (P : Entry → Type 0) → Allows P → (given : ℕ) (target : Target) (c : Chronicle) → AllByRecursion P (entries_of given (status target c))
 status-all P allows given (Nobody text) c = (allows.replied given _, tt)
@@ -130,13 +150,13 @@ start-all P allows made given its (Concerns job who environment) c = by_case (in
     by_case (Some p) =
         if-all P given (is_start (goal p c)) _ (Done (start_of who told its (Some p) c)) (allows.replied given _, tt) (start_of-all P allows who told its p c)
 
--- each request, if making an instance is such too
+-- each request, if making an instance is such too, and the signal to one that runs
 pub outcome-all : (P : Entry → Type 0) → Allows P → ((job name : Bytes) → P (Made job name)) → (config : Configuration) (given : ℕ) (request : RequestValue) (c : Chronicle)
-    → AllByRecursion P (entries_of given (outcome_of config given request c))
-outcome-all P allows made config given request c = by_case request.command
+    → ((p signal : ℕ) → is_running (state_of p c) ≡ true → P (Signalled p signal false)) → AllByRecursion P (entries_of given (outcome_of config given request c))
+outcome-all P allows made config given request c signals = by_case request.command
   where
     target : Target
-    target = target_of config request.name request.vars
+    target = target_of config request.name request.vars c
 
     by_case : (asked : Command) → AllByRecursion P (entries_of given (outcome_by asked config given request c))
     by_case command.Start = start-all P allows made given (holders_of given request.wait) target c
@@ -146,5 +166,5 @@ outcome-all P allows made config given request c = by_case request.command
     by_case command.List = (allows.replied given _, tt)
     by_case command.Emit = emit-all P allows given request c
     by_case command.Version = (allows.replied given _, tt)
-    by_case command.Reload = (allows.replied given _, tt)
+    by_case command.Reload = reload-all P allows config given target c signals
     by_case command.ReloadConfiguration = (allows.replied given _, tt)

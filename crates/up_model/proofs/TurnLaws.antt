@@ -12,7 +12,7 @@ use Rattle.up_model.specs.declared.state.Goal.TheVariants.{Stop}
 use Rattle.up_stanza.specs.declared.process.Process.{Process}
 use Rattle.up_model.specs.declared.input.Input.{Input}
 use Rattle.up_model.specs.declared.input.Input.TheVariants as input
-use Rattle.up_model.specs.Configuration.{Configuration, job_named}
+use Rattle.up_model.specs.Configuration.{Configuration}
 use Rattle.up_model.specs.Chronicle.{Entry, Given, Aimed, Failed, Signalled, Queued, Handled, Finished, Outside}
 use Rattle.up_model.specs.Clock.{all_overdue, kill, killing}
 use Rattle.up_model.specs.Readings.{goal, failure, holders}
@@ -23,10 +23,11 @@ use Rattle.up_model.specs.Judgement.{end_itself, keep_failure, fail, carry_out, 
 use Rattle.up_model.specs.Commands.{outcome_of, entries_of}
 use Rattle.up_model.specs.Replies.{releasing, waiter, answering_waiter}
 use Rattle.up_model.specs.Predicates.{is_start, entries_if}
-use Rattle.up_model.specs.Due.{due, end_of, telling, failed_event_of, finishing, turn_event, turn_of, effect}
+use Rattle.up_model.specs.Due.{due, end_of, telling, failed_event_of, finishing, turn_event, turn_of, effect, end_by}
 use Rattle.up_model.specs.Values.{Bytes}
 use Rattle.up_model.specs.Work.{work, settle}
 use Rattle.up_model.specs.Answers.{after, next, is_expected, after_all}
+use Rattle.up_model.specs.Files.{own_file, names_in_order}
 use Rattle.up_model.specs.Laws.{handled_times, finished_times, IsOrderly}
 use Rattle.up_model.proofs.HeldLaws.{held-given}
 use Rattle.up_model.proofs.Sparing.{all-append, all-weaker, all-if, IsOf}
@@ -226,19 +227,19 @@ effect-keeps config (input.Emit event) c keeps = quiets-keep config (Queued (Out
 effect-keeps config (input.Request id request) c keeps =
     let d : List Entry = Given (input.Request id request) ∷ c in
     rw append_assoc (quiets-keep config (entries_of (length c) (outcome_of config (length c) request d)) d
-    (outcome-all IsQuiet quiet-allows (λ job name. tt) config (length c) request d) (quiet-keeps config (Given (input.Request id request)) c tt keeps))
+    (outcome-all IsQuiet quiet-allows (λ job name. tt) config (length c) request d (λ p signal runs. tt)) (quiet-keeps config (Given (input.Request id request)) c tt keeps))
 effect-keeps config (input.Spawned who process pid) c keeps = quiet-keeps config (Given (input.Spawned who process pid)) c tt keeps
 effect-keeps config (input.Refused who process) c keeps =
     let d : List Entry = Given (input.Refused who process) ∷ c in
-    let its : List Entry = end_of (job_named who.job config.jobs) (instance_named who c) process end.Refused d in
-    rw append_assoc (quiets-keep config its d (end_of-quiet (job_named who.job config.jobs) (instance_named who c) process end.Refused d) (quiet-keeps config (Given (input.Refused who process)) c tt keeps))
+    let its : List Entry = end_by config who process end.Refused d in
+    rw append_assoc (quiets-keep config its d (end_of-quiet (own_file config who d) (instance_named who d) process end.Refused d) (quiet-keeps config (Given (input.Refused who process)) c tt keeps))
 effect-keeps config (input.Ended who process how) c keeps =
     let d : List Entry = Given (input.Ended who process how) ∷ c in
-    let its : List Entry = end_of (job_named who.job config.jobs) (instance_named who c) process (end.Ended how) d in
-    rw append_assoc (quiets-keep config its d (end_of-quiet (job_named who.job config.jobs) (instance_named who c) process (end.Ended how) d) (quiet-keeps config (Given (input.Ended who process how)) c tt keeps))
+    let its : List Entry = end_by config who process (end.Ended how) d in
+    rw append_assoc (quiets-keep config its d (end_of-quiet (own_file config who d) (instance_named who d) process (end.Ended how) d) (quiet-keeps config (Given (input.Ended who process how)) c tt keeps))
 effect-keeps config (input.Clock reading) c keeps =
     let d : List Entry = Given (input.Clock reading) ∷ c in
-    rw append_assoc (quiets-keep config (killing (all_overdue config.jobs d)) d (killing-quiet (all_overdue config.jobs d)) (quiet-keeps config (Given (input.Clock reading)) c tt keeps))
+    rw append_assoc (quiets-keep config (killing (all_overdue config (names_in_order config d) d)) d (killing-quiet (all_overdue config (names_in_order config d) d)) (quiet-keeps config (Given (input.Clock reading)) c tt keeps))
 effect-keeps config input.Turn c keeps = rw append_assoc (turn-keeps config c (turn_event config (queue c) c) refl (quiet-keeps config (Given input.Turn) c tt keeps))
 
 -- so does an input

@@ -1,13 +1,14 @@
 -- What is due leaves less work.
-use Rattle.std.proofs.Common.{◌≡◌, ℕ, ◌+◌, ◌*◌, ◌<◌, ◌≤◌, ◌==◌, ◌⊎◌, inl, inr, Bool, true, false, not, List, [], ◌∷◌, ◌++◌, length, Option, None, Some, is_some, if◌then◌else◌, refl, ap, arith, eq-eqb, ◌∙◌}
+use Rattle.std.proofs.Common.{◌≡◌, ℕ, ◌+◌, ◌*◌, ◌<◌, ◌≤◌, ◌==◌, ◌⊎◌, inl, inr, Bool, true, false, not, List, [], ◌∷◌, ◌++◌, length, Option, None, Some, is_some, if◌then◌else◌, refl, ap, arith, eq-eqb, ◌∙◌, subst, sym}
 use Rattle.std.specs.List.{AllByRecursion}
 use Rattle.up_conf.specs.declared.job.JobDef.{JobDef}
 use Rattle.up_model.specs.Chronicle.{Chronicle, Entry, Given, Replied, StartOn}
-use Rattle.up_model.specs.Configuration.{Configuration}
+use Rattle.up_model.specs.Configuration.{Configuration, job_named}
 use Rattle.up_model.specs.Due.{due}
+use Rattle.up_model.specs.Files.{file_of, names_in_order, job_names}
 use Rattle.up_model.specs.Instances.{Instance, instances_of, all_instances}
-use Rattle.up_model.specs.Moves.{may_leave, move, move_of, move_in, move_first}
-use Rattle.up_model.specs.Offers.{is_open, stop_offer, stop_offer_in, start_offer, offer_in, offer_first, offering, offer_next}
+use Rattle.up_model.specs.Moves.{may_leave, move, move_in, move_first, move_by}
+use Rattle.up_model.specs.Offers.{is_open, stop_offer, start_offer, offering, offer_next}
 use Rattle.up_model.specs.Readings.{goal, state_of, blocker}
 use Rattle.up_model.specs.Replies.{asked, was_answered, unless_answered, unanswered, request_instance, status_if, answering_hurried, answering_last}
 use Rattle.up_model.specs.declared.request.Answer.{Answer}
@@ -15,6 +16,8 @@ use Rattle.up_model.specs.Seen.{was_offered}
 use Rattle.up_model.specs.Predicates.{entries_if, or_else}
 use Rattle.up_model.specs.Values.{Bytes}
 use Rattle.up_model.specs.Work.{offer_work, instance_work, work_in, start_work, starts_work, answer_work, work}
+use Rattle.up_model.proofs.JobOffers.{stop_offer_in, offer_in, offer_first, first-by-jobs}
+use Rattle.up_model.proofs.FileLaws.{file_of-job, named-name}
 use Rattle.up_model.proofs.MoveLaws.{moves-few, Lessens, move-lessens}
 use Rattle.up_model.proofs.OfferLaws.{stop_offer-lessens, start_offer-lessens}
 use Rattle.up_model.proofs.Places.{count, all-counted}
@@ -22,36 +25,36 @@ use Rattle.up_model.proofs.Sparing.{IsOf, spared-offerings}
 
 -- entries about a job and an instance of it, by which no job's `start on` has more to be offered, and the instances and these jobs together
 -- have less work
-pub record Lowers (offers : Bool) (jobs : List JobDef) (c es : List Entry) : Type 0 where
+pub record Lowers (offers : Bool) (names : List Bytes) (c es : List Entry) : Type 0 where
   pub whose : Bytes
   pub place : ℕ
   pub of : AllByRecursion (IsOf whose place) es
   pub each : (k : Bytes) → start_work offers k (es ++ c) ≤ start_work offers k c
-  pub less : work_in offers (all_instances (es ++ c)) (es ++ c) + starts_work offers jobs (es ++ c) < work_in offers (all_instances c) c + starts_work offers jobs c
+  pub less : work_in offers (all_instances (es ++ c)) (es ++ c) + starts_work offers names (es ++ c) < work_in offers (all_instances c) c + starts_work offers names c
 
-no_more : (offers : Bool) (jobs : List JobDef) (c d : Chronicle) → ((k : Bytes) → start_work offers k d ≤ start_work offers k c)
-    → starts_work offers jobs d ≤ starts_work offers jobs c
+no_more : (offers : Bool) (names : List Bytes) (c d : Chronicle) → ((k : Bytes) → start_work offers k d ≤ start_work offers k c)
+    → starts_work offers names d ≤ starts_work offers names c
 no_more offers [] c d each = omega arith
-no_more offers (job ∷ jobs) c d each = let rest = no_more offers jobs c d each in omega (arith, each job.name, rest)
+no_more offers (name ∷ names) c d each = let rest = no_more offers names c d each in omega (arith, each name, rest)
 
 -- what leaves one job less to do lowers the work of the jobs from it on
-lowers-here : (offers : Bool) (job : JobDef) (jobs : List JobDef) (c es : List Entry) → Lessens offers job.name c es → Lowers offers (job ∷ jobs) c es
-lowers-here offers job jobs c es lessens = record {
-  whose = job.name;
+lowers-here : (offers : Bool) (name : Bytes) (names : List Bytes) (c es : List Entry) → Lessens offers name c es → Lowers offers (name ∷ names) c es
+lowers-here offers name names c es lessens = record {
+  whose = name;
   place = lessens.place;
   of = lessens.of;
   each = lessens.each;
-  less = let rest = no_more offers jobs c (es ++ c) lessens.each in omega (arith, lessens.less, rest);
+  less = let rest = no_more offers names c (es ++ c) lessens.each in omega (arith, lessens.less, rest);
 }
 
 -- and the work of the jobs from an earlier one on
-lowers-later : (offers : Bool) (job : JobDef) (jobs : List JobDef) (c es : List Entry) → Lowers offers jobs c es → Lowers offers (job ∷ jobs) c es
-lowers-later offers job jobs c es lowers = record {
+lowers-later : (offers : Bool) (name : Bytes) (names : List Bytes) (c es : List Entry) → Lowers offers names c es → Lowers offers (name ∷ names) c es
+lowers-later offers name names c es lowers = record {
   whose = lowers.whose;
   place = lowers.place;
   of = lowers.of;
   each = lowers.each;
-  less = omega (arith, lowers.each job.name, lowers.less);
+  less = omega (arith, lowers.each name, lowers.less);
 }
 
 -- the first of two lists in which there is anything has what both have if there is anything
@@ -70,21 +73,30 @@ weaker h (inl none) = inl none
 weaker h (inr p) = inr (h p)
 
 -- the first move among the instances of a job leaves it less to do
-move_in-lessens : (offers : Bool) (job : JobDef) (xs : List Instance) (c : Chronicle) → AllByRecursion (λ x. 0 < count x.place (instances_of job.name c)) xs
-    → (move_in job xs c ≡ []) ⊎ Lessens offers job.name c (move_in job xs c)
-move_in-lessens offers job [] c there = inl refl
-move_in-lessens offers job (x ∷ xs) c there =
-    or_else-either (Lessens offers job.name c) (move_of job x c) (move_in job xs c)
-    (entries_if-either (Lessens offers job.name c) (may_leave job x.place c) (move job x c) (λ may. move-lessens offers job x c there.0 may))
-    (move_in-lessens offers job xs c there.1)
+move_in-lessens : (offers : Bool) (config : Configuration) (name : Bytes) (xs : List Instance) (c : Chronicle) → AllByRecursion (λ x. file_of config x.place c ≡ job_named name config.jobs) xs
+    → AllByRecursion (λ x. 0 < count x.place (instances_of name c)) xs → (move_in config xs c ≡ []) ⊎ Lessens offers name c (move_in config xs c)
+move_in-lessens offers config name [] c files there = inl refl
+move_in-lessens offers config name (x ∷ xs) c files there =
+    or_else-either (Lessens offers name c) (move_by (file_of config x.place c) x c) (move_in config xs c) (by_file (job_named name config.jobs) refl)
+    (move_in-lessens offers config name xs c files.1 there.1)
+  where
+    by_file : (file : Option JobDef) → job_named name config.jobs ≡ file
+        → (move_by (file_of config x.place c) x c ≡ []) ⊎ Lessens offers name c (move_by (file_of config x.place c) x c)
+    by_file None none = rw (files.0 ∙ none) (inl refl)
+    by_file (Some job) found =
+        let same : job.name ≡ name = named-name name config.jobs job found in
+        let own : 0 < count x.place (instances_of job.name c) = subst (λ n. 0 < count x.place (instances_of n c)) (sym same) there.0 in
+        rw (files.0 ∙ found) (entries_if-either (Lessens offers name c) (may_leave job x.place c) (move job x c)
+        (λ may. subst (λ n. Lessens offers n c (move job x c)) same (move-lessens offers job x c own may)))
 
 -- so the first move lowers the work
-move_first-lowers : (offers : Bool) (jobs : List JobDef) (c : Chronicle) → (move_first jobs c ≡ []) ⊎ Lowers offers jobs c (move_first jobs c)
-move_first-lowers offers [] c = inl refl
-move_first-lowers offers (job ∷ jobs) c =
-    or_else-either (Lowers offers (job ∷ jobs) c) (move_in job (instances_of job.name c) c) (move_first jobs c)
-    (weaker (lowers-here offers job jobs c _) (move_in-lessens offers job (instances_of job.name c) c (all-counted (instances_of job.name c))))
-    (weaker (lowers-later offers job jobs c _) (move_first-lowers offers jobs c))
+move_first-lowers : (offers : Bool) (config : Configuration) (names : List Bytes) (c : Chronicle)
+    → (move_first config names c ≡ []) ⊎ Lowers offers names c (move_first config names c)
+move_first-lowers offers config [] c = inl refl
+move_first-lowers offers config (name ∷ names) c =
+    or_else-either (Lowers offers (name ∷ names) c) (move_in config (instances_of name c) c) (move_first config names c)
+    (weaker (lowers-here offers name names c _) (move_in-lessens offers config name (instances_of name c) c (file_of-job config name c) (all-counted (instances_of name c))))
+    (weaker (lowers-later offers name names c _) (move_first-lowers offers config names c))
 
 -- the first offer among the instances of a job leaves it less to do
 stop_offer_in-lessens : (config : Configuration) (job : JobDef) (xs : List Instance) (event : ℕ) (c : Chronicle)
@@ -109,17 +121,18 @@ offer_in-lessens config job event c =
     (entries_if-either (Lessens true job.name c) (not (was_offered (StartOn job.name) c)) (start_offer config job event c) (λ left. start_offer-lessens config job event c (not-false _ left)))
 
 -- so the first offer lowers the work
-offer_first-lowers : (config : Configuration) (jobs : List JobDef) (event : ℕ) (c : Chronicle) → (offer_first config jobs event c ≡ []) ⊎ Lowers true jobs c (offer_first config jobs event c)
+offer_first-lowers : (config : Configuration) (jobs : List JobDef) (event : ℕ) (c : Chronicle) → (offer_first config jobs event c ≡ []) ⊎ Lowers true (job_names jobs) c (offer_first config jobs event c)
 offer_first-lowers config [] event c = inl refl
 offer_first-lowers config (job ∷ jobs) event c =
-    or_else-either (Lowers true (job ∷ jobs) c) (offer_in config job event c) (offer_first config jobs event c)
-    (weaker (lowers-here true job jobs c _) (offer_in-lessens config job event c))
-    (weaker (lowers-later true job jobs c _) (offer_first-lowers config jobs event c))
+    or_else-either (Lowers true (job_names (job ∷ jobs)) c) (offer_in config job event c) (offer_first config jobs event c)
+    (weaker (lowers-here true job.name (job_names jobs) c _) (offer_in-lessens config job event c))
+    (weaker (lowers-later true job.name (job_names jobs) c _) (offer_first-lowers config jobs event c))
 
 -- if an event is offered
-offer_next-lowers : (config : Configuration) (event : Option ℕ) (c : Chronicle) → (offer_next config event c ≡ []) ⊎ Lowers (is_some event) config.jobs c (offer_next config event c)
+offer_next-lowers : (config : Configuration) (event : Option ℕ) (c : Chronicle) → (offer_next config event c ≡ []) ⊎ Lowers (is_some event) (names_in_order config c) c (offer_next config event c)
 offer_next-lowers config None c = inl refl
-offer_next-lowers config (Some event) c = offer_first-lowers config config.jobs event c
+offer_next-lowers config (Some event) c =
+    subst (λ es. (es ≡ []) ⊎ Lowers true (names_in_order config c) c es) (sym (first-by-jobs config event c)) (offer_first-lowers config config.jobs event c)
 
 -- an answer leaves no more to be answered
 less-answered : (o : Option ℕ) (request : ℕ) (answer : Answer) (c : Chronicle) → answer_work (unless_answered o (Replied request answer ∷ c)) ≤ answer_work (unless_answered o c)
@@ -156,12 +169,12 @@ abbrev Falls : Configuration → Chronicle → List Entry → Type 0
 Falls config c es = IsAbout es × (work config (es ++ c) < work config c)
 
 -- so moves and offers do
-lowers-falls : (config : Configuration) (c es : List Entry) → Lowers (is_some (offering c)) config.jobs c es → Falls config c es
+lowers-falls : (config : Configuration) (c es : List Entry) → Lowers (is_some (offering c)) (names_in_order config c) c es → Falls config c es
 unfolding work
 lowers-falls config c es lowers = (record { whose = lowers.whose; place = lowers.place; of = lowers.of }, omega (arith, same, lowers.less, answers))
   where
     total : Bool → Chronicle → ℕ
-    total offers d = work_in offers (all_instances d) d + starts_work offers config.jobs d
+    total offers d = work_in offers (all_instances d) d + starts_work offers (names_in_order config c) d
 
     same : total (is_some (offering (es ++ c))) (es ++ c) ≡ total (is_some (offering c)) (es ++ c)
     same = ap (λ event. total (is_some event) (es ++ c)) (spared-offerings lowers.whose lowers.place es c lowers.of)
@@ -174,9 +187,9 @@ works-replied : (offers : Bool) (xs : List Instance) (request : ℕ) (answer : A
 works-replied offers [] request answer c = refl
 works-replied offers (x ∷ xs) request answer c = ap (λ rest. instance_work offers x.place c + rest) (works-replied offers xs request answer c)
 
-starts-replied : (offers : Bool) (jobs : List JobDef) (request : ℕ) (answer : Answer) (c : Chronicle) → starts_work offers jobs (Replied request answer ∷ c) ≡ starts_work offers jobs c
+starts-replied : (offers : Bool) (names : List Bytes) (request : ℕ) (answer : Answer) (c : Chronicle) → starts_work offers names (Replied request answer ∷ c) ≡ starts_work offers names c
 starts-replied offers [] request answer c = refl
-starts-replied offers (job ∷ jobs) request answer c = ap (λ rest. start_work offers job.name c + rest) (starts-replied offers jobs request answer c)
+starts-replied offers (name ∷ names) request answer c = ap (λ rest. start_work offers name c + rest) (starts-replied offers names request answer c)
 
 -- the answer to this step's client leaves none to be answered
 last-falls : (config : Configuration) (c : Chronicle) → (answering_last c ≡ []) ⊎ Falls config c (answering_last c)
@@ -197,8 +210,8 @@ last-falls config c = by_request (asked c) refl
         works : work_in offers (all_instances c) (Replied request answer ∷ c) ≡ work_in offers (all_instances c) c
         works = works-replied offers (all_instances c) request answer c
 
-        starts : starts_work offers config.jobs (Replied request answer ∷ c) ≡ starts_work offers config.jobs c
-        starts = starts-replied offers config.jobs request answer c
+        starts : starts_work offers (names_in_order config c) (Replied request answer ∷ c) ≡ starts_work offers (names_in_order config c) c
+        starts = starts-replied offers (names_in_order config c) request answer c
 
         one : answer_work (unanswered c) ≡ 1
         one = ap (λ o. answer_work (unless_answered o c)) some ∙ ap (λ b. answer_work (if b then None else Some request)) unsaid
@@ -215,8 +228,8 @@ last-falls config c = by_request (asked c) refl
 due-falls : (config : Configuration) (c : Chronicle) → (due config c ≡ []) ⊎ Falls config c (due config c)
 unfolding due
 due-falls config c =
-    or_else-either (Falls config c) (move_first config.jobs c) (or_else (offer_next config (offering c) c) (answering_last c))
-    (weaker (lowers-falls config c (move_first config.jobs c)) (move_first-lowers (is_some (offering c)) config.jobs c))
+    or_else-either (Falls config c) (move_first config (names_in_order config c) c) (or_else (offer_next config (offering c) c) (answering_last c))
+    (weaker (lowers-falls config c (move_first config (names_in_order config c) c)) (move_first-lowers (is_some (offering c)) config (names_in_order config c) c))
     (or_else-either (Falls config c) (offer_next config (offering c) c) (answering_last c)
     (weaker (lowers-falls config c (offer_next config (offering c) c)) (offer_next-lowers config (offering c) c))
     (last-falls config c))
@@ -244,7 +257,7 @@ instances-bounded : (offers : Bool) (xs : List Instance) (c : Chronicle) → wor
 instances-bounded offers [] c = omega arith
 instances-bounded offers (x ∷ xs) c = omega (arith, instance-bounded offers x.place c, instances-bounded offers xs c)
 
-starts-bounded : (offers : Bool) (jobs : List JobDef) (c : Chronicle) → starts_work offers jobs c ≤ 6 * length jobs
+starts-bounded : (offers : Bool) (jobs : List JobDef) (c : Chronicle) → starts_work offers (job_names jobs) c ≤ 6 * length jobs
 starts-bounded offers [] c = omega arith
 starts-bounded offers (job ∷ jobs) c = omega (arith, offer-bounded offers (not (was_offered (StartOn job.name) c)), starts-bounded offers jobs c)
 

@@ -1,11 +1,8 @@
 -- What the laws say of what instances do: none does anything while its own starting or stopping event hasn't finished, and none has two
 -- main processes.
-use Rattle.std.specs.Prelude.{◌≡◌, ⊤, ℕ, false, ◌==◌, ◌&&◌, not, List, [], ◌∷◌, length, filter, Some, if◌then◌else◌}
-use Rattle.std.specs.List.{AllByRecursion}
-use Rattle.up_conf.specs.declared.job.JobDef.{JobDef}
+use Rattle.std.specs.Prelude.{◌≡◌, ⊤, ℕ, false, ◌==◌, ◌&&◌, not, List, [], ◌∷◌, length, filter, if◌then◌else◌}
 use Rattle.up_stanza.specs.declared.process.Process.TheVariants.{Main}
 use Rattle.up_model.specs.Chronicle.{Chronicle, Queued, Entering, Finished, Ordered, Signalled}
-use Rattle.up_model.specs.Configuration.{job_named}
 use Rattle.up_model.specs.Readings.{is_blocking, lives}
 
 -- the events of an instance's starting and stopping that haven't finished (starting(7), stopping(7))
@@ -23,10 +20,6 @@ IsPatient [] = ⊤
 IsPatient (Ordered instance process ∷ c) = (unfinished instance c ≡ []) × IsPatient c
 IsPatient (Signalled instance signal by_timer ∷ c) = (unfinished instance c ≡ []) × IsPatient c
 IsPatient (entry ∷ c) = IsPatient c
-
--- each of the jobs is the one that its name finds, as is so if no two have one name
-abbrev pub AreFound : List JobDef → Type 0
-AreFound jobs = AllByRecursion (λ job. job_named job.name jobs ≡ Some job) jobs
 
 -- an instance that ordered its main process had none that lived
 abbrev pub IsLone : Chronicle → Type 0

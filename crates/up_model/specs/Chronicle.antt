@@ -52,7 +52,7 @@ pub data Entry : Type 0 where
   Entered : (instance : ℕ) → (state : State) → Entry
   -- a process was ordered
   Ordered : (instance : ℕ) → (process : Process) → Entry
-  -- main got a signal, from the timer or on entering killed
+  -- main got a signal: from the timer, or else on entering killed or by a client's reload
   Signalled : (instance : ℕ) → (signal : ℕ) → (by_timer : Bool) → Entry
   -- a request was answered
   Replied : (request : ℕ) → (answer : Answer) → Entry

@@ -8,9 +8,12 @@ use Rattle.up_model.specs.declared.input.Input.TheVariants as input
 use Rattle.up_model.specs.declared.state.State.{State}
 use Rattle.up_model.specs.declared.state.State.TheVariants as state
 use Rattle.up_model.specs.Chronicle.{Chronicle, Entry, Given, Respawned, Entered, Signalled}
+use Rattle.up_model.specs.Configuration.{Configuration}
+use Rattle.up_model.specs.Files.{file_of}
 use Rattle.up_model.specs.Instances.{Instance, instances_of}
 use Rattle.up_model.specs.Readings.{state_of, lives}
 use Rattle.up_model.specs.Predicates.{entries_if}
+use Rattle.up_model.specs.Values.{Bytes}
 
 -- what the clock reads: the greatest reading so far, and 0 before the first
 abbrev pub now : Chronicle → ℕ
@@ -38,7 +41,8 @@ abbrev pub may_respawn : Limit → ℕ → Chronicle → Bool
 may_respawn limit instance c =
     is_unlimited limit || nat_lt (respawns instance (now c) (milliseconds limit.interval) c) limit.count
 
--- what the clock read when main was sent its signal on entering the last state, until the timer has sent KILL
+-- what the clock read when main was last sent a signal since the last state was entered, until the timer has sent KILL. In killed
+-- that is the signal on entering it: a client's reload signals in running alone.
 abbrev pub kill_moment : ℕ → Chronicle → Option ℕ
 kill_moment instance [] = None
 kill_moment instance (Entered other entered ∷ c) = if other == instance then None else kill_moment instance c
@@ -66,16 +70,21 @@ abbrev pub kill_due : JobDef → ℕ → Chronicle → Bool
 kill_due job instance c = is_dying instance c
     && has_passed (kill_moment instance c) (now c) (milliseconds job.kill_timeout)
 
--- the instances of a job of which that is so, in order
-abbrev pub overdue : JobDef → List Instance → Chronicle → List ℕ
-overdue job [] c = []
-overdue job (instance ∷ instances) c = entries_if (kill_due job instance.place c) (instance.place ∷ [])
-    ++ overdue job instances c
+abbrev pub kill_due_by : Option JobDef → ℕ → Chronicle → Bool
+kill_due_by None instance c = false
+kill_due_by (Some job) instance c = kill_due job instance c
 
--- those of all jobs
-abbrev pub all_overdue : List JobDef → Chronicle → List ℕ
-all_overdue [] c = []
-all_overdue (job ∷ jobs) c = overdue job (instances_of job.name c) c ++ all_overdue jobs c
+-- the instances of which that is so by their files, in order
+abbrev pub overdue : Configuration → List Instance → Chronicle → List ℕ
+overdue config [] c = []
+overdue config (instance ∷ instances) c =
+    entries_if (kill_due_by (file_of config instance.place c) instance.place c) (instance.place ∷ [])
+    ++ overdue config instances c
+
+-- those of the jobs of these names
+abbrev pub all_overdue : Configuration → (names : List Bytes) → Chronicle → List ℕ
+all_overdue config [] c = []
+all_overdue config (name ∷ names) c = overdue config (instances_of name c) c ++ all_overdue config names c
 
 -- the signal that no process can pass over (signal(7))
 abbrev pub kill : ℕ

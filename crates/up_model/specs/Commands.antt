@@ -1,23 +1,25 @@
 -- What each request does (initctl(8)). Its refusals are tried in the order in which they stand, and change nothing.
-use Rattle.std.specs.Prelude.{ℕ, nat_lt, Bool, true, false, List, [], ◌∷◌, ◌++◌, Option, None, Some, codes, if◌then◌else◌, length}
+use Rattle.std.specs.Prelude.{ℕ, nat_lt, Bool, true, false, ◌&&◌, List, [], ◌∷◌, ◌++◌, Option, None, Some, codes, if◌then◌else◌, length}
 use Rattle.up_model.specs.declared.limits.TheConstants.{MAX_EVENTS}
 use Rattle.up_conf.specs.declared.job.JobDef.{JobDef}
 use Rattle.up_text.specs.Bindings.{set_all}
 use Rattle.up_text.specs.Expansion.{Expansion, Expands, Lacks, Malformed, expand}
 use Rattle.up_text.specs.Scripts.{is_filled}
+use Rattle.up_stanza.specs.declared.process.Process.TheVariants.{Main}
 use Rattle.up_model.specs.declared.request.Command.{Command}
 use Rattle.up_model.specs.declared.request.Command.TheVariants as command
 use Rattle.up_model.specs.declared.state.State.{State}
 use Rattle.up_model.specs.declared.state.State.TheVariants as state
 use Rattle.up_model.specs.declared.who.Who.{Who}
-use Rattle.up_model.specs.Chronicle.{Chronicle, Entry, Queued, Restarted, Replied, Outside}
-use Rattle.up_model.specs.Configuration.{Configuration, job_named}
-use Rattle.up_model.specs.Environments.{env_of_job}
+use Rattle.up_model.specs.Chronicle.{Chronicle, Entry, Queued, Restarted, Signalled, Replied, Outside}
+use Rattle.up_model.specs.Configuration.{Configuration}
+use Rattle.up_model.specs.Environments.{env_of_job, start_base}
 use Rattle.up_model.specs.Events.{with_instance}
+use Rattle.up_model.specs.Files.{file_in_force, own_file, names_in_order}
 use Rattle.up_model.specs.Instances.{Instance, instances_of, instance_named}
 use Rattle.up_model.specs.Offers.{max_instances, start_of, stop_of}
 use Rattle.up_model.specs.Queue.{queue}
-use Rattle.up_model.specs.Readings.{goal, state_of}
+use Rattle.up_model.specs.Readings.{goal, state_of, lives}
 use Rattle.up_model.specs.Replies.{status_of, releasing}
 use Rattle.up_model.specs.Requests.{RequestValue, not_supported}
 use Rattle.up_model.specs.Status.{who_name}
@@ -40,24 +42,26 @@ pub data Target : Type 0 where
   -- an instance of a job that there may be, and the environment that a start would give it
   Concerns : (job : JobDef) → (who : Who) → (environment : Bindings) → Target
 
-abbrev pub target_as : JobDef → Bindings → Expansion → Target
-target_as job environment (Expands name) =
-    Concerns job (record { job = job.name; instance = name }) environment
-target_as job environment (Lacks key) = Nobody (codes "Unknown parameter: " ++ key)
-target_as job environment Malformed = Nobody (codes "Unknown parameter: " ++ job.instance)
+-- the environment of a start by a request: that of the instance's file, and the request's variables (init(5), "Job environment")
+abbrev pub target_as : Configuration → JobDef → (vars : Bindings) → Expansion → Chronicle → Target
+target_as config job vars (Expands name) c =
+    let who : Who = record { job = job.name; instance = name } in
+    Concerns job who (set_all (start_base config who c) vars)
+target_as config job vars (Lacks key) c = Nobody (codes "Unknown parameter: " ++ key)
+target_as config job vars Malformed c = Nobody (codes "Unknown parameter: " ++ job.instance)
 
--- the environment of a start by a request: that of the job, and the request's variables (init(5), "Job environment")
+-- the environment by which an instance's name expands: that of the job's file in force, and the request's variables
 abbrev pub request_env : Configuration → JobDef → (vars : Bindings) → Bindings
 request_env config job vars = set_all (env_of_job config job.name) vars
 
-abbrev pub target_in : Configuration → (name : Bytes) → Option JobDef → (vars : Bindings) → Target
-target_in config name None vars = Nobody (codes "Unknown job: " ++ name)
-target_in config name (Some job) vars =
-    target_as job (request_env config job vars) (expand job.instance (request_env config job vars))
+abbrev pub target_in : Configuration → (name : Bytes) → Option JobDef → (vars : Bindings) → Chronicle → Target
+target_in config name None vars c = Nobody (codes "Unknown job: " ++ name)
+target_in config name (Some job) vars c =
+    target_as config job vars (expand job.instance (request_env config job vars)) c
 
 -- the job of this name, and the instance whose name these variables give
-abbrev pub target_of : Configuration → (name : Bytes) → (vars : Bindings) → Target
-target_of config name vars = target_in config name (job_named name config.jobs) vars
+abbrev pub target_of : Configuration → (name : Bytes) → (vars : Bindings) → Chronicle → Target
+target_of config name vars c = target_in config name (file_in_force config name c) vars c
 
 -- a refusal that names an instance
 abbrev pub refusal : Bytes → Who → Outcome
@@ -104,6 +108,25 @@ abbrev pub restart : (holders : List ℕ) → Target → Chronicle → Outcome
 restart holders (Nobody text) c = Refused text
 restart holders (Concerns job who environment) c = restart_at holders who (instance_named who c) c
 
+-- main gets a signal, and then the client its reply
+abbrev pub reloading : (given : ℕ) → (instance signal : ℕ) → List Entry
+reloading given instance signal =
+    Replied given (record { ok = true; text = [] }) ∷ Signalled instance signal false ∷ []
+
+-- `reload`: main of an instance that runs gets its file's reload signal, if it lives
+abbrev pub reload_at : (given : ℕ) → Option JobDef → Who → Option ℕ → Chronicle → Outcome
+reload_at given file who None c = refusal (codes "Unknown instance: ") who
+reload_at given None who (Some instance) c = refusal (codes "Unknown instance: ") who
+reload_at given (Some job) who (Some instance) c =
+    if is_running (state_of instance c) && lives instance Main c
+    then Done (reloading given instance job.reload_signal)
+    else refusal (codes "Job is not running: ") who
+
+abbrev pub reload : Configuration → (given : ℕ) → Target → Chronicle → Outcome
+reload config given (Nobody text) c = Refused text
+reload config given (Concerns job who environment) c =
+    reload_at given (own_file config who c) who (instance_named who c) c
+
 -- the status text of a job without an instance
 abbrev pub stopped_text : (job : Bytes) → Bytes
 stopped_text job = job ++ codes " stop/waiting"
@@ -128,9 +151,9 @@ abbrev pub job_lines : (job : Bytes) → List Instance → Chronicle → List By
 job_lines job [] c = stopped_text job ∷ []
 job_lines job (instance ∷ instances) c = statuses (instance ∷ instances) c
 
-abbrev pub list_lines : List JobDef → Chronicle → List Bytes
+abbrev pub list_lines : (names : List Bytes) → Chronicle → List Bytes
 list_lines [] c = []
-list_lines (job ∷ jobs) c = job_lines job.name (instances_of job.name c) c ++ list_lines jobs c
+list_lines (name ∷ names) c = job_lines name (instances_of name c) c ++ list_lines names c
 
 -- further lines, each after a line end
 abbrev pub more_lines : List Bytes → Bytes
@@ -143,7 +166,7 @@ joined_lines (line ∷ lines) = line ++ more_lines lines
 
 -- `list`: a line for each instance, and for each job without one, job by job
 abbrev pub listing : Configuration → Chronicle → Bytes
-listing config c = joined_lines (list_lines config.jobs c)
+listing config c = joined_lines (list_lines (names_in_order config c) c)
 
 -- how many events may be in the queue before one more is refused to a client
 abbrev pub max_events : ℕ
@@ -168,16 +191,17 @@ holders_of given false = []
 -- what comes of a request that is given at a place
 abbrev pub outcome_by : Command → Configuration → (given : ℕ) → RequestValue → Chronicle → Outcome
 outcome_by command.Start config given request c =
-    start (holders_of given request.wait) (target_of config request.name request.vars) c
+    start (holders_of given request.wait) (target_of config request.name request.vars c) c
 outcome_by command.Stop config given request c =
-    stop (holders_of given request.wait) request.vars (target_of config request.name request.vars) c
+    stop (holders_of given request.wait) request.vars (target_of config request.name request.vars c) c
 outcome_by command.Restart config given request c =
-    restart (holders_of given request.wait) (target_of config request.name request.vars) c
-outcome_by command.Status config given request c = status (target_of config request.name request.vars) c
+    restart (holders_of given request.wait) (target_of config request.name request.vars c) c
+outcome_by command.Status config given request c = status (target_of config request.name request.vars c) c
 outcome_by command.List config given request c = Told (listing config c)
 outcome_by command.Emit config given request c = emit given request c
 outcome_by command.Version config given request c = Told version_text
-outcome_by command.Reload config given request c = Refused (not_supported command.Reload)
+outcome_by command.Reload config given request c =
+    reload config given (target_of config request.name request.vars c) c
 outcome_by command.ReloadConfiguration config given request c =
     Refused (not_supported command.ReloadConfiguration)
 

@@ -8,11 +8,13 @@ use Rattle.up_model.specs.declared.failure.End.TheVariants as end
 use Rattle.up_model.specs.declared.event.Event.{Event}
 use Rattle.up_model.specs.declared.input.Input.{Input}
 use Rattle.up_model.specs.declared.input.Input.TheVariants as input
+use Rattle.up_model.specs.declared.who.Who.{Who}
 use Rattle.up_model.specs.Chronicle.{Chronicle, Entry, Given, Queued, Handled, Finished, Outside, Spoilt}
 use Rattle.up_model.specs.Clock.{all_overdue, killing}
 use Rattle.up_model.specs.Commands.{outcome_of, entries_of}
-use Rattle.up_model.specs.Configuration.{Configuration, job_named}
+use Rattle.up_model.specs.Configuration.{Configuration}
 use Rattle.up_model.specs.Events.{failure_of_event}
+use Rattle.up_model.specs.Files.{own_file, names_in_order}
 use Rattle.up_model.specs.Held.{is_held, is_spoilt}
 use Rattle.up_model.specs.Instances.{instance_named}
 use Rattle.up_model.specs.Judgement.{verdict_on_end, carry_out}
@@ -27,14 +29,19 @@ use Rattle.up_model.specs.Predicates.{or_else}
 -- the client is answered that asked for this step and doesn't wait
 unfoldable pub due : Configuration → Chronicle → List Entry
 due config c =
-    or_else (move_first config.jobs c) (or_else (offer_next config (offering c) c) (answering_last c))
+    or_else (move_first config (names_in_order config c) c)
+    (or_else (offer_next config (offering c) c) (answering_last c))
 
--- what the end or the refusal of a process does, if its job is there and its instance exists
+-- what the end or the refusal of a process does to an instance, if there is one, by its file
 abbrev pub end_of : Option JobDef → Option ℕ → Process → End → Chronicle → List Entry
 end_of None instance process end c = []
 end_of (Some job) None process end c = []
 end_of (Some job) (Some instance) process end c =
     carry_out instance (verdict_on_end job instance process end c) c
+
+-- the same of an instance that is known outside by these names
+abbrev pub end_by : Configuration → Who → Process → End → Chronicle → List Entry
+end_by config who process end c = end_of (own_file config who c) (instance_named who c) process end c
 
 -- the event of a turn: the oldest that is unhandled, or handled and not held
 abbrev pub turn_event : Configuration → List Live → Chronicle → Option Live
@@ -72,13 +79,12 @@ effect config (input.Request id request) c =
 effect config (input.Spawned who process pid) c = Given (input.Spawned who process pid) ∷ []
 effect config (input.Refused who process) c =
     let d = Given (input.Refused who process) ∷ c in
-    end_of (job_named who.job config.jobs) (instance_named who c) process end.Refused d
-    ++ Given (input.Refused who process) ∷ []
+    end_by config who process end.Refused d ++ Given (input.Refused who process) ∷ []
 effect config (input.Ended who process how) c =
     let d = Given (input.Ended who process how) ∷ c in
-    end_of (job_named who.job config.jobs) (instance_named who c) process (end.Ended how) d
-    ++ Given (input.Ended who process how) ∷ []
+    end_by config who process (end.Ended how) d ++ Given (input.Ended who process how) ∷ []
 effect config (input.Clock reading) c =
-    killing (all_overdue config.jobs (Given (input.Clock reading) ∷ c)) ++ Given (input.Clock reading) ∷ []
+    let d = Given (input.Clock reading) ∷ c in
+    killing (all_overdue config (names_in_order config d) d) ++ Given (input.Clock reading) ∷ []
 effect config input.Turn c = turn_of (turn_event config (queue c) c) (Given input.Turn ∷ c)
     ++ Given input.Turn ∷ []

@@ -4,7 +4,10 @@ use Rattle.up_conf.specs.declared.job.JobDef.{JobDef}
 use Rattle.up_stanza.specs.declared.setting.Setting.{Setting}
 use Rattle.up_text.specs.Bindings.{value_of, set_in}
 use Rattle.up_text.specs.Expansion.{Expansion, Expands, Lacks, Malformed, expand}
+use Rattle.up_model.specs.declared.who.Who.{Who}
+use Rattle.up_model.specs.Chronicle.{Chronicle}
 use Rattle.up_model.specs.Configuration.{Configuration, job_named}
+use Rattle.up_model.specs.Files.{start_file}
 use Rattle.up_model.specs.Values.{Bytes, Bindings}
 
 -- the value that a setting gives its key: its own, or that of the base, if the base has one (init(5), "env")
@@ -34,6 +37,10 @@ env_by_job base (Some job) = job_env base job
 -- the same by the job's name
 abbrev pub env_of_job : Configuration → Bytes → Bindings
 env_of_job config name = env_by_job config.base (job_named name config.jobs)
+
+-- the environment of an instance's file, by which it starts: that is to which a start adds
+abbrev pub start_base : Configuration → Who → Chronicle → Bindings
+start_base config who c = env_by_job config.base (start_file config who c)
 
 abbrev pub text_of : Expansion → Option Bytes
 text_of (Expands text) = Some text

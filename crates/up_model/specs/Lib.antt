@@ -4,8 +4,6 @@ pub mod Values
 pub mod Signals
 -- What a run stands on.
 pub mod Configuration
--- The environment of a job, and which instance a start by it concerns (init(5), "Job environment" and "instance").
-pub mod Environments
 -- The chronicle.
 pub mod Chronicle
 -- Tests on the values of a run, which compute.
@@ -14,6 +12,10 @@ pub mod Predicates
 pub mod Readings
 -- The instances that exist.
 pub mod Instances
+-- Which job file a name and an instance go by.
+pub mod Files
+-- The environment of a job, and which instance a start by it concerns (init(5), "Job environment" and "instance").
+pub mod Environments
 -- The clock, and what depends on it.
 pub mod Clock
 -- The queue of events, oldest first (starting(7), stopping(7)).

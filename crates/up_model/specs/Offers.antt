@@ -3,12 +3,14 @@
 use Rattle.std.specs.Prelude.{ℕ, nat_lt, Bool, true, false, not, ◌||◌, ◌==◌, List, [], ◌∷◌, ◌++◌, Option, None, Some, if◌then◌else◌, length}
 use Rattle.up_model.specs.declared.limits.TheConstants.{MAX_INSTANCES}
 use Rattle.up_conf.specs.declared.job.JobDef.{JobDef}
+use Rattle.up_model.specs.declared.event.Event.{Event}
 use Rattle.up_model.specs.declared.state.Goal.TheVariants.{Start, Stop}
 use Rattle.up_model.specs.declared.who.Who.{Who}
 use Rattle.up_model.specs.Chronicle.{Chronicle, Entry, Given, Handled, Offered, Fired, Made, Aimed, StartOn, StopOn}
 use Rattle.up_model.specs.Configuration.{Configuration}
-use Rattle.up_model.specs.Environments.{env_of_job, instance_name}
+use Rattle.up_model.specs.Environments.{env_of_job, start_base, instance_name}
 use Rattle.up_model.specs.Events.{events_at, events_env, with_instance, stopped_by}
+use Rattle.up_model.specs.Files.{file_in_force, file_of, names_in_order}
 use Rattle.up_model.specs.Instances.{Instance, instances_of, instance_named}
 use Rattle.up_model.specs.Readings.{goal}
 use Rattle.up_model.specs.Replies.{releasing}
@@ -42,16 +44,21 @@ stop_offer config job instance event c =
     ++ Fired (StopOn instance) events ∷ [])
     ++ Offered (StopOn instance) event ∷ []
 
+abbrev pub stop_offer_by : Configuration → Option JobDef → ℕ → (event : ℕ) → Chronicle → List Entry
+stop_offer_by config None instance event c = []
+stop_offer_by config (Some job) instance event c = stop_offer config job instance event c
+
 -- whether an instance's `stop on` is still to be offered the event of this step: an instance that it made isn't offered it
 abbrev pub is_open : ℕ → Chronicle → Bool
 is_open instance c = not (is_newborn instance c || was_offered (StopOn instance) c)
 
--- the event is offered to the `stop on` of the first of a job's instances that it is still to be offered to
-abbrev pub stop_offer_in : Configuration → JobDef → List Instance → (event : ℕ) → Chronicle → List Entry
-stop_offer_in config job [] event c = []
-stop_offer_in config job (instance ∷ instances) event c =
-    or_else (entries_if (is_open instance.place c) (stop_offer config job instance.place event c))
-    (stop_offer_in config job instances event c)
+-- the event is offered to the `stop on`, by its file, of the first of these instances that it is still to be offered to
+abbrev pub stop_offer_in : Configuration → List Instance → (event : ℕ) → Chronicle → List Entry
+stop_offer_in config [] event c = []
+stop_offer_in config (instance ∷ instances) event c =
+    let file = file_of config instance.place c in
+    or_else (entries_if (is_open instance.place c) (stop_offer_by config file instance.place event c))
+    (stop_offer_in config instances event c)
 
 -- how many instances a job may have
 abbrev pub max_instances : ℕ
@@ -77,11 +84,18 @@ start_who environment holders None c = []
 start_who environment holders (Some who) c =
     start_of who (with_instance who environment) holders (instance_named who c) c
 
--- a start by events that the job's expression took
+-- the environment of a start by these events
+abbrev pub start_env : Configuration → Option Who → List Event → Chronicle → Bindings
+start_env config None events c = []
+start_env config (Some who) events c = events_env (start_base config who c) events
+
+-- a start by events that the job's expression took: the instance's name expands by the job's file in force
 abbrev pub start_by : Configuration → JobDef → List ℕ → Chronicle → List Entry
 start_by config job events c =
-    let environment = events_env (env_of_job config job.name) (events_at events c) in
-    start_who environment events (who_called job.name (instance_name job environment)) c
+    let those = events_at events c in
+    let name = instance_name job (events_env (env_of_job config job.name) those) in
+    let who = who_called job.name name in
+    start_who (start_env config who those c) events who c
 
 -- a job's `start on` is offered the event, and fires if it is true then
 abbrev pub start_offer : Configuration → JobDef → (event : ℕ) → Chronicle → List Entry
@@ -94,18 +108,23 @@ start_offer config job event c =
     (start_by config job events fired ++ Fired (StartOn job.name) events ∷ [])
     ++ Offered (StartOn job.name) event ∷ []
 
--- the event is offered to the first expression of a job that it is still to be offered to: of each instance the `stop on`, then the
--- job's `start on`
-abbrev pub offer_in : Configuration → JobDef → (event : ℕ) → Chronicle → List Entry
-offer_in config job event c =
-    or_else (stop_offer_in config job (instances_of job.name c) event c)
-    (entries_if (not (was_offered (StartOn job.name) c)) (start_offer config job event c))
+abbrev pub start_offer_by : Configuration → Option JobDef → (event : ℕ) → Chronicle → List Entry
+start_offer_by config None event c = []
+start_offer_by config (Some job) event c = start_offer config job event c
 
--- the same, job by job
-abbrev pub offer_first : Configuration → List JobDef → (event : ℕ) → Chronicle → List Entry
+-- the event is offered to the first expression of a job that it is still to be offered to: of each instance the `stop on`, then the
+-- `start on` of the job's file in force
+abbrev pub offer_in : Configuration → (name : Bytes) → (event : ℕ) → Chronicle → List Entry
+offer_in config name event c =
+    or_else (stop_offer_in config (instances_of name c) event c)
+    (entries_if (not (was_offered (StartOn name) c))
+    (start_offer_by config (file_in_force config name c) event c))
+
+-- the same of the jobs of these names
+abbrev pub offer_first : Configuration → (names : List Bytes) → (event : ℕ) → Chronicle → List Entry
 offer_first config [] event c = []
-offer_first config (job ∷ jobs) event c =
-    or_else (offer_in config job event c) (offer_first config jobs event c)
+offer_first config (name ∷ names) event c =
+    or_else (offer_in config name event c) (offer_first config names event c)
 
 -- the event that this step handles
 abbrev pub offering : Chronicle → Option ℕ
@@ -117,4 +136,4 @@ offering (entry ∷ c) = offering c
 -- what is left to be offered of the event that this step handles
 abbrev pub offer_next : Configuration → Option ℕ → Chronicle → List Entry
 offer_next config None c = []
-offer_next config (Some event) c = offer_first config config.jobs event c
+offer_next config (Some event) c = offer_first config (names_in_order config c) event c

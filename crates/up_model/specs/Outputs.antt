@@ -10,7 +10,8 @@ use Rattle.up_model.specs.declared.output.Output.TheVariants as output
 use Rattle.up_model.specs.declared.request.Answer.{Answer}
 use Rattle.up_model.specs.declared.who.Who.{Who}
 use Rattle.up_model.specs.Chronicle.{Chronicle, Given, Queued, Ordered, Signalled, Replied, Entering, Spoilt}
-use Rattle.up_model.specs.Configuration.{Configuration, job_named}
+use Rattle.up_model.specs.Configuration.{Configuration}
+use Rattle.up_model.specs.Files.{file_of}
 use Rattle.up_model.specs.Moves.{action_of}
 use Rattle.up_model.specs.Readings.{made_at, id_at, process_env, pid_of}
 use Rattle.up_model.specs.Values.{Bytes, Bindings}
@@ -39,15 +40,15 @@ order_for job who its (Some action) environment =
       env = environment;
     }) ∷ []
 
--- the order for a process of an instance, by its job
-abbrev pub order_by : Option JobDef → Who → Process → Bindings → List Output
+abbrev pub order_by : Option JobDef → Option Who → Process → Bindings → List Output
 order_by None who its environment = []
-order_by (Some job) who its environment = order_for job who its (action_of job its) environment
+order_by (Some job) None its environment = []
+order_by (Some job) (Some who) its environment = order_for job who its (action_of job its) environment
 
--- the order for a process of the instance that was made at a place
-abbrev pub order_of : Configuration → Option Who → Process → Bindings → List Output
-order_of config None its environment = []
-order_of config (Some who) its environment = order_by (job_named who.job config.jobs) who its environment
+-- the order for a process of the instance that was made at a place, by its file
+abbrev pub order_of : Configuration → (instance : ℕ) → Process → Chronicle → List Output
+order_of config instance its c =
+    order_by (file_of config instance c) (made_at instance c) its (process_env instance its c)
 
 -- a signal to a process, if it lives
 abbrev pub signal_of : Option Who → (signal : ℕ) → Option ℕ → List Output
@@ -65,7 +66,7 @@ unfoldable pub outputs_of : Configuration → Chronicle → List Output
 outputs_of config [] = []
 outputs_of config (Given input ∷ c) = []
 outputs_of config (Ordered instance its ∷ c) =
-    outputs_of config c ++ order_of config (made_at instance c) its (process_env instance its c)
+    outputs_of config c ++ order_of config instance its c
 outputs_of config (Signalled instance signal by_timer ∷ c) =
     outputs_of config c ++ signal_of (made_at instance c) signal (pid_of instance Main c)
 outputs_of config (Queued (Entering instance state) event ∷ c) =

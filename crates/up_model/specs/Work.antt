@@ -1,6 +1,5 @@
 -- How often something can still be due, and doing it so often.
 use Rattle.std.specs.Prelude.{ℕ, zero, suc, ◌+◌, Bool, true, false, not, List, [], ◌∷◌, ◌++◌, if◌then◌else◌, Option, None, Some, is_some}
-use Rattle.up_conf.specs.declared.job.JobDef.{JobDef}
 use Rattle.up_model.specs.declared.state.Goal.{Goal}
 use Rattle.up_model.specs.declared.state.Goal.TheVariants.{Start, Stop}
 use Rattle.up_model.specs.declared.state.State.{State}
@@ -8,6 +7,7 @@ use Rattle.up_model.specs.declared.state.State.TheVariants.{Waiting, Starting, P
 use Rattle.up_model.specs.Chronicle.{Chronicle, StartOn}
 use Rattle.up_model.specs.Configuration.{Configuration}
 use Rattle.up_model.specs.Due.{due}
+use Rattle.up_model.specs.Files.{names_in_order}
 use Rattle.up_model.specs.Instances.{Instance, all_instances}
 use Rattle.up_model.specs.Offers.{is_open, offering}
 use Rattle.up_model.specs.Readings.{goal, state_of, blocker}
@@ -59,9 +59,9 @@ work_in offers (instance ∷ instances) c = instance_work offers instance.place 
 abbrev pub start_work : Bool → Bytes → Chronicle → ℕ
 start_work offers job c = offer_work offers (not (was_offered (StartOn job) c))
 
-abbrev pub starts_work : Bool → List JobDef → Chronicle → ℕ
+abbrev pub starts_work : Bool → (names : List Bytes) → Chronicle → ℕ
 starts_work offers [] c = 0
-starts_work offers (job ∷ jobs) c = start_work offers job.name c + starts_work offers jobs c
+starts_work offers (name ∷ names) c = start_work offers name c + starts_work offers names c
 
 -- the answer to a client that doesn't wait
 abbrev pub answer_work : Option ℕ → ℕ
@@ -72,7 +72,7 @@ answer_work (Some request) = 1
 unfoldable pub work : Configuration → Chronicle → ℕ
 work config c =
     work_in (is_some (offering c)) (all_instances c) c + starts_work
-    (is_some (offering c)) config.jobs c + answer_work (unanswered c)
+    (is_some (offering c)) (names_in_order config c) c + answer_work (unanswered c)
 
 -- what is due is done, so many times
 unfoldable pub settle : ℕ → Configuration → Chronicle → Chronicle

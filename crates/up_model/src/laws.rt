@@ -1,7 +1,7 @@
 //! Laws: what holds of the names of commands, and of every run, whatever the jobs are and whatever is given.
 ghost use Rattle.std.specs.Prelude.{ℕ, ◌≡◌, ◌≤◌, true, length, List, [], Some};
 ghost use Rattle.up_model.specs.Answers.{after, after_all};
-ghost use Rattle.up_model.specs.Blocks.{AreFound, IsLone, IsPatient};
+ghost use Rattle.up_model.specs.Blocks.{IsLone, IsPatient};
 ghost use Rattle.up_model.specs.Chronicle.{Chronicle};
 ghost use Rattle.up_model.specs.Configuration.{Configuration};
 ghost use Rattle.up_model.specs.Due.{due};
@@ -57,11 +57,9 @@ pub fn blocks()
     ensures { (config : Configuration) (inputs : List Input) → IsPatient (after_all config [] inputs) }
 {}
 
-/// An instance doesn't order its main process while that lives, if each job is the one that its name finds. (Of two jobs with one name,
-/// one with a main process and one without, an instance could get a second.)
+/// An instance doesn't order its main process while that lives.
 pub fn one_main()
-    ensures { (config : Configuration) (inputs : List Input) → AreFound config.jobs
-        → IsLone (after_all config [] inputs) }
+    ensures { (config : Configuration) (inputs : List Input) → IsLone (after_all config [] inputs) }
 {}
 
 /// The processes that the instances may still order before they wait for an event become fewer by at least those that a step orders, whatever

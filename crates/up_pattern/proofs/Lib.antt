@@ -1,4 +1,5 @@
 pub mod ItemReading
+pub mod Lone
 pub mod Matches
 pub mod PatternLaws
 pub mod Segments

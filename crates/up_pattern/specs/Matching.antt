@@ -1,5 +1,5 @@
 -- What the parts of the matching give.
-use Rattle.std.specs.Prelude.{◌≡◌, ℕ, ◌+◌, ◌-◌, ◌<◌, ◌≤◌, ◌==◌, Bool, true, false, ◌&&◌, ◌||◌, not, if◌then◌else◌, List, [], ◌∷◌, length, drop, map, slice_get, Option, Some}
+use Rattle.std.specs.Prelude.{◌≡◌, ℕ, ◌+◌, ◌-◌, ◌<◌, ◌≤◌, ◌==◌, Bool, true, false, ◌&&◌, ◌||◌, not, if◌then◌else◌, List, [], ◌∷◌, length, drop, map, slice_get, slice_index, Option, Some}
 use Rattle.std.specs.List.{list_any}
 use Rattle.up_pattern.specs.declared.pattern.Symbol.{Symbol}
 use Rattle.up_pattern.specs.declared.pattern.Symbol.TheVariants.{Bare, Escaped, Trailing}
@@ -145,6 +145,19 @@ pub record Takes (items : List Item) (bytes : List ℕ) (later : List Item) (lef
   pub shorter : length left ≤ length bytes
   pub needs : (others : List ℕ) → items_match items others ≡ true
       → items_match later (drop (length bytes - length left) others) ≡ true
+
+-- a byte of a text that is an item by itself, of one byte: no star, opening bracket or backslash
+abbrev pub is_lone : ℕ → Bool
+is_lone byte = not (byte == 42 || (byte == 91 || byte == 92))
+
+-- whether a byte of a text is such an item, and admits the other
+abbrev pub admits_lone : ℕ → ℕ → Bool
+admits_lone byte other = is_lone byte && admits_byte (lone_item (Bare byte)) other
+
+-- so many bytes of a text, from the first on, are such items and admit the bytes at their places
+abbrev pub AdmitLone : ℕ → List ℕ → List ℕ → Type 0
+AdmitLone count text bytes = (place : ℕ) → place < count
+    → admits_lone (slice_index text place) (slice_index bytes place) ≡ true
 
 -- items take one byte each, up to a run of any bytes: after it these items and these bytes are left
 pub record Leads (items : List Item) (bytes : List ℕ) (later : List Item) (left : List ℕ) : Type 0 where

@@ -4,7 +4,7 @@ ghost use Rattle.std.specs.Option.{ForSome};
 ghost use Rattle.up_pattern.specs.declared.pattern.Symbol.TheVariants.{Bare};
 ghost use Rattle.up_pattern.specs.Pattern.{symbols, is_bare, is_class_mark, is_not, is_open, is_close, byte_of, body, inner, ranges, is_among, lone_item, set_item, more, all_items, admits_byte, is_class, supported, glob};
 ghost use Rattle.up_pattern.specs.Lists.{begins};
-ghost use Rattle.up_pattern.specs.Matching.{First, Kept, items_match, EndsSo, IsFlat, MeansItem, RunGives, SearchGives, Settled, IsEnd, Knows, TakesNone, TakesOne, range_end, item_of_part, is_run, star_from, unclosed_width};
+ghost use Rattle.up_pattern.specs.Matching.{First, Kept, AdmitLone, admits_lone, items_match, EndsSo, IsFlat, MeansItem, RunGives, SearchGives, Settled, IsEnd, Knows, TakesNone, TakesOne, range_end, item_of_part, is_run, star_from, unclosed_width};
 
 pub mod laws;
 
@@ -501,7 +501,30 @@ fn take_byte<'a, 'b>(
     }
 }
 
-// Takes one byte for each item up to a run of any bytes.
+// Whether this byte of a text is an item by itself, of one byte, that admits the other.
+fn admits_lone(byte: u8, other: u8) -> bool
+    ensures { result ≡ admits_lone byte other }
+{
+    byte == b'?' || (byte == other && byte != b'*' && byte != b'[' && byte != b'\\')
+}
+
+// How many bytes of the text, from the first on, are items by themselves and admit the bytes at their places. To compare them takes far
+// less time than to read one item after another. How many are found changes how long a match takes, never its answer.
+fn lone_length(text: &[u8], bytes: &[u8]) -> usize
+    ensures text { result ≤ length text.now }
+    ensures bytes { result ≤ length bytes.now }
+    ensures admits { AdmitLone result text.now bytes.now }
+{
+    let both = text.len().min(bytes.len());
+    'places: for index in 0..both {
+        if !admits_lone(text[index], bytes[index]) {
+            return index;
+        }
+    }
+    both
+}
+
+// Takes one byte for each item up to a run of any bytes. After an item that was read, those that are bytes by themselves are compared at once.
 #[tactic(auto, using(crate::proofs::Matches::takings))]
 fn take_items<'a, 'b>(
     memo: &mut Option<Memo<'a>>,
@@ -526,8 +549,10 @@ fn take_items<'a, 'b>(
             Some(beyond) => left = beyond,
             None => return Outcome::Fails,
         }
-        rest = reading.rest;
-        index += 1;
+        let lone = lone_length(reading.rest, left);
+        rest = reading.rest.split_at(lone).1;
+        left = left.split_at(lone).1;
+        index = index + 1 + lone;
     }
     if left.is_empty() {
         Outcome::Matches

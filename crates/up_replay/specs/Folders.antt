@@ -17,6 +17,8 @@ use Rattle.up_image.specs.Image.{has_image}
 use Rattle.up_image.specs.Refusals as refusal
 use Rattle.up_image.specs.declared.image_error.ImageError.{ImageError}
 use Rattle.up_image.specs.ImageErrors as image_error
+use Rattle.up_advice.specs.Advice.{advice_lines}
+use Rattle.up_advice.specs.Graph.{graph_of}
 use Rattle.up_replay.specs.declared.printed.Printed.{Printed}
 
 -- the line of a fault
@@ -66,6 +68,28 @@ check_output (Ok made) = prints (flat_map fault_line made.1 ++ count_line (lengt
     (status_of made.1)
 check_output (Err error) = prints (refusal_line error) Unusable
 
+-- what is printed of faults: below the line of each what is said of it
+abbrev pub Explains : List File → List Fault → List ℕ → Type 0
+Explains files [] text = text ≡ []
+Explains files (fault ∷ report) text = (said : List ℕ) × (rest : List ℕ)
+    × Explains files report rest × (text ≡ fault_line fault ++ advice_lines said files fault ++ rest)
+
+-- what a check prints that explains the faults
+abbrev pub ExplainsOutcome : List File → Printed → Result (List JobDef × List Fault) CompileError → Type 0
+ExplainsOutcome files printed (Ok made) = (text : List ℕ) × Explains files made.1 text
+    × (printed ≡ prints (text ++ count_line (length made.0) (length made.1)) (status_of made.1))
+ExplainsOutcome files printed (Err error) = printed ≡ prints (refusal_line error) Unusable
+
+-- the faults of a folder, or why it is refused
+abbrev pub faults_output : Result (List JobDef × List Fault) CompileError → Printed
+faults_output (Ok made) = prints (flat_map fault_line made.1) (status_of made.1)
+faults_output (Err error) = prints (refusal_line error) Unusable
+
+-- the graph of a folder's jobs
+abbrev pub graph_output : Result (List JobDef × List Fault) CompileError → Printed
+graph_output (Ok made) = prints (graph_of made.0) (status_of made.1)
+graph_output (Err error) = prints (refusal_line error) Unusable
+
 -- the jobs and some report of a folder's files, or why they are refused
 pub record IsCompiled (files : List File) (made : Result
     (List JobDef × List Fault) CompileError) : Type 0 where
@@ -83,6 +107,24 @@ pub record Checks (files : List File) (made : Printed) : Type 0 where
   pub report : List Fault
   pub is : IsReport files report
   pub same : made ≡ check_output (compile_outcome report files)
+
+-- what is printed of a folder's files before its jobs run, with some report of its faults
+pub record PrintsFaults (files : List File) (made : Printed) : Type 0 where
+  pub report : List Fault
+  pub is : IsReport files report
+  pub same : made ≡ faults_output (compile_outcome report files)
+
+-- the graph that is printed of a folder's files
+pub record Graphs (files : List File) (made : Printed) : Type 0 where
+  pub report : List Fault
+  pub is : IsReport files report
+  pub same : made ≡ graph_output (compile_outcome report files)
+
+-- what is printed for a check that explains the faults of a folder's files
+pub record ChecksExplained (files : List File) (made : Printed) : Type 0 where
+  pub report : List Fault
+  pub is : IsReport files report
+  pub same : ExplainsOutcome files made (compile_outcome report files)
 
 -- the table of a folder's jobs, unless the folder is refused
 pub record IsTable (files : List File) (table : Option (List JobDef)) : Type 0 where

@@ -14,6 +14,8 @@ pub mod Script
 pub mod ScriptSteps
 -- The inputs that they give.
 pub mod ScriptInputs
+-- The script that says inputs.
+pub mod Written
 -- What an engine's answers print.
 pub mod Running
 -- What is written as far as a writer takes it.

@@ -1,12 +1,13 @@
 //! What the program prints, and its status.
-ghost use Rattle.std.specs.Prelude.{◌≡◌, ◌++◌, IfOk, OnOk, codes};
+ghost use Rattle.std.specs.Prelude.{◌≡◌, ◌++◌, IfOk, OnOk, List, codes, ℕ};
 ghost use Rattle.std.specs.List.{flat_map};
 ghost use Rattle.up_model.specs.declared.exit_status.ExitStatus.TheVariants.{Unusable};
-ghost use Rattle.up_replay.specs.Folders.{fault_line, image_refusal_line, prints, refusal_line, status_of, unusable};
+ghost use Rattle.up_replay.specs.Folders.{Explains, fault_line, image_refusal_line, prints, refusal_line, status_of, unusable};
 
 use crate::lines::{push, push_decimal};
 use std::alloc::{AllocError, Global};
-use up_conf::{Fault, Report};
+use up_advice::push_advice;
+use up_conf::{Fault, File, Report};
 use up_image::{CompileError, ImageError};
 use up_model::ExitStatus;
 use up_text::Items;
@@ -37,6 +38,22 @@ pub(crate) fn push_faults(text: &mut Vec<u8>, faults: &[Fault]) -> Result<(), Al
 {
     for fault in faults {
         push_fault(text, fault)?;
+    }
+    Ok(())
+}
+
+// The same, with what is said of each fault below its line.
+pub(crate) fn push_explained(
+    text: &mut Vec<u8>,
+    files: &[File],
+    faults: &[Fault],
+) -> Result<(), AllocError>
+    ensures { OnOk result ((added : List ℕ) × Explains files.now faults.now added
+        × (text.new.items ≡ text.old.items ++ added)) }
+{
+    for fault in faults {
+        push_fault(text, fault)?;
+        push_advice(text, files, fault)?;
     }
     Ok(())
 }

@@ -9,8 +9,9 @@ use up_text::Env;
 fn same_pair(env: &Env, other: &Env, i: usize) -> bool
     requires one { i < length env.now }
     requires both { i < length other.now }
-    ensures { result ≡ true → (pair : List ℕ × List ℕ) × (slice_get env.now i ≡ Some pair)
+    ensures same { result ≡ true → (pair : List ℕ × List ℕ) × (slice_get env.now i ≡ Some pair)
         × (slice_get other.now i ≡ Some pair) }
+    ensures differs { slice_get env.now i ≡ slice_get other.now i → result ≡ true }
 {
     let (key, value) = env.at(i);
     let (other_key, other_value) = other.at(i);
@@ -19,7 +20,8 @@ fn same_pair(env: &Env, other: &Env, i: usize) -> bool
 
 #[tactic(auto, using(crate::proofs::Compared::found_further, crate::proofs::Compared::all_same))]
 fn same_env(env: &Env, other: &Env) -> bool
-    ensures { result ≡ true → env.now ≡ other.now }
+    ensures same { result ≡ true → env.now ≡ other.now }
+    ensures differs { env.now ≡ other.now → result ≡ true }
 {
     if env.len() != other.len() {
         return false;
@@ -33,25 +35,29 @@ fn same_env(env: &Env, other: &Env) -> bool
 }
 
 fn same_event(event: &Event, other: &Event) -> bool
-    ensures { result ≡ true → event.now ≡ other.now }
+    ensures same { result ≡ true → event.now ≡ other.now }
+    ensures differs { event.now ≡ other.now → result ≡ true }
 {
     event.name.is(&other.name) && same_env(&event.vars, &other.vars)
 }
 
 fn same_who(who: &Who, other: &Who) -> bool
-    ensures { result ≡ true → who.now ≡ other.now }
+    ensures same { result ≡ true → who.now ≡ other.now }
+    ensures differs { who.now ≡ other.now → result ≡ true }
 {
     who.job.is(&other.job) && who.instance.is(other.instance.as_str())
 }
 
 fn same_command(command: Command, other: Command) -> bool
-    ensures { result ≡ true → command ≡ other }
+    ensures same { result ≡ true → command ≡ other }
+    ensures differs { command ≡ other → result ≡ true }
 {
     command == other
 }
 
 fn same_request(request: &Request, other: &Request) -> bool
-    ensures { result ≡ true → request.now ≡ other.now }
+    ensures same { result ≡ true → request.now ≡ other.now }
+    ensures differs { request.now ≡ other.now → result ≡ true }
 {
     same_command(request.command, other.command)
         && request.wait == other.wait
@@ -60,19 +66,22 @@ fn same_request(request: &Request, other: &Request) -> bool
 }
 
 fn same_process(process: Process, other: Process) -> bool
-    ensures { result ≡ true → process ≡ other }
+    ensures same { result ≡ true → process ≡ other }
+    ensures differs { process ≡ other → result ≡ true }
 {
     process == other
 }
 
 fn same_how(how: How, other: How) -> bool
-    ensures { result ≡ true → how ≡ other }
+    ensures same { result ≡ true → how ≡ other }
+    ensures differs { how ≡ other → result ≡ true }
 {
     how == other
 }
 
 fn same_input(input: &Input, other: &Input) -> bool
-    ensures { result ≡ true → input.now ≡ other.now }
+    ensures same { result ≡ true → input.now ≡ other.now }
+    ensures differs { input.now ≡ other.now → result ≡ true }
 {
     match (input, other) {
         (Input::Emit(event), Input::Emit(its)) => same_event(event, its),
@@ -112,7 +121,8 @@ fn same_input(input: &Input, other: &Input) -> bool
     }
 }
 
-fn input_at(inputs: &[Input], i: usize) -> &Input
+/// The input at a place.
+pub(crate) fn input_at(inputs: &[Input], i: usize) -> &Input
     requires { i < length inputs.now }
     ensures { slice_get inputs.now i ≡ Some result.now }
 {
@@ -122,7 +132,8 @@ fn input_at(inputs: &[Input], i: usize) -> &Input
 /// Whether both are the same inputs in the same order.
 #[tactic(auto, using(crate::proofs::Compared::one_further, crate::proofs::Compared::all_same))]
 pub(crate) fn same_inputs(inputs: &[Input], others: &[Input]) -> bool
-    ensures { result ≡ true → inputs.now ≡ others.now }
+    ensures same { result ≡ true → inputs.now ≡ others.now }
+    ensures differs { inputs.now ≡ others.now → result ≡ true }
 {
     if inputs.len() != others.len() {
         return false;

@@ -1,7 +1,8 @@
 //! What command lines ask for.
 use std::alloc::{AllocError, Global};
 use std::test::Fail;
-use up_command::{Asked, Rounds, Telling, print_refusal, read_words};
+use up_command::{Asked, print_refusal, read_words};
+use up_run::{Rounds, Telling};
 
 // What a command line gives: what it asks for, or the status or the text of its refusal.
 enum Wanted {
@@ -12,15 +13,21 @@ enum Wanted {
 
 type Case = (&'static [&'static str], Wanted);
 
-static ASKED: [Case; 10] = [
+static ASKED: [Case; 11] = [
     (&["initd"], Wanted::Asked(Asked::Bundle)),
     (
         &["initd", "check", "jobs"],
-        Wanted::Asked(Asked::Check { dir: "jobs" }),
+        Wanted::Asked(Asked::Check {
+            dir: "jobs",
+            explain: false,
+        }),
     ),
     (
         &["initd", "check", "--", "-x"],
-        Wanted::Asked(Asked::Check { dir: "-x" }),
+        Wanted::Asked(Asked::Check {
+            dir: "-x",
+            explain: false,
+        }),
     ),
     (
         &["initd", "replay", "jobs/", "a script"],
@@ -81,6 +88,25 @@ static ASKED: [Case; 10] = [
                 quiet: false,
                 tell: None,
                 log: Some("r"),
+                over: false,
+            },
+        }),
+    ),
+    (
+        &["initd", "run", "jobs"],
+        Wanted::Asked(Asked::Run {
+            source: "jobs",
+            socket: "/run/initd.socket",
+            rounds: Rounds {
+                count: 4_294_967_295,
+                most_pause: 10,
+                client_timeout: 60,
+            },
+            telling: Telling {
+                verbose: false,
+                quiet: false,
+                tell: None,
+                log: None,
                 over: false,
             },
         }),

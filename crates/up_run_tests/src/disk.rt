@@ -2,10 +2,13 @@
 use crate::walk::{below, expect, make_file, scratch, text_of};
 use std::test::Fail;
 use std::{fs, io};
+use up_command::Asked;
 use up_command::answer::answer;
-use up_command::{Asked, check_dir, compile_dir, replay_dir, replay_image, replay_source};
+use up_disk::print::print;
+use up_disk::{check_dir, compile_dir, read_bytes, replay_dir, replay_image, replay_source};
+use up_model::ExitStatus;
 use up_replay::Printed;
-use up_text::Env;
+use up_text::{Env, Items};
 
 // Files that are written, by their paths in the folder; what is printed then, as `text_of` takes it; and the status.
 type Step = (&'static [(&'static str, &'static [u8])], &'static str, u8);
@@ -153,12 +156,52 @@ fn an_image_is_replayed(rt: HostRuntime) -> Result<(), Fail> {
     Ok(())
 }
 
+// Whether the bytes of a file are read as those of an image.
+fn reads_bytes(rt: &HostRuntime, dir: &str) -> Result<bool, Fail> {
+    make_file(rt, dir, "jobs.image", b"UPIM\n\xff")?;
+    let image = below(rt, dir, "jobs.image")?;
+    let read = read_bytes(rt, image.as_str())?;
+    let is_so = match &read {
+        Some(bytes) => bytes.as_slice() == b"UPIM\n\xff".as_slice(),
+        None => false,
+    };
+    drop(read);
+    Ok(is_so)
+}
+
+#[test]
+fn the_bytes_of_an_image_are_read(rt: HostRuntime) -> Result<(), Fail> {
+    let dir = scratch(&rt, "bytes")?;
+    expect(reads_bytes(&rt, dir.as_str())?, "its six bytes", 0)?;
+    fs::remove_dir_all(&rt, dir.as_str())?;
+    Ok(())
+}
+
+// The line goes to the standard output of the tests.
+#[test]
+fn what_is_printed_has_its_status(rt: HostRuntime) -> Result<(), Fail> {
+    let mut text: Vec<u8> = Vec::new(rt.alloc());
+    text.extend_from_slice(b"0 jobs, 1 faults\n")?;
+    let made = Printed {
+        text: Items::new(text),
+        status: ExitStatus::Failed,
+    };
+    expect(print(&rt, Ok(made))?.number() == 1, "the status is 1", 0)
+}
+
 fn answers(rt: &HostRuntime, dir: &str) -> Result<bool, Fail> {
     make_file(rt, dir, "a.conf", b"exec x\n")?;
     make_file(rt, dir, "up.script", b"turn 0\n")?;
     let script = below(rt, dir, "up.script")?;
     let script = script.as_str();
-    let checked = answer(rt, Asked::Check { dir }, Env::new(rt.alloc()))?;
+    let checked = answer(
+        rt,
+        Asked::Check {
+            dir,
+            explain: false,
+        },
+        Env::new(rt.alloc()),
+    )?;
     let replayed = answer(
         rt,
         Asked::Replay {

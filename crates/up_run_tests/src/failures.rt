@@ -4,8 +4,8 @@ use std::fmt::Display;
 use std::fs::{Files, Metadata, OpenFile, OpenOptions};
 use std::io;
 use std::io::{Eprint, ErrorKind, Read, Seek, SeekFrom, Write};
-use up_command::WalkError;
-use up_command::walk::walk;
+use up_disk::WalkError;
+use up_disk::walk::walk;
 
 // What fails.
 #[derive(Clone, Copy, PartialEq, Eq)]

@@ -2,9 +2,9 @@
 use std::os::unix::fs::symlink;
 use std::test::Fail;
 use std::{env, fs, io, process};
-use up_command::walk::walk;
-use up_command::{WalkError, read_file};
 use up_conf::{File, Folder};
+use up_disk::walk::walk;
+use up_disk::{WalkError, read_file};
 
 // A new empty folder for a test, by its path.
 pub(crate) fn scratch(rt: &HostRuntime, name: &str) -> io::Result<String> {

@@ -15,6 +15,10 @@ names =
     ∷ codes "URG" ∷ codes "XCPU" ∷ codes "XFSZ" ∷ codes "VTALRM" ∷ codes "PROF" ∷ codes "WINCH" ∷ codes "IO"
     ∷ codes "PWR" ∷ codes "SYS" ∷ []
 
+-- HUP
+abbrev pub hup : ℕ
+hup = 1
+
 -- TERM
 abbrev pub term : ℕ
 term = 15

@@ -3,7 +3,7 @@ ghost use Rattle.std.specs.Prelude.{◌≡◌, slice_get, map, position};
 ghost use Rattle.std.specs.Option.{option_copied};
 ghost use Rattle.std.specs.Str.{bytes_eq};
 ghost use Rattle.up_stanza.specs.Numbers.{number_in};
-ghost use Rattle.up_stanza.specs.Signals.{name_of, number_of, signal_named, signal_in, without_sig};
+ghost use Rattle.up_stanza.specs.Signals.{hup, name_of, number_of, signal_named, signal_in, term, without_sig};
 
 use crate::number::{are_digits, number_in};
 use std::marker::Model;
@@ -27,6 +27,9 @@ impl Model for Signal {
     ghost invariant = { λ s. is_signal s.number ≡ true };
 }
 
+/// The number of the signal HUP.
+const HUP: u8 = 1;
+
 /// The number of the signal TERM.
 const TERM: u8 = 15;
 
@@ -38,9 +41,16 @@ const NAMES: [&str; 31] = [
 ];
 
 impl Signal {
+    /// HUP.
+    pub fn hup() -> Self
+        ensures { result ≡ hup }
+    {
+        Signal { number: HUP }
+    }
+
     /// TERM.
     pub fn term() -> Self
-        ensures { result ≡ 15 }
+        ensures { result ≡ term }
     {
         Signal { number: TERM }
     }

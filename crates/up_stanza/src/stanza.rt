@@ -42,7 +42,7 @@ pub enum Stanza {
     KillTimeout(u32),
     /// `kill signal SIGNAL`
     KillSignal(Signal),
-    /// `reload signal SIGNAL`. It has no effect.
+    /// `reload signal SIGNAL`.
     ReloadSignal(Signal),
     /// `instance NAME`
     Instance(Text),

@@ -160,7 +160,7 @@ fn job_commands<'a>(alloc: Global, line: Command<'a>) -> Result<Command<'a>, All
         alloc,
         line,
         "reload",
-        "Sends an instance of a job its reload signal; not supported yet",
+        "Sends main of an instance of a job its reload signal",
     )
 }
 

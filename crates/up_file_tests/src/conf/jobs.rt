@@ -50,6 +50,8 @@ pub(crate) enum Fact {
     Texts(&'static str, &'static str),
     // The signal that ends it, the time after which it is killed, and how often it is respawned in which time.
     Numbers(u8, u32, u32, u32),
+    // The signal at which it reads its configuration again.
+    Reload(u8),
     // `task` stands.
     Task,
     // Its main process runs these words.
@@ -145,6 +147,7 @@ fn states(job: &JobDef, fact: &Fact) -> bool {
     match fact {
         Fact::Marks(task, respawn, silent) => has_marks(job, *task, *respawn, *silent),
         Fact::Texts(instance, dir) => has_texts(job, *instance, *dir),
+        Fact::Reload(signal) => job.reload_signal.number() == *signal,
         Fact::Numbers(signal, seconds, count, interval) => {
             has_numbers(job, *signal, *seconds, *count, *interval)
         }
@@ -223,12 +226,13 @@ fn check(alloc: Global, cases: &[Case]) -> Result<(), Fail> {
 const LAST_OF_EACH_KIND: &'static [Case] = &[
     Case {
         name: "settings",
-        conf: b"task\nrespawn\ninstance a\ninstance $X\nchdir /a\nchdir /b\nconsole none\nconsole output\nkill timeout 7\nkill timeout 0\nkill signal INT\nkill signal 9\nrespawn limit 3 4\nrespawn limit unlimited\n",
+        conf: b"task\nrespawn\ninstance a\ninstance $X\nchdir /a\nchdir /b\nconsole none\nconsole output\nkill timeout 7\nkill timeout 0\nkill signal INT\nkill signal 9\nreload signal USR2\nreload signal SIGUSR1\nrespawn limit 3 4\nrespawn limit unlimited\n",
         over: None,
         facts: &[
             Fact::Marks(true, true, false),
             Fact::Texts("$X", "/b"),
             Fact::Numbers(9, 0, 0, 0),
+            Fact::Reload(10),
         ],
     },
     Case {
@@ -251,6 +255,7 @@ const LAST_OF_EACH_KIND: &'static [Case] = &[
             Fact::Marks(false, false, false),
             Fact::Texts("", ""),
             Fact::Numbers(15, 5, 10, 5),
+            Fact::Reload(1),
             Fact::NoMain,
         ],
     },

@@ -6,7 +6,7 @@ use std::alloc::{AllocError, Global};
 use std::process::Abort;
 use std::test::Fail;
 use up_conf::Folder;
-use up_replay::check::check;
+use up_replay::check::{check, faults_and_compile};
 use up_replay::read_bundle;
 
 // A check of a folder prints this, with this status.
@@ -66,6 +66,40 @@ fn checks(rt: HostRuntime) -> Result<(), Fail> {
     let checked = check_steps(&rt, rt.alloc(), &mut folder);
     drop(folder);
     Ok(checked?)
+}
+
+// How many jobs a folder of these files has, before whose run its fault is printed.
+fn jobs_after_faults(
+    rt: &impl Abort,
+    alloc: Global,
+    folder: &mut Folder,
+) -> Result<usize, AllocError> {
+    add_files(alloc, folder, CHECKS[1].0)?;
+    add_files(alloc, folder, CHECKS[2].0)?;
+    let (made, table) = faults_and_compile(alloc, folder)?;
+    let wanted = ("x.conf:3: 2 NotInProfile\n", 1);
+    check_printed(
+        rt,
+        (made.text.as_slice(), made.status.number()),
+        wanted,
+        ("faults", 0),
+    );
+    let jobs = match &table {
+        Some(table) => table.len(),
+        None => 0,
+    };
+    drop(made);
+    drop(table);
+    Ok(jobs)
+}
+
+#[test]
+fn faults_stand_before_a_run(rt: HostRuntime) -> Result<(), Fail> {
+    let mut folder = Folder::new(rt.alloc());
+    let jobs = jobs_after_faults(&rt, rt.alloc(), &mut folder);
+    drop(folder);
+    assert_eq!(rt; jobs?, 1);
+    Ok(())
 }
 
 // A count of files, what a check of their folder prints, and the status.

@@ -1,6 +1,7 @@
 use Rattle.std.proofs.Common.{◌∷◌, ◌∙◌}
 use Rattle.up_book.specs.Keys.{Stepping}
 use Rattle.up_engine.proofs.Entries.{finishing_last}
+use Rattle.up_engine.proofs.Unblocked.{finished-concerns}
 use Rattle.up_model.specs.declared.input.Input.TheVariants.{Turn}
 use Rattle.up_model.specs.Chronicle.{Chronicle, Given, Finished}
 use Rattle.up_model.specs.Due.{telling, failed_event_of}
@@ -9,11 +10,19 @@ use Rattle.up_model.proofs.HeldLaws.{held-given}
 use Rattle.up_model.specs.Replies.{waiter, answering_waiter}
 use Rattle.up_engine.proofs.due.finish.Goals as goal
 
-pub returns : goal.returns
-returns g c config c' e s known free =
+pub returns-clause-after : goal.returns-clause-after
+returns-clause-after g c config c' e s known free =
     let d : Chronicle = Given Turn ∷ c' in
     let now = c.given.ensures.after config c' s tt in
     let here = c.given.ensures.events config c' c.args.key e s known in
     let told = c.in_ok-told.ensures Stepping config d e now here in
     rw (finishing_last (telling e (failed_event_of e d)) (answering_waiter (waiter e d) (is_spoilt e d)) (Finished e) d, ← told)
-    (c.in_ok-finish.ensures config d e now here (held-given config e Turn c' ∙ free))
+    (c.in_ok-on.ensures.after config d e now here (held-given config e Turn c' ∙ free))
+
+pub returns-clause-concerns : goal.returns-clause-concerns
+returns-clause-concerns g c config c' e distinct s known free found =
+    let d : Chronicle = Given Turn ∷ c' in
+    let now = c.given.ensures.after config c' s tt in
+    let here = c.given.ensures.events config c' c.args.key e s known in
+    rw c.unblocked_concern.ensures
+    (finished-concerns (g.B.Book.event_place c.finish.new.self) config c' e c.in_ok-on.on distinct (c.in_ok-on.ensures.blocked config d e now here (held-given config e Turn c' ∙ free)) found)

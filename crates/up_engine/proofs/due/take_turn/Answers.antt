@@ -12,10 +12,10 @@ returns-in_ok-concern-in-Some-clause-after g c config c' s =
     rw (one_last, found.1.1) (c.in_ok-concern-in-Some.ensures.after config c' found.0 s found.1.0 found.1.1)
 
 pub returns-in_ok-concern-in-Some-clause-concerns : goal.returns-in_ok-concern-in-Some-clause-concerns
-returns-in_ok-concern-in-Some-clause-concerns g c config c' s =
+returns-in_ok-concern-in-Some-clause-concerns g c config c' distinct s =
     let found = turn_found (g.B.Book.event_place c.args.book.now c') (c.in-Some.id, c.in-Some.kind) (turn_event config (queue c') c') (c.in-Some.ensures config c' s) in
-    c.in_ok-concern-in-Some.ensures.concerns config c' found.0 s found.1.0 found.1.1
+    c.in_ok-concern-in-Some.ensures.concerns config c' found.0 distinct s found.1.0 found.1.1
 
 pub returns-in-None-clause-concerns : goal.returns-in-None-clause-concerns
-returns-in-None-clause-concerns g c config c' s =
-    idle-due config c' (turn_none (g.B.Book.event_place c.args.book.now c') (turn_event config (queue c') c') (rw c.in-None.is at (c.turn.ensures config c' s)))
+returns-in-None-clause-concerns g c config c' distinct s =
+    idle-due config c' distinct (turn_none (g.B.Book.event_place c.args.book.now c') (turn_event config (queue c') c') (rw c.in-None.is at (c.turn.ensures config c' s)))

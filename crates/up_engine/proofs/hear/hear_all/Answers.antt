@@ -1,6 +1,5 @@
 use Rattle.std.proofs.Common.{◌∷◌, length, arith}
 use Rattle.up_book.specs.Keys.{Stepping}
-use Rattle.up_engine.specs.Settling.{hear}
 use Rattle.up_engine.proofs.Unheard.{PassesBy, heard-none, heard-one, heard-last, passed-to}
 use Rattle.up_model.specs.declared.input.Input.TheVariants.{Turn}
 use Rattle.up_model.specs.Chronicle.{Given, Handled}
@@ -9,7 +8,7 @@ use Rattle.up_engine.proofs.hear.hear_all.Goals as goal
 pub hearers-init : goal.hearers-init
 hearers-init g c = record {
   within = omega arith;
-  heard = λ c' e none untrue stood known. heard-none (g.B.Book.stands c.args.book.now Stepping c.args.setup.now) (g.B.Book.event_place c.args.book.now) c.args.setup.now e c.args.event c' none untrue stood known;
+  heard = λ c' e none untrue stood known. heard-none (g.B.Book.stands c.args.book.now Stepping c.args.setup.now) (g.B.Book.event_place c.args.book.now) c.args.setup.now e c.args.event c' c.names_differ.ensures none untrue stood known;
 }
 
 pub hearers-preserved : goal.hearers-preserved

@@ -1,6 +1,5 @@
 use Rattle.up_model.proofs.MainLaws.{lone}
-use Rattle.up_engine.proofs.FolderLemmas.{found-given}
 use Rattle.up_engine.proofs.laws.one_main_of_tables.Goals as goal
 
 pub returns : goal.returns
-returns c = λ jobs base inputs table. lone (record { base = base; jobs = jobs }) inputs (found-given jobs table.given)
+returns c = λ jobs base inputs table. lone (record { base = base; jobs = jobs }) inputs

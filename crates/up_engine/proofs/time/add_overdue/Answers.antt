@@ -1,36 +1,40 @@
 use Rattle.std.proofs.Common.{◌≡◌, ◌∙◌, ◌+◌, ◌++◌, ◌∷◌, [], Some, List, ℕ, map, drop, sym, ap, arith, refl, add-one, append_assoc, append-nil}
 use Rattle.std.proofs.lemmas.List.{drop_all}
 use Rattle.up_job.specs.declared.instance_key.InstanceKey.{InstanceKey}
-use Rattle.up_engine.proofs.KeyLemmas.{there}
-use Rattle.up_model.specs.Clock.{kill_due, overdue}
+use Rattle.up_engine.proofs.KeyLemmas.{job_name, there, filed}
+use Rattle.up_model.specs.Clock.{kill_due_by, overdue}
+use Rattle.up_model.specs.Files.{file_of}
 use Rattle.up_model.specs.Instances.{instances_of}
 use Rattle.up_model.specs.Predicates.{entries_if}
 use Rattle.up_engine.proofs.time.add_overdue.Goals as goal
 
 pub loop-at-init : goal.loop-at-init
-loop-at-init g c mode config c' done s named start = (done, start, refl)
+loop-at-init g c mode config c' done s in_table start = (done, start, refl)
 
 pub loop-at-preserved : goal.loop-at-preserved
-loop-at-preserved g c mode config c' done s named start =
+loop-at-preserved g c mode config c' done s in_table start =
+    let named = job_name config c.args.index c.args.job.now in_table in
     let n = c.loop-at.at in
     let key : InstanceKey = record { job = c.args.index; at = n } in
     let its = instances_of c.args.job.now.name c' in
     let count = c.count-at-end.ensures mode config c' c.args.job.now.name s named in
     let it = there config c' key c.args.job.now.name named (omega (arith, count)) in
     let i = it.instance.place in
-    let old = c.loop-at.invariant mode config c' done s named start in
-    let one : List ℕ = entries_if (kill_due c.args.job.now i c') (i ∷ []) in
-    let left : overdue c.args.job.now (drop n its) c' ≡ one ++ overdue c.args.job.now (drop (n + 1) its) c' = rw add-one (ap (λ is. overdue c.args.job.now is c') it.rest) in (
+    let file = filed config c' key c.args.job.now it.instance (g.met.B.Book.distinct c.args.book.now mode config c' s) in_table it.is in
+    let old = c.loop-at.invariant mode config c' done s in_table start in
+    let one : List ℕ = entries_if (kill_due_by (file_of config i c') i c') (i ∷ []) in
+    let left : overdue config (drop n its) c' ≡ one ++ overdue config (drop (n + 1) its) c' = rw add-one (ap (λ is. overdue config is c') it.rest) in (
       old.0 ++ one,
-      c.in_ok-add_if_due.ensures mode config c' i old.0 s it.place old.1,
-      append_assoc old.0 one (overdue c.args.job.now (drop (n + 1) its) c') ∙ ap (λ rest. old.0 ++ rest) (sym left) ∙ old.2,
+      c.in_ok-add_if_due.ensures mode config c' i old.0 s it.place old.1 ∙ ap (λ f. map Some (old.0 ++ entries_if (kill_due_by f i c') (i ∷ []))) (sym file),
+      append_assoc old.0 one (overdue config (drop (n + 1) its) c') ∙ ap (λ rest. old.0 ++ rest) (sym left) ∙ old.2,
     )
 
 pub returns : goal.returns
-returns g c mode config c' done s named start =
+returns g c mode config c' done s in_table start =
+    let named = job_name config c.args.index c.args.job.now in_table in
     let n = c.loop-at.at in
     let its = instances_of c.args.job.now.name c' in
     let count = c.count-at-end.ensures mode config c' c.args.job.now.name s named in
     let over : drop n its ≡ [] = drop_all n its (omega (arith, count)) in
-    let old = c.loop-at.invariant mode config c' done s named start in
-    old.1 ∙ ap (map Some) (sym (append-nil old.0) ∙ ap (λ is. old.0 ++ overdue c.args.job.now is c') (sym over) ∙ old.2)
+    let old = c.loop-at.invariant mode config c' done s in_table start in
+    old.1 ∙ ap (map Some) (sym (append-nil old.0) ∙ ap (λ is. old.0 ++ overdue config is c') (sym over) ∙ old.2)

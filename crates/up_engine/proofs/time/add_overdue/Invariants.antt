@@ -1,5 +1,5 @@
 use Rattle.std.proofs.Common.{◌≡◌, ◌++◌, ℕ, List, Some, drop, map}
-use Rattle.up_book.specs.Keys.{Mode, name_at, instance_place}
+use Rattle.up_book.specs.Keys.{Mode, job_at, instance_place}
 use Rattle.up_model.specs.Chronicle.{Chronicle}
 use Rattle.up_model.specs.Clock.{overdue}
 use Rattle.up_model.specs.Configuration.{Configuration}
@@ -9,7 +9,7 @@ use Rattle.up_engine.proofs.time.add_overdue.Given as goal
 -- those that were found, and those that are left, are the whole
 abbrev pub invariant-loop-at : goal.invariant-loop-at
 invariant-loop-at g l =
-    (mode : Mode) (config : Configuration) (c : Chronicle) (done : List ℕ) → g.B.Book.stands l.book mode config c → name_at config l.index ≡ Some l.job.name
+    (mode : Mode) (config : Configuration) (c : Chronicle) (done : List ℕ) → g.B.Book.stands l.book mode config c → job_at config l.index ≡ Some l.job
     → map (instance_place config c) l.initial.keys.items ≡ map Some done
     → (found : List ℕ) × (map (instance_place config c) l.keys.items ≡ map Some found)
-    × (found ++ overdue l.job (drop l.at (instances_of l.job.name c)) c ≡ done ++ overdue l.job (instances_of l.job.name c) c)
+    × (found ++ overdue config (drop l.at (instances_of l.job.name c)) c ≡ done ++ overdue config (instances_of l.job.name c) c)

@@ -1,8 +1,9 @@
 use Rattle.std.proofs.Common.{◌≡◌, ◌∙◌, ◌+◌, ◌++◌, [], Some, map, drop, sym, ap, arith, refl, append_assoc, append-nil}
 use Rattle.std.proofs.lemmas.List.{drop_all}
 use Rattle.up_engine.proofs.ClockLemmas.{overdue_left}
-use Rattle.up_engine.proofs.KeyLemmas.{named_there}
+use Rattle.up_engine.proofs.KeyLemmas.{job_there}
 use Rattle.up_model.specs.Clock.{overdue, all_overdue}
+use Rattle.up_model.specs.Files.{job_names}
 use Rattle.up_model.specs.Instances.{instances_of}
 use Rattle.up_engine.proofs.time.all_overdue.Goals as goal
 
@@ -14,13 +15,13 @@ loop-index-preserved g c mode config c' s are =
     let n = c.loop-index.index in
     let job = c.index-jobs-index.result in
     let old = c.loop-index.invariant mode config c' s are in
-    let named = named_there config c.args.jobs.now n job are c.loop-index-test.true c.index-jobs-index.is in
+    let named = job_there config c.args.jobs.now n job are c.loop-index-test.true c.index-jobs-index.is in
     let its = instances_of job.name c' in
     let now = c.in_ok-add_overdue.ensures mode config c' old.0 s named old.1 in (
-      old.0 ++ overdue job its c',
+      old.0 ++ overdue config its c',
       now,
-      append_assoc old.0 (overdue job its c') (all_overdue (drop (n + 1) c.args.jobs.now) c')
-          ∙ ap (λ rest. old.0 ++ rest) (sym (overdue_left c.args.jobs.now n job c' c.loop-index-test.true c.index-jobs-index.is)) ∙ old.2,
+      append_assoc old.0 (overdue config its c') (all_overdue config (job_names (drop (n + 1) c.args.jobs.now)) c')
+          ∙ ap (λ rest. old.0 ++ rest) (sym (overdue_left config c.args.jobs.now n job c' c.loop-index-test.true c.index-jobs-index.is)) ∙ old.2,
     )
 
 pub returns : goal.returns
@@ -28,4 +29,4 @@ returns g c mode config c' s are =
     let n = c.loop-index.index in
     let over : drop n c.args.jobs.now ≡ [] = drop_all n c.args.jobs.now (omega arith) in
     let old = c.loop-index.invariant mode config c' s are in
-    old.1 ∙ ap (map Some) (sym (append-nil old.0) ∙ ap (λ js. old.0 ++ all_overdue js c') (sym over) ∙ old.2)
+    old.1 ∙ ap (map Some) (sym (append-nil old.0) ∙ ap (λ js. old.0 ++ all_overdue config (job_names js) c') (sym over) ∙ old.2 ∙ ap (λ js. all_overdue config (job_names js) c') are)

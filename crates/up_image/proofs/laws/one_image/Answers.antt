@@ -4,4 +4,4 @@ use Rattle.up_image.proofs.Images.{same_image}
 use Rattle.up_image.proofs.laws.one_image.Goals as goal
 
 pub returns : goal.returns
-returns c = λ bytes other jobs image also. same_image (length jobs) bytes other (body_of jobs) image.written also.written
+returns c = λ version bytes other jobs image also. same_image version (length jobs) bytes other (body_of version jobs) image.written also.written

@@ -4,4 +4,4 @@ use Rattle.up_image.proofs.take_job.take_jobs.Given as goal
 
 -- what is left gives the whole
 abbrev pub invariant-loop-i : goal.invariant-loop-i
-invariant-loop-i l = items_at job_at (l.count - l.i) l.jobs.items l.rest ≡ items_at job_at l.count [] l.fn.bytes
+invariant-loop-i l = items_at (job_at l.version) (l.count - l.i) l.jobs.items l.rest ≡ items_at (job_at l.version) l.count [] l.fn.bytes

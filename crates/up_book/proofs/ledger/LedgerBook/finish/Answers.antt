@@ -12,8 +12,8 @@ use Rattle.up_book.proofs.Ledgers.{stood, calm}
 use Rattle.up_book.proofs.StepFrames.{asks-same, step-silent}
 use Rattle.up_book.proofs.ledger.LedgerBook.finish.Goals as goal
 
-pub returns : goal.returns
-returns c config c' e s found free =
+pub returns-clause-after : goal.returns-clause-after
+returns-clause-after c config c' e s found free =
     let old = c.args.self.now in
     let event = event-placed old.past.events (queue c') c' c.args.key e s.past.standings found in
     let spoilt = is_spoilt e c' in
@@ -25,3 +25,6 @@ returns c config c' e s found free =
     (c.in_ok-reply_finished.ensures ∙ ap (λ outs. old.step.outputs.items ++ outs) (finished-waiter e c' _ event.0 event.1 (c.finish-finished.ensures.told config c' e s.past found free))) refl refl
     (step-waiter old.step.outputs.items old.step.asked old.step.on config c' e spoilt silent)) in
     c.in_ok-tell_if.ensures config _ e middle
+
+pub returns-clause-blocked : goal.returns-clause-blocked
+returns-clause-blocked c config c' e s found free = c.finish-finished.ensures.blocked config c' e s.past found free

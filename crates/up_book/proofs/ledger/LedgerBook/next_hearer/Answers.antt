@@ -1,12 +1,16 @@
 use Rattle.std.proofs.Common.{subst}
-use Rattle.up_book.specs.Hearers.{IsNextHearer}
+use Rattle.up_image.specs.Index.{named}
+use Rattle.up_marks.specs.Ruling.{admits}
+use Rattle.up_book.specs.Hearers.{IsNextHearer, IsNextJob}
 use Rattle.up_book.proofs.NextHearers.{next-hearer, next-later}
 use Rattle.up_book.proofs.ledger.LedgerBook.next_hearer.Goals as goal
 
 pub returns-in-Some-clause-next : goal.returns-in-Some-clause-next
-returns-in-Some-clause-next c config c' e s known =
-    subst (λ event. IsNextHearer config event c.args.from c.next_job.result) (c.in-Some.ensures config c' e s.past known)
-    (next-hearer c.args.self.now.index config c.in-Some.event.now c.args.from c.next_job.result s.index c.next_job.ensures)
+returns-in-Some-clause-next c config c' e s same known =
+    let event = c.in-Some.event.now in
+    subst (λ o. IsNextHearer config o c.args.from c.next_job.result) (c.in-Some.ensures config c' e s.past known)
+    (next-hearer c.args.self.now.index config event c.args.from c.next_job.result s.index
+    (subst (λ jobs. IsNextJob (admits jobs event) c.args.from (named event.name c.args.self.now.index) c.next_job.result) same c.next_job.ensures))
 
 pub returns-in-Some-clause-later : goal.returns-in-Some-clause-later
-returns-in-Some-clause-later c = next-later c.args.from _ c.next_job.result c.next_job.ensures
+returns-in-Some-clause-later c = next-later (admits c.args.jobs.now c.in-Some.event.now) c.args.from _ c.next_job.result c.next_job.ensures

@@ -1,7 +1,7 @@
-use Rattle.std.proofs.Common.{sym, refl, ◌∷◌, ◌++◌, length, subst}
-use Rattle.up_model.specs.Chronicle.{Given, Replied}
+use Rattle.std.proofs.Common.{sym, refl, ◌∷◌, ◌++◌, subst}
+use Rattle.up_model.specs.Chronicle.{Replied}
 use Rattle.up_model.specs.Outputs.{reply_of}
-use Rattle.up_book.specs.Asking.{number_asked}
+use Rattle.up_book.specs.Asking.{given_place, number_asked}
 use Rattle.up_book.specs.Steps.{IsStep}
 use Rattle.up_book.specs.declared.step.Step.{Step}
 use Rattle.up_book.proofs.Acting.{step-replied}
@@ -11,10 +11,10 @@ use Rattle.up_book.proofs.StepFrames.{asks-same}
 use Rattle.up_book.proofs.ledger.LedgerBook.reply.Goals as goal
 
 pub returns : goal.returns
-returns c config c' input s =
+returns c config c' s =
     let old = c.args.self.now in
     let more = reply_of (number_asked old.step.asked) c.args.answer in
-    stood _ _ config _ (forgets-replied old.past config (Given input ∷ c') (length c') c.args.answer s.past) s.index
-    (subst (λ (st : Step). IsStep st config (Replied (length c') c.args.answer ∷ Given input ∷ c')) (sym c.answer.ensures)
+    stood _ _ config _ (forgets-replied old.past config c' (given_place c') c.args.answer s.past) s.index
+    (subst (λ (st : Step). IsStep st config (Replied (given_place c') c.args.answer ∷ c')) (sym c.answer.ensures)
     (asks-same (old.step.outputs.items ++ more) _ _ _ old.step.on _ config _ c.in_ok-reply_asked.ensures refl refl
-    (step-replied old.step.outputs.items more old.step.asked old.step.on config c' input c.args.answer refl s.step)))
+    (step-replied old.step.outputs.items more old.step.asked old.step.on config c' c.args.answer refl s.step)))

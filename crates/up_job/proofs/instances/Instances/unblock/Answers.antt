@@ -1,8 +1,25 @@
-use Rattle.std.proofs.Common.{sym, subst}
+use Rattle.std.proofs.Common.{◌≡◌, sym, subst, None, Some}
 use Rattle.up_job.specs.JobLists.{job_of}
 use Rattle.up_job.specs.Named.{AreInOrder}
+use Rattle.up_job.specs.Unblocking.{key_from}
+use Rattle.up_job.proofs.Blocked.{blocked-key, jobs-kept}
 use Rattle.up_job.proofs.JobLemmas.{order-unblocked}
 use Rattle.up_job.proofs.instances.Instances.unblock.Goals as goal
 
 pub invariant_of-self : goal.invariant_of-self
 invariant_of-self c = subst (AreInOrder job_of) (sym c.unblock.ensures) (order-unblocked c.args.event c.self.inside.jobs.items c.self.invariant)
+
+pub returns-in-Some-clause-blocked : goal.returns-in-Some-clause-blocked
+returns-in-Some-clause-blocked c =
+    let found : key_from c.args.event 0 c.args.self.now ≡ Some c.in-Some.key = cc in
+    blocked-key c.args.event c.args.self.now (Some c.in-Some.key) found
+
+pub returns-in-None-clause-after : goal.returns-in-None-clause-after
+returns-in-None-clause-after c =
+    let none : key_from c.args.event 0 c.args.self.now ≡ None = cc in
+    sym (jobs-kept c.args.event 0 c.args.self.now none)
+
+pub returns-in-None-clause-blocked : goal.returns-in-None-clause-blocked
+returns-in-None-clause-blocked c =
+    let none : key_from c.args.event 0 c.args.self.now ≡ None = cc in
+    blocked-key c.args.event c.args.self.now None none

@@ -7,6 +7,6 @@ use Rattle.up_marks.proofs.marks.Marks.new.Goals as goal
 pub returns : goal.returns
 returns c = λ event_of. record {
   kept = λ n. None;
-  laid = c.in_ok-marks.ensures ∙ ap (λ n. replicate n unset) (c.len.ensures ∙ flat_size c.nodes.result.now c.args.condition.now c.nodes.ensures) ∙ blanks_of 0 c.args.condition.now;
+  laid = c.in_ok-marks.ensures ∙ ap (λ n. replicate n unset) (c.len.ensures ∙ flat_size c.nodes-2.result.now c.args.condition.now c.nodes-2.ensures) ∙ blanks_of 0 c.args.condition.now;
   firsts = firsts_none event_of 0 c.args.condition.now;
 }

@@ -1,0 +1,2 @@
+-- Texts to which one piece is appended after another.
+pub mod Joining

@@ -1,6 +1,0 @@
--- For the gate's time alone: with this answer a wrong body is refused sooner.
-use Rattle.std.proofs.Common.{rules}
-use Rattle.up_command.proofs.answer.print.Goals as goal
-
-pub returns-in-Err : goal.returns-in-Err
-returns-in-Err c = search rules

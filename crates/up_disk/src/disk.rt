@@ -1,0 +1,132 @@
+//! Checks and replays folders on the disk.
+ghost use Rattle.std.specs.Prelude.{◌≡◌, ◌≤◌, ◌⊎◌, IfOk, IfSome, length};
+ghost use Rattle.up_disk.specs.Disk.{ChecksDir, ExplainsDir, GraphsDir, PlaysDir, PlaysFiles, PlaysOver, IsUnusable};
+ghost use Rattle.up_disk.specs.Walk.{IsWalked};
+ghost use Rattle.up_replay.specs.declared.replay.TheConstants.{MAX_BUNDLE};
+
+use crate::walk::{WalkError, read_file, walk};
+use crate::why::{say, say_error};
+use std::alloc::AllocError;
+use std::io::{Eprint, ErrorKind};
+use std::rt::Files;
+use up_conf::Folder;
+use up_replay::check::{check, check_explained, graph_folder};
+use up_replay::replay::MAX_BUNDLE;
+use up_replay::{Printed, cannot_use, read_inputs, render_folder};
+use up_text::Env;
+
+/// What a check of a folder on the disk prints.
+pub fn check_dir<R: Files + Eprint + AllocGlobal + Clone + Drop>(
+    rt: &R,
+    dir: &str,
+) -> Result<Printed, AllocError>
+    ensures { IfOk result (ChecksDir dir.now) }
+{
+    match walk(rt, dir) {
+        Ok(folder) => check(rt.alloc(), &folder),
+        Err(WalkError::Unusable(path)) => cannot_use(rt.alloc(), path.as_str()),
+        Err(WalkError::Memory) => Err(AllocError),
+    }
+}
+
+/// What a check of a folder on the disk prints that explains the faults: below each the line at fault, and what to do.
+pub fn explain_dir<R: Files + Eprint + AllocGlobal + Clone + Drop>(
+    rt: &R,
+    dir: &str,
+) -> Result<Printed, AllocError>
+    ensures { IfOk result (ExplainsDir dir.now) }
+{
+    match walk(rt, dir) {
+        Ok(folder) => check_explained(rt.alloc(), &folder),
+        Err(WalkError::Unusable(path)) => cannot_use(rt.alloc(), path.as_str()),
+        Err(WalkError::Memory) => Err(AllocError),
+    }
+}
+
+/// The graph of a folder on the disk, in the language of dot(1).
+pub fn graph_dir<R: Files + Eprint + AllocGlobal + Clone + Drop>(
+    rt: &R,
+    dir: &str,
+) -> Result<Printed, AllocError>
+    ensures { IfOk result (GraphsDir dir.now) }
+{
+    match walk(rt, dir) {
+        Ok(folder) => graph_folder(rt.alloc(), &folder),
+        Err(WalkError::Unusable(path)) => cannot_use(rt.alloc(), path.as_str()),
+        Err(WalkError::Memory) => Err(AllocError),
+    }
+}
+
+// The bytes of a script, if it can be read and is no longer than a bundle may be.
+fn read_script<R: Files + Eprint + AllocGlobal>(
+    rt: &R,
+    script: &str,
+) -> Result<Option<Vec<u8>>, AllocError>
+    ensures { IfOk result (λ read. IfSome read (λ bytes. length bytes.items ≤ MAX_BUNDLE)) }
+{
+    match read_file(rt, script, MAX_BUNDLE + 1) {
+        Ok(bytes) => {
+            if bytes.len() > MAX_BUNDLE {
+                say(rt, script, "it has more than 67108864 bytes");
+                return Ok(None);
+            }
+            Ok(Some(bytes))
+        }
+        Err(error) => {
+            if error.kind() == ErrorKind::OutOfMemory {
+                return Err(AllocError);
+            }
+            say_error(rt, script, &error);
+            Ok(None)
+        }
+    }
+}
+
+/// What a script does to the files of a folder.
+pub(crate) fn play<R: Files + Eprint + AllocGlobal>(
+    rt: &R,
+    folder: &Folder,
+    base: Env,
+    script: &str,
+) -> Result<Printed, AllocError>
+    ensures { IfOk result (λ made. PlaysOver folder.now base script.now made
+        ⊎ IsUnusable script.now made) }
+{
+    match read_script(rt, script)? {
+        Some(bytes) => {
+            let read = read_inputs(rt.alloc(), bytes.as_slice(), 1)?;
+            render_folder(rt.alloc(), folder, base, script, read)
+        }
+        None => cannot_use(rt.alloc(), script),
+    }
+}
+
+// The same of the files that a walk found.
+fn replay_folder<R: Files + Eprint + AllocGlobal>(
+    rt: &R,
+    folder: &Folder,
+    base: Env,
+    script: &str,
+) -> Result<Printed, AllocError>
+    requires { IsWalked folder.now }
+    ensures { IfOk result (λ made. PlaysFiles base script.now made ⊎ IsUnusable script.now made) }
+{
+    play(rt, folder, base, script)
+}
+
+/// What a replay of a script over a folder on the disk prints, if each process gets the base environment. Both are read before anything
+/// is printed, the folder first.
+pub fn replay_dir<R: Files + Eprint + AllocGlobal + Clone + Drop>(
+    rt: &R,
+    dir: &str,
+    base: Env,
+    script: &str,
+) -> Result<Printed, AllocError>
+    ensures { IfOk result (PlaysDir dir.now base script.now) }
+{
+    match walk(rt, dir) {
+        Ok(folder) => replay_folder(rt, &folder, base, script),
+        Err(WalkError::Unusable(path)) => cannot_use(rt.alloc(), path.as_str()),
+        Err(WalkError::Memory) => Err(AllocError),
+    }
+}

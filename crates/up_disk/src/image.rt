@@ -1,0 +1,298 @@
+//! Images of tables on the disk: writes the one of a folder, and prints what one says.
+ghost use Rattle.std.specs.Prelude.{◌≡◌, ◌+◌, ◌≤◌, ◌⊎◌, IfOk, IfSome, List, length, true, ℕ};
+ghost use Rattle.up_disk.specs.Disk.{CompilesDir, IsRefusedImage, IsUnusable, ShowsFile, ShowsImage, StoresFiles, StoresTable};
+ghost use Rattle.up_disk.specs.Walk.{IsWalked};
+ghost use Rattle.up_conf.specs.Folders.{jobs_of};
+ghost use Rattle.up_image.specs.Image.{IsImage};
+ghost use Rattle.up_image.specs.Reading.{HasTable};
+ghost use Rattle.up_image.specs.declared.limits.TheConstants.{MAX_IMAGE};
+ghost use Rattle.up_replay.specs.Bundle.{files_of, lines_of};
+ghost use Rattle.up_replay.specs.declared.replay.TheConstants.{MAX_BUNDLE};
+
+use crate::walk::{WalkError, read_file, walk};
+use crate::why::{say, say_error};
+use std::alloc::{AllocError, Global};
+use std::fs::{File, Metadata, OpenFile};
+use std::io::{Eprint, ErrorKind, Write};
+use std::rt::Files;
+use std::{fs, io};
+use up_conf::Folder;
+use up_image::limits::MAX_IMAGE;
+use up_image::{CompileError, ImageError, Table, compile, job_files};
+use up_model::ExitStatus;
+use up_replay::check::check_and_compile;
+use up_replay::replay::MAX_BUNDLE;
+use up_replay::{Printed, cannot_use, image_refused, read_bundle};
+use up_text::Items;
+
+// Writes all bytes to a new file, and has them on the disk.
+fn fill_new<R: Files>(rt: &R, path: &str, bytes: &[u8]) -> io::Result<()> {
+    let mut file = File::create_new(rt, path)?;
+    file.write_all(bytes)?;
+    file.sync_all()
+}
+
+// Moves a whole file to its name, or removes it.
+fn put_in_place<R: Files + Eprint>(rt: &R, temporary: &str, path: &str) -> io::Result<()> {
+    match fs::rename(rt, temporary, path) {
+        Ok(()) => Ok(()),
+        Err(error) => {
+            let _ = fs::remove_file(rt, temporary);
+            say_error(rt, path, &error);
+            Err(error)
+        }
+    }
+}
+
+// Why what is there isn't replaced; none of a regular file, which is.
+fn obstacle(found: &Metadata) -> Option<&'static str> {
+    if found.is_file() {
+        None
+    } else if found.is_dir() {
+        Some("it is a folder, and isn't replaced")
+    } else if found.is_symlink() {
+        Some("it is a symbolic link, and isn't replaced")
+    } else {
+        Some("it is no regular file, and isn't replaced")
+    }
+}
+
+// Refuses a path at which something is that no file may take the place of.
+fn may_replace<R: Files + Eprint>(rt: &R, path: &str) -> io::Result<()> {
+    match fs::symlink_metadata(rt, path) {
+        Ok(found) => match obstacle(&found) {
+            Some(why) => {
+                say(rt, path, why);
+                Err(io::Error::from(ErrorKind::AlreadyExists))
+            }
+            None => Ok(()),
+        },
+        // Nothing is there, or the folder isn't, which making the file will tell.
+        Err(_) => Ok(()),
+    }
+}
+
+// Says why a new file wasn't written. What was written of it is removed, and one that was there is somebody else's.
+fn give_up<R: Files + Eprint>(rt: &R, temporary: &str, path: &str, error: &io::Error) {
+    if error.kind() == ErrorKind::AlreadyExists {
+        say(
+            rt,
+            temporary,
+            "it is there, left by a compile that was ended or in use by another: remove it",
+        );
+    } else {
+        let _ = fs::remove_file(rt, temporary);
+        say_error(rt, path, error);
+    }
+}
+
+// Writes a file as a whole or not at all: by a file of this name with `.new` after it, which may not be there yet.
+fn write_whole<R: Files + Eprint + AllocGlobal>(
+    rt: &R,
+    path: &str,
+    bytes: &[u8],
+) -> io::Result<()> {
+    let mut temporary = String::from_str(rt.alloc(), path)?;
+    temporary.push_str(".new")?;
+    may_replace(rt, path)?;
+    match fill_new(rt, temporary.as_str(), bytes) {
+        Ok(()) => put_in_place(rt, temporary.as_str(), path),
+        Err(error) => {
+            give_up(rt, temporary.as_str(), path, &error);
+            Err(error)
+        }
+    }
+}
+
+// Stores the image of a table, for which this is printed then.
+fn store<R: Files + Eprint + AllocGlobal>(
+    rt: &R,
+    table: &Table,
+    image: &str,
+    printed: Printed,
+) -> Result<Printed, AllocError>
+    ensures { IfOk result (StoresTable image.now printed) }
+{
+    let bytes = match table.to_bytes(rt.alloc()) {
+        Ok(bytes) => bytes,
+        Err(ImageError::Memory) => return Err(AllocError),
+        Err(error) => return image_refused(rt.alloc(), error),
+    };
+    match write_whole(rt, image, bytes.as_slice()) {
+        Ok(()) => Ok(printed),
+        Err(error) => {
+            if error.kind() == ErrorKind::OutOfMemory {
+                return Err(AllocError);
+            }
+            cannot_use(rt.alloc(), image)
+        }
+    }
+}
+
+// Stores the image of a folder's files, unless the folder is refused.
+fn store_folder<R: Files + Eprint + AllocGlobal>(
+    rt: &R,
+    folder: &Folder,
+    image: &str,
+) -> Result<Printed, AllocError>
+    requires { IsWalked folder.now }
+    ensures { IfOk result (StoresFiles image.now) }
+{
+    let (printed, table) = check_and_compile(rt.alloc(), folder)?;
+    match table {
+        Some(table) => store(rt, &table, image, printed),
+        None => Ok(printed),
+    }
+}
+
+/// What is printed once the image of a folder was stored: what a check of the folder prints. The image is stored in spite of faults. If
+/// it can't be, nothing is left of it, and that is what is printed.
+pub fn compile_dir<R: Files + Eprint + AllocGlobal + Clone + Drop>(
+    rt: &R,
+    dir: &str,
+    image: &str,
+) -> Result<Printed, AllocError>
+    ensures { IfOk result (CompilesDir dir.now image.now) }
+{
+    match walk(rt, dir) {
+        Ok(folder) => store_folder(rt, &folder, image),
+        Err(WalkError::Unusable(path)) => cannot_use(rt.alloc(), path.as_str()),
+        Err(WalkError::Memory) => Err(AllocError),
+    }
+}
+
+/// The bytes of an image, as many as show that it is too long; none if it can't be read.
+pub fn read_bytes<R: Files + Eprint + AllocGlobal>(
+    rt: &R,
+    image: &str,
+) -> Result<Option<Vec<u8>>, AllocError>
+    ensures { IfOk result (λ read. IfSome read (λ bytes. length bytes.items ≤ MAX_IMAGE + 1)) }
+{
+    match read_file(rt, image, MAX_IMAGE + 1) {
+        Ok(bytes) => Ok(Some(bytes)),
+        Err(error) => {
+            if error.kind() == ErrorKind::OutOfMemory {
+                return Err(AllocError);
+            }
+            say_error(rt, image, &error);
+            Ok(None)
+        }
+    }
+}
+
+// The files of a folder as a bundle without a script.
+fn bundle_of(alloc: Global, folder: &Folder) -> Result<Vec<u8>, AllocError> {
+    let mut text: Vec<u8> = Vec::new(alloc);
+    for file in folder.as_slice() {
+        text.extend_from_slice(b"%file ")?;
+        text.extend_from_slice(file.path.as_str().as_bytes())?;
+        text.extend_from_slice(b"\n")?;
+        text.extend_from_slice(file.bytes.as_slice())?;
+    }
+    Ok(text)
+}
+
+// Whether files are compiled to a table with this image.
+fn define_image(alloc: Global, folder: &Folder, image: &[u8]) -> Result<bool, AllocError>
+    ensures { IfOk result (λ has. has ≡ true → IsImage image.now (jobs_of folder.now)) }
+{
+    let table = match compile(alloc, folder) {
+        Ok((table, _)) => table,
+        Err(CompileError::Memory) => return Err(AllocError),
+        Err(_) => return Ok(false),
+    };
+    match table.to_bytes(alloc) {
+        Ok(bytes) => Ok(bytes.as_slice() == image),
+        Err(ImageError::Memory) => Err(AllocError),
+        Err(_) => Ok(false),
+    }
+}
+
+/// Whether files define a table: then they have the image that is written of it, whatever the version of the one that it was read from.
+#[tactic(auto, using(up_image::proofs::Tables::same_jobs))]
+pub(crate) fn define_table(
+    alloc: Global,
+    folder: &Folder,
+    table: &Table,
+) -> Result<bool, AllocError>
+    ensures { IfOk result (λ define. define ≡ true → jobs_of folder.now ≡ table.now) }
+{
+    match table.to_bytes(alloc) {
+        Ok(image) => define_image(alloc, folder, image.as_slice()),
+        Err(ImageError::Memory) => Err(AllocError),
+        Err(_) => Ok(false),
+    }
+}
+
+// Whether the files of a bundle do.
+fn defines(alloc: Global, bundle: &[u8], table: &Table) -> Result<bool, AllocError>
+    requires { length bundle.now ≤ MAX_BUNDLE }
+    ensures { IfOk result (λ define. define ≡ true → jobs_of (files_of (lines_of bundle.now)) ≡ table.now) }
+{
+    let bundle = read_bundle(alloc, bundle)?;
+    define_table(alloc, &bundle.folder, table)
+}
+
+/// What is printed for an image whose jobs can't be printed as job files, so that they define it again.
+pub(crate) fn no_files<R: Eprint + AllocGlobal>(rt: &R, image: &str) -> Result<Printed, AllocError>
+    ensures { IfOk result (IsUnusable image.now) }
+{
+    say(rt, image, "its jobs can't be printed as job files");
+    cannot_use(rt.alloc(), image)
+}
+
+// What is printed for the table of an image, in the file with this path.
+fn show_table<R: Eprint + AllocGlobal>(
+    rt: &R,
+    table: &Table,
+    image: &str,
+) -> Result<Printed, AllocError>
+    ensures { IfOk result (λ made. (bytes : List ℕ) → HasTable bytes table.now
+        → ShowsImage bytes made ⊎ IsUnusable image.now made) }
+{
+    let folder = job_files(rt.alloc(), table)?;
+    let text = bundle_of(rt.alloc(), &folder)?;
+    if text.len() > MAX_BUNDLE {
+        return no_files(rt, image);
+    }
+    if defines(rt.alloc(), text.as_slice(), table)? {
+        let text = Items::new(text);
+        Ok(Printed {
+            text,
+            status: ExitStatus::Done,
+        })
+    } else {
+        no_files(rt, image)
+    }
+}
+
+// What is printed for the bytes of an image, in the file with this path.
+#[tactic(auto, using(crate::proofs::Stored::read_is))]
+fn show_bytes<R: Eprint + AllocGlobal>(
+    rt: &R,
+    bytes: &[u8],
+    image: &str,
+) -> Result<Printed, AllocError>
+    ensures { IfOk result (λ made. ShowsImage bytes.now made
+        ⊎ (IsUnusable image.now made ⊎ IsRefusedImage made)) }
+{
+    match Table::from_bytes(rt.alloc(), bytes) {
+        Ok(table) => show_table(rt, &table, image),
+        Err(ImageError::Memory) => Err(AllocError),
+        Err(error) => image_refused(rt.alloc(), error),
+    }
+}
+
+/// What is printed for an image: the files that define its jobs, as a bundle. They are compiled again, and printed only if that gives
+/// its table.
+pub fn show_image<R: Files + Eprint + AllocGlobal>(
+    rt: &R,
+    image: &str,
+) -> Result<Printed, AllocError>
+    ensures { IfOk result (ShowsFile image.now) }
+{
+    match read_bytes(rt, image)? {
+        Some(bytes) => show_bytes(rt, bytes.as_slice(), image),
+        None => cannot_use(rt.alloc(), image),
+    }
+}

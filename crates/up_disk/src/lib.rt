@@ -1,0 +1,14 @@
+//! What lies on the disk: folders of job files, scripts and images, and what is printed of them.
+#![tactic(auto)]
+
+pub mod disk;
+pub mod image;
+pub mod print;
+pub mod source;
+pub mod walk;
+pub mod why;
+
+pub use disk::{check_dir, explain_dir, graph_dir, replay_dir};
+pub use image::{compile_dir, read_bytes, show_image};
+pub use source::{replay_image, replay_source};
+pub use walk::{WalkError, read_file};

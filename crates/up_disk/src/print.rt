@@ -1,0 +1,28 @@
+//! Prints on standard output.
+ghost use Rattle.std.specs.Prelude.{◌≡◌, IfOk, Ok};
+ghost use Rattle.up_disk.specs.Disk.{EndsWith};
+
+use std::alloc::AllocError;
+use std::io;
+use std::io::{BufWriter, Write};
+use up_model::ExitStatus;
+use up_replay::{Printed, write_printed};
+
+/// Prints on standard output, and returns the status: `Unusable` if it can't be written, `Memory` if there was none for what is printed.
+/// An error is that of the standard output, or memory ran out for its buffer.
+pub fn print(
+    rt: &(impl Print + AllocGlobal),
+    made: Result<Printed, AllocError>,
+) -> io::Result<ExitStatus>
+    ensures { IfOk result (EndsWith (λ found. made ≡ Ok found)) }
+{
+    match made {
+        Ok(made) => {
+            let mut writer = BufWriter::new(rt.alloc(), io::writer(rt))?;
+            let status = write_printed(&mut writer, &made);
+            writer.flush()?;
+            Ok(status)
+        }
+        Err(_) => Ok(ExitStatus::Memory),
+    }
+}

@@ -1,0 +1,164 @@
+//! Which events a leaf can't match, whatever its values expand to.
+ghost use Rattle.std.specs.Prelude.{◌≡◌, option_map};
+ghost use Rattle.std.specs.Option.{option_copied};
+ghost use Rattle.up_expr.specs.Matching.{nth_value};
+ghost use Rattle.up_expr.specs.Values.{is_positional};
+ghost use Rattle.up_text.specs.Bindings.{value_of};
+ghost use Rattle.up_marks.specs.Naming.{side_of};
+ghost use Rattle.up_marks.specs.Ruling as ruling;
+
+use up_conf::JobDef;
+use up_expr::{Condition, Leaf, Node, Test};
+use up_image::Place;
+use up_model::Event;
+use up_text::{Env, Name, Text};
+
+// So many keys are few.
+const FEW: usize = 8;
+
+// A byte that neither an expansion nor a pattern reads as anything but itself.
+fn is_literal_byte(byte: u8) -> bool
+    ensures { result ≡ ruling.is_literal_byte byte }
+{
+    byte != b'$' && !(byte == b'*' || byte == b'?' || byte == b'[' || byte == b'\\')
+}
+
+fn is_literal(text: &[u8]) -> bool
+    ensures { result ≡ ruling.is_literal text.now }
+{
+    text.iter().all(|byte| is_literal_byte(*byte))
+}
+
+// Whether a variable can't have a value: there is none, or the value is a literal and another.
+fn is_another(value: &Text, found: Option<&str>) -> bool
+    ensures { result ≡ ruling.is_another value.now (option_map (λ text. text.now) found.entry) }
+{
+    match found {
+        Some(found) => value.as_str() != found && is_literal(value.as_str().as_bytes()),
+        None => true,
+    }
+}
+
+// The value of the variable at a place, if there is one.
+fn nth_value(vars: &Env, k: usize) -> Option<&str>
+    ensures { option_map (λ value. value.now) result ≡ nth_value k vars.now }
+{
+    if k < vars.len() {
+        let (_, value) = vars.at(k);
+        Some(value)
+    } else {
+        None
+    }
+}
+
+// The value of a key, by a look at each.
+fn find<'a>(vars: &'a Env, key: &str) -> Option<&'a str>
+    ensures { option_map (λ value. value.now) result ≡ value_of key.now vars.now }
+{
+    for i in 0..vars.len() {
+        let (its, value) = vars.at(i);
+        if key == its {
+            return Some(value);
+        }
+    }
+    None
+}
+
+// The value of a key. Among few a look at each is faster than the key's hash.
+fn value_of<'a>(vars: &'a Env, key: &str) -> Option<&'a str>
+    ensures { option_map (λ value. value.now) result ≡ value_of key.now vars.now }
+{
+    if vars.len() <= FEW {
+        find(vars, key)
+    } else {
+        vars.get(key)
+    }
+}
+
+// Whether the test at a place fails in any environment.
+fn fails(test: &Test, k: usize, vars: &Env) -> bool
+    ensures { result ≡ ruling.fails vars.now k test.now }
+{
+    match test {
+        Test::Place(value) => is_another(value, nth_value(vars, k)),
+        Test::Same(key, value) => is_another(value, value_of(vars, key.as_str())),
+        Test::Differs(_, _) => false,
+    }
+}
+
+fn is_positional(test: &Test) -> bool
+    ensures { result ≡ is_positional test.now }
+{
+    match test {
+        Test::Place(_) => true,
+        Test::Same(_, _) | Test::Differs(_, _) => false,
+    }
+}
+
+// Whether one of these tests fails in any environment.
+fn one_fails(tests: &[Test], vars: &Env) -> bool
+    ensures { result ≡ ruling.one_fails vars.now 0 tests.now }
+{
+    let mut k = 0;
+    for test in tests {
+        if fails(test, k, vars) {
+            return true;
+        }
+        if is_positional(test) {
+            k += 1;
+        }
+    }
+    false
+}
+
+/// Whether a leaf matches an event of this name with these variables in no environment: it names another, or has a literal value that
+/// its variable hasn't. Takes no memory.
+pub fn rules_out(leaf: &Leaf, name: &Name, vars: &Env) -> bool
+    ensures { result ≡ ruling.rules_out leaf.now name.now vars.now }
+{
+    // of many leaves that name one event most are told apart by a value
+    one_fails(leaf.values.as_slice(), vars) || !name.is(&leaf.event)
+}
+
+fn side_of(job: &JobDef, start: bool) -> Option<&Condition>
+    ensures { option_copied result ≡ side_of start job.now }
+{
+    if start {
+        job.start_on.as_ref()
+    } else {
+        job.stop_on.as_ref()
+    }
+}
+
+/// The leaf at a place of an expression, if it is one.
+pub(crate) fn leaf_in<'a>(condition: Option<&'a Condition>, at: usize) -> Option<&'a Leaf>
+    ensures { option_copied result ≡ ruling.leaf_in (option_copied condition.entry) at }
+{
+    match condition {
+        Some(condition) => match condition.nodes().as_slice().get(at) {
+            Some(Node::Leaf(leaf)) => Some(leaf),
+            Some(Node::And(_, _)) | Some(Node::Or(_, _)) => None,
+            None => None,
+        },
+        None => None,
+    }
+}
+
+fn leaf_at<'a>(jobs: &'a [JobDef], place: &Place) -> Option<&'a Leaf>
+    ensures { option_copied result ≡ ruling.leaf_at jobs.now place.now }
+{
+    match jobs.get(usize::from(place.job)) {
+        Some(job) => leaf_in(side_of(job, place.start), usize::from(place.node)),
+        None => None,
+    }
+}
+
+/// Whether the leaf at a place of a table may match an event. Takes no memory.
+pub fn admits(jobs: &[JobDef], place: &Place, event: &Event) -> bool
+    ensures { result ≡ ruling.admits jobs.now event.now place.now }
+{
+    match leaf_at(jobs, place) {
+        Some(leaf) => !rules_out(leaf, &event.name, &event.vars),
+        None => false,
+    }
+}

@@ -1,0 +1,61 @@
+-- What a run begins with.
+use Rattle.std.specs.Prelude.{◌≡◌, ◌⊎◌, ℕ, false, List, [], ◌∷◌, None, IfSome, codes}
+use Rattle.up_conf.specs.declared.folder.File.{File}
+use Rattle.up_conf.specs.declared.job.JobDef.{JobDef}
+use Rattle.up_image.specs.Reading.{HasTable}
+use Rattle.up_model.specs.declared.exit_status.ExitStatus.TheVariants.{Done}
+use Rattle.up_model.specs.declared.input.Input.{Input}
+use Rattle.up_model.specs.declared.input.Input.TheVariants.{Emit}
+use Rattle.up_model.specs.Answers.{after_all}
+use Rattle.up_model.specs.Configuration.{Configuration}
+use Rattle.up_engine.specs.Stands.{Stands}
+use Rattle.up_daemon.specs.declared.daemon.Daemon.{Daemon}
+use Rattle.up_daemon.specs.Daemons.{engine_of, clients_of, was_refused}
+use Rattle.up_replay.specs.Folders.{prints, IsTable, PrintsFaults}
+use Rattle.up_disk.specs.Disk.{CannotWalk, IsRefusedImage, IsUnusable}
+use Rattle.up_disk.specs.Walk.{IsWalked}
+use Rattle.up_run.specs.declared.jobs.Jobs.{Jobs}
+
+-- the jobs that files define, once the faults of those files are printed; none if the files are refused, and why
+pub record AreOfFiles (files : List File) (jobs : Jobs) : Type 0 where
+  pub printed : PrintsFaults files jobs.printed
+  pub table : IsTable files jobs.table
+
+-- those of the files that a folder has
+pub record AreOfFolder (jobs : Jobs) : Type 0 where
+  pub files : List File
+  pub walked : IsWalked files
+  pub defined : AreOfFiles files jobs
+
+-- the jobs of an image, for which nothing is printed
+pub record AreOfImage (jobs : Jobs) : Type 0 where
+  pub printed : jobs.printed ≡ prints [] Done
+  pub image : List ℕ
+  pub table : IfSome jobs.table (HasTable image)
+
+-- no jobs, and why
+pub record AreNone (source : List ℕ) (jobs : Jobs) : Type 0 where
+  pub none : jobs.table ≡ None
+  pub why : CannotWalk source jobs.printed ⊎ (IsRefusedImage jobs.printed ⊎ IsUnusable source jobs.printed)
+
+-- what a run reads of a folder or an image with this path
+abbrev pub ReadsJobs : List ℕ → Jobs → Type 0
+ReadsJobs source jobs = AreOfFolder jobs ⊎ (AreOfImage jobs ⊎ AreNone source jobs)
+
+-- the environment of each process, before that of its job
+abbrev pub run_base : List (List ℕ × List ℕ)
+run_base = (codes "PATH", codes "/usr/sbin:/usr/bin:/sbin:/bin") ∷ []
+
+-- what a run of these jobs goes by
+abbrev pub run_of : List JobDef → Configuration
+run_of jobs = record { base = run_base; jobs = jobs }
+
+-- the first input of a run: the event `startup` (startup(7))
+abbrev pub first_inputs : List Input
+first_inputs = Emit (record { name = codes "startup"; vars = [] }) ∷ []
+
+-- a daemon that no client has asked yet, whose engine has taken the first inputs of a run
+pub record Begins (jobs : List JobDef) (daemon : Daemon) : Type 0 where
+  pub engine : Stands (engine_of daemon) (run_of jobs) (after_all (run_of jobs) [] first_inputs)
+  pub up : was_refused daemon ≡ false
+  pub clients : clients_of daemon ≡ []

@@ -1,0 +1,18 @@
+//! Runs the jobs of a folder or an image with the system's processes, and tells what happens.
+#![tactic(auto)]
+
+mod failures;
+mod faults;
+mod head;
+mod jobs;
+mod outlet;
+pub mod pace;
+mod record;
+pub mod run;
+pub mod silence;
+mod socket;
+pub mod teller;
+mod unsaid;
+
+pub use run::{Rounds, run_source};
+pub use teller::Telling;

@@ -1,0 +1,395 @@
+//! Runs jobs: their processes are real, and clients ask at a socket.
+
+ghost use Rattle.std.specs.Prelude.{◌≡◌, false, IfOk, OnOk, []};
+ghost use Rattle.up_daemon.specs.Daemons.{clients_of, engine_of, was_refused};
+ghost use Rattle.up_engine.specs.Stands.{Stands};
+ghost use Rattle.up_model.specs.Answers.{after_all};
+ghost use Rattle.up_model.specs.Chronicle.{Chronicle};
+ghost use Rattle.up_model.specs.Configuration.{Configuration};
+ghost use Rattle.up_run.specs.Starts.{Begins, first_inputs, run_base, run_of};
+
+use crate::failures::say_failures;
+use crate::faults::host_faults;
+use crate::head::log_head;
+use crate::jobs::read_jobs;
+use crate::outlet::Outlet;
+use crate::pace::{Pace, SHORT_PAUSE, is_idle};
+use crate::record::open_file;
+use crate::silence::Silences;
+use crate::socket::say_no_socket;
+use crate::teller::{Teller, Telling};
+use std::alloc::{AllocError, Global};
+use std::fs::{File, OpenFile, remove_file};
+use std::io::{Eprint, Write};
+use std::net::Net;
+use std::process::Processes;
+use std::rt::{Clock, Files};
+use std::time::Duration;
+use std::{io, thread};
+use up_daemon::{Daemon, Door, SocketFault, UnixDoor};
+use up_disk::print::print;
+use up_disk::why::say_error;
+use up_engine::Engine;
+use up_host::{Host, RealHost};
+use up_image::Table;
+use up_model::{Event, ExitStatus, Input};
+use up_replay::cannot_use;
+use up_text::{Env, Name};
+
+/// The folders in which the programs of jobs are looked for.
+const SEARCHED: &str = "/usr/sbin:/usr/bin:/sbin:/bin";
+
+/// The rounds of a run, its pauses, and how long a client may be silent.
+#[derive(Clone, Copy, PartialEq, Eq)]
+pub struct Rounds {
+    /// How many rounds there are.
+    pub count: u32,
+    /// The longest pause after a round that did nothing, in milliseconds; 0 for none.
+    pub most_pause: u64,
+    /// How long a client may be silent that waits for nothing, in seconds; 0 for ever.
+    pub client_timeout: u64,
+}
+
+// How a run goes on from round to round: how long it pauses, how long clients have been silent, and whether nothing is said of jobs that
+// fail.
+#[derive(Drop)]
+struct Going {
+    pace: Pace,
+    silences: Silences,
+    quiet: bool,
+}
+
+// The environment of each process of a run, before that of its job.
+fn base(alloc: Global) -> Result<Env, AllocError>
+    ensures { IfOk result (λ base. base ≡ run_base) }
+{
+    let mut base = Env::new(alloc);
+    match base.set("PATH", SEARCHED) {
+        Ok(()) => Ok(base),
+        Err(_) => Err(AllocError),
+    }
+}
+
+// The inputs with which a run begins: one event (startup(7)).
+fn first_inputs(alloc: Global) -> Result<Vec<Input>, AllocError>
+    ensures { IfOk result (λ inputs. inputs.items ≡ first_inputs) }
+{
+    let Ok(name) = Name::new(alloc, "startup") else {
+        return Err(AllocError);
+    };
+    let vars = Env::new(alloc);
+    let mut inputs: Vec<Input> = Vec::new(alloc);
+    inputs.push(Input::Emit(Event { name, vars }))?;
+    Ok(inputs)
+}
+
+fn engine_over(alloc: Global, table: Table) -> Result<Engine, AllocError>
+    ensures { IfOk result (λ engine. Stands engine (run_of table) []) }
+{
+    match base(alloc) {
+        Ok(base) => Engine::new(alloc, table, base),
+        Err(refused) => {
+            drop(table);
+            Err(refused)
+        }
+    }
+}
+
+// The engine is fed its first inputs. What its run gave has no reader yet.
+fn feed(engine: &mut Engine, inputs: Vec<Input>) -> Result<(), AllocError>
+    ensures { OnOk result ((config : Configuration) (c : Chronicle) → Stands engine.old config c
+        → Stands engine.new config (after_all config c inputs.items)) }
+{
+    let Ok(run) = engine.run(inputs) else {
+        return Err(AllocError);
+    };
+    let down = run.down;
+    drop(run);
+    if down { Err(AllocError) } else { Ok(()) }
+}
+
+// A daemon over these jobs, whose engine was fed these inputs.
+fn started(alloc: Global, table: Table, inputs: Vec<Input>) -> Result<Daemon, AllocError>
+    ensures engine { IfOk result (λ daemon. Stands (engine_of daemon) (run_of table)
+        (after_all (run_of table) [] inputs.items)) }
+    ensures fresh { IfOk result (λ daemon. (was_refused daemon ≡ false) × (clients_of daemon ≡ [])) }
+{
+    let Ok(mut engine) = engine_over(alloc, table) else {
+        drop(inputs);
+        return Err(AllocError);
+    };
+    match feed(&mut engine, inputs) {
+        Ok(()) => Ok(Daemon::new(alloc, engine)),
+        Err(refused) => {
+            drop(engine);
+            Err(refused)
+        }
+    }
+}
+
+// The pause after a round, if there is one. A short one isn't ended by clients, as a door's pause has whole milliseconds.
+fn rest<R: Clock>(rt: &R, door: &mut UnixDoor, pace: &Pace) {
+    if pace.is_short() {
+        thread::sleep(rt, Duration::from_micros(SHORT_PAUSE));
+        return;
+    }
+    let pause = pace.pause();
+    if pause > 0 {
+        let _ = door.pause(Duration::from_millis(pause));
+    }
+}
+
+// One round, what is told of it, and the pause after it if it did nothing. False if it was refused.
+fn round<R, W>(
+    rt: &R,
+    daemon: &mut Daemon,
+    (host, door): (&mut RealHost<R>, &mut UnixDoor),
+    going: &mut Going,
+    teller: &mut Teller<W>,
+) -> bool
+where
+    R: Processes + Clock + Print + Eprint + AllocGlobal,
+    W: Write + OpenFile + Drop,
+{
+    let faults = host.faults();
+    let Ok(round) = daemon.round(host, door) else {
+        return false;
+    };
+    let idle = is_idle(&round, door.happened());
+    teller.tell(rt, rt.alloc(), &round, idle);
+    let counted = host.faults().saturating_sub(faults);
+    let faults = host_faults(round.fed.as_slice(), host.happened(), counted);
+    teller.tell_faults(rt, rt.alloc(), &faults, door.failed());
+    if !going.quiet && !idle {
+        say_failures(rt, &round, host.refusals());
+    }
+    drop(round);
+    going.silences.note(host.happened(), door.happened());
+    door.dismiss(going.silences.silent_client(daemon));
+    going.pace.note(idle);
+    rest(rt, door, &going.pace);
+    true
+}
+
+// The rounds, until they are over or one is refused, and the status.
+fn all_rounds<R, W>(
+    rt: &R,
+    daemon: &mut Daemon,
+    (host, door): (&mut RealHost<R>, &mut UnixDoor),
+    count: u32,
+    mut going: Going,
+    teller: &mut Teller<W>,
+) -> ExitStatus
+where
+    R: Processes + Clock + Print + Eprint + AllocGlobal,
+    W: Write + OpenFile + Drop,
+{
+    for _ in 0..count {
+        if !round(rt, daemon, (host, door), &mut going, teller) {
+            return ExitStatus::Memory;
+        }
+    }
+    ExitStatus::Done
+}
+
+// What can't be used is printed.
+fn unusable(rt: &(impl Print + AllocGlobal), path: &str) -> io::Result<ExitStatus> {
+    print(rt, cannot_use(rt.alloc(), path))
+}
+
+// A daemon over jobs, with the first inputs in the record.
+fn first_daemon<R: Eprint + AllocGlobal, W: Write + OpenFile + Drop>(
+    rt: &R,
+    table: Table,
+    teller: &mut Teller<W>,
+) -> Result<Daemon, AllocError>
+    ensures { IfOk result (Begins table) }
+{
+    match first_inputs(rt.alloc()) {
+        Ok(inputs) => {
+            teller.note(rt, rt.alloc(), inputs.as_slice(), false);
+            started(rt.alloc(), table, inputs)
+        }
+        Err(refused) => {
+            drop(table);
+            Err(refused)
+        }
+    }
+}
+
+// The rounds of a daemon with the system's processes, and the status.
+fn serve_with<
+    R: Processes + Clock + Print + Eprint + AllocGlobal + Clone + Drop,
+    W: Write + OpenFile + Drop,
+>(
+    rt: &R,
+    daemon: &mut Daemon,
+    door: &mut UnixDoor,
+    (rounds, quiet): (Rounds, bool),
+    teller: &mut Teller<W>,
+) -> io::Result<ExitStatus> {
+    let mut host = match RealHost::new(rt.alloc(), rt.clone()?) {
+        Ok(host) => host,
+        Err(error) => {
+            say_error(rt, "the clock", &error);
+            return unusable(rt, "the clock");
+        }
+    };
+    let going = Going {
+        pace: Pace::new(rounds.most_pause),
+        silences: Silences::new(rt.alloc(), rounds.client_timeout),
+        quiet,
+    };
+    let status = all_rounds(rt, daemon, (&mut host, door), rounds.count, going, teller);
+    teller.finish(rt, rt.alloc(), host.faults(), door.faults());
+    drop(host);
+    Ok(status)
+}
+
+// The rounds over jobs with the system's processes, and the status.
+fn serve<
+    R: Processes + Clock + Print + Eprint + AllocGlobal + Clone + Drop,
+    W: Write + OpenFile + Drop,
+>(
+    rt: &R,
+    table: Table,
+    door: &mut UnixDoor,
+    (rounds, quiet): (Rounds, bool),
+    teller: &mut Teller<W>,
+) -> io::Result<ExitStatus> {
+    let mut daemon = first_daemon(rt, table, teller)?;
+    let served = serve_with(rt, &mut daemon, door, (rounds, quiet), teller);
+    drop(daemon);
+    served
+}
+
+// What is said of a socket that isn't made, and the status.
+fn no_socket<R: Files + Net + Print + Eprint + AllocGlobal>(
+    rt: &R,
+    socket: &str,
+    fault: SocketFault,
+) -> io::Result<ExitStatus> {
+    if fault == SocketFault::Memory {
+        return Ok(ExitStatus::Memory);
+    }
+    say_no_socket(rt, socket, fault);
+    unusable(rt, socket)
+}
+
+// What tells of a run, once its files are there; or the path of one that can't be made.
+fn teller_of<'a, R: Files<File = File> + Net + Eprint + AllocGlobal>(
+    rt: &R,
+    source: &str,
+    telling: Telling<'a>,
+) -> Result<Result<Teller<File>, &'a str>, AllocError> {
+    let head = log_head(rt.alloc(), source, telling.log.unwrap_or("-"), SEARCHED)?;
+    let Some(log) = open_file(rt, telling.log, telling.over) else {
+        drop(head);
+        return Ok(Err(telling.log.unwrap_or("-")));
+    };
+    let Some(told) = open_file(rt, telling.tell, telling.over) else {
+        drop(head);
+        drop(log);
+        return Ok(Err(telling.tell.unwrap_or("-")));
+    };
+    let verbose = telling.verbose.then(|| Outlet::new(rt, rt.alloc()));
+    Ok(Ok(Teller::new(verbose, told, log, head)))
+}
+
+// The rounds over jobs, once the files to which they are told are there. Without them there is no run, and the socket that was made goes.
+fn record_run<R>(
+    rt: &R,
+    table: Table,
+    door: &mut UnixDoor,
+    (source, socket): (&str, &str),
+    rounds: Rounds,
+    telling: Telling,
+) -> io::Result<ExitStatus>
+where
+    R: Files<File = File> + Net + Processes + Clock + Print + Eprint + AllocGlobal + Clone + Drop,
+{
+    match teller_of(rt, source, telling) {
+        Ok(Ok(mut teller)) => {
+            let served = serve(rt, table, door, (rounds, telling.quiet), &mut teller);
+            drop(teller);
+            served
+        }
+        Ok(Err(path)) => {
+            drop(table);
+            let _ = remove_file(rt, socket);
+            unusable(rt, path)
+        }
+        Err(refused) => {
+            drop(table);
+            let _ = remove_file(rt, socket);
+            Err(io::Error::from(refused))
+        }
+    }
+}
+
+// The run over jobs, with a socket that is made before anything is recorded: a second run at it changes no record.
+fn run_jobs<R>(
+    rt: &R,
+    table: Table,
+    (source, socket): (&str, &str),
+    rounds: Rounds,
+    telling: Telling,
+) -> io::Result<ExitStatus>
+where
+    R: Files<File = File> + Net + Processes + Clock + Print + Eprint + AllocGlobal + Clone + Drop,
+{
+    match UnixDoor::bind(rt, rt.alloc(), socket) {
+        Ok(mut door) => {
+            let served = record_run(rt, table, &mut door, (source, socket), rounds, telling);
+            drop(door);
+            served
+        }
+        Err(fault) => {
+            drop(table);
+            no_socket(rt, socket, fault)
+        }
+    }
+}
+
+// The run over the jobs that were found, if there are some and what is printed before it was, and the status.
+fn run_found<R>(
+    rt: &R,
+    table: Option<Table>,
+    printed: ExitStatus,
+    (source, socket): (&str, &str),
+    rounds: Rounds,
+    telling: Telling,
+) -> io::Result<ExitStatus>
+where
+    R: Files<File = File> + Net + Processes + Clock + Print + Eprint + AllocGlobal + Clone + Drop,
+{
+    let Some(table) = table else {
+        return Ok(printed);
+    };
+    if printed != ExitStatus::Done && printed != ExitStatus::Failed {
+        drop(table);
+        return Ok(printed);
+    }
+    let status = run_jobs(rt, table, (source, socket), rounds, telling)?;
+    if status == ExitStatus::Done {
+        Ok(printed)
+    } else {
+        Ok(status)
+    }
+}
+
+/// Reads the jobs of a folder or of an image, prints the faults of a folder's files, makes the socket, and does the rounds. Returns the
+/// status: `Failed` if faults were printed; `Unusable` if the folder or the image is refused, or one of them, the record, the socket or
+/// the output can't be used; `Memory` if memory ran out. Neither the socket nor the processes are touched at the end.
+pub fn run_source<
+    R: Files<File = File> + Net + Processes + Clock + Print + Eprint + AllocGlobal + Clone + Drop,
+>(rt: &R, source: &str, socket: &str, rounds: Rounds, telling: Telling) -> io::Result<ExitStatus> {
+    let jobs = read_jobs(rt, source)?;
+    match print(rt, Ok(jobs.printed)) {
+        Ok(printed) => run_found(rt, jobs.table, printed, (source, socket), rounds, telling),
+        Err(error) => {
+            drop(jobs.table);
+            Err(error)
+        }
+    }
+}

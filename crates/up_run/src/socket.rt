@@ -1,0 +1,53 @@
+//! Says why a run's socket can't be made.
+use std::fs::symlink_metadata;
+use std::io;
+use std::io::{Eprint, ErrorKind};
+use std::net::Net;
+use std::os::unix::fs::FileTypeExt;
+use std::os::unix::net::UnixStream;
+use std::rt::Files;
+use up_daemon::SocketFault;
+use up_disk::why::{say, say_error};
+
+// What is at a path at which nothing may be yet.
+fn obstacle<R: Files + Net>(rt: &R, path: &str) -> Option<&'static str> {
+    let Ok(found) = symlink_metadata(rt, path) else {
+        return None;
+    };
+    if !found.file_type().is_socket() {
+        return Some("it is there, and is no socket");
+    }
+    match UnixStream::connect(rt, path) {
+        Ok(_) => Some("it is there, and somebody listens at it"),
+        Err(error) if error.kind() == ErrorKind::ConnectionRefused => {
+            Some("it is there, and nobody listens at it any more: remove it")
+        }
+        Err(_) => Some("it is there, and can't be connected to"),
+    }
+}
+
+// Says what is in the way of a socket: at its path, or else at that of the folder in which it is made.
+fn say_obstacle<R: Files + Net + Eprint>(rt: &R, path: &str) {
+    match obstacle(rt, path) {
+        Some(why) => say(rt, path, why),
+        None => {
+            let _ = eprintln!(rt;
+                "initd: {path}.new: it is there, and isn't the folder that an init of yours left: remove it"
+            );
+        }
+    }
+}
+
+/// Says why a socket can't be made.
+pub(crate) fn say_no_socket<R: Files + Net + Eprint>(rt: &R, path: &str, fault: SocketFault) {
+    match fault {
+        SocketFault::Empty => say(rt, path, "an empty path names no socket"),
+        SocketFault::TooLong => say(rt, path, "a socket's path has at most 101 bytes"),
+        SocketFault::Exists => say_obstacle(rt, path),
+        SocketFault::Unusable(ErrorKind::ResourceBusy) => {
+            say(rt, path, "another init is being started at it")
+        }
+        SocketFault::Unusable(kind) => say_error(rt, path, &io::Error::from(kind)),
+        SocketFault::Memory => {}
+    }
+}

@@ -1,0 +1,277 @@
+//! What a run tells of its rounds: on standard output, in a file, and in a record.
+ghost use Rattle.std.specs.Prelude.{◌≡◌, ◌++◌, OnOk};
+ghost use Rattle.std.specs.List.{flat_map};
+ghost use Rattle.up_replay.specs.Lines.{output_lines};
+
+use crate::faults::{HostFaults, fault_count, fault_lines};
+use crate::outlet::Outlet;
+use crate::unsaid::unsaid;
+use std::alloc::{AllocError, Global};
+use std::fmt::Display;
+use std::fs::OpenFile;
+use std::io;
+use std::io::{Eprint, Write};
+use up_daemon::{DoorCall, Round};
+use up_disk::why::Reason;
+use up_model::{Input, Output};
+use up_replay::{push_outputs, script_lines};
+use up_text::Items;
+
+/// So many bytes of the record may wait while nothing happens.
+const MOST_WAITING: usize = 65_536;
+
+/// What is told of a run.
+#[derive(Clone, Copy, PartialEq, Eq)]
+pub struct Telling<'a> {
+    /// Whether standard output gets the lines that a replay prints.
+    pub verbose: bool,
+    /// Whether nothing is said of jobs that fail.
+    pub quiet: bool,
+    /// The path of a file that gets the lines that a replay prints, if there is one.
+    pub tell: Option<&'a str>,
+    /// The path of the record, if one is kept.
+    pub log: Option<&'a str>,
+    /// Whether files of these paths that are there are written over.
+    pub over: bool,
+}
+
+/// Tells of a run's rounds.
+#[derive(Drop)]
+pub(crate) struct Teller<W> {
+    // standard output, if it gets the lines of what rounds gave
+    verbose: Option<Outlet>,
+    // the file that gets them, until it can't be written
+    told: Option<W>,
+    // the file of the record, until it ends
+    log: Option<W>,
+    // how many bytes of whole rounds the record has
+    written: u64,
+    // the lines of the record that are not written yet
+    waiting: Vec<u8>,
+}
+
+// Appends the lines of what a round gave.
+fn push_gave(text: &mut Vec<u8>, gave: &[Items<Output>]) -> Result<(), AllocError>
+    ensures { OnOk result (text.new.items ≡ text.old.items ++ flat_map (flat_map output_lines) gave.now) }
+{
+    for outputs in gave {
+        push_outputs(text, outputs.as_slice())?;
+    }
+    Ok(())
+}
+
+// The lines of what a round gave.
+fn gave_lines(alloc: Global, gave: &[Items<Output>]) -> Result<Vec<u8>, AllocError> {
+    let mut text: Vec<u8> = Vec::new(alloc);
+    match push_gave(&mut text, gave) {
+        Ok(()) => Ok(text),
+        Err(refused) => {
+            drop(text);
+            Err(refused)
+        }
+    }
+}
+
+// Says that lines which were told were read by nobody.
+fn say_lost<R: Eprint>(rt: &R, lost: u64) {
+    if lost > 0 {
+        let _ = eprintln!(rt; "initd: {lost} lines of what happens are lost: nobody read them");
+    }
+}
+
+impl<W: Write + OpenFile + Drop> Teller<W> {
+    /// Tells of a run. The record, if one is kept, begins with these lines.
+    pub(crate) fn new(
+        verbose: Option<Outlet>,
+        told: Option<W>,
+        log: Option<W>,
+        head: Vec<u8>,
+    ) -> Self {
+        Teller {
+            verbose,
+            told,
+            log,
+            written: 0,
+            waiting: head,
+        }
+    }
+
+    // Says why the record ends, and ends it.
+    fn end_record<R: Eprint, D: Display + Drop>(&mut self, rt: &R, why: D) {
+        self.log = None;
+        self.waiting.clear();
+        let _ = eprintln!(rt; "initd: the record ends: {why}");
+    }
+
+    // Ends a record that the system refused to write, and says why. It is cut back to its last whole round.
+    fn end_unwritten<R: Eprint>(&mut self, rt: &R, error: &io::Error) {
+        let is_whole = match &self.log {
+            Some(log) => log.set_len(self.written).is_ok(),
+            None => true,
+        };
+        self.end_record(rt, Reason(*error));
+        if !is_whole {
+            let _ = eprintln!(rt;
+                "initd: the record's last line may be half a line: it can't be cut off"
+            );
+        }
+    }
+
+    // Writes the lines that wait.
+    fn write_waiting<R: Eprint>(&mut self, rt: &R) {
+        let Some(log) = &mut self.log else {
+            return;
+        };
+        match log.write_all(self.waiting.as_slice()) {
+            Ok(()) => {
+                self.written = self.written.saturating_add(self.waiting.len() as u64);
+                self.waiting.clear();
+            }
+            Err(error) => self.end_unwritten(rt, &error),
+        }
+    }
+
+    // Adds the lines of inputs to those that wait, up to the first that no statement can say, which is returned.
+    fn keep<'a>(
+        &mut self,
+        alloc: Global,
+        inputs: &'a [Input],
+    ) -> Result<Option<&'a Input>, AllocError> {
+        if let Some(lines) = script_lines(alloc, inputs)? {
+            self.waiting.extend_from_slice(lines.as_slice())?;
+            return Ok(None);
+        }
+        for one in inputs.chunks(1) {
+            match script_lines(alloc, one)? {
+                Some(lines) => self.waiting.extend_from_slice(lines.as_slice())?,
+                None => return Ok(one.first()),
+            }
+        }
+        Ok(None)
+    }
+
+    // Adds the comment that the record ends with, since no statement can say an input.
+    fn keep_unsaid(&mut self, alloc: Global, input: &Input) -> Result<(), AllocError> {
+        let what = unsaid(alloc, input)?;
+        let line = format!(in alloc; "# The record ends: no step says what came next: {what}\n")?;
+        self.waiting.extend_from_slice(line.as_bytes())
+    }
+
+    // Says in the record that it ends, and ends it.
+    fn end_early<R: Eprint>(&mut self, rt: &R, alloc: Global, input: &Input) {
+        let _ = self.keep_unsaid(alloc, input);
+        self.write_waiting(rt);
+        if self.log.is_some() {
+            self.end_record(rt, "no step of a script says what came next");
+        }
+    }
+
+    /// Records inputs, and writes the record as far as it goes if they were more than a reading of the clock.
+    pub(crate) fn note<R: Eprint>(&mut self, rt: &R, alloc: Global, inputs: &[Input], idle: bool) {
+        if self.log.is_none() {
+            return;
+        }
+        match self.keep(alloc, inputs) {
+            Ok(None) => {
+                if !idle || self.waiting.len() >= MOST_WAITING {
+                    self.write_waiting(rt);
+                }
+            }
+            Ok(Some(input)) => self.end_early(rt, alloc, input),
+            Err(_) => self.end_record(rt, "out of memory"),
+        }
+    }
+
+    // Writes lines to the file that gets them.
+    fn write_told<R: Eprint>(&mut self, rt: &R, text: &[u8]) {
+        let Some(told) = &mut self.told else {
+            return;
+        };
+        if let Err(error) = told.write_all(text) {
+            let why = Reason(error);
+            self.told = None;
+            let _ = eprintln!(rt; "initd: what happens is told to no file any more: {why}");
+        }
+    }
+
+    // Prints lines, or those that wait.
+    fn print<R: Print + Eprint>(&mut self, rt: &R, text: &[u8]) {
+        let Some(outlet) = &mut self.verbose else {
+            return;
+        };
+        match outlet.tell(rt, text) {
+            Ok(()) => say_lost(rt, outlet.take_lost()),
+            Err(error) => {
+                let why = Reason(error);
+                self.verbose = None;
+                let _ = eprintln!(rt; "initd: what happens is told no more: {why}");
+            }
+        }
+    }
+
+    // Tells lines to those who get them.
+    fn tell_lines<R: Print + Eprint>(&mut self, rt: &R, lines: Result<Vec<u8>, AllocError>) {
+        match lines {
+            Ok(text) => {
+                self.write_told(rt, text.as_slice());
+                self.print(rt, text.as_slice());
+                drop(text);
+            }
+            Err(_) => {
+                self.told = None;
+                self.verbose = None;
+                let _ = eprintln!(rt; "initd: what happens is told no more: out of memory");
+            }
+        }
+    }
+
+    // Whether somebody gets the lines of what happens.
+    fn has_reader(&self) -> bool {
+        self.told.is_some() || self.verbose.is_some()
+    }
+
+    /// Tells of a round, which may have been idle.
+    pub(crate) fn tell<R: Print + Eprint>(
+        &mut self,
+        rt: &R,
+        alloc: Global,
+        round: &Round,
+        idle: bool,
+    ) {
+        self.note(rt, alloc, round.fed.as_slice(), idle);
+        if self.has_reader() {
+            self.tell_lines(rt, gave_lines(alloc, round.gave.as_slice()));
+        }
+    }
+
+    /// Tells which calls of the host and of the door failed in a round, as comments.
+    pub(crate) fn tell_faults<R: Print + Eprint>(
+        &mut self,
+        rt: &R,
+        alloc: Global,
+        host: &HostFaults,
+        door: &[DoorCall],
+    ) {
+        if self.has_reader() && (host.are_some() || !door.is_empty()) {
+            self.tell_lines(rt, fault_lines(alloc, host, door));
+        }
+    }
+
+    /// The run is over, in which so many calls of the host and of the door failed: that is told, what waits of the record is written, and
+    /// what nobody read is lost.
+    pub(crate) fn finish<R: Print + Eprint>(
+        &mut self,
+        rt: &R,
+        alloc: Global,
+        host: u64,
+        door: u64,
+    ) {
+        self.write_waiting(rt);
+        if self.has_reader() {
+            self.tell_lines(rt, fault_count(alloc, host, door));
+        }
+        if let Some(outlet) = &self.verbose {
+            say_lost(rt, outlet.unread());
+        }
+    }
+}

@@ -1,0 +1,88 @@
+"""The completions of bash, with an initctl in the place of the built one; what `make install` copies; and the manual pages."""
+import os
+import shlex
+import shutil
+import subprocess
+
+from harness import TOP, check
+
+LISTED = "clock start/running, process 12\ntty (tty1) start/running, process 13\ntty (tty2) stop/waiting\nweb stop/waiting\n"
+
+
+def completed(work, program, *words):
+    """What bash offers for the last of these words."""
+    line = " ".join(shlex.quote(word) for word in (program, *words))
+    script = (
+        f"source {shlex.quote(str(TOP / 'completion' / program))}\n"
+        f"COMP_WORDS=({line}) COMP_CWORD={len(words)}\n_{program}\nprintf '%s\\n' \"${{COMPREPLY[@]}}\"\n"
+    )
+    path = f"{work}:{os.environ['PATH']}"
+    made = subprocess.run(["bash", "-c", script], capture_output=True, text=True, timeout=20, cwd=work, env={**os.environ, "PATH": path})
+    return made.stdout.split()
+
+
+def completions(work):
+    work.mkdir()
+    (work / "jobs").mkdir()
+    (work / "jobs.image").write_text("")
+    fake = work / "initctl"
+    # It lists only if it is asked at the socket that was named, or at none.
+    fake.write_text(f"#!/bin/sh\ncase \"$*\" in list|'--socket s list') printf '%b' {shlex.quote(LISTED)};; *) exit 2;; esac\n")
+    fake.chmod(0o755)
+    for words, wanted in [
+        (["sta"], ["start", "status"]),
+        (["--"], ["--socket", "--help", "--version"]),
+        (["start", ""], ["clock", "tty", "web"]),
+        (["stop", "--no-wait", "t"], ["tty"]),
+        (["--socket", "s", "status", "w"], ["web"]),
+        (["--socket", "=", "s", "status", "w"], ["web"]),
+        (["--socket", "else", "status", "w"], []),
+        (["--socket", "jobs.i"], ["jobs.image"]),
+        (["restart", "--"], ["--no-wait", "--help"]),
+        (["status", "--"], ["--help"]),
+        (["start", "tty", ""], []),
+        (["emit", "--n"], ["--no-wait"]),
+        (["help", "reload"], ["reload", "reload-configuration"]),
+    ]:
+        check(f"completion: initctl {' '.join(words)}", completed(work, "initctl", *words), wanted)
+    for words, wanted in [
+        (["re"], ["replay"]),
+        (["check", "j"], ["jobs"]),
+        (["graph", "j"], ["jobs"]),
+        (["show", "j"], ["jobs", "jobs.image"]),
+        (["run", "--record"], ["--record", "--record-over"]),
+        (["run", "--pause", ""], []),
+        (["check", "--"], ["--explain", "--help"]),
+    ]:
+        check(f"completion: initd {' '.join(words)}", sorted(completed(work, "initd", *words)), wanted)
+
+
+def installation(work):
+    """What is copied, and that it is taken away again."""
+
+    def files():
+        return sorted(str(path.relative_to(work)) for path in work.rglob("*") if path.is_file())
+
+    def make(goal):
+        words = ["make", "-s", "-C", str(TOP), goal, f"DESTDIR={work}", "PREFIX=/usr"]
+        return subprocess.run(words, capture_output=True, text=True, timeout=60).returncode
+
+    wanted = [
+        "usr/sbin/initctl",
+        "usr/sbin/initd",
+        "usr/share/bash-completion/completions/initctl",
+        "usr/share/bash-completion/completions/initd",
+        "usr/share/man/man5/init.5",
+        "usr/share/man/man8/initctl.8",
+        "usr/share/man/man8/initd.8",
+    ]
+    check("make install", (make("install"), files()), (0, wanted))
+    check("make uninstall", (make("uninstall"), files()), (0, []))
+
+
+def pages():
+    """groff formats the manual pages without a warning, where it is installed."""
+    if shutil.which("groff"):
+        for page in sorted((TOP / "docs" / "man").iterdir()):
+            made = subprocess.run(["groff", "-ww", "-mandoc", "-Tutf8", page], capture_output=True, text=True, timeout=60)
+            check(f"the page {page.name}", (made.returncode, made.stderr), (0, ""))
