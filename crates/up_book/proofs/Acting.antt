@@ -1,5 +1,5 @@
 -- What a step has asked for after an answer, and after its request acted on an instance.
-use Rattle.std.proofs.Common.{◌≡◌, ℕ, ◌==◌, ◌&&◌, Bool, true, false, not, List, [], ◌∷◌, ◌++◌, length, Option, None, Some, option_map, if◌then◌else◌, refl, sym, ◌∙◌, ap, subst, arith, eqb-true, eq-eqb, ne_eqb, append-nil}
+use Rattle.std.proofs.Common.{◌≡◌, ℕ, ◌==◌, ◌&&◌, Bool, true, false, not, List, [], ◌∷◌, ◌++◌, length, Option, None, Some, IfSome, option_map, if◌then◌else◌, refl, sym, ◌∙◌, ap, subst, arith, eqb-true, eq-eqb, ne_eqb, append-nil}
 use Rattle.std.specs.List.{AllByRecursion}
 use Rattle.up_model.specs.declared.input.Input.{Input}
 use Rattle.up_model.specs.declared.input.Input.TheVariants as input
@@ -236,3 +236,11 @@ finished-waiter e c its event there told = ap finished_replies told ∙ by_event
         → finished_replies (option_map (λ (x : Event). record { event = x; spoilt = is_spoilt e c; waiter = number_of (waiter e c) c }) o) ≡ waiter_replies (number_of (waiter e c) c) (is_spoilt e c)
     by_event None there = absurd cc
     by_event (Some x) there = refl
+
+-- it tells of nobody if no client waits
+pub unwaited : (e : ℕ) (c : Chronicle) → waiter e c ≡ None → IfSome {T = Finished_} (finished_at e c) (λ its. its.waiter ≡ None)
+unwaited e c none = by_event (event_at e c)
+  where
+    by_event : (o : Option Event) → IfSome {T = Finished_} (option_map (λ (x : Event). record { event = x; spoilt = is_spoilt e c; waiter = number_of (waiter e c) c }) o) (λ its. its.waiter ≡ None)
+    by_event None = tt
+    by_event (Some x) = rw none refl

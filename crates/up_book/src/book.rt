@@ -1,5 +1,5 @@
 //! What an engine keeps of the past, whatever that is.
-ghost use Rattle.std.specs.Prelude.{◌≡◌, ◌≤◌, ℕ, true, false, List, ◌∷◌, ◌++◌, [], map, length, Option, None, Some, is_some, option_map, OnOk, IfOk, IfSome};
+ghost use Rattle.std.specs.Prelude.{◌≡◌, ◌≤◌, ℕ, true, false, List, ◌∷◌, ◌++◌, [], map, length, Option, None, Some, is_some, option_map, OnOk, IsOk, IfOk, IfSome};
 ghost use Rattle.std.specs.Option.{option_copied, option_map_or};
 ghost use Rattle.up_book.specs.declared.holders.Holders.{Holders as HoldersValue};
 ghost use Rattle.up_book.specs.Asking.{given_place};
@@ -187,18 +187,19 @@ pub trait Book: Drop {
         ensures { OnOk result ((config : Configuration) (c : Chronicle) → stands self.old Stepping config c
             → stands self.new Stepping config (entry.Replied (given_place c) answer ∷ c)) };
 
-    /// A turn takes an event up.
-    fn handle(&mut self, key: EventId) -> Result<(), AllocError>
-        ensures after { OnOk result ((config : Configuration) (c : Chronicle) (e : ℕ)
+    /// A turn takes an event up. Takes no memory.
+    fn handle(&mut self, key: EventId)
+        ensures after { (config : Configuration) (c : Chronicle) (e : ℕ)
             → stands self.old Stepping config c
-            → event_place self.old c key ≡ Some e → stands self.new Stepping config (entry.Handled e ∷ c)) }
-        ensures events { OnOk result ((config : Configuration) (c : Chronicle) (e : ℕ) (k : EventIdValue) (j : ℕ)
+            → event_place self.old c key ≡ Some e → stands self.new Stepping config (entry.Handled e ∷ c) }
+        ensures events { (config : Configuration) (c : Chronicle) (e : ℕ) (k : EventIdValue) (j : ℕ)
             → stands self.old Stepping config c
             → event_place self.old c key ≡ Some e
-            → event_place self.old c k ≡ Some j → event_place self.new (entry.Handled e ∷ c) k ≡ Some j) };
+            → event_place self.old c k ≡ Some j → event_place self.new (entry.Handled e ∷ c) k ≡ Some j };
 
     /// An event that nobody holds leaves the queue, and the client that waits for it is answered; an event that tells that it was spoilt
-    /// goes to the end, if there is one. Returns the instance that waited for it, if one did.
+    /// goes to the end, if there is one. Returns the instance that waited for it, if one did. Takes no memory if no client waits and there is
+    /// no such event.
     fn finish(
         &mut self,
         key: EventId,
@@ -213,7 +214,11 @@ pub trait Book: Drop {
         ensures blocked { IfOk result (λ on. (config : Configuration) (c : Chronicle) (e : ℕ)
             → stands self.old Stepping config c
             → event_place self.old c key ≡ Some e → held.is_held config e c ≡ false
-            → IsBlockedBy config e c on) };
+            → IsBlockedBy config e c on) }
+        ensures free { (config : Configuration) (c : Chronicle) (e : ℕ)
+            → stands self.old Stepping config c
+            → event_place self.old c key ≡ Some e → held.is_held config e c ≡ false
+            → told ≡ None → replies.waiter e c ≡ None → IsOk result };
 
     /// An instance enters a state other than waiting.
     fn enter(&mut self, key: InstanceKey, state: State) -> Result<(), AllocError>

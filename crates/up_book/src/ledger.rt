@@ -1,5 +1,5 @@
 //! The book of an engine: what is kept of the past, and of the step that isn't over.
-ghost use Rattle.std.specs.Prelude.{◌≡◌, ◌++◌, ◌∷◌, ℕ, [], Some, map, IfOk, OnOk};
+ghost use Rattle.std.specs.Prelude.{◌≡◌, ◌++◌, ◌∷◌, ℕ, [], None, Some, map, IsOk, IfOk, OnOk};
 ghost use Rattle.up_book.specs.Keys.{Resting, Stepping};
 ghost use Rattle.up_book.specs.Ledgers.{HasIndex, Stands};
 ghost use Rattle.up_book.specs.Requesting.{OnMeans};
@@ -128,8 +128,9 @@ impl Ledger {
 
     // An event that tells that another was spoilt goes to the end of the queue, if there is one.
     fn tell_if(&mut self, told: Option<Event>) -> Result<(), AllocError>
-        ensures { OnOk result ((config : Configuration) (c : Chronicle) (spoilt : ℕ)
+        ensures after { OnOk result ((config : Configuration) (c : Chronicle) (spoilt : ℕ)
             → Stands self.old Stepping config c → Stands self.new Stepping config (telling spoilt told ++ c)) }
+        ensures free { told ≡ None → IsOk result }
     {
         match told {
             Some(event) => {
@@ -244,9 +245,8 @@ impl Book for Ledger {
         Ok(())
     }
 
-    fn handle(&mut self, key: EventId) -> Result<(), AllocError> {
-        self.past.handle(key);
-        Ok(())
+    fn handle(&mut self, key: EventId) {
+        self.past.handle(key)
     }
 
     fn finish(

@@ -1,5 +1,5 @@
 //! What clients are answered that waited (initctl(8)).
-ghost use Rattle.std.specs.Prelude.{◌≡◌, ◌++◌, ◌∷◌, [], IfOk, OnOk};
+ghost use Rattle.std.specs.Prelude.{◌≡◌, ◌++◌, ◌∷◌, [], None, IfSome, IsOk, IfOk, OnOk};
 ghost use Rattle.std.specs.Option.{option_copied};
 ghost use Rattle.up_book.specs.Holding.{held_by_kept};
 ghost use Rattle.up_book.specs.Asking.{number_asked};
@@ -94,7 +94,8 @@ fn reply_to_waiter(
     waiter: Option<u64>,
     spoilt: bool,
 ) -> Result<(), AllocError>
-    ensures { OnOk result (outputs.new.items ≡ outputs.old.items ++ waiter_replies waiter spoilt) }
+    ensures after { OnOk result (outputs.new.items ≡ outputs.old.items ++ waiter_replies waiter spoilt) }
+    ensures free { waiter ≡ None → IsOk result }
 {
     match waiter {
         Some(id) => {
@@ -112,7 +113,8 @@ pub(crate) fn reply_finished(
     alloc: Global,
     finished: Option<Finished>,
 ) -> Result<(), AllocError>
-    ensures { OnOk result (outputs.new.items ≡ outputs.old.items ++ finished_replies finished) }
+    ensures after { OnOk result (outputs.new.items ≡ outputs.old.items ++ finished_replies finished) }
+    ensures free { IfSome finished (λ its. its.waiter ≡ None) → IsOk result }
 {
     match finished {
         Some(Finished { waiter, spoilt, .. }) => reply_to_waiter(outputs, alloc, waiter, spoilt)?,
