@@ -1,12 +1,13 @@
 -- What the timer kills.
-use Rattle.std.proofs.Common.{◌≡◌, ℕ, zero, suc, ◌+◌, ◌<◌, true, List, [], ◌∷◌, ◌++◌, length, take, drop, get_or, map, Option, Some, refl, sym, ◌∙◌, ap, arith, add-one, drop-cons}
+use Rattle.std.proofs.Common.{◌≡◌, ℕ, zero, suc, ◌+◌, ◌<◌, Bool, true, false, List, [], ◌∷◌, ◌++◌, length, take, drop, get_or, map, Option, Some, refl, sym, ◌∙◌, ap, arith, add-one, drop-cons}
 use Rattle.up_conf.specs.declared.job.JobDef.{JobDef}
 use Rattle.up_job.specs.declared.instance_key.InstanceKey.{InstanceKey}
 use Rattle.up_model.specs.Chronicle.{Chronicle, Signalled}
-use Rattle.up_model.specs.Clock.{kill, overdue, all_overdue, killing}
+use Rattle.up_model.specs.Clock.{kill, kill_due_by, overdue, all_overdue, killing}
 use Rattle.up_model.specs.Configuration.{Configuration}
-use Rattle.up_model.specs.Files.{job_names}
-use Rattle.up_model.specs.Instances.{instances_of}
+use Rattle.up_model.specs.Files.{job_names, file_of}
+use Rattle.up_model.specs.Instances.{Instance, instances_of}
+use Rattle.up_model.specs.Predicates.{entries_if}
 
 -- one more is sent KILL after the others
 pub killing_push : (places : List ℕ) (place : ℕ) → killing (places ++ place ∷ []) ≡ Signalled place kill true ∷ killing places
@@ -40,3 +41,41 @@ pub overdue_left : (config : Configuration) (jobs : List JobDef) (i : ℕ) (job 
 overdue_left config jobs i job c within here =
     let one : drop i jobs ≡ get_or jobs i job ∷ drop (i + 1) jobs = rw add-one (drop-cons jobs i job within) in
     ap (λ left. all_overdue config (job_names left) c) one ∙ ap (λ j. overdue config (instances_of j.name c) c ++ all_overdue config (job_names (drop (i + 1) jobs)) c) (sym here)
+
+-- if none of these is overdue, no instance among them is
+pub none_due : (config : Configuration) (its : List Instance) (n : ℕ) (x : Instance) (rest : List Instance) (c : Chronicle) → overdue config its c ≡ [] → drop n its ≡ x ∷ rest
+    → kill_due_by (file_of config x.place c) x.place c ≡ false
+none_due config [] zero x rest c none found = absurd cc
+none_due config [] (suc n) x rest c none found = absurd cc
+none_due config (y ∷ its) zero x rest c none found = rw (← same) (by_case (kill_due_by (file_of config y.place c) y.place c) none)
+  where
+    same : y ≡ x
+    same = cc
+
+    by_case : (b : Bool) → entries_if b (y.place ∷ []) ++ overdue config its c ≡ [] → b ≡ false
+    by_case true none = absurd cc
+    by_case false none = refl
+none_due config (y ∷ its) (suc n) x rest c none found = none_due config its n x rest c (by_case (kill_due_by (file_of config y.place c) y.place c) none) found
+  where
+    by_case : (b : Bool) → entries_if b (y.place ∷ []) ++ overdue config its c ≡ [] → overdue config its c ≡ []
+    by_case true none = absurd cc
+    by_case false none = none
+
+-- nor is one of a job
+pub none_left : (config : Configuration) (jobs : List JobDef) (n : ℕ) (c : Chronicle) → all_overdue config (job_names jobs) c ≡ [] → all_overdue config (job_names (drop n jobs)) c ≡ []
+none_left config [] zero c none = none
+none_left config [] (suc n) c none = none
+none_left config (job ∷ jobs) zero c none = none
+none_left config (job ∷ jobs) (suc n) c none = none_left config jobs n c (second (overdue config (instances_of job.name c) c) none)
+  where
+    second : (xs : List ℕ) → xs ++ all_overdue config (job_names jobs) c ≡ [] → all_overdue config (job_names jobs) c ≡ []
+    second [] none = none
+    second (x ∷ xs) none = absurd cc
+
+pub none_of_job : (config : Configuration) (jobs : List JobDef) (n : ℕ) (job : JobDef) (c : Chronicle) → n < length jobs → job ≡ get_or jobs n job → all_overdue config (job_names jobs) c ≡ []
+    → overdue config (instances_of job.name c) c ≡ []
+none_of_job config jobs n job c within here none = first (overdue config (instances_of job.name c) c) (sym (overdue_left config jobs n job c within here) ∙ none_left config jobs n c none)
+  where
+    first : (xs : List ℕ) → xs ++ all_overdue config (job_names (drop (n + 1) jobs)) c ≡ [] → xs ≡ []
+    first [] none = refl
+    first (x ∷ xs) none = absurd cc

@@ -36,3 +36,4 @@ pub mod Unheard
 pub mod Alone
 pub mod Repeating
 pub mod Unblocked
+pub mod FreeLemmas

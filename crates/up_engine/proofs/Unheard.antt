@@ -43,7 +43,7 @@ pub record PassesBy (stands : Chronicle → Type 0) (places : Chronicle → Even
   pub events : (c : Chronicle) (x : Expression) (e : ℕ) (k : EventId) → places (Offered x e ∷ c) k ≡ places c k
 
 -- an offer isn't what was queued at a place
-none-later : (place : ℕ) (c : Chronicle) → length c ≤ place → entry_at place c ≡ None
+pub none-later : (place : ℕ) (c : Chronicle) → length c ≤ place → entry_at place c ≡ None
 none-later place [] later = refl
 none-later place (entry ∷ c) later =
     ap (λ (b : Bool). if b then Some entry else entry_at place c) (ne_eqb (length c) place (λ same. omega (arith, same, later))) ∙ none-later place c (omega (arith, later))

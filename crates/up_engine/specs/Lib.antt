@@ -4,6 +4,8 @@ pub mod Faults
 pub mod Unheard
 -- What holds between two steps.
 pub mod Unfired
+-- The inputs that take no memory.
+pub mod Free
 -- What the effect of an input hands on.
 pub mod Effects
 -- What the code of requests hands on.

@@ -1,8 +1,9 @@
 //! What is due, the effect of an input, and whether it is expected.
-ghost use Rattle.std.specs.Prelude.{◌≡◌, ℕ, true, false, List, ◌∷◌, [], ◌++◌, map, Option, Some, option_map, IfOk, OnOk};
+ghost use Rattle.std.specs.Prelude.{◌≡◌, ℕ, true, false, List, ◌∷◌, [], ◌++◌, map, Option, Some, option_map, IsOk, IsOkAnd, IfOk, OnOk};
 ghost use Rattle.up_book.specs.Keys.{Mode, Resting, Stepping, instance_place};
 ghost use Rattle.up_book.specs.Keeps.{AreDistinct};
 ghost use Rattle.up_engine.specs.Effects.{Concerns, concern_of, unblocked_concern};
+ghost use Rattle.up_engine.specs.Free.{ConcernsNone, EndsUnseen, IsFree, IsFreeOf, TurnIsFree};
 ghost use Rattle.up_model.specs.declared.input.Input.TheVariants as given_as;
 ghost use Rattle.up_book.specs.Turning.{is_finish};
 ghost use Rattle.up_model.specs.Answers as answer;
@@ -173,9 +174,12 @@ fn failed_event_of<B: Book>(
     book: &B,
     key: EventId,
 ) -> Result<Option<Event>, AllocError>
-    ensures { IfOk result (λ told. (mode : Mode) (config : Configuration) (c : Chronicle) (e : ℕ)
+    ensures told { IfOk result (λ told. (mode : Mode) (config : Configuration) (c : Chronicle) (e : ℕ)
         → B.stands book.now mode config c
         → B.event_place book.now c key ≡ Some e → told ≡ model.failed_event_of e c) }
+    ensures free { (mode : Mode) (config : Configuration) (c : Chronicle) (e : ℕ)
+        → B.stands book.now mode config c
+        → B.event_place book.now c key ≡ Some e → held.is_spoilt e c ≡ false → IsOk result }
 {
     if !book.is_spoilt(key) {
         return Ok(None);
@@ -206,6 +210,12 @@ fn finish<B: Book>(alloc: Global, book: &mut B, key: EventId) -> Result<Concern,
         → B.event_place book.old c key ≡ Some e → held.is_held config e c ≡ false
         → model.turn_event config (queue.queue c) c ≡ Some (queue.live_at e true)
         → Concerns (B.event_place book.new) concern config given_as.Turn c) }
+    ensures free { (config : Configuration) (c : Chronicle) (e : ℕ)
+        → B.stands book.old Resting config c
+        → B.event_place book.old c key ≡ Some e → held.is_held config e c ≡ false
+        → EndsUnseen e (entry.Given given_as.Turn ∷ c)
+        → IsOkAnd result (ConcernsNone (B.event_place book.new) config
+        (model.finishing e (entry.Given given_as.Turn ∷ c) ++ entry.Given given_as.Turn ∷ c)) }
 {
     book.given(&Input::Turn, None);
     let told = failed_event_of(alloc, book, key)?;
@@ -213,19 +223,18 @@ fn finish<B: Book>(alloc: Global, book: &mut B, key: EventId) -> Result<Concern,
     Ok(unblocked_concern(on))
 }
 
-fn handle<B: Book>(book: &mut B, key: EventId) -> Result<(), AllocError>
-    ensures after { OnOk result ((config : Configuration) (c : Chronicle) (e : ℕ)
+fn handle<B: Book>(book: &mut B, key: EventId)
+    ensures after { (config : Configuration) (c : Chronicle) (e : ℕ)
         → B.stands book.old Resting config c
         → B.event_place book.old c key ≡ Some e
-        → B.stands book.new Stepping config (entry.Handled e ∷ entry.Given given_as.Turn ∷ c)) }
-    ensures events { OnOk result ((config : Configuration) (c : Chronicle) (e : ℕ)
+        → B.stands book.new Stepping config (entry.Handled e ∷ entry.Given given_as.Turn ∷ c) }
+    ensures events { (config : Configuration) (c : Chronicle) (e : ℕ)
         → B.stands book.old Resting config c
         → B.event_place book.old c key ≡ Some e
-        → B.event_place book.new (entry.Handled e ∷ entry.Given given_as.Turn ∷ c) key ≡ Some e) }
+        → B.event_place book.new (entry.Handled e ∷ entry.Given given_as.Turn ∷ c) key ≡ Some e }
 {
     book.given(&Input::Turn, None);
-    book.handle(key)?;
-    Ok(())
+    book.handle(key)
 }
 
 // Takes a turn in: it handles an unhandled event, and finishes a handled one.
@@ -247,6 +256,14 @@ fn turn_by<B: Book>(
         → B.event_place book.old c id ≡ Some e
         → model.turn_event config (queue.queue c) c ≡ Some (queue.live_at e (is_finish kind))
         → Concerns (B.event_place book.new) concern config given_as.Turn c) }
+    ensures free { (config : Configuration) (c : Chronicle) (e : ℕ)
+        → B.stands book.old Resting config c
+        → B.event_place book.old c id ≡ Some e
+        → model.turn_event config (queue.queue c) c ≡ Some (queue.live_at e (is_finish kind))
+        → IsFreeOf config e (is_finish kind) (entry.Given given_as.Turn ∷ c)
+        → IsOkAnd result (ConcernsNone (B.event_place book.new) config
+        (model.turn_of (Some (queue.live_at e (is_finish kind))) (entry.Given given_as.Turn ∷ c)
+        ++ entry.Given given_as.Turn ∷ c)) }
 {
     match kind {
         TurnKind::Finish => {
@@ -254,7 +271,7 @@ fn turn_by<B: Book>(
             Ok(concern)
         }
         TurnKind::Handle => {
-            handle(book, id)?;
+            handle(book, id);
             Ok(Concern::Event(id))
         }
     }
@@ -267,6 +284,10 @@ fn take_turn<B: Book>(alloc: Global, book: &mut B) -> Result<Concern, AllocError
     ensures concerns { IfOk result (λ concern. (config : Configuration) (c : Chronicle)
         → AreDistinct config.jobs → B.stands book.old Resting config c
         → Concerns (B.event_place book.new) concern config given_as.Turn c) }
+    ensures free { (config : Configuration) (c : Chronicle) → B.stands book.old Resting config c
+        → TurnIsFree config (model.turn_event config (queue.queue c) c) (entry.Given given_as.Turn ∷ c)
+        → IsOkAnd result (ConcernsNone (B.event_place book.new) config
+        (model.effect config given_as.Turn c ++ c)) }
 {
     match book.turn() {
         Some((id, kind)) => {
@@ -287,8 +308,10 @@ fn take_reading<B: Book>(
     book: &mut B,
     reading: u64,
 ) -> Result<(), AllocError>
-    ensures { OnOk result ((c : Chronicle) → B.stands book.old Resting setup.now c
+    ensures after { OnOk result ((c : Chronicle) → B.stands book.old Resting setup.now c
         → B.stands book.new Stepping setup.now (model.effect setup.now (given_as.Clock reading) c ++ c)) }
+    ensures free { (c : Chronicle) → B.stands book.old Resting setup.now c
+        → IsFree setup.now c (given_as.Clock reading) → IsOk result }
 {
     book.given(&Input::Clock(reading), None);
     kill_overdue(alloc, book, setup.jobs())?;
@@ -307,6 +330,9 @@ pub(crate) fn act<B: Book>(
         → B.stands book.new Stepping setup.now (model.effect setup.now input c ++ c)) }
     ensures concerns { IfOk result (λ concern. (c : Chronicle) → B.stands book.old Resting setup.now c
         → Concerns (B.event_place book.new) concern setup.now input c) }
+    ensures free { (c : Chronicle) → B.stands book.old Resting setup.now c → IsFree setup.now c input
+        → IsOkAnd result (ConcernsNone (B.event_place book.new) setup.now
+        (model.effect setup.now input c ++ c)) }
 {
     match input {
         Input::Emit(event) => {

@@ -1,6 +1,7 @@
 //! The engine: one step for one input, and a run over a list of them.
-ghost use Rattle.std.specs.Prelude.{◌≡◌, List, ℕ, true, false, Ok, Err, [], length, is_some, IfOk, OnOk};
+ghost use Rattle.std.specs.Prelude.{◌≡◌, List, ℕ, true, false, Ok, Err, [], length, is_some, Some, IsOkAnd, IfOk, OnOk};
 ghost use Rattle.up_book.specs.Keys.{Resting};
+ghost use Rattle.up_engine.specs.Free.{IsFree, StopsAtNoFree};
 ghost use Rattle.up_engine.specs.Requests.{answer_of};
 ghost use Rattle.up_engine.specs.Sound.{IsSound};
 ghost use Rattle.up_engine.specs.Unfired.{IsAtRest};
@@ -12,6 +13,7 @@ ghost use Rattle.up_model.specs.Due as due;
 ghost use Rattle.up_model.specs.Left.{is_calm};
 ghost use Rattle.up_model.specs.Outputs.{outputs_of};
 ghost use Rattle.up_model.specs.Queue as queue;
+ghost use Rattle.up_model.specs.declared.step.Step.TheVariants.{Gave};
 
 use crate::due::is_expected;
 use crate::fault::StepError;
@@ -54,6 +56,8 @@ fn step_book<B: Book>(
     ensures outputs { IfOk result (λ outputs. (c : Chronicle) → B.stands book.old Resting setup.now c
         → IsAtRest setup.now c
         → outputs.items ≡ outputs_of setup.now (answer.after setup.now c given)) }
+    ensures free { (c : Chronicle) → B.stands book.old Resting setup.now c → IsFree setup.now c given
+        → IsOkAnd result (λ outputs. outputs.items ≡ []) }
 {
     run_step(alloc, setup, book, given)?;
     let outputs = book.rest();
@@ -171,13 +175,17 @@ impl Engine {
     }
 
     /// Takes one input, and answers what it asks for, in order. Refused with `NotExpected` for the answer or the end of a process
-    /// that isn't expected, which changes nothing; with `Memory`, after which the engine is down; and with `Down` if it is.
+    /// that isn't expected, which changes nothing; with `Memory`, after which the engine is down; and with `Down` if it is. A turn without an
+    /// event, one that takes up an event of which no job hears, one that finishes an event for which nobody waits, and a reading of the
+    /// clock at which no process is to be killed take no memory.
     pub fn step(&mut self, given: Input) -> Result<Vec<Output>, StepError>
         ensures meaning { (config : Configuration) (c : Chronicle) → Stands self.old config c
             → StepMeans (result_map (λ outputs. outputs.items) result) self.new config c given }
         ensures left { is_calm given ≡ true
             → Spends (result_map (λ outputs. outputs.items) result) (left_of self.old) (left_of self.new) }
         ensures down { IsDown self.old → (result ≡ Err StepError.Down) × (self.new ≡ self.old) }
+        ensures free { (config : Configuration) (c : Chronicle) → Stands self.old config c
+            → IsFree config c given → result_map (λ outputs. outputs.items) result ≡ Ok [] }
     {
         if self.down {
             drop(given);
@@ -201,8 +209,10 @@ impl Engine {
 
     /// The answer to one input, as `run` gives it; none if memory ran out, in this step or before.
     pub fn answer(&mut self, given: Input) -> Option<Step>
-        ensures { (config : Configuration) (c : Chronicle) → Stands self.old config c
+        ensures meaning { (config : Configuration) (c : Chronicle) → Stands self.old config c
             → AnswerMeans result self.new config c given }
+        ensures free { (config : Configuration) (c : Chronicle) → Stands self.old config c
+            → IsFree config c given → result ≡ Some (Gave []) }
     {
         match self.step(given) {
             Ok(outputs) => Some(Step::Gave(Items::new(outputs))),
@@ -217,6 +227,8 @@ impl Engine {
     pub fn run(&mut self, inputs: Vec<Input>) -> Result<Run, StepError>
         ensures meaning { (config : Configuration) (c : Chronicle) → Stands self.old config c
             → RunMeans result self.new config c inputs.items }
+        ensures free { (config : Configuration) (c : Chronicle) → Stands self.old config c
+            → IfOk result (λ run. run.down ≡ true → StopsAtNoFree run.steps config c inputs.items) }
         ensures down { IsDown self.old → (result ≡ Err StepError.Down) × (self.new ≡ self.old) }
     {
         if self.down {

@@ -1,7 +1,9 @@
 //! How each job hears of the event that a turn takes up.
-ghost use Rattle.std.specs.Prelude.{◌≡◌, ◌≤◌, ◌<◌, ℕ, ◌++◌, ◌∷◌, [], length, Some, IfOk, IfSome, MatchOption, OnOk};
+ghost use Rattle.std.specs.Prelude.{◌≡◌, ◌≤◌, ◌<◌, ℕ, true, ◌++◌, ◌∷◌, [], length, Some, IsOk, IfOk, IfSome, MatchOption, OnOk};
+ghost use Rattle.up_book.specs.Hearers.{hears};
 ghost use Rattle.up_model.specs.declared.event_id.EventId.{EventId as EventIdValue};
 ghost use Rattle.up_book.specs.Keys.{Mode, Stepping, job_at, instance_at};
+ghost use Rattle.up_engine.specs.Free.{NoneHears};
 ghost use Rattle.up_engine.specs.Settling.{settle_one, ListsAfter};
 ghost use Rattle.up_engine.specs.Settling as settling;
 ghost use Rattle.up_engine.specs.Unfired.{NoneHolds};
@@ -142,6 +144,9 @@ fn next_hearer<'a, B: Book>(
         → MatchOption result (AreUnheard setup.now (event_at e c) from (length setup.now.jobs))
         (λ found. (job_at setup.now found.0 ≡ Some found.1.now)
         × AreUnheard setup.now (event_at e c) from found.0) }
+    ensures hears { (c : Chronicle) (e : ℕ) → B.stands book.now Stepping setup.now c
+        → B.event_place book.now c event ≡ Some e
+        → IfSome result (λ found. hears found.1.now (event_at e c) ≡ true) }
     ensures within { IfSome result (λ found. (from ≤ found.0) × (found.0 < length setup.now.jobs)
         × (found.0 < 18446744073709551615)) }
 {
@@ -166,11 +171,14 @@ pub(crate) fn hear_all<B: Book>(
     book: &mut B,
     event: EventId,
 ) -> Result<(), AllocError>
-    ensures { OnOk result ((c : Chronicle) (e : ℕ) → due setup.now c ≡ [] → NoneHolds setup.now c
+    ensures after { OnOk result ((c : Chronicle) (e : ℕ) → due setup.now c ≡ [] → NoneHolds setup.now c
         → B.stands book.old Stepping setup.now (entry.Handled e ∷ entry.Given given_as.Turn ∷ c)
         → B.event_place book.old (entry.Handled e ∷ entry.Given given_as.Turn ∷ c) event ≡ Some e
         → B.stands book.new Stepping setup.now
         (settling.hear_all setup.now setup.now.jobs e (entry.Handled e ∷ entry.Given given_as.Turn ∷ c))) }
+    ensures unheard { (c : Chronicle) (e : ℕ) → B.stands book.old Stepping setup.now c
+        → B.event_place book.old c event ≡ Some e → NoneHears setup.now (event_at e c)
+        → IsOk result × (book.new ≡ book.old) }
 {
     setup.names_differ();
     let mut from = 0;

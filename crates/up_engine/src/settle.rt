@@ -1,11 +1,13 @@
 //! What is due is done until nothing is.
-ghost use Rattle.std.specs.Prelude.{◌≡◌, ℕ, [], ◌++◌, Some, OnOk};
+ghost use Rattle.std.specs.Prelude.{◌≡◌, ℕ, [], ◌++◌, Some, IsOk, OnOk};
 ghost use Rattle.up_model.specs.declared.event_id.EventId.{EventId as EventIdValue};
 ghost use Rattle.up_book.specs.Keys.{Mode, Resting, Stepping, job_at, instance_at};
+ghost use Rattle.up_engine.specs.Free.{IsFree};
 ghost use Rattle.up_engine.specs.Settling as settling;
 ghost use Rattle.up_engine.specs.Unfired.{IsAtRest};
 ghost use Rattle.up_model.specs.Answers as answer;
 ghost use Rattle.up_model.specs.Chronicle.{Chronicle};
+ghost use Rattle.up_model.specs.Due.{effect};
 ghost use Rattle.up_conf.specs.declared.job.JobDef.{JobDef as JobValue};
 ghost use Rattle.up_model.specs.Instances.{Instance, instances_of};
 ghost use Rattle.up_model.specs.Replies.{answering_last};
@@ -103,8 +105,10 @@ pub(crate) fn run_step<B: Book>(
     book: &mut B,
     input: Input,
 ) -> Result<(), AllocError>
-    ensures { OnOk result ((c : Chronicle) → B.stands book.old Resting setup.now c → IsAtRest setup.now c
+    ensures after { OnOk result ((c : Chronicle) → B.stands book.old Resting setup.now c → IsAtRest setup.now c
         → B.stands book.new Stepping setup.now (answer.after setup.now c input)) }
+    ensures free { (c : Chronicle) → B.stands book.old Resting setup.now c → IsFree setup.now c input
+        → IsOk result × B.stands book.new Stepping setup.now (effect setup.now input c ++ c) }
 {
     setup.names_differ();
     match act(alloc, setup, book, input)? {

@@ -1,5 +1,5 @@
 //! Times in milliseconds, and what the timer does.
-ghost use Rattle.std.specs.Prelude.{◌≡◌, ℕ, List, ◌∷◌, ◌++◌, [], map, Some, IfOk, OnOk};
+ghost use Rattle.std.specs.Prelude.{◌≡◌, ℕ, false, List, ◌∷◌, ◌++◌, [], map, Some, IsOk, IfOk, OnOk};
 ghost use Rattle.up_book.specs.Keys.{job_at, Mode, Stepping, instance_place};
 ghost use Rattle.up_model.specs.Chronicle.{Chronicle};
 ghost use Rattle.up_model.specs.Clock as clock;
@@ -71,12 +71,15 @@ fn add_if_due<B: Book>(
     key: InstanceKey,
     keys: &mut Vec<InstanceKey>,
 ) -> Result<(), AllocError>
-    ensures { OnOk result ((mode : Mode) (config : Configuration) (c : Chronicle) (i : ℕ) (done : List ℕ)
+    ensures after { OnOk result ((mode : Mode) (config : Configuration) (c : Chronicle) (i : ℕ) (done : List ℕ)
         → B.stands book.now mode config c
         → instance_place config c key ≡ Some i
         → map (instance_place config c) keys.old.items ≡ map Some done
         → map (instance_place config c) keys.new.items
         ≡ map Some (done ++ entries_if (clock.kill_due job.now i c) (i ∷ []))) }
+    ensures free { (mode : Mode) (config : Configuration) (c : Chronicle) (i : ℕ)
+        → B.stands book.now mode config c → instance_place config c key ≡ Some i
+        → clock.kill_due job.now i c ≡ false → IsOk result }
 {
     if kill_due(book, job, key) {
         keys.push(key)?;
@@ -91,11 +94,14 @@ fn add_overdue<B: Book>(
     job: &JobDef,
     keys: &mut Vec<InstanceKey>,
 ) -> Result<(), AllocError>
-    ensures { OnOk result ((mode : Mode) (config : Configuration) (c : Chronicle) (done : List ℕ)
+    ensures after { OnOk result ((mode : Mode) (config : Configuration) (c : Chronicle) (done : List ℕ)
         → B.stands book.now mode config c → job_at config index ≡ Some job.now
         → map (instance_place config c) keys.old.items ≡ map Some done
         → map (instance_place config c) keys.new.items
         ≡ map Some (done ++ clock.overdue config (instances_of job.now.name c) c)) }
+    ensures free { (mode : Mode) (config : Configuration) (c : Chronicle)
+        → B.stands book.now mode config c → job_at config index ≡ Some job.now
+        → clock.overdue config (instances_of job.now.name c) c ≡ [] → IsOk result }
 {
     for at in 0..book.count(index) {
         add_if_due(book, job, InstanceKey { job: index, at }, keys)?;
@@ -114,10 +120,13 @@ fn all_overdue<B: Book>(
     book: &B,
     jobs: &[JobDef],
 ) -> Result<Vec<InstanceKey>, AllocError>
-    ensures { IfOk result (λ keys. (mode : Mode) (config : Configuration) (c : Chronicle)
+    ensures after { IfOk result (λ keys. (mode : Mode) (config : Configuration) (c : Chronicle)
         → B.stands book.now mode config c → jobs.now ≡ config.jobs
         → map (instance_place config c) keys.items
         ≡ map Some (clock.all_overdue config (names_in_order config c) c)) }
+    ensures free { (mode : Mode) (config : Configuration) (c : Chronicle)
+        → B.stands book.now mode config c → jobs.now ≡ config.jobs
+        → clock.all_overdue config (names_in_order config c) c ≡ [] → IsOk result }
 {
     let mut keys = no_keys(alloc);
     for (index, job) in jobs.iter().enumerate() {
@@ -128,10 +137,11 @@ fn all_overdue<B: Book>(
 
 // Main of each of these is sent KILL.
 fn kill_each<B: Book>(book: &mut B, keys: &[InstanceKey]) -> Result<(), AllocError>
-    ensures { OnOk result ((config : Configuration) (c : Chronicle) (places : List ℕ)
+    ensures after { OnOk result ((config : Configuration) (c : Chronicle) (places : List ℕ)
         → B.stands book.old Stepping config c
         → map (instance_place config c) keys.now ≡ map Some places
         → B.stands book.new Stepping config (clock.killing places ++ c)) }
+    ensures free { keys.now ≡ [] → IsOk result }
 {
     for key in keys {
         book.kill(*key)?;
@@ -145,10 +155,13 @@ pub(crate) fn kill_overdue<B: Book>(
     book: &mut B,
     jobs: &[JobDef],
 ) -> Result<(), AllocError>
-    ensures { OnOk result ((config : Configuration) (c : Chronicle) → B.stands book.old Stepping config c
+    ensures after { OnOk result ((config : Configuration) (c : Chronicle) → B.stands book.old Stepping config c
         → jobs.now ≡ config.jobs
         → B.stands book.new Stepping config
         (clock.killing (clock.all_overdue config (names_in_order config c) c) ++ c)) }
+    ensures free { (config : Configuration) (c : Chronicle) → B.stands book.old Stepping config c
+        → jobs.now ≡ config.jobs
+        → clock.all_overdue config (names_in_order config c) c ≡ [] → IsOk result }
 {
     let keys = all_overdue(alloc, book, jobs)?;
     kill_each(book, keys.as_slice())?;

@@ -1,5 +1,5 @@
 -- What a run begins with.
-use Rattle.std.specs.Prelude.{◌≡◌, ◌⊎◌, ℕ, false, List, [], ◌∷◌, None, IfSome, codes}
+use Rattle.std.specs.Prelude.{◌≡◌, ◌⊎◌, ℕ, false, List, [], ◌∷◌, None, Some, codes}
 use Rattle.up_conf.specs.declared.folder.File.{File}
 use Rattle.up_conf.specs.declared.job.JobDef.{JobDef}
 use Rattle.up_image.specs.Reading.{HasTable}
@@ -31,7 +31,9 @@ pub record AreOfFolder (jobs : Jobs) : Type 0 where
 pub record AreOfImage (jobs : Jobs) : Type 0 where
   pub printed : jobs.printed ≡ prints [] Done
   pub image : List ℕ
-  pub table : IfSome jobs.table (HasTable image)
+  pub stored : List JobDef
+  pub table : jobs.table ≡ Some stored
+  pub has : HasTable image stored
 
 -- no jobs, and why
 pub record AreNone (source : List ℕ) (jobs : Jobs) : Type 0 where

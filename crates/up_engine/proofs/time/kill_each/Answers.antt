@@ -17,8 +17,8 @@ loop-key-preserved g c config c' places s known =
     let there = instance_there (instance_place config c') c.args.keys.now places n (record { job = 0; at = 0 }) known c.loop-key-test.true in
     rw (add-one, there.upto, killing_push) (c.in_ok-kill.ensures config d there.place old (killed_there config _ (take n places) c' ∙ there.is))
 
-pub returns : goal.returns
-returns g c config c' places s known =
+pub returns-clause-after : goal.returns-clause-after
+returns-clause-after g c config c' places s known =
     let n = c.loop-key.key-index in
     let old = c.loop-key.invariant config c' places s known in
     let count = instances_length _ c.args.keys.now places known in

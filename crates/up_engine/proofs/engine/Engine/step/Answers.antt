@@ -1,4 +1,5 @@
-use Rattle.std.proofs.Common.{◌∙◌, sym, refl}
+use Rattle.std.proofs.Common.{◌∙◌, Ok, sym, ap, refl}
+use Rattle.up_engine.proofs.FreeLemmas.{free-expected, true-false}
 use Rattle.up_book.specs.Keys.{Resting}
 use Rattle.up_engine.proofs.TurnLemmas.{turn_told}
 use Rattle.up_engine.proofs.LeftLemmas.{left_after, sound_after}
@@ -36,3 +37,18 @@ pub invariant_of-self : goal.invariant_of-self
 invariant_of-self c = record {
   sound = λ up. sound_after c.args.self.now.setup c.args.self.now.book c.step_book.new.book c.args.given (c.args.self.now.sound c.if-self.false) c.in-Ok.ensures.after;
 }
+
+pub returns-then-not-expects-clause-free : goal.returns-then-not-expects-clause-free
+returns-then-not-expects-clause-free c config c' s free =
+    let unexpected = sym (c.expects.ensures config c' s) ∙ c.if-not-expects.true in
+    absurd (true-false (sym (free-expected config c' c.args.given free) ∙ unexpected))
+
+pub returns-in-Err-clause-free : goal.returns-in-Err-clause-free
+returns-in-Err-clause-free c config c' s free =
+    let past = rw (sym s.setup) at s.past in
+    absurd (c.in-Err.ensures.free c' past (rw (sym s.setup) at free))
+
+pub returns-in-Ok-clause-free : goal.returns-in-Ok-clause-free
+returns-in-Ok-clause-free c config c' s free =
+    let past = rw (sym s.setup) at s.past in
+    ap Ok (c.in-Ok.ensures.free c' past (rw (sym s.setup) at free))
