@@ -47,6 +47,8 @@ def completions(work):
         check(f"completion: initctl {' '.join(words)}", completed(work, "initctl", *words), wanted)
     for words, wanted in [
         (["re"], ["replay"]),
+        (["c"], ["chart", "check", "compile"]),
+        (["blame", "j"], ["jobs", "jobs.image"]),
         (["check", "j"], ["jobs"]),
         (["graph", "j"], ["jobs"]),
         (["show", "j"], ["jobs", "jobs.image"]),

@@ -55,6 +55,7 @@ WANTED = [
     ("stop-in-order", ""),
     ("grep", None),
     ("head", f"{HEAD}the same\n"),
+    ("chart", None),
     ("compile", None),
     ("sleep", ""),
 ]

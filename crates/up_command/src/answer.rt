@@ -16,6 +16,7 @@ use up_model::ExitStatus;
 use up_replay::replay::replay_bundle;
 use up_run::run_source;
 use up_text::Env;
+use up_tools::view_source;
 
 // Replays standard input, and returns the status. If it can't be used it is said why.
 fn replay_input(rt: &(impl Input + Print + Eprint + AllocGlobal)) -> io::Result<ExitStatus> {
@@ -58,6 +59,7 @@ pub fn answer<
         Asked::Compile { dir, image } => print(rt, compile_dir(rt, dir, image)),
         Asked::Show { image } => print(rt, show_image(rt, image)),
         Asked::Replay { source, script } => { print(rt, replay_source(rt, source, base, script)) }
+        Asked::View { view, source, log } => print(rt, view_source(rt, view, source, log)),
         Asked::Run {
             source,
             socket,

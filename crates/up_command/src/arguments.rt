@@ -66,7 +66,14 @@ const SOURCE: Argument = Argument {
     kind: ArgumentKind::Place,
 };
 
-static SUBCOMMANDS: [Subcommand; 6] = [
+const RECORD: Argument = Argument {
+    id: "RECORD",
+    shown: "RECORD",
+    help: "The file of what happened, such as --record writes",
+    kind: ArgumentKind::Place,
+};
+
+static SUBCOMMANDS: [Subcommand; 8] = [
     Subcommand {
         name: "check",
         about: "Prints the faults of a folder's job files",
@@ -113,6 +120,16 @@ static SUBCOMMANDS: [Subcommand; 6] = [
                 kind: ArgumentKind::Texts,
             },
         ],
+    },
+    Subcommand {
+        name: "chart",
+        about: "Prints a picture, in SVG, of what a record says that instances did, and when",
+        arguments: &[SOURCE, RECORD],
+    },
+    Subcommand {
+        name: "blame",
+        about: "Prints how long each start in a record took, the longest first",
+        arguments: &[SOURCE, RECORD],
     },
     Subcommand {
         name: "run",

@@ -13,6 +13,7 @@ use up_run::pace::MOST_PAUSE;
 use up_run::silence::MOST_SILENCE;
 use up_run::{Rounds, Telling};
 use up_text::{Env, TextFault};
+use up_tools::View;
 use up_wire::DEFAULT_SOCKET;
 
 /// What the program is asked for.
@@ -43,6 +44,12 @@ pub enum Asked<'a> {
         source: &'a str,
         script: &'a str,
     },
+    /// To show what a record says of a run over a folder or an image.
+    View {
+        view: View,
+        source: &'a str,
+        log: &'a str,
+    },
     /// To run the jobs of a folder or of an image, with a socket for clients.
     Run {
         source: &'a str,
@@ -68,6 +75,12 @@ fn asked_replay<'a>(given: &ArgMatches<'a>) -> Option<Asked<'a>> {
     let source = given.get_str("SOURCE")?;
     let script = given.get_str("SCRIPT")?;
     Some(Asked::Replay { source, script })
+}
+
+fn asked_view<'a>(view: View, given: &ArgMatches<'a>) -> Option<Asked<'a>> {
+    let source = given.get_str("SOURCE")?;
+    let log = given.get_str("RECORD")?;
+    Some(Asked::View { view, source, log })
 }
 
 fn is_set(given: &ArgMatches, flag: &str) -> bool {
@@ -106,6 +119,8 @@ fn asked_by<'a>(word: &str, given: &ArgMatches<'a>) -> Option<Asked<'a>> {
         "compile" => asked_compile(given),
         "show" => given.get_str("IMAGE").map(|image| Asked::Show { image }),
         "replay" => asked_replay(given),
+        "chart" => asked_view(View::Chart, given),
+        "blame" => asked_view(View::Blame, given),
         _ => asked_run(given),
     }
 }

@@ -1,0 +1,6 @@
+-- What a map's entries say of the instances that contracts see.
+pub mod RowLemmas
+-- Lists to which what one item more shows is appended.
+pub mod Growing
+-- What a sort by falling numbers leaves.
+pub mod Ranking

@@ -1,0 +1,106 @@
+//! What is known of an instance, and what a moment makes of it.
+ghost use Rattle.std.specs.Prelude.{◌≡◌};
+ghost use Rattle.up_chart.specs.Rows.{begun_after, is_up, is_waiting, new_row, next_row};
+
+use crate::moment::Sign;
+use up_model::State;
+
+/// What is known of an instance.
+#[derive(Clone, Copy)]
+pub struct Row {
+    /// Which row of the picture it has, from 0.
+    pub place: u64,
+    /// The state that it entered last.
+    pub state: State,
+    /// When it did.
+    pub since: u64,
+    /// Whether it was told which events started it.
+    pub told: bool,
+    /// When it began to start, while it does.
+    pub begun: Option<u64>,
+}
+
+/// An instance of which nothing was seen yet.
+pub(crate) fn new_row(place: u64, time: u64) -> Row
+    ensures { result ≡ new_row place time }
+{
+    Row {
+        place,
+        state: State::Waiting,
+        since: time,
+        told: false,
+        begun: None,
+    }
+}
+
+pub(crate) fn is_waiting(state: State) -> bool
+    ensures { result ≡ is_waiting state }
+{
+    match state {
+        State::Waiting => true,
+        State::Starting
+        | State::PreStart
+        | State::Spawned
+        | State::PostStart
+        | State::Running
+        | State::PreStop
+        | State::Stopping
+        | State::Killed
+        | State::PostStop => false,
+    }
+}
+
+/// Whether main lives there, and nobody has asked for its end.
+pub(crate) fn is_up(state: State) -> bool
+    ensures { result ≡ is_up state }
+{
+    match state {
+        State::Spawned | State::PostStart | State::Running => true,
+        State::Waiting
+        | State::Starting
+        | State::PreStart
+        | State::PreStop
+        | State::Stopping
+        | State::Killed
+        | State::PostStop => false,
+    }
+}
+
+fn begun_after(state: State, time: u64, begun: Option<u64>) -> Option<u64>
+    ensures { result ≡ begun_after state time begun }
+{
+    match state {
+        State::Starting => Some(time),
+        State::PreStart | State::Spawned | State::PostStart => begun,
+        State::Waiting
+        | State::Running
+        | State::PreStop
+        | State::Stopping
+        | State::Killed
+        | State::PostStop => None,
+    }
+}
+
+/// What is known of an instance after a sign of it.
+pub(crate) fn next_row(time: u64, row: Row, sign: &Sign) -> Row
+    ensures { result ≡ next_row time row sign.now }
+{
+    match sign {
+        Sign::Enters(state) => Row {
+            place: row.place,
+            state: *state,
+            since: time,
+            told: row.told && !is_waiting(*state),
+            begun: begun_after(*state, time, row.begun),
+        },
+        Sign::StartedBy(_) => Row {
+            place: row.place,
+            state: row.state,
+            since: row.since,
+            told: true,
+            begun: row.begun,
+        },
+        Sign::Fails => row,
+        Sign::Signal(_) => row,
+    }
+}

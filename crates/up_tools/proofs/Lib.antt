@@ -1,0 +1,2 @@
+-- What inputs show, one after another.
+pub mod Watching

@@ -1,0 +1,86 @@
+-- What is printed of a record: the picture of its run, or how long its starts took.
+use Rattle.std.specs.Prelude.{◌≡◌, ◌⊎◌, ℕ, ◌≤◌, List, [], Option, None, Some, Result, Ok, Err, length}
+use Rattle.up_model.specs.Values.{Bytes}
+use Rattle.up_conf.specs.declared.folder.File.{File}
+use Rattle.up_conf.specs.declared.job.JobDef.{JobDef}
+use Rattle.up_conf.specs.Folders.{jobs_of}
+use Rattle.up_image.specs.Reading.{HasTable}
+use Rattle.up_model.specs.declared.input.Input.{Input}
+use Rattle.up_model.specs.Answers.{answers}
+use Rattle.up_chart.specs.declared.chart.Chart.{Chart}
+use Rattle.up_chart.specs.Blame.{blame_of}
+use Rattle.up_chart.specs.Charts.{chart_of}
+use Rattle.up_chart.specs.Moments.{clock_at, moments_from, no_clock, time_of}
+use Rattle.up_chart.specs.Svg.{svg_of}
+use Rattle.up_disk.specs.Disk.{CannotWalk, IsRefusedImage, IsUnusable}
+use Rattle.up_disk.specs.Walk.{IsWalked}
+use Rattle.up_replay.specs.declared.printed.Printed.{Printed}
+use Rattle.up_replay.specs.declared.replay.TheConstants.{MAX_BUNDLE}
+use Rattle.up_replay.specs.Bundle.{files_of, lines_of}
+use Rattle.up_replay.specs.Folders.{IsTable, PrintsFaults, prints}
+use Rattle.up_replay.specs.Replay.{Plays}
+use Rattle.up_replay.specs.ScriptSteps.{script_inputs}
+use Rattle.up_tools.specs.declared.view.View.{View}
+use Rattle.up_tools.specs.declared.view.View.TheVariants as view
+
+-- the picture of a run of these jobs, whose processes have no variables but their jobs'
+abbrev pub run_chart : List JobDef → List Input → Chart
+run_chart jobs inputs = chart_of (time_of (clock_at no_clock inputs))
+    (moments_from no_clock inputs (answers (record { base = []; jobs = jobs }) [] inputs))
+
+abbrev pub shown : View → Chart → Bytes
+shown view.Chart chart = svg_of chart
+shown view.Blame chart = blame_of chart.starts
+
+-- what is printed of a run of a table, or of a folder that is refused and has none; the status tells of faulty files
+abbrev pub viewed : View → (faults : Printed) → Option (List JobDef) → List Input → Printed
+viewed how faults None inputs = faults
+viewed how faults (Some jobs) inputs = prints (shown how (run_chart jobs inputs)) faults.status
+
+-- what is printed of a run of a folder's files
+pub record ViewsInputs (how : View) (files : List File) (inputs : List Input) (made : Printed) : Type 0 where
+  pub faults : Printed
+  pub found : PrintsFaults files faults
+  pub table : Option (List JobDef)
+  pub compiled : IsTable files table
+  pub same : made ≡ viewed how faults table inputs
+
+-- what is printed of a record; at a bad step what a replay prints
+abbrev pub Views : View → List File → (name : Bytes) → Result (List Input) ℕ → Printed → Type 0
+Views how files name (Ok inputs) made = ViewsInputs how files inputs made
+Views how files name (Err line) made = Plays files [] name (Err line) made
+
+-- what is printed of a record, which has 64 MiB at most, over these files
+pub record ViewsOver (how : View) (files : List File) (name : Bytes) (made : Printed) : Type 0 where
+  pub bytes : Bytes
+  pub bounded : length bytes ≤ MAX_BUNDLE
+  pub views : Views how files name (script_inputs 1 bytes) made
+
+-- the same over the files that a folder has
+pub record ViewsFiles (how : View) (name : Bytes) (made : Printed) : Type 0 where
+  pub files : List File
+  pub walked : IsWalked files
+  pub over : ViewsOver how files name made
+
+abbrev pub ViewsDir : (dir : Bytes) → View → (name : Bytes) → Printed → Type 0
+ViewsDir dir how name made = ViewsFiles how name made ⊎ (CannotWalk dir made ⊎ IsUnusable name made)
+
+-- the same over the files of a bundle, or why its record can't be used
+abbrev pub ViewsShown : (bundle : Bytes) → View → (name : Bytes) → Printed → Type 0
+ViewsShown bundle how name made = ViewsOver how (files_of (lines_of bundle)) name made ⊎ IsUnusable name made
+
+-- the same over files that define the jobs of an image
+pub record ViewsImage (how : View) (name : Bytes) (made : Printed) : Type 0 where
+  pub files : List File
+  pub image : Bytes
+  pub has : HasTable image (jobs_of files)
+  pub over : ViewsOver how files name made
+
+-- the same for an image in a file, or why there is none
+abbrev pub ViewsStored : (image : Bytes) → View → (name : Bytes) → Printed → Type 0
+ViewsStored image how name made = ViewsImage how name made
+    ⊎ (IsRefusedImage made ⊎ (IsUnusable image made ⊎ IsUnusable name made))
+
+-- what is printed of a record over a folder or an image
+abbrev pub ViewsSource : (source : Bytes) → View → (name : Bytes) → Printed → Type 0
+ViewsSource source how name made = ViewsDir source how name made ⊎ ViewsStored source how name made

@@ -1,0 +1,169 @@
+"""`initd chart` and `initd blame`: a record's picture and its starts, worked out by hand; what they refuse; and that a long record takes no long time."""
+import time
+import xml.etree.ElementTree
+
+from harness import TOP, check, initd, unpack, write
+
+FILES = {
+    "a.conf": "start on startup\nexec /bin/a\npost-start exec /bin/ready\n",
+    "b.conf": "start on started a\nrespawn\nexec /bin/b\n",
+}
+# a runs main from 0 to the end, and is up after 100 ms; b crashes after 500 ms and is stopped after 800.
+RECORD = """clock 1000
+emit startup
+turn 20
+clock 1010
+spawned a "" main 100
+turn 20
+clock 1050
+spawned a "" post-start 101
+clock 1100
+ended a "" post-start exit 0
+turn 20
+clock 1130
+spawned b "" main 102
+turn 20
+clock 1500
+ended b "" main signal SEGV
+turn 20
+clock 1520
+spawned b "" main 103
+turn 20
+clock 1800
+request 1 stop b
+turn 20
+clock 2000
+ended b "" main signal TERM
+turn 20
+"""
+HEAD = '<svg xmlns="http://www.w3.org/2000/svg" width="1191" height="120" font-family="sans-serif" font-size="11">'
+DRAWN = """<g transform="translate(31,44)">
+<path class="tick" d="M0 0V44"/><text class="time" x="0" y="58">0 ms</text>
+<path class="tick" d="M200 0V44"/><text class="time" x="200" y="58">200 ms</text>
+<path class="tick" d="M400 0V44"/><text class="time" x="400" y="58">400 ms</text>
+<path class="tick" d="M600 0V44"/><text class="time" x="600" y="58">600 ms</text>
+<path class="tick" d="M800 0V44"/><text class="time" x="800" y="58">800 ms</text>
+<path class="tick" d="M1000 0V44"/><text class="time" x="1000" y="58">1000 ms</text>
+<path class="line" d="M0 0h1000"/><text class="name" x="-8" y="14">a</text>
+<path class="line" d="M0 20h1000"/><text class="name" x="-8" y="34">b</text>
+<rect class="spawned" x="0" y="3" width="10" height="14"><title>spawned, 0 to 10 ms</title></rect>
+<rect class="post-start" x="10" y="3" width="90" height="14"><title>post-start, 10 to 100 ms</title></rect>
+<rect class="spawned" x="100" y="23" width="30" height="14"><title>spawned, 100 to 130 ms</title></rect>
+<rect class="running" x="130" y="23" width="370" height="14"><title>running, 130 to 500 ms</title></rect>
+<rect class="spawned" x="500" y="23" width="20" height="14"><title>spawned, 500 to 520 ms</title></rect>
+<rect class="running" x="520" y="23" width="280" height="14"><title>running, 520 to 800 ms</title></rect>
+<rect class="stopping" x="800" y="23" width="200" height="14"><title>stopping, 800 to 1000 ms</title></rect>
+<rect class="running" x="100" y="3" width="900" height="14"><title>running, 100 to 1000 ms</title></rect>
+<text class="by" dx="3" x="0" y="13">startup</text>
+<text class="by" dx="3" x="100" y="33">started</text>
+<path class="crash" d="M500 24l5 11h-10z"><title>main failed</title></path>
+<path class="signal" d="M800 22v16"><title>TERM</title></path>
+</g>
+</svg>
+"""
+BLAMED = "100 ms a\n 30 ms b\n 20 ms b\n"
+
+
+def drawn(text):
+    """What a picture has after what its colours say."""
+    return text[text.index("<g ") :]
+
+
+def pictures(folder):
+    jobs, record = folder / "jobs", folder / "boot.record"
+    write(jobs, FILES)
+    record.write_text(RECORD)
+    text, status = initd("chart", jobs, record)
+    check("chart: how large it is", (text.splitlines()[0], status), (HEAD, 0))
+    check("chart: what is drawn", drawn(text), DRAWN)
+    check("blame: the longest first", initd("blame", jobs, record), (BLAMED, 0))
+    initd("compile", jobs, folder / "jobs.image")
+    check("chart: of an image", initd("chart", folder / "jobs.image", record), (text, 0))
+    check("blame: of an image", initd("blame", folder / "jobs.image", record), (BLAMED, 0))
+    record.write_text("")
+    text, status = initd("chart", jobs, record)
+    wanted = '<g transform="translate(24,44)">\n<path class="tick" d="M0 0V4"/><text class="time" x="0" y="18">0 ms</text>\n'
+    wanted += '<path class="tick" d="M1000 0V4"/><text class="time" x="1000" y="18">1 ms</text>\n</g>\n</svg>\n'
+    check("chart: nothing happened", (drawn(text), status), (wanted, 0))
+    check("blame: nothing happened", initd("blame", jobs, record), ("", 0))
+
+
+STOPPED = """clock 10
+emit go X=<&>
+turn 20
+clock 12
+emit halt
+turn 20
+clock 15
+ended c "<&>" pre-start signal KILL
+turn 20
+clock 17
+emit go X=<&>
+turn 20
+ended c "<&>" pre-start exit 0
+turn 20
+refused c "<&>" main
+turn 20
+"""
+
+
+def signs(folder):
+    """A start that is broken off, a main process that can't be started, and names that XML has to have written otherwise."""
+    jobs, record = folder / "signs", folder / "signs.record"
+    write(jobs, {"c.conf": "start on go\nstop on halt\ninstance $X\npre-start exec /bin/pre\nexec /bin/c\n"})
+    record.write_text(STOPPED.replace("ended c", 'spawned c "<&>" pre-start 7\nended c'))
+    text, status = initd("chart", jobs, record)
+    check("chart: names are escaped", (text.count(">c (&lt;&amp;&gt;)</text>"), text.count(">go</text>"), status), (1, 2, 0))
+    root = xml.etree.ElementTree.fromstring(text)
+    names = [part.text for part in root.iter("{http://www.w3.org/2000/svg}text") if part.get("class") == "name"]
+    check("chart: a name as XML reads it", names, ["c (<&>)"])
+    check("chart: main can't be started", text.count("<title>main failed</title>"), 1)
+    check("blame: no start came to its end", initd("blame", jobs, record), ("", 0))
+
+
+def refusals(folder):
+    jobs, record = folder / "jobs", folder / "bad.record"
+    record.write_text("emit startup\nbogus\n")
+    away = folder / "away"
+    write(folder / "faulty", FILES | {"x.conf": "setuid root\n"})
+    good = folder / "good.record"
+    good.write_text(RECORD)
+    bad = folder / "bad.image"
+    bad.write_bytes(b"no image")
+    for command in ("chart", "blame"):
+        check(f"{command}: a bad step", initd(command, jobs, record), (f"{record}:2: bad step\n", 2))
+        check(f"{command}: no folder", initd(command, away, good), (f"initd: cannot use {away}\n", 3))
+        check(f"{command}: no record", initd(command, jobs, away), (f"initd: cannot use {away}\n", 3))
+        check(f"{command}: no image", initd(command, bad, good), initd("replay", bad, good))
+        check(f"{command}: faulty files and a bad step", initd(command, folder / "faulty", record), initd("replay", folder / "faulty", record))
+    text, status = initd("chart", folder / "faulty", good)
+    check("chart: faulty files", (drawn(text), status), (DRAWN, 1))
+    check("blame: faulty files", initd("blame", folder / "faulty", good), (BLAMED, 1))
+
+
+def long_record(folder):
+    """A service that crashes and comes up again seven thousand times: more than a hundred thousand inputs."""
+    jobs, record = folder / "long", folder / "long.record"
+    write(jobs, {"d.conf": "start on startup\nrespawn\nrespawn limit unlimited\nexec /bin/d\n"})
+    lines = ["clock 0", "emit startup", "turn 20", 'spawned d "" main 1', "turn 20"]
+    for place in range(1, 7_001):
+        lines += [f"clock {place}", 'ended d "" main exit 1', "turn 4", "turn 4", 'spawned d "" main 1', "turn 4"]
+    record.write_text("\n".join(lines) + "\n")
+    begun = time.monotonic()
+    text, status = initd("chart", jobs, record)
+    took = time.monotonic() - begun
+    check("chart: a long record", (text.count('class="running"'), text.count("<title>main failed"), status), (7_001, 7_000, 0))
+    check("chart: it takes less than two seconds", took < 2, True)
+    check("blame: a long record", initd("blame", jobs, record), ("0 ms d\n" * 7_001, 0))
+
+
+def all_of(folder):
+    pictures(folder)
+    signs(folder)
+    refusals(folder)
+    long_record(folder)
+    bundle = (TOP / "examples" / "server.bundle").read_text()
+    unpack(bundle.split("%script\n")[0], folder / "server")
+    text, status = initd("chart", folder / "server", TOP / "examples" / "server.record")
+    check("chart: the picture of the documents", (text, status), ((TOP / "docs" / "boot.svg").read_text(), 0))
+    check("chart: XML reads it", xml.etree.ElementTree.fromstring(text).tag, "{http://www.w3.org/2000/svg}svg")
