@@ -1,0 +1,2 @@
+-- What a lint of a folder prints.
+pub mod Lints
