@@ -1,2 +1,4 @@
 -- What is printed of a record.
 pub mod Views
+-- What a lint of a folder prints.
+pub mod Lints

@@ -1,9 +1,12 @@
-//! What a record of a run shows: its picture, and how long its starts took.
+//! What is said of a folder on the disk beside its faults and its runs, and what a record of a run shows.
 #![tactic(auto)]
 
+pub mod lint;
 pub mod source;
 pub mod view;
 mod watch;
 
+pub use lint::lint_dir;
 pub use source::view_source;
+pub use up_lint::is_kind;
 pub use view::View;

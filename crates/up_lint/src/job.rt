@@ -1,0 +1,185 @@
+//! The warnings of a job.
+ghost use Rattle.std.specs.Prelude.{◌≡◌, ◌++◌, OnOk};
+ghost use Rattle.std.specs.List.{flat_map};
+ghost use Rattle.up_lint.specs.Events.{scene_of};
+ghost use Rattle.up_lint.specs.Lint.{circle_warnings, event_warnings, export_warning, export_warnings, is_crash_loop, is_never_started, job_warnings, respawn_warnings, sheet_warnings, start_warnings};
+
+use crate::circle::is_started;
+use crate::exports::is_unset;
+use crate::head::{Head, has_text};
+use crate::question::{Question, Side, push_condition};
+use crate::sheet::{Spot, is_manual, sheet_of, spot_of};
+use crate::warning::{Kind, Warning, push_warning};
+use crate::world::World;
+use std::alloc::AllocError;
+use up_conf::{File, JobDef};
+use up_text::Text;
+
+// Appends what is asked of the events of both expressions.
+fn push_events(
+    warnings: &mut Vec<Warning>,
+    world: &World<'_>,
+    question: Question,
+    job: &JobDef,
+    sheet: &[Head],
+) -> Result<(), AllocError>
+    ensures { OnOk result (warnings.new.items
+        ≡ warnings.old.items ++ event_warnings (scene_of world.now) question job.now sheet.now) }
+{
+    let name = job.name.as_str();
+    push_condition(
+        warnings,
+        world,
+        name,
+        sheet,
+        question,
+        Side::Start,
+        &job.start_on,
+    )?;
+    push_condition(
+        warnings,
+        world,
+        name,
+        sheet,
+        question,
+        Side::Stop,
+        &job.stop_on,
+    )
+}
+
+fn is_never_started(jobs: &[JobDef], job: &JobDef, sheet: &[Head]) -> bool
+    ensures { result ≡ is_never_started jobs.now job.now sheet.now }
+{
+    job.start_on.is_none() && !is_manual(sheet) && !is_started(jobs, job.name.as_str())
+}
+
+fn push_start(
+    warnings: &mut Vec<Warning>,
+    jobs: &[JobDef],
+    job: &JobDef,
+    sheet: &[Head],
+) -> Result<(), AllocError>
+    ensures { OnOk result (warnings.new.items ≡ warnings.old.items ++ start_warnings jobs.now job.now sheet.now) }
+{
+    if !is_never_started(jobs, job, sheet) {
+        return Ok(());
+    }
+    let name = job.name.as_str();
+    let spot = Spot {
+        over: false,
+        line: 1,
+    };
+    push_warning(warnings, name, spot, Kind::NeverStarted, name)
+}
+
+fn push_export(
+    warnings: &mut Vec<Warning>,
+    jobs: &[JobDef],
+    job: &str,
+    sheet: &[Head],
+    key: &str,
+) -> Result<(), AllocError>
+    ensures { OnOk result (warnings.new.items
+        ≡ warnings.old.items ++ export_warning jobs.now job.now sheet.now key.now) }
+{
+    if !is_unset(jobs, key) {
+        return Ok(());
+    }
+    let spot = spot_of(sheet, "export", key);
+    push_warning(warnings, job, spot, Kind::UnsetExport, key)
+}
+
+fn push_keys(
+    warnings: &mut Vec<Warning>,
+    jobs: &[JobDef],
+    job: &str,
+    sheet: &[Head],
+    keys: &[Text],
+) -> Result<(), AllocError>
+    ensures { OnOk result (warnings.new.items
+        ≡ warnings.old.items ++ flat_map (export_warning jobs.now job.now sheet.now) keys.now) }
+{
+    for key in keys {
+        push_export(warnings, jobs, job, sheet, key.as_str())?;
+    }
+    Ok(())
+}
+
+fn push_exports(
+    warnings: &mut Vec<Warning>,
+    jobs: &[JobDef],
+    job: &JobDef,
+    sheet: &[Head],
+) -> Result<(), AllocError>
+    ensures { OnOk result (warnings.new.items ≡ warnings.old.items ++ export_warnings jobs.now job.now sheet.now) }
+{
+    let name = job.name.as_str();
+    push_keys(warnings, jobs, name, sheet, job.export.as_slice())
+}
+
+fn is_crash_loop(job: &JobDef) -> bool
+    ensures { result ≡ is_crash_loop job.now }
+{
+    job.respawn && (job.limit.count == 0 || job.limit.interval == 0)
+}
+
+fn push_respawn(warnings: &mut Vec<Warning>, job: &JobDef, sheet: &[Head]) -> Result<(), AllocError>
+    ensures { OnOk result (warnings.new.items ≡ warnings.old.items ++ respawn_warnings job.now sheet.now) }
+{
+    if !is_crash_loop(job) {
+        return Ok(());
+    }
+    let name = job.name.as_str();
+    let spot = spot_of(sheet, "respawn", "limit");
+    push_warning(warnings, name, spot, Kind::CrashLoop, name)
+}
+
+fn push_circle(
+    warnings: &mut Vec<Warning>,
+    started: &[Text],
+    job: &JobDef,
+    sheet: &[Head],
+) -> Result<(), AllocError>
+    ensures { OnOk result (warnings.new.items ≡ warnings.old.items ++ circle_warnings started.now job.now sheet.now) }
+{
+    let name = job.name.as_str();
+    if has_text(started, name) {
+        return Ok(());
+    }
+    let spot = spot_of(sheet, "start", "on");
+    push_warning(warnings, name, spot, Kind::StartCircle, name)
+}
+
+// Appends the warnings of a job, by its stanzas.
+#[tactic(auto, unfolding(crate::specs::Lint::sheet_warnings))]
+fn push_sheet(
+    warnings: &mut Vec<Warning>,
+    world: &World<'_>,
+    job: &JobDef,
+    sheet: &[Head],
+) -> Result<(), AllocError>
+    ensures { OnOk result (warnings.new.items
+        ≡ warnings.old.items ++ sheet_warnings (scene_of world.now) job.now sheet.now) }
+{
+    push_events(warnings, world, Question::UnknownEvent, job, sheet)?;
+    push_events(warnings, world, Question::UnknownJob, job, sheet)?;
+    push_start(warnings, world.jobs, job, sheet)?;
+    push_exports(warnings, world.jobs, job, sheet)?;
+    push_respawn(warnings, job, sheet)?;
+    push_events(warnings, world, Question::BlocksItself, job, sheet)?;
+    push_circle(warnings, world.started, job, sheet)
+}
+
+/// Appends the warnings of a job.
+pub(crate) fn push_job(
+    warnings: &mut Vec<Warning>,
+    world: &World<'_>,
+    files: &[File],
+    job: &JobDef,
+) -> Result<(), AllocError>
+    ensures { OnOk result (warnings.new.items
+        ≡ warnings.old.items ++ job_warnings (scene_of world.now) files.now job.now) }
+{
+    let sheet = sheet_of(*warnings.allocator(), files, job.name.as_str())?;
+    push_sheet(warnings, world, job, sheet.as_slice())
+}

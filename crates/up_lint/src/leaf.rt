@@ -1,0 +1,24 @@
+//! Whose event an expression waits for.
+ghost use Rattle.std.specs.Prelude.{◌≡◌, option_copied};
+ghost use Rattle.up_lint.specs.Leaves.{job_in};
+
+use up_expr::Test;
+use up_text::Text;
+
+/// The job whose event it must be, by its first value or by the variable JOB.
+pub(crate) fn job_in(tests: &[Test]) -> Option<&Text>
+    ensures { option_copied result ≡ job_in tests.now }
+{
+    for test in tests {
+        match test {
+            Test::Place(value) => return Some(value),
+            Test::Same(key, value) => {
+                if key.as_str() == "JOB" {
+                    return Some(value);
+                }
+            }
+            Test::Differs(_, _) => {}
+        }
+    }
+    None
+}

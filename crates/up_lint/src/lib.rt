@@ -1,0 +1,22 @@
+//! What is allowed in a folder of job files and is most likely a mistake: warnings, each with its place.
+#![tactic(auto)]
+
+mod circle;
+mod commands;
+mod exports;
+mod head;
+mod job;
+mod leaf;
+mod lint;
+mod names;
+mod next;
+mod order;
+mod pieces;
+mod push;
+mod question;
+mod sheet;
+mod warning;
+mod world;
+
+pub use lint::push_lint;
+pub use warning::is_kind;

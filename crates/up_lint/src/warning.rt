@@ -1,0 +1,161 @@
+//! Warnings: what each is, where it stands, and the line that is printed of it.
+ghost use Rattle.std.specs.Prelude.{◌≡◌, ◌++◌, ◌∷◌, [], IfOk, OnOk, map};
+ghost use Rattle.std.specs.List.{list_any};
+ghost use Rattle.std.specs.Str.{bytes_eq};
+ghost use Rattle.up_lint.specs.Warnings.{before_about, kind_names, line_of, name_of, place_text, warning_of};
+
+use crate::push::{push, push_decimal};
+use crate::sheet::{Spot, path_of};
+use std::alloc::{AllocError, Global};
+use up_text::Text;
+
+/// What is most likely a mistake.
+#[derive(Clone, Copy, PartialEq, Eq)]
+pub enum Kind {
+    /// An expression waits for an event that nothing gives.
+    UnknownEvent,
+    /// An expression waits for an event of a job that isn't there.
+    UnknownJob,
+    /// No event and no command starts a job.
+    NeverStarted,
+    /// A job exports a variable that nothing sets.
+    UnsetExport,
+    /// A job is respawned without a limit.
+    CrashLoop,
+    /// A job waits for its own event.
+    BlocksItself,
+    /// A job waits for jobs that wait for one another.
+    StartCircle,
+}
+
+/// A warning.
+#[derive(Drop)]
+pub struct Warning {
+    /// The path of the file.
+    pub path: Text,
+    /// The line, counted from 1.
+    pub line: u32,
+    pub kind: Kind,
+    /// The name of the event, the job or the variable concerned.
+    pub about: Text,
+}
+
+/// The name of a kind.
+pub fn name_of(kind: Kind) -> &'static str
+    ensures { result.now ≡ name_of kind }
+{
+    match kind {
+        Kind::UnknownEvent => "unknown-event",
+        Kind::UnknownJob => "unknown-job",
+        Kind::NeverStarted => "never-started",
+        Kind::UnsetExport => "unset-export",
+        Kind::CrashLoop => "crash-loop",
+        Kind::BlocksItself => "blocks-itself",
+        Kind::StartCircle => "start-circle",
+    }
+}
+
+/// Whether a name is that of a kind.
+pub fn is_kind(name: &str) -> bool
+    ensures { result ≡ list_any (bytes_eq name.now) kind_names }
+{
+    name == "unknown-event"
+        || name == "unknown-job"
+        || name == "never-started"
+        || name == "unset-export"
+        || name == "crash-loop"
+        || name == "blocks-itself"
+        || name == "start-circle"
+}
+
+// What is said before the name concerned.
+fn before_about(kind: Kind) -> &'static str
+    ensures { result.now ≡ before_about kind }
+{
+    match kind {
+        Kind::UnknownEvent => "nothing gives the event `",
+        Kind::UnknownJob => "there is no job `",
+        Kind::NeverStarted => "nothing starts the job `",
+        Kind::UnsetExport => "nothing sets the variable `",
+        Kind::CrashLoop => "nothing limits the respawns of the job `",
+        Kind::BlocksItself => "the job waits for its own event `",
+        Kind::StartCircle => "only jobs that wait for one another start the job `",
+    }
+}
+
+/// Makes the warning of a job at one of its lines.
+pub(crate) fn warning_of(
+    alloc: Global,
+    job: &str,
+    spot: Spot,
+    kind: Kind,
+    about: &str,
+) -> Result<Warning, AllocError>
+    ensures { IfOk result (λ warning. warning ≡ warning_of job.now spot kind about.now) }
+{
+    let path = path_of(alloc, job, spot.over)?;
+    let about = Text::from_str(alloc, about)?;
+    Ok(Warning {
+        path,
+        line: spot.line,
+        kind,
+        about,
+    })
+}
+
+/// Appends the warning of a job at one of its lines.
+pub(crate) fn push_warning(
+    warnings: &mut Vec<Warning>,
+    job: &str,
+    spot: Spot,
+    kind: Kind,
+    about: &str,
+) -> Result<(), AllocError>
+    ensures { OnOk result (warnings.new.items
+        ≡ warnings.old.items ++ warning_of job.now spot kind about.now ∷ []) }
+{
+    let warning = warning_of(*warnings.allocator(), job, spot, kind, about)?;
+    warnings.push(warning)?;
+    Ok(())
+}
+
+/// Appends a warning of a job at one of its lines for each of these names.
+pub(crate) fn push_warnings(
+    warnings: &mut Vec<Warning>,
+    job: &str,
+    spot: Spot,
+    kind: Kind,
+    names: &[Text],
+) -> Result<(), AllocError>
+    ensures { OnOk result (warnings.new.items
+        ≡ warnings.old.items ++ map (warning_of job.now spot kind) names.now) }
+{
+    for name in names {
+        push_warning(warnings, job, spot, kind, name.as_str())?;
+    }
+    Ok(())
+}
+
+// Appends what stands before the text of a warning.
+#[tactic(auto, unfolding(crate::specs::Warnings::place_text))]
+fn push_place(text: &mut Vec<u8>, warning: &Warning) -> Result<(), AllocError>
+    ensures { OnOk result (text.new.items ≡ text.old.items ++ place_text warning.now) }
+{
+    push(text, warning.path.as_str())?;
+    push(text, ":")?;
+    push_decimal(text, u64::from(warning.line))?;
+    push(text, ": warning: ")?;
+    push(text, name_of(warning.kind))?;
+    push(text, ": ")
+}
+
+/// Appends the line of a warning.
+#[tactic(auto, unfolding(crate::specs::Warnings::line_of))]
+pub(crate) fn push_line(text: &mut Vec<u8>, warning: &Warning) -> Result<(), AllocError>
+    ensures { OnOk result (text.new.items ≡ text.old.items ++ line_of warning.now) }
+{
+    push_place(text, warning)?;
+    push(text, before_about(warning.kind))?;
+    push(text, warning.about.as_str())?;
+    push(text, "`\n")
+}

@@ -1,0 +1,93 @@
+//! What a lint of a folder prints: its faults, and a line for each thing that is allowed and is most likely a mistake.
+ghost use Rattle.std.specs.Prelude.{◌≡◌, IfOk};
+ghost use Rattle.up_tools.specs.Lints.{linted, Lints, LintsDir, status_by, with_warnings};
+
+use std::alloc::{AllocError, Global};
+use std::io::Eprint;
+use std::rt::Files;
+use up_conf::{File, Folder, JobDef};
+use up_disk::WalkError;
+use up_disk::walk::walk;
+use up_image::Table;
+use up_lint::push_lint;
+use up_model::ExitStatus;
+use up_replay::check::faults_and_compile;
+use up_replay::{Printed, cannot_use};
+use up_text::Items;
+
+fn status_by(text: &[u8]) -> ExitStatus
+    ensures { result ≡ status_by text.now }
+{
+    match text {
+        [] => ExitStatus::Done,
+        _ => ExitStatus::Failed,
+    }
+}
+
+// The lines of faults, and after them those of the warnings.
+fn with_warnings(
+    faults: Items<u8>,
+    files: &[File],
+    jobs: &[JobDef],
+    left_out: &str,
+    outside: &str,
+) -> Result<Printed, AllocError>
+    ensures { IfOk result (λ made. made
+        ≡ with_warnings faults files.now jobs.now left_out.now outside.now) }
+{
+    let mut text = faults.into_vec();
+    push_lint(&mut text, files, jobs, left_out, outside)?;
+    let text = Items::new(text);
+    let status = status_by(text.as_slice());
+    Ok(Printed { text, status })
+}
+
+// What is printed of a folder's jobs, or of a folder that is refused and has none.
+fn linted(
+    faults: Printed,
+    table: Option<Table>,
+    files: &[File],
+    left_out: &str,
+    outside: &str,
+) -> Result<Printed, AllocError>
+    ensures { IfOk result (λ made. made ≡ linted faults files.now table left_out.now outside.now) }
+{
+    match table {
+        Some(table) => {
+            let made = with_warnings(faults.text, files, table.as_slice(), left_out, outside);
+            drop(table);
+            made
+        }
+        None => Ok(faults),
+    }
+}
+
+// What a lint of a folder prints: the faults of its files, and the warnings of its jobs.
+fn lint(
+    alloc: Global,
+    folder: &Folder,
+    left_out: &str,
+    outside: &str,
+) -> Result<Printed, AllocError>
+    ensures { IfOk result (Lints folder.now left_out.now outside.now) }
+{
+    let (faults, table) = faults_and_compile(alloc, folder)?;
+    linted(faults, table, folder.as_slice(), left_out, outside)
+}
+
+/// What a lint of a folder on the disk prints: the faults of its files, and the warnings of its jobs, but for the kinds that `left_out` names. What
+/// `outside` names are events that come from outside. Both have names with blanks between them.
+pub fn lint_dir<R: Files + Eprint + AllocGlobal + Clone + Drop>(
+    rt: &R,
+    dir: &str,
+    left_out: &str,
+    outside: &str,
+) -> Result<Printed, AllocError>
+    ensures { IfOk result (LintsDir dir.now left_out.now outside.now) }
+{
+    match walk(rt, dir) {
+        Ok(folder) => lint(rt.alloc(), &folder, left_out, outside),
+        Err(WalkError::Unusable(path)) => cannot_use(rt.alloc(), path.as_str()),
+        Err(WalkError::Memory) => Err(AllocError),
+    }
+}
