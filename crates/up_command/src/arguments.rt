@@ -66,7 +66,7 @@ const SOURCE: Argument = Argument {
     kind: ArgumentKind::Place,
 };
 
-static SUBCOMMANDS: [Subcommand; 6] = [
+static SUBCOMMANDS: [Subcommand; 7] = [
     Subcommand {
         name: "check",
         about: "Prints the faults of a folder's job files",
@@ -84,6 +84,25 @@ static SUBCOMMANDS: [Subcommand; 6] = [
         name: "graph",
         about: "Prints the jobs of a folder and the events that join them, as a graph for dot",
         arguments: &[DIR],
+    },
+    Subcommand {
+        name: "lint",
+        about: "Prints what is most likely a mistake in a folder's job files",
+        arguments: &[
+            DIR,
+            Argument {
+                id: "allow",
+                shown: "NAME",
+                help: "Prints no warning of this kind, as unknown-event; may be given again and again",
+                kind: ArgumentKind::Texts,
+            },
+            Argument {
+                id: "event",
+                shown: "NAME",
+                help: "An event that comes from outside; may be given again and again",
+                kind: ArgumentKind::Texts,
+            },
+        ],
     },
     Subcommand {
         name: "compile",
