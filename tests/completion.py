@@ -55,6 +55,10 @@ def completions(work):
         (["run", "--record"], ["--record", "--record-over"]),
         (["run", "--pause", ""], []),
         (["check", "--"], ["--explain", "--help"]),
+        (["lint", "--"], ["--allow", "--event", "--help"]),
+        (["lint", "--allow", "un"], ["unknown-event", "unknown-job", "unset-export"]),
+        (["lint", "--event", ""], []),
+        (["lint", "j"], ["jobs"]),
     ]:
         check(f"completion: initd {' '.join(words)}", sorted(completed(work, "initd", *words)), wanted)
 

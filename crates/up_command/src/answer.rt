@@ -1,9 +1,11 @@
 //! Does what a command line asks for.
-ghost use Rattle.std.specs.Prelude.{IfOk};
-ghost use Rattle.up_command.specs.Answers.{Answers};
+ghost use Rattle.std.specs.Prelude.{◌≡◌, IfOk, codes};
+ghost use Rattle.up_command.specs.Answers.{Answers, names_at};
+ghost use Rattle.up_tools.specs.Lints.{LintsDir};
 
 use crate::command::Asked;
 use crate::noted::Noted;
+use std::alloc::AllocError;
 use std::fs::File;
 use std::io;
 use std::io::{BufWriter, Eprint, Write};
@@ -13,10 +15,11 @@ use std::rt::{Clock, Files};
 use up_disk::print::print;
 use up_disk::{check_dir, compile_dir, explain_dir, graph_dir, replay_source, show_image};
 use up_model::ExitStatus;
+use up_replay::Printed;
 use up_replay::replay::replay_bundle;
 use up_run::run_source;
 use up_text::Env;
-use up_tools::view_source;
+use up_tools::{lint_dir, view_source};
 
 // Replays standard input, and returns the status. If it can't be used it is said why.
 fn replay_input(rt: &(impl Input + Print + Eprint + AllocGlobal)) -> io::Result<ExitStatus> {
@@ -30,8 +33,30 @@ fn replay_input(rt: &(impl Input + Print + Eprint + AllocGlobal)) -> io::Result<
     Ok(status)
 }
 
-/// Does what is asked for, with a base environment for a replay, prints on standard output, and returns the status: that of what is
-/// printed, `Unusable` if it can't be written, `Memory` if memory ran out. An error is that of the standard output, or memory ran out for its buffer.
+// The names that an option gives a lint.
+fn names_at<'a>(names: &'a Env, option: &str) -> &'a str
+    ensures { result.now ≡ names_at option.now names.now }
+{
+    match names.get(option) {
+        Some(found) => found,
+        None => "",
+    }
+}
+
+// What a lint prints that is given these names.
+fn lint_by<R: Files + Eprint + AllocGlobal + Clone + Drop>(
+    rt: &R,
+    dir: &str,
+    names: &Env,
+) -> Result<Printed, AllocError>
+    ensures { IfOk result (LintsDir dir.now (names_at (codes "allow") names.now) (names_at (codes "event") names.now)) }
+{
+    lint_dir(rt, dir, names_at(names, "allow"), names_at(names, "event"))
+}
+
+/// Does what is asked for, with a base environment for a replay or the names that a lint is given, prints on standard output, and returns
+/// the status: that of what is printed, `Unusable` if it can't be written, `Memory` if memory ran out. An error is that of the standard
+/// output, or memory ran out for its buffer.
 pub fn answer<
     R: Files<File = File>
         + Net
@@ -56,6 +81,7 @@ pub fn answer<
             }
         }
         Asked::Graph { dir } => print(rt, graph_dir(rt, dir)),
+        Asked::Lint { dir } => print(rt, lint_by(rt, dir, &base)),
         Asked::Compile { dir, image } => print(rt, compile_dir(rt, dir, image)),
         Asked::Show { image } => print(rt, show_image(rt, image)),
         Asked::Replay { source, script } => { print(rt, replay_source(rt, source, base, script)) }

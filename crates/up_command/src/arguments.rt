@@ -73,7 +73,7 @@ const RECORD: Argument = Argument {
     kind: ArgumentKind::Place,
 };
 
-static SUBCOMMANDS: [Subcommand; 8] = [
+static SUBCOMMANDS: [Subcommand; 9] = [
     Subcommand {
         name: "check",
         about: "Prints the faults of a folder's job files",
@@ -91,6 +91,25 @@ static SUBCOMMANDS: [Subcommand; 8] = [
         name: "graph",
         about: "Prints the jobs of a folder and the events that join them, as a graph for dot",
         arguments: &[DIR],
+    },
+    Subcommand {
+        name: "lint",
+        about: "Prints what is most likely a mistake in a folder's job files",
+        arguments: &[
+            DIR,
+            Argument {
+                id: "allow",
+                shown: "NAME",
+                help: "Prints no warning of this kind, as unknown-event; may be given again and again",
+                kind: ArgumentKind::Texts,
+            },
+            Argument {
+                id: "event",
+                shown: "NAME",
+                help: "An event that comes from outside; may be given again and again",
+                kind: ArgumentKind::Texts,
+            },
+        ],
     },
     Subcommand {
         name: "compile",

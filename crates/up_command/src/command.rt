@@ -13,7 +13,7 @@ use up_run::pace::MOST_PAUSE;
 use up_run::silence::MOST_SILENCE;
 use up_run::{Rounds, Telling};
 use up_text::{Env, TextFault};
-use up_tools::View;
+use up_tools::{View, is_kind};
 use up_wire::DEFAULT_SOCKET;
 
 /// What the program is asked for.
@@ -28,6 +28,10 @@ pub enum Asked<'a> {
     },
     /// To print the graph of a folder's jobs.
     Graph {
+        dir: &'a str,
+    },
+    /// To print the warnings of a folder.
+    Lint {
         dir: &'a str,
     },
     /// To store the image of a folder.
@@ -116,6 +120,7 @@ fn asked_by<'a>(word: &str, given: &ArgMatches<'a>) -> Option<Asked<'a>> {
     match word {
         "check" => asked_check(given),
         "graph" => given.get_str("DIR").map(|dir| Asked::Graph { dir }),
+        "lint" => given.get_str("DIR").map(|dir| Asked::Lint { dir }),
         "compile" => asked_compile(given),
         "show" => given.get_str("IMAGE").map(|image| Asked::Show { image }),
         "replay" => asked_replay(given),
@@ -142,12 +147,55 @@ fn base_of(alloc: Global, words: &[&str]) -> Result<Env, TextFault> {
     Ok(base)
 }
 
-// The base environment of a replay; that of anything else is empty.
-fn base_in(alloc: Global, word: &str, given: &ArgMatches) -> Result<Env, TextFault> {
-    if word != "replay" {
-        return Ok(Env::new(alloc));
+// Names, with blanks between them.
+fn names_of(alloc: Global, words: &[&str]) -> Result<String, AllocError> {
+    let mut names = String::new(alloc);
+    for word in words {
+        names.push_str(*word)?;
+        names.push_str(" ")?;
     }
-    base_of(alloc, given.get_strs("env").unwrap_or(&[]))
+    Ok(names)
+}
+
+// Sets a variable to the names that an option gives.
+fn set_names(
+    alloc: Global,
+    base: &mut Env,
+    given: &ArgMatches,
+    option: &str,
+) -> Result<(), TextFault> {
+    let names = names_of(alloc, given.get_strs(option).unwrap_or(&[]))?;
+    base.set(option, names.as_str())
+}
+
+// The names that a lint is given, by option.
+fn lint_names(alloc: Global, given: &ArgMatches) -> Result<Env, TextFault> {
+    for name in given.get_strs("allow").unwrap_or(&[]) {
+        if !is_kind(*name) {
+            return Err(TextFault::BadName);
+        }
+    }
+    let mut base = Env::new(alloc);
+    set_names(alloc, &mut base, given, "allow")?;
+    set_names(alloc, &mut base, given, "event")?;
+    Ok(base)
+}
+
+// The base environment of a replay, and the names of a lint; of anything else there is none.
+fn base_in(alloc: Global, word: &str, given: &ArgMatches) -> Result<Env, TextFault> {
+    match word {
+        "replay" => base_of(alloc, given.get_strs("env").unwrap_or(&[])),
+        "lint" => lint_names(alloc, given),
+        _ => Ok(Env::new(alloc)),
+    }
+}
+
+// What an option takes of whose value a command complains.
+fn wanted(word: &str) -> &'static str {
+    match word {
+        "lint" => "--allow takes the name of a kind of warning, as unknown-event",
+        _ => "--env takes KEY=VALUE",
+    }
 }
 
 // What the matches of a command line ask for.
@@ -165,7 +213,7 @@ fn read_matches<'a>(
     match base_in(alloc, word, given) {
         Ok(base) => Ok((asked, base)),
         Err(TextFault::Memory) => Err(Error::from(AllocError)),
-        Err(_) => Err(command.error(ErrorKind::InvalidValue, "--env takes KEY=VALUE")?),
+        Err(_) => Err(command.error(ErrorKind::InvalidValue, wanted(word))?),
     }
 }
 
@@ -185,8 +233,8 @@ fn read_by<'a>(
     }
 }
 
-/// What the words of a command line, the program's name first, ask for, and the base environment that they set for a replay. An error is
-/// also the text of `--help` and `--version`.
+/// What the words of a command line, the program's name first, ask for, and the base environment that they set for a replay, or the names that
+/// they give a lint, as the values of `allow` and `event`. An error is also the text of `--help` and `--version`.
 pub fn read_words<'a>(alloc: Global, words: &'a [String]) -> Result<(Asked<'a>, Env), Error> {
     match command(alloc) {
         Ok(mut command) => {

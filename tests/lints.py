@@ -1,0 +1,190 @@
+"""`initd lint`: a folder with and one without each kind of warning, worked out by hand; lines, order, options and refused folders."""
+from harness import check, initd, write
+
+RUN = "exec /bin/d\n"
+
+# What a folder shows, its files, the options, and what is printed.
+CASES = [
+    (
+        "unknown-event",
+        {"a.conf": f"# a job\nstart on (startup\n   and go)\nstop on halt\n{RUN}"},
+        [],
+        "a.conf:2: warning: unknown-event: nothing gives the event `go`\na.conf:4: warning: unknown-event: nothing gives the event `halt`\n",
+    ),
+    (
+        "events that come",
+        {
+            "a.conf": f"start on startup or go or said or go/failed or outer or started b\n{RUN}",
+            "b.conf": f"emits other go\nstart on outer or shout\npost-start exec initctl emit --no-wait said\n{RUN}",
+        },
+        ["--event", "outer", "--event", "shout"],
+        "",
+    ),
+    (
+        "an event that is named twice",
+        {"a.conf": f"start on go A=1 or (go A=2 and gone)\n{RUN}"},
+        [],
+        "a.conf:1: warning: unknown-event: nothing gives the event `go`\na.conf:1: warning: unknown-event: nothing gives the event `gone`\n",
+    ),
+    (
+        "unknown-job",
+        {"a.conf": f"start on started b\nstop on stopping JOB=c or stopping JOB=d*\n{RUN}"},
+        [],
+        "a.conf:1: warning: unknown-job: there is no job `b`\na.conf:2: warning: unknown-job: there is no job `c`\n",
+    ),
+    (
+        "jobs that are there, or may be",
+        {"a.conf": f"start on started b or starting $X or stopped JOB!=c\n{RUN}", "b.conf": f"start on startup\n{RUN}"},
+        [],
+        "",
+    ),
+    ("never-started", {"a.conf": f"\n{RUN}", "b.conf": "exec start b\n"}, [], "a.conf:1: warning: never-started: nothing starts the job `a`\nb.conf:1: warning: never-started: nothing starts the job `b`\n"),
+    (
+        "jobs that are started by hand or by commands",
+        {
+            "a.conf": f"manual\n{RUN}",
+            "b.conf": RUN,
+            "c.conf": RUN,
+            "d.conf": "start on startup\nexec initctl start --no-wait b\npost-stop script\n  start c; true\nend script\n",
+            "e.conf": RUN,
+            "e.override": "manual\n",
+        },
+        [],
+        "",
+    ),
+    (
+        "unset-export",
+        {"a.conf": f"start on startup\nenv A=1\nexport A B\nexport C\n{RUN}"},
+        [],
+        "a.conf:3: warning: unset-export: nothing sets the variable `B`\na.conf:4: warning: unset-export: nothing sets the variable `C`\n",
+    ),
+    (
+        "exports that stand elsewhere",
+        {
+            "a.conf": "start on startup or started b D=1\ninstance $E\nexport A C D E F JOB\nenv A\nexec /bin/d ${F}\n",
+            "b.conf": f"start on startup\nenv C=1\n{RUN}",
+        },
+        [],
+        "",
+    ),
+    (
+        "crash-loop",
+        {
+            "a.conf": f"start on startup\nrespawn\nrespawn limit 5 10\nrespawn limit unlimited\n{RUN}",
+            "b.conf": f"start on startup\nrespawn limit 0 5\nrespawn\n{RUN}",
+            "c.conf": f"start on startup\nrespawn\n{RUN}",
+            "c.override": "respawn limit 3 0\n",
+        },
+        [],
+        "a.conf:4: warning: crash-loop: nothing limits the respawns of the job `a`\n"
+        "b.conf:2: warning: crash-loop: nothing limits the respawns of the job `b`\n"
+        "c.override:1: warning: crash-loop: nothing limits the respawns of the job `c`\n",
+    ),
+    (
+        "respawns with a limit, and a limit without respawns",
+        {"a.conf": f"start on startup\nrespawn limit unlimited\n{RUN}", "b.conf": f"start on startup\nrespawn\n{RUN}"},
+        [],
+        "",
+    ),
+    (
+        "blocks-itself",
+        {"a.conf": f"start on startup\nstop on starting JOB=a\n{RUN}", "b.conf": f"start on startup or stopping b\n{RUN}"},
+        [],
+        "a.conf:2: warning: blocks-itself: the job waits for its own event `starting`\nb.conf:1: warning: blocks-itself: the job waits for its own event `stopping`\n",
+    ),
+    (
+        "own events that don't block",
+        {"a.conf": f"start on startup or stopped a\nstop on started a or starting a INSTANCE=x\n{RUN}"},
+        [],
+        "",
+    ),
+    (
+        "start-circle",
+        {
+            "a.conf": f"start on started b\n{RUN}",
+            "b.conf": f"start on starting JOB=c and startup\n{RUN}",
+            "c.conf": f"\nstart on started a\n{RUN}",
+            "d.conf": f"start on started a\n{RUN}",
+        },
+        [],
+        "a.conf:1: warning: start-circle: only jobs that wait for one another start the job `a`\n"
+        "b.conf:1: warning: start-circle: only jobs that wait for one another start the job `b`\n"
+        "c.conf:2: warning: start-circle: only jobs that wait for one another start the job `c`\n"
+        "d.conf:1: warning: start-circle: only jobs that wait for one another start the job `d`\n",
+    ),
+    (
+        "circles that are left by an event",
+        {"a.conf": f"start on started b\n{RUN}", "b.conf": f"start on starting JOB=c or startup\n{RUN}", "c.conf": f"start on started a\n{RUN}"},
+        [],
+        "",
+    ),
+    (
+        "circles that are left by a command",
+        {"a.conf": f"start on started b\n{RUN}", "b.conf": f"start on started a\n{RUN}", "c.conf": "start on startup\nexec start b\n"},
+        [],
+        "",
+    ),
+    (
+        "kinds of one line",
+        {"a.conf": f"start on started a\nstop on started b or go\n{RUN}"},
+        [],
+        "a.conf:1: warning: blocks-itself: the job waits for its own event `started`\n"
+        "a.conf:1: warning: start-circle: only jobs that wait for one another start the job `a`\n"
+        "a.conf:2: warning: unknown-event: nothing gives the event `go`\n"
+        "a.conf:2: warning: unknown-job: there is no job `b`\n",
+    ),
+    (
+        "paths in byte order, and lines",
+        {"a.conf": f"stop on x\nstart on y\n{RUN}", "a-b.conf": f"start on z\n{RUN}"},
+        [],
+        "a-b.conf:1: warning: unknown-event: nothing gives the event `z`\n"
+        "a.conf:1: warning: unknown-event: nothing gives the event `x`\n"
+        "a.conf:2: warning: unknown-event: nothing gives the event `y`\n",
+    ),
+    (
+        "the line in an override",
+        {"a.conf": f"start on go\n{RUN}", "a.override": "\n\nstart on stay\n"},
+        [],
+        "a.override:3: warning: unknown-event: nothing gives the event `stay`\n",
+    ),
+    (
+        "an override that is faulty",
+        {"a.conf": f"start on go\n{RUN}", "a.override": "bogus\nstart on stay\n"},
+        [],
+        "a.override:1: 1 UnknownStanza\na.conf:1: warning: unknown-event: nothing gives the event `go`\n",
+    ),
+    (
+        "a line after a script",
+        {"a.conf": f"pre-start script\n  start on nothing\n  echo don't\nend script\nexec /bin/d '(' \\\n  x\nstart on go\n"},
+        [],
+        "a.conf:7: warning: unknown-event: nothing gives the event `go`\n",
+    ),
+    (
+        "a stanza of several lines whose name is quoted",
+        {"a.conf": f"{RUN}'start' \\\n  on (go\n  or startup)\nstop \"on\" halt\n"},
+        [],
+        "a.conf:2: warning: unknown-event: nothing gives the event `go`\na.conf:5: warning: unknown-event: nothing gives the event `halt`\n",
+    ),
+    (
+        "a kind that is left out",
+        {"a.conf": f"start on go or started b\n{RUN}", "c.conf": RUN},
+        ["--allow", "unknown-event", "--allow", "never-started"],
+        "a.conf:1: warning: unknown-job: there is no job `b`\n",
+    ),
+    ("all that is left out", {"a.conf": f"start on go\n{RUN}"}, ["--allow", "unknown-event"], ""),
+    ("no job", {}, [], ""),
+]
+
+
+def all_of(folder):
+    for place, (name, files, options, wanted) in enumerate(CASES):
+        jobs = folder / str(place)
+        jobs.mkdir(parents=True)
+        write(jobs, files)
+        check(f"lint: {name}", initd("lint", *options, jobs), (wanted, 1 if wanted else 0))
+    away = folder / "away"
+    check("lint: no folder", initd("lint", away), (f"initd: cannot use {away}\n", 3))
+    write(folder / "many", {f"{place}.conf": RUN for place in range(1025)})
+    check("lint: a folder that is refused", initd("lint", folder / "many"), ("initd: 20 TooManyJobs\n", 3))
+    check("lint: a kind that isn't one", initd("lint", "--allow", "unknown", folder / "0"), ("", 2))
+    check("lint: an option without its value", initd("lint", folder / "0", "--event"), ("", 2))
