@@ -50,5 +50,5 @@ pub moved : (old new : List Moment) (before after : Engine) (config : Configurat
 moved old new before after config clock read given time rest whole step goes =
     subst (λ (it : Clock). Goes new after config it rest whole) (sym step.reads)
     (goes-on old new before after config clock given rest whole goes
-      (λ c s. step.added config c s ∙ ap (λ (it : ℕ). old ++ step_moments it given (answer config c given)) (step.timed ∙ ap time_of step.reads))
-      (λ c s. step.stands config c s))
+    (λ c s. step.added config c s ∙ ap (λ (it : ℕ). old ++ step_moments it given (answer config c given)) (step.timed ∙ ap time_of step.reads))
+    (λ c s. step.stands config c s))
