@@ -71,6 +71,6 @@ def all_of(work):
         check(f"OPERATING.md: {line}", (word in line, found if wanted is not None else None), (True, wanted))
     crashed = printed[5].splitlines()
     check("a service that crashed runs again", crashed[-1] if crashed else "", RUNS.strip())
-    shown = printed[12]
+    shown = next(found for block, found in zip(commands, printed) if "initd compile" in block)
     check("the image is compiled and shown", shown.startswith("1 jobs, 0 faults\n%file clock.conf\n"), True)
     check("what the init said", [line for line in said.splitlines() if "respawn limit" in line][:1], ["initd: clock: it ended too often for its respawn limit, and stays down"])
