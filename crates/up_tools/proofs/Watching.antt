@@ -8,7 +8,7 @@ use Rattle.up_model.specs.Chronicle.{Chronicle}
 use Rattle.up_model.specs.Configuration.{Configuration}
 use Rattle.up_chart.specs.declared.clock.Clock.{Clock}
 use Rattle.up_chart.specs.declared.moment.Moment.{Moment}
-use Rattle.up_chart.specs.Moments.{clock_after, clock_at, moments_from, step_moments, time_of}
+use Rattle.up_chart.specs.Moments.{clock_after, moments_from, step_moments, time_of}
 
 -- after what was shown so far the other inputs show the rest of the whole
 pub record Goes (shown : List Moment) (engine : Engine) (config : Configuration) (clock : Clock) (rest : List Input) (whole : List Moment) : Type 0 where
