@@ -2,7 +2,7 @@
 import time
 import xml.etree.ElementTree
 
-from harness import TOP, check, initd, unpack, write
+from harness import TOP, check, check_stored, examples, initd, write
 
 FILES = {
     "a.conf": "start on startup\nexec /bin/a\npost-start exec /bin/ready\n",
@@ -162,8 +162,11 @@ def all_of(folder):
     signs(folder)
     refusals(folder)
     long_record(folder)
-    bundle = (TOP / "examples" / "server.bundle").read_text()
-    unpack(bundle.split("%script\n")[0], folder / "server")
-    text, status = initd("chart", folder / "server", TOP / "examples" / "server.record")
+    folders = examples(folder / "examples")
+    server, distribution = ([folders[name], TOP / "examples" / f"{name}.record"] for name in ("server", "distribution"))
+    text, status = initd("chart", *server)
     check("chart: the picture of the documents", (text, status), ((TOP / "docs" / "boot.svg").read_text(), 0))
+    check_stored("blame", "blame", server, "server")
+    check_stored("chart", "svg", distribution, "distribution")
+    check_stored("blame", "blame", distribution, "distribution")
     check("chart: XML reads it", xml.etree.ElementTree.fromstring(text).tag, "{http://www.w3.org/2000/svg}svg")

@@ -2,7 +2,7 @@
 import shutil
 import subprocess
 
-from harness import TOP, check, initd, write
+from harness import check, check_stored, examples, initd, write
 
 FILES = {
     "a.conf": "start on (startup and net-up IFACE=eth0) or go\nstop on stopping b\nexec /bin/a\n",
@@ -49,7 +49,9 @@ def all_of(folder):
     wanted = 'digraph jobs {\n  rankdir=LR;\n  "job a" [label="a", shape=box];\n}\n'
     check("graph: a faulty file has no job", initd("graph", folder / "faulty"), (wanted, 1))
     check("graph: no folder", initd("graph", folder / "away"), (f"initd: cannot use {folder / 'away'}\n", 3))
+    folders = examples(folder / "examples")
+    check_stored("graph", "dot", [folders["distribution"]], "distribution")
     if shutil.which("dot"):
-        for example in (folder / "jobs", TOP / "examples" / "distribution"):
+        for example in (folder / "jobs", *folders.values()):
             drawn = subprocess.run(["dot", "-Tsvg"], input=initd("graph", example)[0], capture_output=True, text=True, timeout=60)
             check(f"graph: dot takes {example.name}", (drawn.returncode, drawn.stderr), (0, ""))

@@ -55,6 +55,21 @@ def unpack(bundle, folder):
         write(folder, {path: text})
 
 
+def examples(work):
+    """The folders of examples/, unpacked where they are bundles, by their names."""
+    folders = {"distribution": TOP / "examples" / "distribution"}
+    for path in sorted((TOP / "examples").glob("*.bundle")):
+        folders[path.stem] = work / path.stem
+        unpack(path.read_text().split("%script\n")[0], folders[path.stem])
+    return folders
+
+
+def check_stored(command, kind, words, name):
+    """Compares what a command prints with the whole of what is stored beside the examples."""
+    stored = TOP / "examples" / f"{name}.{kind}"
+    check(f"{command}: {stored.name} is stored", initd(command, *words)[0], stored.read_text())
+
+
 class Run:
     """A running init over a folder or an image."""
 
