@@ -57,6 +57,7 @@ def completions(work):
         (["check", "--"], ["--explain", "--help"]),
         (["lint", "--"], ["--allow", "--event", "--help"]),
         (["lint", "--allow", "un"], ["unknown-event", "unknown-job", "unset-export"]),
+        (["lint", "--allow", "ne"], ["never-started", "never-stopped"]),
         (["lint", "--event", ""], []),
         (["lint", "j"], ["jobs"]),
     ]:

@@ -1,5 +1,5 @@
 """`initd lint`: a folder with and one without each kind of warning, worked out by hand; lines, order, options and refused folders."""
-from harness import check, initd, write
+from harness import check, check_stored, examples, initd, write
 
 RUN = "exec /bin/d\n"
 
@@ -125,6 +125,37 @@ CASES = [
         "",
     ),
     (
+        "never-stopped",
+        {
+            "a.conf": f"start on startup\nstop on startup\n{RUN}",
+            "b.conf": f"start on go\nstop on (startup and go) or (go and\n   stopped JOB=c)\n{RUN}",
+            "c.conf": f"start on started d\n{RUN}",
+            "d.conf": f"start on started c\n{RUN}",
+            "e.conf": f"start on go\nstop on go\n{RUN}",
+            "e.override": "\nstop on stopping c\n",
+        },
+        ["--event", "go", "--allow", "start-circle"],
+        "a.conf:2: warning: never-stopped: no event that still comes stops the job `a`\n"
+        "b.conf:2: warning: never-stopped: no event that still comes stops the job `b`\n"
+        "e.override:2: warning: never-stopped: no event that still comes stops the job `e`\n",
+    ),
+    (
+        "events that come again, of other jobs, or later",
+        {
+            "a.conf": f"start on startup\nstop on startup or startup/failed\n{RUN}",
+            "b.conf": f"start on startup\nstop on startup or stopped b\n{RUN}",
+            "c.conf": f"start on startup\nstop on startup or stopping $X\n{RUN}",
+            "d.conf": f"manual\nstop on startup\n{RUN}",
+            "e.conf": f"start on started f\nstop on startup\n{RUN}",
+            "f.conf": f"start on started e\n{RUN}",
+        },
+        ["--allow", "start-circle"],
+        "",
+    ),
+    ("an event that a command gives again", {"a.conf": "start on startup\nstop on startup\nexec initctl emit startup\n"}, [], ""),
+    ("an event that comes from outside again", {"a.conf": f"start on startup\nstop on startup\n{RUN}"}, ["--event", "startup"], ""),
+    ("an event that a job declares", {"a.conf": f"start on startup\nstop on startup\nemits startup\n{RUN}"}, [], ""),
+    (
         "kinds of one line",
         {"a.conf": f"start on started a\nstop on started b or go\n{RUN}"},
         [],
@@ -188,3 +219,6 @@ def all_of(folder):
     check("lint: a folder that is refused", initd("lint", folder / "many"), ("initd: 20 TooManyJobs\n", 3))
     check("lint: a kind that isn't one", initd("lint", "--allow", "unknown", folder / "0"), ("", 2))
     check("lint: an option without its value", initd("lint", folder / "0", "--event"), ("", 2))
+    folders = examples(folder / "examples")
+    for name in ("distribution", "server"):
+        check_stored("lint", "lint", [folders[name]], name)

@@ -44,7 +44,7 @@ fn run(rt: &HostRuntime) -> io::Result<ExitStatus> {
     fill_standard(rt)?;
     let words = words_of(rt)?;
     match read_words(rt.alloc(), words.as_slice()) {
-        Ok((asked, base)) => answer(rt, asked, base),
+        Ok(asked) => answer(rt, asked),
         Err(error) => Ok(print_refusal(rt, &error)),
     }
 }

@@ -1,11 +1,9 @@
 //! Does what a command line asks for.
-ghost use Rattle.std.specs.Prelude.{◌≡◌, IfOk, codes};
-ghost use Rattle.up_command.specs.Answers.{Answers, names_at};
-ghost use Rattle.up_tools.specs.Lints.{LintsDir};
+ghost use Rattle.std.specs.Prelude.{IfOk};
+ghost use Rattle.up_command.specs.Answers.{Answers};
 
 use crate::command::Asked;
 use crate::noted::Noted;
-use std::alloc::AllocError;
 use std::fs::File;
 use std::io;
 use std::io::{BufWriter, Eprint, Write};
@@ -15,10 +13,8 @@ use std::rt::{Clock, Files};
 use up_disk::print::print;
 use up_disk::{check_dir, compile_dir, explain_dir, graph_dir, replay_source, show_image};
 use up_model::ExitStatus;
-use up_replay::Printed;
 use up_replay::replay::replay_bundle;
 use up_run::run_source;
-use up_text::Env;
 use up_tools::{lint_dir, view_source};
 
 // Replays standard input, and returns the status. If it can't be used it is said why.
@@ -33,30 +29,8 @@ fn replay_input(rt: &(impl Input + Print + Eprint + AllocGlobal)) -> io::Result<
     Ok(status)
 }
 
-// The names that an option gives a lint.
-fn names_at<'a>(names: &'a Env, option: &str) -> &'a str
-    ensures { result.now ≡ names_at option.now names.now }
-{
-    match names.get(option) {
-        Some(found) => found,
-        None => "",
-    }
-}
-
-// What a lint prints that is given these names.
-fn lint_by<R: Files + Eprint + AllocGlobal + Clone + Drop>(
-    rt: &R,
-    dir: &str,
-    names: &Env,
-) -> Result<Printed, AllocError>
-    ensures { IfOk result (LintsDir dir.now (names_at (codes "allow") names.now) (names_at (codes "event") names.now)) }
-{
-    lint_dir(rt, dir, names_at(names, "allow"), names_at(names, "event"))
-}
-
-/// Does what is asked for, with a base environment for a replay or the names that a lint is given, prints on standard output, and returns
-/// the status: that of what is printed, `Unusable` if it can't be written, `Memory` if memory ran out. An error is that of the standard
-/// output, or memory ran out for its buffer.
+/// Does what is asked for, prints on standard output, and returns the status: that of what is printed, `Unusable` if it can't be written,
+/// `Memory` if memory ran out. An error is that of the standard output, or memory ran out for its buffer.
 pub fn answer<
     R: Files<File = File>
         + Net
@@ -68,8 +42,8 @@ pub fn answer<
         + AllocGlobal
         + Clone
         + Drop,
->(rt: &R, asked: Asked, base: Env) -> io::Result<ExitStatus>
-    ensures { IfOk result (Answers base asked.entry) }
+>(rt: &R, asked: Asked) -> io::Result<ExitStatus>
+    ensures { IfOk result (Answers asked.entry) }
 {
     match asked {
         Asked::Bundle => replay_input(rt),
@@ -81,10 +55,21 @@ pub fn answer<
             }
         }
         Asked::Graph { dir } => print(rt, graph_dir(rt, dir)),
-        Asked::Lint { dir } => print(rt, lint_by(rt, dir, &base)),
+        Asked::Lint {
+            dir,
+            left_out,
+            outside,
+        } => {
+            let printed = lint_dir(rt, dir, left_out.as_slice(), outside.as_slice());
+            print(rt, printed)
+        }
         Asked::Compile { dir, image } => print(rt, compile_dir(rt, dir, image)),
         Asked::Show { image } => print(rt, show_image(rt, image)),
-        Asked::Replay { source, script } => { print(rt, replay_source(rt, source, base, script)) }
+        Asked::Replay {
+            source,
+            script,
+            base,
+        } => print(rt, replay_source(rt, source, base, script)),
         Asked::View { view, source, log } => print(rt, view_source(rt, view, source, log)),
         Asked::Run {
             source,

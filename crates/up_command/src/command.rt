@@ -12,12 +12,12 @@ use up_model::ExitStatus;
 use up_run::pace::MOST_PAUSE;
 use up_run::silence::MOST_SILENCE;
 use up_run::{Rounds, Telling};
-use up_text::{Env, TextFault};
-use up_tools::{View, is_kind};
+use up_text::{Env, Items, Text, TextFault};
+use up_tools::{Kind, View, kind_named};
 use up_wire::DEFAULT_SOCKET;
 
 /// What the program is asked for.
-#[derive(Clone, Copy, PartialEq, Eq)]
+#[derive(Drop)]
 pub enum Asked<'a> {
     /// To replay the bundle on standard input.
     Bundle,
@@ -33,6 +33,10 @@ pub enum Asked<'a> {
     /// To print the warnings of a folder.
     Lint {
         dir: &'a str,
+        /// The kinds of which none is printed.
+        left_out: Items<Kind>,
+        /// The names of the events that come from outside.
+        outside: Items<Text>,
     },
     /// To store the image of a folder.
     Compile {
@@ -47,6 +51,8 @@ pub enum Asked<'a> {
     Replay {
         source: &'a str,
         script: &'a str,
+        /// The variables of each process, on top of which its job's are set.
+        base: Env,
     },
     /// To show what a record says of a run over a folder or an image.
     View {
@@ -73,12 +79,6 @@ fn asked_compile<'a>(given: &ArgMatches<'a>) -> Option<Asked<'a>> {
     let dir = given.get_str("DIR")?;
     let image = given.get_str("IMAGE")?;
     Some(Asked::Compile { dir, image })
-}
-
-fn asked_replay<'a>(given: &ArgMatches<'a>) -> Option<Asked<'a>> {
-    let source = given.get_str("SOURCE")?;
-    let script = given.get_str("SCRIPT")?;
-    Some(Asked::Replay { source, script })
 }
 
 fn asked_view<'a>(view: View, given: &ArgMatches<'a>) -> Option<Asked<'a>> {
@@ -116,20 +116,6 @@ fn asked_run<'a>(given: &ArgMatches<'a>) -> Option<Asked<'a>> {
     })
 }
 
-fn asked_by<'a>(word: &str, given: &ArgMatches<'a>) -> Option<Asked<'a>> {
-    match word {
-        "check" => asked_check(given),
-        "graph" => given.get_str("DIR").map(|dir| Asked::Graph { dir }),
-        "lint" => given.get_str("DIR").map(|dir| Asked::Lint { dir }),
-        "compile" => asked_compile(given),
-        "show" => given.get_str("IMAGE").map(|image| Asked::Show { image }),
-        "replay" => asked_replay(given),
-        "chart" => asked_view(View::Chart, given),
-        "blame" => asked_view(View::Blame, given),
-        _ => asked_run(given),
-    }
-}
-
 // Sets the variable of a word KEY=VALUE.
 fn set_word(base: &mut Env, word: &str) -> Result<(), TextFault> {
     match word.split_once('=') {
@@ -147,46 +133,78 @@ fn base_of(alloc: Global, words: &[&str]) -> Result<Env, TextFault> {
     Ok(base)
 }
 
-// Names, with blanks between them.
-fn names_of(alloc: Global, words: &[&str]) -> Result<String, AllocError> {
-    let mut names = String::new(alloc);
-    for word in words {
-        names.push_str(*word)?;
-        names.push_str(" ")?;
-    }
-    Ok(names)
-}
-
-// Sets a variable to the names that an option gives.
-fn set_names(
+fn asked_replay<'a>(
     alloc: Global,
-    base: &mut Env,
-    given: &ArgMatches,
-    option: &str,
-) -> Result<(), TextFault> {
-    let names = names_of(alloc, given.get_strs(option).unwrap_or(&[]))?;
-    base.set(option, names.as_str())
+    given: &ArgMatches<'a>,
+) -> Result<Option<Asked<'a>>, TextFault> {
+    let (Some(source), Some(script)) = (given.get_str("SOURCE"), given.get_str("SCRIPT")) else {
+        return Ok(None);
+    };
+    let base = base_of(alloc, given.get_strs("env").unwrap_or(&[]))?;
+    Ok(Some(Asked::Replay {
+        source,
+        script,
+        base,
+    }))
 }
 
-// The names that a lint is given, by option.
-fn lint_names(alloc: Global, given: &ArgMatches) -> Result<Env, TextFault> {
-    for name in given.get_strs("allow").unwrap_or(&[]) {
-        if !is_kind(*name) {
+// The kinds of these names.
+fn kinds_of(alloc: Global, names: &[&str]) -> Result<Items<Kind>, TextFault> {
+    let mut kinds: Vec<Kind> = Vec::new(alloc);
+    for name in names {
+        let Some(kind) = kind_named(*name) else {
             return Err(TextFault::BadName);
-        }
+        };
+        kinds.push(kind).map_err(AllocError::from)?;
     }
-    let mut base = Env::new(alloc);
-    set_names(alloc, &mut base, given, "allow")?;
-    set_names(alloc, &mut base, given, "event")?;
-    Ok(base)
+    Ok(Items::new(kinds))
 }
 
-// The base environment of a replay, and the names of a lint; of anything else there is none.
-fn base_in(alloc: Global, word: &str, given: &ArgMatches) -> Result<Env, TextFault> {
+fn texts_of(alloc: Global, words: &[&str]) -> Result<Items<Text>, AllocError> {
+    let mut texts: Vec<Text> = Vec::new(alloc);
+    for word in words {
+        let text = Text::from_str(alloc, *word)?;
+        texts.push(text)?;
+    }
+    Ok(Items::new(texts))
+}
+
+fn asked_lint<'a>(alloc: Global, given: &ArgMatches<'a>) -> Result<Option<Asked<'a>>, TextFault> {
+    let Some(dir) = given.get_str("DIR") else {
+        return Ok(None);
+    };
+    let left_out = kinds_of(alloc, given.get_strs("allow").unwrap_or(&[]))?;
+    let outside = texts_of(alloc, given.get_strs("event").unwrap_or(&[]))?;
+    Ok(Some(Asked::Lint {
+        dir,
+        left_out,
+        outside,
+    }))
+}
+
+// What a command asks for that takes no values which may be wrong.
+fn asked_plain<'a>(word: &str, given: &ArgMatches<'a>) -> Option<Asked<'a>> {
     match word {
-        "replay" => base_of(alloc, given.get_strs("env").unwrap_or(&[])),
-        "lint" => lint_names(alloc, given),
-        _ => Ok(Env::new(alloc)),
+        "check" => asked_check(given),
+        "graph" => given.get_str("DIR").map(|dir| Asked::Graph { dir }),
+        "compile" => asked_compile(given),
+        "show" => given.get_str("IMAGE").map(|image| Asked::Show { image }),
+        "chart" => asked_view(View::Chart, given),
+        "blame" => asked_view(View::Blame, given),
+        _ => asked_run(given),
+    }
+}
+
+// What a command asks for; `None` if one of its words is missing.
+fn asked_by<'a>(
+    alloc: Global,
+    word: &str,
+    given: &ArgMatches<'a>,
+) -> Result<Option<Asked<'a>>, TextFault> {
+    match word {
+        "lint" => asked_lint(alloc, given),
+        "replay" => asked_replay(alloc, given),
+        _ => Ok(asked_plain(word, given)),
     }
 }
 
@@ -203,15 +221,13 @@ fn read_matches<'a>(
     alloc: Global,
     command: &mut Command<'a>,
     matches: &ArgMatches<'a>,
-) -> Result<(Asked<'a>, Env), Error> {
+) -> Result<Asked<'a>, Error> {
     let Some((word, given)) = matches.subcommand() else {
-        return Ok((Asked::Bundle, Env::new(alloc)));
+        return Ok(Asked::Bundle);
     };
-    let Some(asked) = asked_by(word, given) else {
-        return Err(command.error(ErrorKind::MissingRequiredArgument, "a word is missing")?);
-    };
-    match base_in(alloc, word, given) {
-        Ok(base) => Ok((asked, base)),
+    match asked_by(alloc, word, given) {
+        Ok(Some(asked)) => Ok(asked),
+        Ok(None) => Err(command.error(ErrorKind::MissingRequiredArgument, "a word is missing")?),
         Err(TextFault::Memory) => Err(Error::from(AllocError)),
         Err(_) => Err(command.error(ErrorKind::InvalidValue, wanted(word))?),
     }
@@ -222,7 +238,7 @@ fn read_by<'a>(
     alloc: Global,
     command: &mut Command<'a>,
     words: &'a [String],
-) -> Result<(Asked<'a>, Env), Error> {
+) -> Result<Asked<'a>, Error> {
     match command.try_get_matches_from_mut(words) {
         Ok(matches) => {
             let read = read_matches(alloc, command, &matches);
@@ -233,9 +249,8 @@ fn read_by<'a>(
     }
 }
 
-/// What the words of a command line, the program's name first, ask for, and the base environment that they set for a replay, or the names that
-/// they give a lint, as the values of `allow` and `event`. An error is also the text of `--help` and `--version`.
-pub fn read_words<'a>(alloc: Global, words: &'a [String]) -> Result<(Asked<'a>, Env), Error> {
+/// What the words of a command line, the program's name first, ask for. An error is also the text of `--help` and `--version`.
+pub fn read_words<'a>(alloc: Global, words: &'a [String]) -> Result<Asked<'a>, Error> {
     match command(alloc) {
         Ok(mut command) => {
             let read = read_by(alloc, &mut command, words);

@@ -1,6 +1,6 @@
 -- What warnings are about, node by node.
-use Rattle.std.proofs.Common.{◌≡◌, Bool, true, false, ◌||◌, List, [], ◌∷◌, Option, refl, ℕ}
-use Rattle.std.specs.List.{list_any}
+use Rattle.std.proofs.Common.{◌≡◌, List, [], ◌∷◌, ◌++◌, Option, refl, sym, ap, append-nil, ℕ}
+use Rattle.std.specs.List.{flat_map}
 use Rattle.up_expr.specs.declared.expr.Leaf.{Leaf}
 use Rattle.up_expr.specs.declared.node.Node.{Node}
 use Rattle.up_expr.specs.declared.node.Node.TheVariants as node
@@ -13,13 +13,9 @@ node_more asks names (node.Leaf leaf) nodes = refl
 node_more asks names (node.And left right) nodes = refl
 node_more asks names (node.Or left right) nodes = refl
 
--- a node, and those after it
-pub node_any : (asks : Leaf → Bool) (first : Node) (nodes : List Node)
-    → list_any asks (leaves_in (first ∷ nodes)) ≡ (list_any asks (leaves_in (first ∷ [])) || list_any asks (leaves_in nodes))
-node_any asks (node.Leaf leaf) nodes = by_case (asks leaf)
-  where
-    by_case : (b : Bool) → (b || list_any asks (leaves_in nodes)) ≡ ((b || false) || list_any asks (leaves_in nodes))
-    by_case true = refl
-    by_case false = refl
-node_any asks (node.And left right) nodes = refl
-node_any asks (node.Or left right) nodes = refl
+-- the keys of a node, and of those after it
+pub keys_more : (keys : Leaf → List (List ℕ)) (first : Node) (nodes : List Node)
+    → flat_map keys (leaves_in (first ∷ nodes)) ≡ flat_map keys (leaves_in (first ∷ [])) ++ flat_map keys (leaves_in nodes)
+keys_more keys (node.Leaf leaf) nodes = ap (λ it. it ++ flat_map keys (leaves_in nodes)) (sym (append-nil (keys leaf)))
+keys_more keys (node.And left right) nodes = refl
+keys_more keys (node.Or left right) nodes = refl

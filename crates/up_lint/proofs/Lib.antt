@@ -1,10 +1,10 @@
 -- The stanzas of a text, one after another.
 pub mod Heads
--- The words of a text, one after another.
-pub mod WordsIn
 -- The first piece of a text, and the others.
 pub mod Splits
 -- What warnings are about, node by node.
 pub mod Gathered
 -- A round that finds no job is followed by none that does.
 pub mod Rounds
+-- Names that are added after others.
+pub mod Adding

@@ -3,30 +3,29 @@ use Rattle.std.specs.Prelude.{Bool, true, false, ◌||◌, if◌then◌else◌, 
 use Rattle.std.specs.List.{flat_map, list_any}
 use Rattle.std.specs.Str.{bytes_eq}
 use Rattle.up_value.specs.Values.{Bytes}
-use Rattle.up_text.specs.Scripts.{words_in}
 use Rattle.up_conf.specs.declared.folder.File.{File}
 use Rattle.up_conf.specs.declared.job.JobDef.{JobDef}
 use Rattle.up_conf.specs.Folders.{without_ending}
-use Rattle.up_stanza.specs.declared.action.Action.{Action}
 use Rattle.up_lint.specs.declared.head.Head.{Head}
 use Rattle.up_lint.specs.declared.world.World.{World}
-use Rattle.up_lint.specs.Commands.{asks}
 use Rattle.up_lint.specs.Sheets.{sheet_of}
 
--- what a job is looked at with: the jobs of its folder, the events that they declare, the jobs among them that can be started, and names of
--- events that come from outside, with blanks between them
+-- what a job is looked at with: the names of the jobs of its folder, of those that commands of others start and of those that can be started
+-- at all, the events that somebody gives besides the init, and the keys that stand in jobs
 pub record Scene : Type 0 where
-  pub jobs : List JobDef
-  pub declared : List Bytes
+  pub jobs : List Bytes
+  pub commanded : List Bytes
   pub started : List Bytes
-  pub outside : Bytes
+  pub given : List Bytes
+  pub keys : List Bytes
 
 abbrev pub scene_of : World → Scene
 scene_of world = record {
-  jobs = world.jobs.now;
-  declared = world.declared.now;
-  started = world.started.now;
-  outside = world.outside.now;
+  jobs = world.jobs;
+  commanded = world.commanded;
+  started = world.started;
+  given = world.given;
+  keys = world.keys;
 }
 
 -- the events that a stanza of these words declares
@@ -50,21 +49,9 @@ abbrev pub is_job_event : Bytes → Bool
 is_job_event event = bytes_eq event (codes "starting") || bytes_eq event (codes "started")
     || bytes_eq event (codes "stopping") || bytes_eq event (codes "stopped")
 
--- whether a word stands in what a process runs, with a name right after it, or after options
-abbrev pub asks_by : Bytes → Bytes → Option Action → Bool
-asks_by verb name None = false
-asks_by verb name (Some action) = asks verb name action
-
--- the same of all processes of a job
-abbrev pub asks_job : Bytes → Bytes → JobDef → Bool
-asks_job verb name job = asks_by verb name job.main || asks_by verb name job.pre_start
-    || asks_by verb name job.post_start || asks_by verb name job.pre_stop || asks_by verb name job.post_stop
-
--- whether something gives an event: the init, a job, a job's command, or what is outside
+-- whether something gives an event
 unfoldable pub comes : Scene → Bytes → Bool
-comes scene event = bytes_eq event (codes "startup") || is_job_event event
-    || list_any (bytes_eq event) (words_in scene.outside) || list_any (bytes_eq event) scene.declared
-    || list_any (asks_job (codes "emit") event) scene.jobs
+comes scene event = bytes_eq event (codes "startup") || is_job_event event || list_any (bytes_eq event) scene.given
 
 -- whether the event of whose failure another tells comes
 abbrev pub comes_failed : Scene → Option Bytes → Bool
@@ -75,7 +62,3 @@ comes_failed scene (Some event) = comes scene event
 abbrev pub is_known : Scene → Bytes → Bool
 is_known scene event = if comes scene event then true
     else comes_failed scene (without_ending (codes "/failed") event)
-
--- whether there is a job of this name
-abbrev pub has_job : Bytes → List JobDef → Bool
-has_job name jobs = list_any (λ job. bytes_eq name job.name) jobs

@@ -1,6 +1,6 @@
--- Where a variable stands in the jobs of a folder.
-use Rattle.std.specs.Prelude.{Bool, false, ◌||◌, ◌&&◌, not, List, [], ◌∷◌, Option, None, Some, codes}
-use Rattle.std.specs.List.{list_any}
+-- Which variables stand in the jobs of a folder.
+use Rattle.std.specs.Prelude.{Bool, ◌&&◌, not, List, [], ◌∷◌, ◌++◌, map, Option, None, Some, codes}
+use Rattle.std.specs.List.{flat_map, list_any, slice_split}
 use Rattle.std.specs.Str.{bytes_eq}
 use Rattle.up_value.specs.Values.{Bytes}
 use Rattle.up_conf.specs.declared.job.JobDef.{JobDef}
@@ -12,43 +12,54 @@ use Rattle.up_expr.specs.Trees.{Tree}
 use Rattle.up_stanza.specs.declared.action.Action.{Action}
 use Rattle.up_stanza.specs.declared.action.Action.TheVariants.{Words, Shell}
 use Rattle.up_stanza.specs.declared.setting.Setting.{Setting}
-use Rattle.up_lint.specs.Commands.{has_key}
+use Rattle.up_lint.specs.declared.pieces.Cut.TheVariants as cut
+use Rattle.up_lint.specs.Pieces.{is_cut}
 
 -- a variable that the init sets in events and processes
 abbrev pub init_keys : List Bytes
 init_keys = codes "JOB" ∷ codes "INSTANCE" ∷ codes "RESULT" ∷ codes "PROCESS" ∷ codes "EXIT_STATUS" ∷ codes "EXIT_SIGNAL"
     ∷ codes "UPSTART_JOB" ∷ codes "UPSTART_INSTANCE" ∷ codes "UPSTART_EVENTS" ∷ codes "UPSTART_STOP_EVENTS" ∷ []
 
--- whether a key stands in what a variable of an event must be
-abbrev pub test_has : Bytes → Test → Bool
-test_has key (Place value) = has_key key value
-test_has key (Same other value) = bytes_eq key other || has_key key value
-test_has key (Differs other value) = bytes_eq key other || has_key key value
+-- what may be a key in a text
+abbrev pub keys_in : Bytes → List Bytes
+keys_in text = slice_split (is_cut cut.Keys) text
 
-abbrev pub leaf_has : Bytes → Leaf → Bool
-leaf_has key leaf = list_any (test_has key) leaf.values
+-- the keys in what a variable of an event must be
+abbrev pub test_keys : Test → List Bytes
+test_keys (Place value) = keys_in value
+test_keys (Same other value) = other ∷ keys_in value
+test_keys (Differs other value) = other ∷ keys_in value
+
+abbrev pub leaf_keys : Leaf → List Bytes
+leaf_keys leaf = flat_map test_keys leaf.values
 
 -- the same of an expression
-abbrev pub condition_has : Bytes → Option Tree → Bool
-condition_has key None = false
-condition_has key (Some tree) = list_any (leaf_has key) (leaves_of tree)
+abbrev pub condition_keys : Option Tree → List Bytes
+condition_keys None = []
+condition_keys (Some tree) = flat_map leaf_keys (leaves_of tree)
 
 -- the same of what a process runs
-abbrev pub action_has : Bytes → Option Action → Bool
-action_has key None = false
-action_has key (Some (Words words)) = list_any (has_key key) words
-action_has key (Some (Shell text)) = has_key key text
+abbrev pub action_keys : Option Action → List Bytes
+action_keys None = []
+action_keys (Some (Words words)) = flat_map keys_in words
+action_keys (Some (Shell text)) = keys_in text
 
-abbrev pub setting_has : Bytes → Setting → Bool
-setting_has key setting = bytes_eq key setting.key
+abbrev pub setting_keys : Setting → List Bytes
+setting_keys setting = setting.key ∷ []
 
--- whether a key stands in a job, but for what it exports
-unfoldable pub job_has : Bytes → JobDef → Bool
-job_has key job = list_any (setting_has key) job.env
-    || condition_has key job.start_on || condition_has key job.stop_on || has_key key job.instance
-    || action_has key job.main || action_has key job.pre_start || action_has key job.post_start
-    || action_has key job.pre_stop || action_has key job.post_stop
+-- the same of all processes of a job
+unfoldable pub run_keys : JobDef → List Bytes
+run_keys job = action_keys job.main ++ action_keys job.pre_start ++ action_keys job.post_start
+    ++ action_keys job.pre_stop ++ action_keys job.post_stop
 
--- whether nothing sets a key that is exported: it is none of the init's, and stands in no job of the folder
-abbrev pub is_unset : List JobDef → Bytes → Bool
-is_unset jobs key = not (list_any (bytes_eq key) init_keys) && not (list_any (job_has key) jobs)
+-- the keys in what a job sets and waits for, and in the names of its instances
+unfoldable pub set_keys : JobDef → List Bytes
+set_keys job = flat_map setting_keys job.env ++ condition_keys job.start_on ++ condition_keys job.stop_on ++ keys_in job.instance
+
+-- the keys in a job, but for what it exports
+unfoldable pub job_keys : JobDef → List Bytes
+job_keys job = set_keys job ++ run_keys job
+
+-- whether nothing sets a key that is exported: it is none of the init's, and not among those that stand in the jobs of the folder
+abbrev pub is_unset : List Bytes → Bytes → Bool
+is_unset keys key = not (list_any (bytes_eq key) init_keys) && not (list_any (bytes_eq key) keys)

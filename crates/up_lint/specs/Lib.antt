@@ -4,6 +4,8 @@ pub mod Heads
 pub mod Sheets
 -- The pieces of a text.
 pub mod Pieces
+-- Sets of names.
+pub mod Names
 -- What the commands and the scripts of jobs say.
 pub mod Commands
 -- Which events come in a folder, and which jobs it has.
@@ -12,7 +14,9 @@ pub mod Events
 pub mod Leaves
 -- Which jobs can be started at all.
 pub mod Circles
--- Where a variable stands in the jobs of a folder.
+-- Which jobs no event stops.
+pub mod Stops
+-- Which variables stand in the jobs of a folder.
 pub mod Exports
 -- Warnings, and the line that is printed of each.
 pub mod Warnings

@@ -16,7 +16,7 @@ use Rattle.up_lint.specs.declared.question.Side.TheVariants.{Start, Stop}
 use Rattle.up_lint.specs.declared.warning.Kind.{Kind}
 use Rattle.up_lint.specs.declared.warning.Kind.TheVariants as kind
 use Rattle.up_lint.specs.declared.warning.Warning.{Warning}
-use Rattle.up_lint.specs.Events.{Scene, has_job, is_job_event, is_known}
+use Rattle.up_lint.specs.Events.{Scene, is_job_event, is_known}
 use Rattle.up_lint.specs.Leaves.{job_in}
 use Rattle.up_lint.specs.Sheets.{spot_of}
 use Rattle.up_lint.specs.Warnings.{warning_of}
@@ -33,7 +33,7 @@ is_special byte = list_any (λ other. other == byte) (codes "*?[\\$")
 abbrev pub missing_job : Scene → Option Bytes → Option Bytes
 missing_job scene None = None
 missing_job scene (Some job) =
-    if list_any is_special job || has_job job scene.jobs then None else Some job
+    if list_any is_special job || list_any (bytes_eq job) scene.jobs then None else Some job
 
 -- the job of whose event an expression waits, if it isn't there
 abbrev pub unknown_job : Scene → Leaf → Option Bytes

@@ -1,10 +1,11 @@
 -- Warnings, and the line that is printed of each.
-use Rattle.std.specs.Prelude.{List, [], ◌∷◌, ◌++◌, map, codes}
+use Rattle.std.specs.Prelude.{Bool, if◌then◌else◌, List, [], ◌∷◌, ◌++◌, Option, None, Some, codes}
 use Rattle.std.specs.Fmt.{decimal}
+use Rattle.std.specs.Str.{bytes_eq}
 use Rattle.up_value.specs.Values.{Bytes}
 use Rattle.up_lint.specs.declared.sheet.Spot.{Spot}
 use Rattle.up_lint.specs.declared.warning.Kind.{Kind}
-use Rattle.up_lint.specs.declared.warning.Kind.TheVariants.{UnknownEvent, UnknownJob, NeverStarted, UnsetExport, CrashLoop, BlocksItself, StartCircle}
+use Rattle.up_lint.specs.declared.warning.Kind.TheVariants.{UnknownEvent, UnknownJob, NeverStarted, UnsetExport, CrashLoop, BlocksItself, StartCircle, NeverStopped}
 use Rattle.up_lint.specs.declared.warning.Warning.{Warning}
 use Rattle.up_lint.specs.Sheets.{path_of}
 
@@ -17,11 +18,20 @@ name_of UnsetExport = codes "unset-export"
 name_of CrashLoop = codes "crash-loop"
 name_of BlocksItself = codes "blocks-itself"
 name_of StartCircle = codes "start-circle"
+name_of NeverStopped = codes "never-stopped"
 
--- the names of all kinds
-abbrev pub kind_names : List Bytes
-kind_names = map name_of
-    (UnknownEvent ∷ UnknownJob ∷ NeverStarted ∷ UnsetExport ∷ CrashLoop ∷ BlocksItself ∷ StartCircle ∷ [])
+-- all kinds
+abbrev pub kinds : List Kind
+kinds = UnknownEvent ∷ UnknownJob ∷ NeverStarted ∷ UnsetExport ∷ CrashLoop ∷ BlocksItself ∷ StartCircle ∷ NeverStopped ∷ []
+
+-- the first of these kinds with this name
+abbrev pub kind_in : Bytes → List Kind → Option Kind
+kind_in name [] = None
+kind_in name (kind ∷ kinds) = if bytes_eq name (name_of kind) then Some kind else kind_in name kinds
+
+-- whether two kinds are the same
+abbrev pub same_kind : Kind → Kind → Bool
+same_kind kind other = bytes_eq (name_of kind) (name_of other)
 
 -- what is said before the name of what is concerned
 abbrev pub before_about : Kind → Bytes
@@ -32,6 +42,7 @@ before_about UnsetExport = codes "nothing sets the variable `"
 before_about CrashLoop = codes "nothing limits the respawns of the job `"
 before_about BlocksItself = codes "the job waits for its own event `"
 before_about StartCircle = codes "only jobs that wait for one another start the job `"
+before_about NeverStopped = codes "no event that still comes stops the job `"
 
 -- the warning of a job at one of its lines
 abbrev pub warning_of : Bytes → Spot → Kind → Bytes → Warning

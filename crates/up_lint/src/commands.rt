@@ -1,22 +1,15 @@
 //! What the commands and the scripts of jobs say, word by word.
-ghost use Rattle.std.specs.Prelude.{◌≡◌};
-ghost use Rattle.std.specs.List.{list_any, slice_split};
-ghost use Rattle.std.specs.Str.{bytes_eq};
-ghost use Rattle.up_lint.specs.Commands.{asks, asks_in, has_key, is_passed, search_after, nothing_seen};
+ghost use Rattle.std.specs.Prelude.{◌≡◌, OnOk, false};
+ghost use Rattle.std.specs.List.{slice_split};
+ghost use Rattle.up_lint.specs.Commands.{is_passed, name_at, names_after, names_by, names_in, waits_after};
+ghost use Rattle.up_lint.specs.Names.{with_names};
 ghost use Rattle.up_lint.specs.Pieces.{is_cut};
 
+use crate::names::Names;
 use crate::pieces::{Cut, next_piece};
-use up_stanza::Action;
+use std::alloc::AllocError;
+use up_conf::{Action, JobDef};
 use up_text::Text;
-
-/// How far a search for a word and a name after it has come.
-#[derive(Clone, Copy)]
-pub(crate) struct Search {
-    /// Whether the name may stand next.
-    waits: bool,
-    /// Whether it was found.
-    found: bool,
-}
 
 // Whether a piece of a command is none, or an option.
 fn is_passed(piece: &[u8]) -> bool
@@ -28,81 +21,99 @@ fn is_passed(piece: &[u8]) -> bool
     }
 }
 
-fn nothing_seen() -> Search
-    ensures { result ≡ nothing_seen }
+// Whether a name may stand after a word.
+fn waits_after(verb: &str, waits: bool, word: &[u8]) -> bool
+    ensures { result ≡ waits_after verb.now waits word.now }
 {
-    Search {
-        waits: false,
-        found: false,
+    word == verb.as_bytes() || (waits && is_passed(word))
+}
+
+// Adds a word, if a name may stand there, but for one that doesn't count.
+fn add_name<'a>(
+    names: &mut Names<'a>,
+    except: &str,
+    waits: bool,
+    word: &'a [u8],
+) -> Result<(), AllocError>
+    ensures { OnOk result (names.new ≡ with_names names.old (name_at except.now waits word.now)) }
+{
+    if waits && word != except.as_bytes() {
+        names.add(word)
+    } else {
+        Ok(())
     }
 }
 
-// The search after a word more.
-fn search_after(search: Search, verb: &str, name: &str, word: &[u8]) -> Search
-    ensures { result ≡ search_after verb.now name.now search word.now }
+// Adds the names among these words.
+fn add_words<'a>(
+    names: &mut Names<'a>,
+    verb: &str,
+    except: &str,
+    words: &'a [Text],
+) -> Result<(), AllocError>
+    ensures { OnOk result (names.new ≡ with_names names.old (names_after verb.now except.now false words.now)) }
 {
-    let waits = word == verb.as_bytes() || (search.waits && is_passed(word));
-    let found = search.found || (search.waits && word == name.as_bytes());
-    Search { waits, found }
-}
-
-// Whether a word stands among these, with a name right after it, or after options.
-fn asks_words(words: &[Text], verb: &str, name: &str) -> bool
-    ensures { result ≡ asks_in verb.now name.now words.now }
-{
-    let mut search = nothing_seen();
+    let mut waits = false;
     for word in words {
-        search = search_after(search, verb, name, word.as_str().as_bytes());
+        let word = word.as_str().as_bytes();
+        add_name(names, except, waits, word)?;
+        waits = waits_after(verb, waits, word);
     }
-    search.found
+    Ok(())
 }
 
 // The same of the words of a script.
-fn asks_script(text: &[u8], verb: &str, name: &str) -> bool
-    ensures { result ≡ asks_in verb.now name.now (slice_split (is_cut Cut.Words) text.now) }
+fn add_script<'a>(
+    names: &mut Names<'a>,
+    verb: &str,
+    except: &str,
+    text: &'a [u8],
+) -> Result<(), AllocError>
+    ensures { OnOk result (names.new
+        ≡ with_names names.old (names_after verb.now except.now false (slice_split (is_cut Cut.Words) text.now))) }
 {
-    let mut search = nothing_seen();
+    let mut waits = false;
     let mut rest = text;
     'words: loop {
         let (word, after) = next_piece(Cut::Words, rest);
-        search = search_after(search, verb, name, word);
+        add_name(names, except, waits, word)?;
+        waits = waits_after(verb, waits, word);
         match after {
             Some(after) => rest = after,
-            None => return search.found,
+            None => return Ok(()),
         }
     }
 }
 
-/// Whether what a process runs has a word with a name right after it, or after options, as `start --no-wait NAME`.
-pub(crate) fn asks(action: &Action, verb: &str, name: &str) -> bool
-    ensures { result ≡ asks verb.now name.now action.now }
+// The same of what a process runs.
+fn add_action<'a>(
+    names: &mut Names<'a>,
+    verb: &str,
+    except: &str,
+    action: &'a Option<Action>,
+) -> Result<(), AllocError>
+    ensures { OnOk result (names.new ≡ with_names names.old (names_in verb.now except.now action.now)) }
 {
     match action {
-        Action::Words(words) => asks_words(words.as_slice(), verb, name),
-        Action::Shell(text) => asks_script(text.as_str().as_bytes(), verb, name),
+        Some(Action::Words(words)) => add_words(names, verb, except, words.as_slice()),
+        Some(Action::Shell(text)) => add_script(names, verb, except, text.as_str().as_bytes()),
+        None => Ok(()),
     }
 }
 
-// Whether one of the pieces is this one.
-fn has_piece(text: &[u8], wanted: &[u8]) -> bool
-    ensures { result ≡ list_any (bytes_eq wanted.now) (slice_split (is_cut Cut.Keys) text.now) }
+/// Adds what a job's commands name after a verb, as `start --no-wait NAME`, but for one name that doesn't count.
+#[tactic(auto, using(crate::proofs::Adding::added_both))]
+pub(crate) fn add_named<'a>(
+    names: &mut Names<'a>,
+    verb: &str,
+    except: &str,
+    job: &'a JobDef,
+) -> Result<(), AllocError>
+    ensures { OnOk result (names.new ≡ with_names names.old (names_by verb.now except.now job.now)) }
 {
-    let mut rest = text;
-    'pieces: loop {
-        let (piece, after) = next_piece(Cut::Keys, rest);
-        if wanted == piece {
-            return true;
-        }
-        match after {
-            Some(after) => rest = after,
-            None => return false,
-        }
-    }
-}
-
-/// Whether a key stands in a text.
-pub(crate) fn has_key(text: &str, key: &str) -> bool
-    ensures { result ≡ has_key key.now text.now }
-{
-    has_piece(text.as_bytes(), key.as_bytes())
+    add_action(names, verb, except, &job.main)?;
+    add_action(names, verb, except, &job.pre_start)?;
+    add_action(names, verb, except, &job.post_start)?;
+    add_action(names, verb, except, &job.pre_stop)?;
+    add_action(names, verb, except, &job.post_stop)
 }

@@ -1,12 +1,14 @@
-//! Where a variable stands in the jobs of a folder.
-ghost use Rattle.std.specs.Prelude.{◌≡◌, ◌∷◌, []};
-ghost use Rattle.std.specs.List.{list_any};
+//! Which variables stand in the jobs of a folder.
+ghost use Rattle.std.specs.Prelude.{◌≡◌, ◌∷◌, [], OnOk};
+ghost use Rattle.std.specs.List.{flat_map, list_any};
 ghost use Rattle.std.specs.Str.{bytes_eq};
 ghost use Rattle.up_expr.specs.Flat.{leaves_in};
-ghost use Rattle.up_lint.specs.Commands.{has_key as text_has};
-ghost use Rattle.up_lint.specs.Exports.{action_has, condition_has, init_keys, is_unset, job_has, leaf_has, setting_has, test_has};
+ghost use Rattle.up_lint.specs.Exports.{action_keys, condition_keys, init_keys, is_unset, job_keys, keys_in, leaf_keys, run_keys, set_keys, setting_keys, test_keys};
+ghost use Rattle.up_lint.specs.Names.{with_names};
 
-use crate::commands::has_key;
+use crate::names::Names;
+use crate::pieces::{Cut, next_piece};
+use std::alloc::AllocError;
 use up_conf::{Action, JobDef, Setting};
 use up_expr::{Condition, Leaf, Node, Test};
 use up_text::Text;
@@ -27,103 +29,157 @@ fn is_init_key(key: &str) -> bool
         || key == "UPSTART_STOP_EVENTS"
 }
 
-fn test_has(test: &Test, key: &str) -> bool
-    ensures { result ≡ test_has key.now test.now }
+// Adds what may be a key in a text.
+fn add_pieces<'a>(names: &mut Names<'a>, text: &'a [u8]) -> Result<(), AllocError>
+    ensures { OnOk result (names.new ≡ with_names names.old (keys_in text.now)) }
+{
+    let mut rest = text;
+    'pieces: loop {
+        let (piece, after) = next_piece(Cut::Keys, rest);
+        names.add(piece)?;
+        match after {
+            Some(after) => rest = after,
+            None => return Ok(()),
+        }
+    }
+}
+
+fn add_text<'a>(names: &mut Names<'a>, text: &'a Text) -> Result<(), AllocError>
+    ensures { OnOk result (names.new ≡ with_names names.old (keys_in text.now)) }
+{
+    add_pieces(names, text.as_str().as_bytes())
+}
+
+fn add_test<'a>(names: &mut Names<'a>, test: &'a Test) -> Result<(), AllocError>
+    ensures { OnOk result (names.new ≡ with_names names.old (test_keys test.now)) }
 {
     match test {
-        Test::Place(value) => has_key(value.as_str(), key),
-        Test::Same(other, value) | Test::Differs(other, value) => {
-            key == other.as_str() || has_key(value.as_str(), key)
+        Test::Place(value) => add_text(names, value),
+        Test::Same(key, value) | Test::Differs(key, value) => {
+            names.add(key.as_str().as_bytes())?;
+            add_text(names, value)
         }
     }
 }
 
-fn leaf_has(leaf: &Leaf, key: &str) -> bool
-    ensures { result ≡ leaf_has key.now leaf.now }
+fn add_tests<'a>(names: &mut Names<'a>, tests: &'a [Test]) -> Result<(), AllocError>
+    ensures { OnOk result (names.new ≡ with_names names.old (flat_map test_keys tests.now)) }
 {
-    leaf.values
-        .as_slice()
-        .iter()
-        .any(|test| test_has(test, key))
+    for test in tests {
+        add_test(names, test)?;
+    }
+    Ok(())
 }
 
-fn node_has(node: &Node, key: &str) -> bool
-    ensures { result ≡ list_any (leaf_has key.now) (leaves_in (node.now ∷ [])) }
+fn add_leaf<'a>(names: &mut Names<'a>, leaf: &'a Leaf) -> Result<(), AllocError>
+    ensures { OnOk result (names.new ≡ with_names names.old (leaf_keys leaf.now)) }
+{
+    add_tests(names, leaf.values.as_slice())
+}
+
+fn add_node<'a>(names: &mut Names<'a>, node: &'a Node) -> Result<(), AllocError>
+    ensures { OnOk result (names.new ≡ with_names names.old (flat_map leaf_keys (leaves_in (node.now ∷ [])))) }
 {
     match node {
-        Node::Leaf(leaf) => leaf_has(leaf, key),
-        Node::And(_, _) | Node::Or(_, _) => false,
+        Node::Leaf(leaf) => add_leaf(names, leaf),
+        Node::And(_, _) | Node::Or(_, _) => Ok(()),
     }
 }
 
-#[tactic(auto, using(crate::proofs::Gathered::node_any))]
-fn nodes_have(nodes: &[Node], key: &str) -> bool
-    ensures { result ≡ list_any (leaf_has key.now) (leaves_in nodes.now) }
+fn add_nodes<'a>(names: &mut Names<'a>, nodes: &'a [Node]) -> Result<(), AllocError>
+    ensures { OnOk result (names.new ≡ with_names names.old (flat_map leaf_keys (leaves_in nodes.now))) }
 {
     for node in nodes {
-        if node_has(node, key) {
-            return true;
-        }
+        add_node(names, node)?;
     }
-    false
+    Ok(())
 }
 
-fn condition_has(condition: &Option<Condition>, key: &str) -> bool
-    ensures { result ≡ condition_has key.now condition.now }
+fn add_condition<'a>(
+    names: &mut Names<'a>,
+    condition: &'a Option<Condition>,
+) -> Result<(), AllocError>
+    ensures { OnOk result (names.new ≡ with_names names.old (condition_keys condition.now)) }
 {
     match condition {
-        Some(condition) => nodes_have(condition.nodes().as_slice(), key),
-        None => false,
+        Some(condition) => add_nodes(names, condition.nodes().as_slice()),
+        None => Ok(()),
     }
 }
 
-fn words_have(words: &[Text], key: &str) -> bool
-    ensures { result ≡ list_any (text_has key.now) words.now }
+fn add_all<'a>(names: &mut Names<'a>, words: &'a [Text]) -> Result<(), AllocError>
+    ensures { OnOk result (names.new ≡ with_names names.old (flat_map keys_in words.now)) }
 {
-    words.iter().any(|word| has_key(word.as_str(), key))
+    for word in words {
+        add_text(names, word)?;
+    }
+    Ok(())
 }
 
-fn action_has(action: &Option<Action>, key: &str) -> bool
-    ensures { result ≡ action_has key.now action.now }
+fn add_action<'a>(names: &mut Names<'a>, action: &'a Option<Action>) -> Result<(), AllocError>
+    ensures { OnOk result (names.new ≡ with_names names.old (action_keys action.now)) }
 {
     match action {
-        Some(Action::Words(words)) => words_have(words.as_slice(), key),
-        Some(Action::Shell(text)) => has_key(text.as_str(), key),
-        None => false,
+        Some(Action::Words(words)) => add_all(names, words.as_slice()),
+        Some(Action::Shell(text)) => add_text(names, text),
+        None => Ok(()),
     }
 }
 
-fn sets(settings: &[Setting], key: &str) -> bool
-    ensures { result ≡ list_any (setting_has key.now) settings.now }
+fn add_settings<'a>(names: &mut Names<'a>, settings: &'a [Setting]) -> Result<(), AllocError>
+    ensures { OnOk result (names.new ≡ with_names names.old (flat_map setting_keys settings.now)) }
 {
-    settings.iter().any(|setting| key == setting.key.as_str())
+    for setting in settings {
+        names.add(setting.key.as_str().as_bytes())?;
+    }
+    Ok(())
 }
 
-// Whether a key stands in a job, but for what it exports.
-#[tactic(auto, unfolding(crate::specs::Exports::job_has))]
-fn job_has(job: &JobDef, key: &str) -> bool
-    ensures { result ≡ job_has key.now job.now }
+// Adds the keys in what a job sets and waits for, and in the names of its instances.
+#[tactic(auto, using(crate::proofs::Adding::added_both), unfolding(crate::specs::Exports::set_keys))]
+fn add_set<'a>(names: &mut Names<'a>, job: &'a JobDef) -> Result<(), AllocError>
+    ensures { OnOk result (names.new ≡ with_names names.old (set_keys job.now)) }
 {
-    sets(job.env.as_slice(), key)
-        || condition_has(&job.start_on, key)
-        || condition_has(&job.stop_on, key)
-        || has_key(job.instance.as_str(), key)
-        || action_has(&job.main, key)
-        || action_has(&job.pre_start, key)
-        || action_has(&job.post_start, key)
-        || action_has(&job.pre_stop, key)
-        || action_has(&job.post_stop, key)
+    add_settings(names, job.env.as_slice())?;
+    add_condition(names, &job.start_on)?;
+    add_condition(names, &job.stop_on)?;
+    add_text(names, &job.instance)
 }
 
-fn stands_in(jobs: &[JobDef], key: &str) -> bool
-    ensures { result ≡ list_any (job_has key.now) jobs.now }
+// Adds the keys in what a job runs.
+#[tactic(auto, using(crate::proofs::Adding::added_both), unfolding(crate::specs::Exports::run_keys))]
+fn add_run<'a>(names: &mut Names<'a>, job: &'a JobDef) -> Result<(), AllocError>
+    ensures { OnOk result (names.new ≡ with_names names.old (run_keys job.now)) }
 {
-    jobs.iter().any(|job| job_has(job, key))
+    add_action(names, &job.main)?;
+    add_action(names, &job.pre_start)?;
+    add_action(names, &job.post_start)?;
+    add_action(names, &job.pre_stop)?;
+    add_action(names, &job.post_stop)
 }
 
-/// Whether nothing sets a variable that is exported.
-pub(crate) fn is_unset(jobs: &[JobDef], key: &str) -> bool
-    ensures { result ≡ is_unset jobs.now key.now }
+// Adds the keys in a job, but for what it exports.
+#[tactic(auto, using(crate::proofs::Adding::added_both), unfolding(crate::specs::Exports::job_keys))]
+fn add_job<'a>(names: &mut Names<'a>, job: &'a JobDef) -> Result<(), AllocError>
+    ensures { OnOk result (names.new ≡ with_names names.old (job_keys job.now)) }
 {
-    !is_init_key(key) && !stands_in(jobs, key)
+    add_set(names, job)?;
+    add_run(names, job)
+}
+
+/// Adds the keys that stand in jobs, but for what they export.
+pub(crate) fn add_keys<'a>(names: &mut Names<'a>, jobs: &'a [JobDef]) -> Result<(), AllocError>
+    ensures { OnOk result (names.new ≡ with_names names.old (flat_map job_keys jobs.now)) }
+{
+    for job in jobs {
+        add_job(names, job)?;
+    }
+    Ok(())
+}
+
+/// Whether nothing sets a variable that is exported, where these stand in jobs.
+pub(crate) fn is_unset(keys: &Names<'_>, key: &str) -> bool
+    ensures { result ≡ is_unset keys.now key.now }
+{
+    !is_init_key(key) && !keys.has(key.as_bytes())
 }

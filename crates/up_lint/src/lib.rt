@@ -4,6 +4,7 @@
 mod circle;
 mod commands;
 mod exports;
+mod gather;
 mod head;
 mod job;
 mod leaf;
@@ -15,8 +16,9 @@ mod pieces;
 mod push;
 mod question;
 mod sheet;
+mod stop;
 mod warning;
 mod world;
 
 pub use lint::push_lint;
-pub use warning::is_kind;
+pub use warning::{Kind, kind_named};

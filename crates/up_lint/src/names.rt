@@ -1,25 +1,115 @@
-//! Names that blanks separate.
-ghost use Rattle.std.specs.Prelude.{◌≡◌};
+//! Sets of names.
+ghost use Rattle.std.specs.Prelude.{◌≡◌, ◌++◌, ◌∷◌, [], List, OnErr, OnOk, length};
 ghost use Rattle.std.specs.List.{list_any};
 ghost use Rattle.std.specs.Str.{bytes_eq};
-ghost use Rattle.up_text.specs.Scripts.{words_in};
+ghost use Rattle.up_conf.specs.Gathering.{AreSeen};
+ghost use Rattle.up_conf.specs.Jobs.{with_new_item};
+ghost use Rattle.up_value.specs.Values.{Bytes};
+ghost use Rattle.up_lint.specs.Names.{texts, with_names};
 
-use up_text::next_word;
+use std::alloc::{AllocError, Global};
+use std::collections::BTreeSet;
+use std::marker::Model;
+use up_text::Text;
 
-/// Whether one of the names is this one.
-#[tactic(auto, using(crate::proofs::WordsIn::word_more, crate::proofs::WordsIn::word_none))]
-pub(crate) fn has_word(names: &str, wanted: &str) -> bool
-    ensures { result ≡ list_any (bytes_eq wanted.now) (words_in names.now) }
+/// Names, each once, in the order in which they came. They are found by a tree.
+#[derive(Drop)]
+pub(crate) struct Names<'a> {
+    list: Vec<&'a [u8]>,
+    seen: BTreeSet<&'a [u8]>,
+}
+
+impl<'a> Model for Names<'a> {
+    ghost use Rattle.std.specs.Prelude.{List, ℕ};
+    ghost use Rattle.up_conf.specs.Gathering.{AreSeen};
+    ghost use Rattle.up_lint.specs.Names.{texts};
+
+    ghost Value = { List (List ℕ) };
+
+    ghost view = { λ n. texts n.list.items };
+
+    ghost invariant = { λ n. AreSeen n.seen (texts n.list.items) };
+}
+
+// Adds a name that isn't there. If memory runs out, neither has it.
+fn append<'a>(
+    list: &mut Vec<&'a [u8]>,
+    seen: &mut BTreeSet<&'a [u8]>,
+    name: &'a [u8],
+) -> Result<(), AllocError>
+    ensures list { OnOk result (texts list.new.items ≡ texts list.old.items ++ name.now ∷ []) }
+    ensures seen { OnOk result ((names : List Bytes) → AreSeen seen.old names
+        → AreSeen seen.new (with_new_item bytes_eq names name.now)) }
+    ensures same_list { OnErr result (texts list.new.items ≡ texts list.old.items) }
+    ensures same_seen { OnErr result ((names : List Bytes) → AreSeen seen.old names → AreSeen seen.new names) }
 {
-    let mut rest = names;
-    'words: loop {
-        let (word, after) = next_word(rest);
-        if word.is_empty() {
-            return false;
+    list.push(name)?;
+    match seen.insert(name) {
+        Ok(_) => Ok(()),
+        Err(refused) => {
+            drop(refused);
+            list.pop();
+            Err(AllocError)
         }
-        if wanted == word {
-            return true;
-        }
-        rest = after;
     }
+}
+
+// Adds a name, if it isn't there.
+fn add_to<'a>(
+    list: &mut Vec<&'a [u8]>,
+    seen: &mut BTreeSet<&'a [u8]>,
+    name: &'a [u8],
+) -> Result<(), AllocError>
+    requires { AreSeen seen.old (texts list.old.items) }
+    ensures seen { AreSeen seen.new (texts list.new.items) }
+    ensures added { OnOk result (texts list.new.items ≡ with_new_item bytes_eq (texts list.old.items) name.now) }
+{
+    if seen.contains(name) {
+        return Ok(());
+    }
+    append(list, seen, name)?;
+    Ok(())
+}
+
+impl<'a> Names<'a> {
+    /// No name.
+    pub(crate) fn new(alloc: Global) -> Self
+        ensures { result ≡ [] }
+    {
+        Names {
+            list: Vec::new(alloc),
+            seen: BTreeSet::new(alloc),
+        }
+    }
+
+    /// Adds a name, if it isn't there.
+    pub(crate) fn add(&mut self, name: &'a [u8]) -> Result<(), AllocError>
+        ensures { OnOk result (self.new ≡ with_new_item bytes_eq self.old name.now) }
+    {
+        add_to(&mut self.list, &mut self.seen, name)
+    }
+
+    /// How many there are.
+    pub(crate) fn len(&self) -> usize
+        ensures { result ≡ length self.now }
+    {
+        self.list.len()
+    }
+
+    /// Whether one of the names is this one.
+    pub(crate) fn has(&self, name: &[u8]) -> bool
+        ensures { result ≡ list_any (bytes_eq name.now) self.now }
+    {
+        self.seen.contains(name)
+    }
+}
+
+/// Adds names.
+pub(crate) fn add_texts<'a>(names: &mut Names<'a>, texts: &'a [Text]) -> Result<(), AllocError>
+    ensures { OnOk result (names.new ≡ with_names names.old texts.now) }
+{
+    for text in texts {
+        names.add(text.as_str().as_bytes())?;
+    }
+    Ok(())
 }

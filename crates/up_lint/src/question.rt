@@ -9,7 +9,7 @@ use crate::head::{Head, has_text};
 use crate::leaf::job_in;
 use crate::sheet::spot_of;
 use crate::warning::{Kind, Warning, push_warnings};
-use crate::world::{World, has_job, is_job_event, is_known};
+use crate::world::{World, is_job_event, is_known};
 use std::alloc::{AllocError, Global};
 use up_expr::{Condition, Leaf, Node, Test};
 use up_text::{Items, Text};
@@ -65,7 +65,7 @@ fn missing_job<'l>(world: &World<'_>, job: Option<&'l Text>) -> Option<&'l str>
         return None;
     };
     let job = job.as_str();
-    if has_special(job.as_bytes()) || has_job(world.jobs, job) {
+    if has_special(job.as_bytes()) || world.jobs.has(job.as_bytes()) {
         None
     } else {
         Some(job)

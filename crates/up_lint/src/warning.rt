@@ -1,8 +1,6 @@
 //! Warnings: what each is, where it stands, and the line that is printed of it.
 ghost use Rattle.std.specs.Prelude.{◌≡◌, ◌++◌, ◌∷◌, [], IfOk, OnOk, map};
-ghost use Rattle.std.specs.List.{list_any};
-ghost use Rattle.std.specs.Str.{bytes_eq};
-ghost use Rattle.up_lint.specs.Warnings.{before_about, kind_names, line_of, name_of, place_text, warning_of};
+ghost use Rattle.up_lint.specs.Warnings.{before_about, kind_in, kinds, line_of, name_of, place_text, same_kind, warning_of};
 
 use crate::push::{push, push_decimal};
 use crate::sheet::{Spot, path_of};
@@ -26,6 +24,8 @@ pub enum Kind {
     BlocksItself,
     /// A job waits for jobs that wait for one another.
     StartCircle,
+    /// No event stops a job, once its `start on` has started it.
+    NeverStopped,
 }
 
 /// A warning.
@@ -52,20 +52,32 @@ pub fn name_of(kind: Kind) -> &'static str
         Kind::CrashLoop => "crash-loop",
         Kind::BlocksItself => "blocks-itself",
         Kind::StartCircle => "start-circle",
+        Kind::NeverStopped => "never-stopped",
     }
 }
 
-/// Whether a name is that of a kind.
-pub fn is_kind(name: &str) -> bool
-    ensures { result ≡ list_any (bytes_eq name.now) kind_names }
+/// The kind of this name.
+pub fn kind_named(name: &str) -> Option<Kind>
+    ensures { result ≡ kind_in name.now kinds }
 {
-    name == "unknown-event"
-        || name == "unknown-job"
-        || name == "never-started"
-        || name == "unset-export"
-        || name == "crash-loop"
-        || name == "blocks-itself"
-        || name == "start-circle"
+    match name {
+        "unknown-event" => Some(Kind::UnknownEvent),
+        "unknown-job" => Some(Kind::UnknownJob),
+        "never-started" => Some(Kind::NeverStarted),
+        "unset-export" => Some(Kind::UnsetExport),
+        "crash-loop" => Some(Kind::CrashLoop),
+        "blocks-itself" => Some(Kind::BlocksItself),
+        "start-circle" => Some(Kind::StartCircle),
+        "never-stopped" => Some(Kind::NeverStopped),
+        _ => None,
+    }
+}
+
+/// Whether two kinds are the same.
+pub(crate) fn same_kind(kind: Kind, other: Kind) -> bool
+    ensures { result ≡ same_kind kind other }
+{
+    name_of(kind) == name_of(other)
 }
 
 // What is said before the name concerned.
@@ -80,6 +92,7 @@ fn before_about(kind: Kind) -> &'static str
         Kind::CrashLoop => "nothing limits the respawns of the job `",
         Kind::BlocksItself => "the job waits for its own event `",
         Kind::StartCircle => "only jobs that wait for one another start the job `",
+        Kind::NeverStopped => "no event that still comes stops the job `",
     }
 }
 

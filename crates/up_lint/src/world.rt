@@ -1,28 +1,29 @@
-//! What a job is looked at with: the jobs of its folder, and which events come.
+//! What a job is looked at with: the names in its folder, and which events come.
 ghost use Rattle.std.specs.Prelude.{◌≡◌, ◌++◌, IfOk, OnOk, codes, option_copied};
-ghost use Rattle.std.specs.List.{flat_map, list_any};
+ghost use Rattle.std.specs.List.{flat_map};
 ghost use Rattle.up_conf.specs.Folders.{without_ending};
-ghost use Rattle.up_lint.specs.Events.{asks_by, asks_job, comes, declared_by, declared_in, declared_of, has_job, is_job_event, is_known, scene_of};
+ghost use Rattle.up_lint.specs.Events.{comes, declared_by, declared_in, declared_of, is_job_event, is_known, scene_of};
 
-use crate::commands::asks;
-use crate::head::{Head, has_text};
-use crate::names::has_word;
+use crate::head::Head;
+use crate::names::Names;
 use crate::sheet::sheet_of;
 use std::alloc::{AllocError, Global};
-use up_conf::{Action, File, JobDef};
+use up_conf::{File, JobDef};
 use up_text::{Items, Text};
 
 /// What a job is looked at with.
-#[derive(Clone, Copy)]
+#[derive(Drop)]
 pub(crate) struct World<'a> {
     /// The jobs of the folder.
-    pub(crate) jobs: &'a [JobDef],
-    /// The events that they declare by `emits`.
-    pub(crate) declared: &'a [Text],
-    /// The names of those that can be started.
-    pub(crate) started: &'a [Text],
-    /// Names of events that come from outside, with blanks between them.
-    pub(crate) outside: &'a str,
+    pub(crate) jobs: Names<'a>,
+    /// Those that commands of other jobs start.
+    pub(crate) commanded: Names<'a>,
+    /// Those that can be started.
+    pub(crate) started: Names<'a>,
+    /// The events that somebody gives besides the init.
+    pub(crate) given: Names<'a>,
+    /// The keys that stand in jobs, but for what they export.
+    pub(crate) keys: Names<'a>,
 }
 
 fn push_texts(texts: &mut Vec<Text>, others: &[Text]) -> Result<(), AllocError>
@@ -90,42 +91,12 @@ pub(crate) fn is_job_event(event: &str) -> bool
     event == "starting" || event == "started" || event == "stopping" || event == "stopped"
 }
 
-fn asks_by(action: &Option<Action>, verb: &str, name: &str) -> bool
-    ensures { result ≡ asks_by verb.now name.now action.now }
-{
-    match action {
-        Some(action) => asks(action, verb, name),
-        None => false,
-    }
-}
-
-/// Whether one of a job's commands has a word with a name right after it, or after options.
-pub(crate) fn asks_job(job: &JobDef, verb: &str, name: &str) -> bool
-    ensures { result ≡ asks_job verb.now name.now job.now }
-{
-    asks_by(&job.main, verb, name)
-        || asks_by(&job.pre_start, verb, name)
-        || asks_by(&job.post_start, verb, name)
-        || asks_by(&job.pre_stop, verb, name)
-        || asks_by(&job.post_stop, verb, name)
-}
-
-fn emits_event(jobs: &[JobDef], event: &str) -> bool
-    ensures { result ≡ list_any (asks_job (codes "emit") event.now) jobs.now }
-{
-    jobs.iter().any(|job| asks_job(job, "emit", event))
-}
-
 // Whether something gives an event of this name.
 #[tactic(auto, unfolding(crate::specs::Events::comes))]
 fn comes(world: &World<'_>, event: &str) -> bool
     ensures { result ≡ comes (scene_of world.now) event.now }
 {
-    event == "startup"
-        || is_job_event(event)
-        || has_word(world.outside, event)
-        || has_text(world.declared, event)
-        || emits_event(world.jobs, event)
+    event == "startup" || is_job_event(event) || world.given.has(event.as_bytes())
 }
 
 // The event of whose failure an event tells.
@@ -146,11 +117,4 @@ pub(crate) fn is_known(world: &World<'_>, event: &str) -> bool
         Some(failed) => comes(world, failed),
         None => false,
     }
-}
-
-/// Whether there is a job of this name.
-pub(crate) fn has_job(jobs: &[JobDef], name: &str) -> bool
-    ensures { result ≡ has_job name.now jobs.now }
-{
-    jobs.iter().any(|job| name == job.name.as_str())
 }

@@ -3,65 +3,132 @@ use std::alloc::{AllocError, Global};
 use std::test::Fail;
 use up_command::{Asked, print_refusal, read_words};
 use up_run::{Rounds, Telling};
+use up_text::{Env, Text};
+use up_tools::Kind;
 
 // What a command line gives: what it asks for, or the status or the text of its refusal.
 enum Wanted {
-    Asked(Asked<'static>),
+    Bundle,
+    Check {
+        dir: &'static str,
+        explain: bool,
+    },
+    Lint {
+        dir: &'static str,
+        left_out: &'static [Kind],
+        outside: &'static [&'static str],
+    },
+    Compile {
+        dir: &'static str,
+        image: &'static str,
+    },
+    Show {
+        image: &'static str,
+    },
+    Replay {
+        source: &'static str,
+        script: &'static str,
+        // One of its variables, and how many there are.
+        one: Option<(&'static str, &'static str)>,
+        count: usize,
+    },
+    Run {
+        source: &'static str,
+        socket: &'static str,
+        rounds: Rounds,
+        telling: Telling<'static>,
+    },
     Status(u8),
     Text(&'static str),
 }
 
 type Case = (&'static [&'static str], Wanted);
 
-static ASKED: [Case; 11] = [
-    (&["initd"], Wanted::Asked(Asked::Bundle)),
+static ASKED: [Case; 13] = [
+    (&["initd"], Wanted::Bundle),
     (
         &["initd", "check", "jobs"],
-        Wanted::Asked(Asked::Check {
+        Wanted::Check {
             dir: "jobs",
             explain: false,
-        }),
+        },
     ),
     (
         &["initd", "check", "--", "-x"],
-        Wanted::Asked(Asked::Check {
+        Wanted::Check {
             dir: "-x",
             explain: false,
-        }),
+        },
     ),
     (
         &["initd", "replay", "jobs/", "a script"],
-        Wanted::Asked(Asked::Replay {
+        Wanted::Replay {
             source: "jobs/",
             script: "a script",
-        }),
+            one: None,
+            count: 0,
+        },
     ),
     (
         &["initd", "replay", "check", "replay"],
-        Wanted::Asked(Asked::Replay {
+        Wanted::Replay {
             source: "check",
             script: "replay",
-        }),
+            one: None,
+            count: 0,
+        },
     ),
     (
-        &["initd", "replay", "a", "b", "--env", "A=1", "--env", "A="],
-        Wanted::Asked(Asked::Replay {
+        &[
+            "initd", "replay", "a", "b", "--env", "A=1", "--env", "B=x=y", "--env", "A=",
+        ],
+        Wanted::Replay {
             source: "a",
             script: "b",
-        }),
+            one: Some(("B", "x=y")),
+            count: 2,
+        },
+    ),
+    (
+        &["initd", "lint", "jobs"],
+        Wanted::Lint {
+            dir: "jobs",
+            left_out: &[],
+            outside: &[],
+        },
+    ),
+    (
+        &[
+            "initd",
+            "lint",
+            "--allow",
+            "crash-loop",
+            "--event",
+            "up",
+            "jobs",
+            "--allow",
+            "never-stopped",
+            "--event",
+            "up down",
+        ],
+        Wanted::Lint {
+            dir: "jobs",
+            left_out: &[Kind::CrashLoop, Kind::NeverStopped],
+            outside: &["up", "up down"],
+        },
     ),
     (
         &["initd", "compile", "jobs", "jobs.image"],
-        Wanted::Asked(Asked::Compile {
+        Wanted::Compile {
             dir: "jobs",
             image: "jobs.image",
-        }),
+        },
     ),
     (
         &["initd", "show", "jobs.image"],
-        Wanted::Asked(Asked::Show {
+        Wanted::Show {
             image: "jobs.image",
-        }),
+        },
     ),
     (
         &[
@@ -75,7 +142,7 @@ static ASKED: [Case; 11] = [
             "--rounds",
             "3",
         ],
-        Wanted::Asked(Asked::Run {
+        Wanted::Run {
             source: "jobs.image",
             socket: "s",
             rounds: Rounds {
@@ -90,11 +157,11 @@ static ASKED: [Case; 11] = [
                 log: Some("r"),
                 over: false,
             },
-        }),
+        },
     ),
     (
         &["initd", "run", "jobs"],
-        Wanted::Asked(Asked::Run {
+        Wanted::Run {
             source: "jobs",
             socket: "/run/initd.socket",
             rounds: Rounds {
@@ -109,7 +176,7 @@ static ASKED: [Case; 11] = [
                 log: None,
                 over: false,
             },
-        }),
+        },
     ),
     (
         &[
@@ -124,7 +191,7 @@ static ASKED: [Case; 11] = [
             "0",
             "--client-timeout=1",
         ],
-        Wanted::Asked(Asked::Run {
+        Wanted::Run {
             source: "jobs",
             socket: "s",
             rounds: Rounds {
@@ -139,11 +206,11 @@ static ASKED: [Case; 11] = [
                 log: None,
                 over: true,
             },
-        }),
+        },
     ),
 ];
 
-static REFUSED: [Case; 16] = [
+static REFUSED: [Case; 17] = [
     (&["initd", "check"], Wanted::Status(2)),
     (&["initd", "check", "a", "b"], Wanted::Status(2)),
     (&["initd", "replay", "a"], Wanted::Status(2)),
@@ -157,6 +224,10 @@ static REFUSED: [Case; 16] = [
         Wanted::Status(2),
     ),
     (&["initd", "check", "a", "--env", "A=1"], Wanted::Status(2)),
+    (
+        &["initd", "lint", "a", "--allow", "crash-loops"],
+        Wanted::Status(2),
+    ),
     (&["initd", "compile", "a"], Wanted::Status(2)),
     (&["initd", "show"], Wanted::Status(2)),
     (&["initd", "chek", "a"], Wanted::Status(2)),
@@ -178,11 +249,80 @@ fn strings(alloc: Global, words: &[&str]) -> Result<Vec<String>, AllocError> {
     Ok(strings)
 }
 
-fn asks(alloc: Global, words: &[String], asked: &Asked) -> bool {
+fn are_texts(texts: &[Text], wanted: &[&str]) -> bool {
+    texts.len() == wanted.len()
+        && texts
+            .iter()
+            .zip(wanted.iter())
+            .all(|(text, word)| text.is(*word))
+}
+
+fn has_variable(base: &Env, one: &Option<(&str, &str)>) -> bool {
+    match one {
+        Some((key, value)) => base.get(*key) == Some(*value),
+        None => true,
+    }
+}
+
+fn is_wanted(asked: &Asked, wanted: &Wanted) -> bool {
+    match (asked, wanted) {
+        (Asked::Bundle, Wanted::Bundle) => true,
+        (Asked::Check { dir, explain }, Wanted::Check { dir: d, explain: e }) => {
+            *dir == *d && *explain == *e
+        }
+        (
+            Asked::Lint {
+                dir,
+                left_out,
+                outside,
+            },
+            Wanted::Lint {
+                dir: d,
+                left_out: kinds,
+                outside: events,
+            },
+        ) => *dir == *d && left_out.as_slice() == *kinds && are_texts(outside.as_slice(), events),
+        (Asked::Compile { dir, image }, Wanted::Compile { dir: d, image: i }) => {
+            *dir == *d && *image == *i
+        }
+        (Asked::Show { image }, Wanted::Show { image: i }) => *image == *i,
+        (
+            Asked::Replay {
+                source,
+                script,
+                base,
+            },
+            Wanted::Replay {
+                source: s,
+                script: t,
+                one,
+                count,
+            },
+        ) => *source == *s && *script == *t && base.len() == *count && has_variable(base, one),
+        (
+            Asked::Run {
+                source,
+                socket,
+                rounds,
+                telling,
+            },
+            Wanted::Run {
+                source: s,
+                socket: p,
+                rounds: r,
+                telling: t,
+            },
+        ) => *source == *s && *socket == *p && *rounds == *r && *telling == *t,
+        _ => false,
+    }
+}
+
+fn asks(alloc: Global, words: &[String], wanted: &Wanted) -> bool {
     match read_words(alloc, words) {
-        Ok((found, env)) => {
-            drop(env);
-            found == *asked
+        Ok(asked) => {
+            let is = is_wanted(&asked, wanted);
+            drop(asked);
+            is
         }
         Err(error) => {
             drop(error);
@@ -230,9 +370,9 @@ fn has_text(alloc: Global, words: &[String], wanted: &str) -> Result<bool, Alloc
 
 fn gives(rt: &HostRuntime, words: &[String], wanted: &Wanted) -> Result<bool, AllocError> {
     match wanted {
-        Wanted::Asked(asked) => Ok(asks(rt.alloc(), words, asked)),
         Wanted::Status(status) => Ok(refusal(rt, words) == Some(*status)),
         Wanted::Text(text) => has_text(rt.alloc(), words, text),
+        _ => Ok(asks(rt.alloc(), words, wanted)),
     }
 }
 

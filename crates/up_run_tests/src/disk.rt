@@ -200,15 +200,14 @@ fn answers(rt: &HostRuntime, dir: &str) -> Result<bool, Fail> {
             dir,
             explain: false,
         },
-        Env::new(rt.alloc()),
     )?;
     let replayed = answer(
         rt,
         Asked::Replay {
             source: dir,
             script,
+            base: Env::new(rt.alloc()),
         },
-        Env::new(rt.alloc()),
     )?;
     Ok(checked.number() == 0 && replayed.number() == 2)
 }

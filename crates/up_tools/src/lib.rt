@@ -8,5 +8,5 @@ mod watch;
 
 pub use lint::lint_dir;
 pub use source::view_source;
-pub use up_lint::is_kind;
+pub use up_lint::{Kind, kind_named};
 pub use view::View;

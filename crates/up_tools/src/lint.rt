@@ -9,11 +9,11 @@ use up_conf::{File, Folder, JobDef};
 use up_disk::WalkError;
 use up_disk::walk::walk;
 use up_image::Table;
-use up_lint::push_lint;
+use up_lint::{Kind, push_lint};
 use up_model::ExitStatus;
 use up_replay::check::faults_and_compile;
 use up_replay::{Printed, cannot_use};
-use up_text::Items;
+use up_text::{Items, Text};
 
 fn status_by(text: &[u8]) -> ExitStatus
     ensures { result ≡ status_by text.now }
@@ -29,8 +29,8 @@ fn with_warnings(
     faults: Items<u8>,
     files: &[File],
     jobs: &[JobDef],
-    left_out: &str,
-    outside: &str,
+    left_out: &[Kind],
+    outside: &[Text],
 ) -> Result<Printed, AllocError>
     ensures { IfOk result (λ made. made
         ≡ with_warnings faults files.now jobs.now left_out.now outside.now) }
@@ -47,8 +47,8 @@ fn linted(
     faults: Printed,
     table: Option<Table>,
     files: &[File],
-    left_out: &str,
-    outside: &str,
+    left_out: &[Kind],
+    outside: &[Text],
 ) -> Result<Printed, AllocError>
     ensures { IfOk result (λ made. made ≡ linted faults files.now table left_out.now outside.now) }
 {
@@ -66,8 +66,8 @@ fn linted(
 fn lint(
     alloc: Global,
     folder: &Folder,
-    left_out: &str,
-    outside: &str,
+    left_out: &[Kind],
+    outside: &[Text],
 ) -> Result<Printed, AllocError>
     ensures { IfOk result (Lints folder.now left_out.now outside.now) }
 {
@@ -75,13 +75,13 @@ fn lint(
     linted(faults, table, folder.as_slice(), left_out, outside)
 }
 
-/// What a lint of a folder on the disk prints: the faults of its files, and the warnings of its jobs, but for the kinds that `left_out` names. What
-/// `outside` names are events that come from outside. Both have names with blanks between them.
+/// What a lint of a folder on the disk prints: the faults of its files, and the warnings of its jobs, but for those of the kinds that
+/// are left out. `outside` has the names of the events that come from outside.
 pub fn lint_dir<R: Files + Eprint + AllocGlobal + Clone + Drop>(
     rt: &R,
     dir: &str,
-    left_out: &str,
-    outside: &str,
+    left_out: &[Kind],
+    outside: &[Text],
 ) -> Result<Printed, AllocError>
     ensures { IfOk result (LintsDir dir.now left_out.now outside.now) }
 {

@@ -4,7 +4,7 @@ use Rattle.up_lint.proofs.circle.started_in.Given as goal
 
 -- the rounds that are left
 abbrev pub invariant-rounds : goal.invariant-rounds
-invariant-rounds l = rounds l.left l.jobs l.started.items ≡ rounds (length l.jobs) l.jobs []
+invariant-rounds l = rounds l.left l.names l.commanded l.jobs l.started ≡ rounds (length l.jobs) l.names l.commanded l.jobs []
 
 abbrev pub decreases-rounds : goal.decreases-rounds
 decreases-rounds l = l.left
