@@ -15,7 +15,7 @@ use std::rt::{Clock, Files};
 use up_disk::print::print;
 use up_disk::{check_dir, compile_dir, explain_dir, graph_dir, replay_source, show_image};
 use up_model::ExitStatus;
-use up_replay::Printed;
+use up_print::Printed;
 use up_replay::replay::replay_bundle;
 use up_run::run_source;
 use up_text::Env;
