@@ -2,7 +2,7 @@
 use std::io;
 use std::io::{Eprint, ErrorKind, Read};
 use up_disk::why::{say, say_error};
-use up_replay::replay::MAX_BUNDLE;
+use up_script::bundle::MAX_BUNDLE;
 
 /// A reader, with how many bytes were read of it, and the last error.
 #[derive(Drop)]

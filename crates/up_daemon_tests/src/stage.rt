@@ -8,7 +8,7 @@ use up_engine::Engine;
 use up_host::{Failure, Script, ScriptHost};
 use up_image::{Table, compile};
 use up_model::{Event, How, Input, Output, Process, Who};
-use up_replay::push_output;
+use up_print::push_output;
 use up_text::{Env, Items, Name, Text};
 
 // A job that an event starts.

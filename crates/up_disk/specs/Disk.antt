@@ -1,15 +1,15 @@
 -- What is printed of a folder on the disk, and the status.
 use Rattle.std.specs.Prelude.{◌≡◌, ◌⊎◌, ℕ, ◌≤◌, Bool, true, false, List, length}
 use Rattle.up_conf.specs.declared.folder.File.{File}
-use Rattle.up_replay.specs.declared.printed.Printed.{Printed}
+use Rattle.up_print.specs.declared.printed.Printed.{Printed}
 use Rattle.up_conf.specs.Folders.{jobs_of}
 use Rattle.up_image.specs.declared.image_error.ImageError.{ImageError}
 use Rattle.up_image.specs.Reading.{HasTable}
-use Rattle.up_replay.specs.Bundle.{files_of, lines_of}
-use Rattle.up_replay.specs.Folders.{Checks, ChecksExplained, Graphs, image_refusal_line, prints, unusable}
+use Rattle.up_script.specs.Bundle.{files_of, lines_of}
+use Rattle.up_print.specs.Folders.{Checks, ChecksExplained, Graphs, image_refusal_line, prints, unusable}
 use Rattle.up_replay.specs.Replay.{Plays}
-use Rattle.up_replay.specs.declared.replay.TheConstants.{MAX_BUNDLE}
-use Rattle.up_replay.specs.ScriptSteps.{script_inputs}
+use Rattle.up_script.specs.declared.bundle.TheConstants.{MAX_BUNDLE}
+use Rattle.up_script.specs.ScriptSteps.{script_inputs}
 use Rattle.up_disk.specs.declared.walk.WalkError.TheVariants.{Unusable}
 use Rattle.up_disk.specs.Walk.{IsWalked, MayFail}
 use Rattle.up_model.specs.declared.exit_status.ExitStatus.{ExitStatus}

@@ -2,7 +2,7 @@
 ghost use Rattle.std.specs.Prelude.{◌≡◌, ◌≤◌, ◌⊎◌, IfOk, IfSome, length};
 ghost use Rattle.up_disk.specs.Disk.{ChecksDir, ExplainsDir, GraphsDir, PlaysDir, PlaysFiles, PlaysOver, IsUnusable};
 ghost use Rattle.up_disk.specs.Walk.{IsWalked};
-ghost use Rattle.up_replay.specs.declared.replay.TheConstants.{MAX_BUNDLE};
+ghost use Rattle.up_script.specs.declared.bundle.TheConstants.{MAX_BUNDLE};
 
 use crate::walk::{WalkError, read_file, walk};
 use crate::why::{say, say_error};
@@ -10,9 +10,11 @@ use std::alloc::AllocError;
 use std::io::{Eprint, ErrorKind};
 use std::rt::Files;
 use up_conf::Folder;
-use up_replay::check::{check, check_explained, graph_folder};
-use up_replay::replay::MAX_BUNDLE;
-use up_replay::{Printed, cannot_use, read_inputs, render_folder};
+use up_print::check::{check, check_explained, graph_folder};
+use up_print::{Printed, cannot_use};
+use up_replay::render_folder;
+use up_script::bundle::MAX_BUNDLE;
+use up_script::read_inputs;
 use up_text::Env;
 
 /// What a check of a folder on the disk prints.

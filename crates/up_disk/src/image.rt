@@ -6,8 +6,8 @@ ghost use Rattle.up_conf.specs.Folders.{jobs_of};
 ghost use Rattle.up_image.specs.Image.{IsImage};
 ghost use Rattle.up_image.specs.Reading.{HasTable};
 ghost use Rattle.up_image.specs.declared.limits.TheConstants.{MAX_IMAGE};
-ghost use Rattle.up_replay.specs.Bundle.{files_of, lines_of};
-ghost use Rattle.up_replay.specs.declared.replay.TheConstants.{MAX_BUNDLE};
+ghost use Rattle.up_script.specs.Bundle.{files_of, lines_of};
+ghost use Rattle.up_script.specs.declared.bundle.TheConstants.{MAX_BUNDLE};
 
 use crate::walk::{WalkError, read_file, walk};
 use crate::why::{say, say_error};
@@ -20,9 +20,10 @@ use up_conf::Folder;
 use up_image::limits::MAX_IMAGE;
 use up_image::{CompileError, ImageError, Table, compile, job_files};
 use up_model::ExitStatus;
-use up_replay::check::check_and_compile;
-use up_replay::replay::MAX_BUNDLE;
-use up_replay::{Printed, cannot_use, image_refused, read_bundle};
+use up_print::check::check_and_compile;
+use up_print::{Printed, cannot_use, image_refused};
+use up_script::bundle::MAX_BUNDLE;
+use up_script::read_bundle;
 use up_text::Items;
 
 // Writes all bytes to a new file, and has them on the disk.

@@ -6,7 +6,7 @@ use std::alloc::AllocError;
 use std::io;
 use std::io::{BufWriter, Write};
 use up_model::ExitStatus;
-use up_replay::{Printed, write_printed};
+use up_print::{Printed, write_printed};
 
 /// Prints on standard output, and returns the status: `Unusable` if it can't be written, `Memory` if there was none for what is printed.
 /// An error is that of the standard output, or memory ran out for its buffer.

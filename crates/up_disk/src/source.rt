@@ -11,7 +11,7 @@ use std::io::Eprint;
 use std::rt::Files;
 use up_conf::Folder;
 use up_image::{ImageError, Table, job_files};
-use up_replay::{Printed, cannot_use, image_refused};
+use up_print::{Printed, cannot_use, image_refused};
 use up_text::Env;
 
 // What a script does to the jobs of an image, by files that are to define them.

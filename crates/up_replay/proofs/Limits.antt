@@ -1,20 +1,20 @@
 -- What is printed depends on no more than one byte past the most that a bundle has.
-use Rattle.std.proofs.Common.{◌≡◌, ℕ, ◌<◌, ◌≤◌, false, List, length, take, nat_le, length-take, arith, refl, ap, ⊎_elim, subst, inl, ◌∙◌, Option, Some, None, codes}
+use Rattle.std.proofs.Common.{◌≡◌, ℕ, ◌<◌, ◌≤◌, false, List, length, take, nat_le, length-take, arith, refl, ap, ◌⊎◌, ⊎_elim, subst, inl, inr, ◌∙◌, Option, Some, None, codes}
 use Rattle.std.specs.Prelude.{IfSome}
 use Rattle.std.specs.Io.KnownBytes.{Appends}
 use Rattle.std.proofs.lemmas.Bool.{cases_lt}
 use Rattle.std.proofs.lemmas.Bool.Decides.{nat_tests}
 use Rattle.std.proofs.lemmas.List.{take_all}
 use Rattle.up_conf.specs.declared.report.Fault.{Fault}
-use Rattle.up_replay.specs.declared.printed.Printed.{Printed}
-use Rattle.up_replay.specs.Bundle.{files_of, lines_of}
-use Rattle.up_replay.specs.Folders.{prints, unusable}
+use Rattle.up_print.specs.declared.printed.Printed.{Printed}
+use Rattle.up_script.specs.Bundle.{files_of, lines_of}
+use Rattle.up_print.specs.Folders.{prints, unusable}
 use Rattle.up_replay.specs.Replay.{bundle_printed, Prints, Replayed, IsCutOff, Replays}
-use Rattle.up_replay.specs.Writing.{IsBegun}
-use Rattle.up_replay.proofs.Reports.{any_report}
+use Rattle.up_print.specs.Writing.{IsBegun}
+use Rattle.up_print.proofs.Reports.{any_report}
 use Rattle.up_model.specs.ExitStatuses.{status_number}
 use Rattle.up_model.specs.declared.exit_status.ExitStatus.{ExitStatus}
-use Rattle.up_model.specs.declared.exit_status.ExitStatus.TheVariants.{Unusable}
+use Rattle.up_model.specs.declared.exit_status.ExitStatus.TheVariants.{Memory, Unusable}
 
 -- what is printed for a bundle that is too long tells of no report
 other_report : (report other : List Fault) (bytes : List ℕ) → nat_le (length bytes) 67108864 ≡ false → (others : List ℕ) → nat_le (length others) 67108864 ≡ false → bundle_printed report bytes ≡ bundle_printed other others
@@ -74,3 +74,19 @@ replayed_known (Some all) bytes made status old new front had wrote begun =
 pub refused_known : (known : Option (List ℕ)) (status : ℕ) (old new : Option (List ℕ)) → 3 < status → IfSome known (λ all. Replays all status old new)
 refused_known None status old new past = tt
 refused_known (Some all) status old new past = ((λ below. absurd (omega (arith, past, below))), λ same. absurd (omega (arith, past, same)))
+
+unusable_line : (bytes : List ℕ) (status : ExitStatus) (old new : Option (List ℕ)) → (status ≡ Unusable) ⊎ (status ≡ Memory)
+    → (status ≡ Unusable → IsBegun old new (unusable (codes "-"))) → Replays bytes (status_number status) old new
+unusable_line bytes status old new ends begun = ⊎_elim by_line by_memory ends
+  where
+    by_line : status ≡ Unusable → Replays bytes (status_number status) old new
+    by_line same = ((λ below. absurd (omega (arith, ap status_number same, below))), λ three. inr (begun same))
+
+    by_memory : status ≡ Memory → Replays bytes (status_number status) old new
+    by_memory same = ((λ below. absurd (omega (arith, ap status_number same, below))), λ three. absurd (omega (arith, ap status_number same, three)))
+
+-- what was written for a reader whose bytes can't be read
+pub unreadable_known : (known : Option (List ℕ)) (status : ExitStatus) (old new : Option (List ℕ)) → (status ≡ Unusable) ⊎ (status ≡ Memory)
+    → (status ≡ Unusable → IsBegun old new (unusable (codes "-"))) → IfSome known (λ all. Replays all (status_number status) old new)
+unreadable_known None status old new ends begun = tt
+unreadable_known (Some all) status old new ends begun = unusable_line all status old new ends begun

@@ -9,10 +9,10 @@ use Rattle.up_model.specs.declared.step.Step.TheVariants.{Gave}
 use Rattle.up_model.specs.Answers.{answer, next, answers, after_all}
 use Rattle.up_model.specs.Chronicle.{Chronicle}
 use Rattle.up_model.specs.Configuration.{Configuration}
-use Rattle.up_replay.specs.Lines.{step_lines}
+use Rattle.up_print.specs.Lines.{step_lines}
 use Rattle.up_replay.specs.Running.{Tells}
-use Rattle.up_replay.specs.ScriptInputs.{inputs_of_step, inputs_of_steps}
-use Rattle.up_replay.specs.declared.scripted.StepInputs.{StepInputs}
+use Rattle.up_script.specs.ScriptInputs.{inputs_of_step, inputs_of_steps}
+use Rattle.up_script.specs.declared.scripted.StepInputs.{StepInputs}
 
 flat-append : {X Y : Type 0} (f : X → List Y) (xs ys : List X) → flat_map f (xs ++ ys) ≡ flat_map f xs ++ flat_map f ys
 flat-append f [] ys = refl

@@ -1,8 +1,7 @@
 -- What a replay prints, and its status.
 use Rattle.std.specs.Prelude.{◌≡◌, ◌⊎◌, ℕ, ◌<◌, nat_le, List, [], ◌++◌, length, Option, None, Some, Result, Ok, Err, if◌then◌else◌, codes}
-use Rattle.up_replay.specs.declared.replay.TheConstants.{MAX_BUNDLE}
+use Rattle.up_script.specs.declared.bundle.TheConstants.{MAX_BUNDLE}
 use Rattle.std.specs.List.{flat_map}
-use Rattle.std.specs.Fmt.{decimal}
 use Rattle.std.specs.Io.KnownBytes.{Appends}
 use Rattle.up_conf.specs.declared.folder.File.{File}
 use Rattle.up_conf.specs.declared.report.Fault.{Fault}
@@ -13,16 +12,12 @@ use Rattle.up_model.specs.declared.input.Input.{Input}
 use Rattle.up_model.specs.Answers.{answers}
 use Rattle.up_model.specs.ExitStatuses.{status_number}
 use Rattle.up_model.specs.declared.exit_status.ExitStatus.TheVariants.{Usage, Unusable}
-use Rattle.up_replay.specs.declared.printed.Printed.{Printed}
-use Rattle.up_replay.specs.Bundle.{lines_of, files_of, bad_line, script_line, script_text}
-use Rattle.up_replay.specs.Folders.{fault_line, refusal_line, unusable, prints, status_of, compile_outcome}
-use Rattle.up_replay.specs.Lines.{step_lines}
-use Rattle.up_replay.specs.ScriptSteps.{script_inputs}
-use Rattle.up_replay.specs.Writing.{IsBegun}
-
--- the line of a bad step of the script with this name
-unfoldable pub bad_step_line : List ℕ → ℕ → List ℕ
-bad_step_line name line = name ++ codes ":" ++ decimal line ++ codes ": bad step\n"
+use Rattle.up_print.specs.declared.printed.Printed.{Printed}
+use Rattle.up_script.specs.Bundle.{lines_of, files_of, bad_line, script_line, script_text}
+use Rattle.up_print.specs.Folders.{unusable, prints, compile_outcome, faults_output}
+use Rattle.up_print.specs.Lines.{bad_step_line, step_lines}
+use Rattle.up_script.specs.ScriptSteps.{script_inputs}
+use Rattle.up_print.specs.Writing.{IsBegun}
 
 -- the inputs of a bundle, or the number of its first bad line
 abbrev pub unless_bad : Option ℕ → Result (List Input) ℕ → Result (List Input) ℕ
@@ -33,20 +28,17 @@ unless_bad (Some line) read = Err line
 unfoldable pub inputs_in : List (List ℕ) → Result (List Input) ℕ
 inputs_in lines = unless_bad (bad_line lines) (script_inputs (script_line 1 lines) (script_text lines))
 
--- what the faults of a folder and a run of its jobs with a base environment print
-abbrev pub play_output : List (List ℕ × List ℕ) → List ℕ → List JobDef → List Fault → Result (List Input) ℕ
-    → Printed
-play_output base name jobs report (Ok inputs) = prints
-    (flat_map fault_line report ++ flat_map step_lines
-    (answers (record { base = base; jobs = jobs }) [] inputs)) (status_of report)
-play_output base name jobs report (Err line) = prints
-    (flat_map fault_line report ++ bad_step_line name line) Usage
+-- what is printed of a folder's faults, and after them of a run of its jobs with a base environment, or of the script's first bad line
+abbrev pub play_output : List (List ℕ × List ℕ) → List ℕ → List JobDef → Printed → Result (List Input) ℕ → Printed
+play_output base name jobs faults (Ok inputs) = prints
+    (faults.text ++ flat_map step_lines (answers (record { base = base; jobs = jobs }) [] inputs)) faults.status
+play_output base name jobs faults (Err line) = prints (faults.text ++ bad_step_line name line) Usage
 
 -- what a folder and a script with this name print, with a base environment
 abbrev pub replay_output : List (List ℕ × List ℕ) → List ℕ → Result (List JobDef × List Fault) CompileError
     → Result (List Input) ℕ → Printed
-replay_output base name (Ok made) read = play_output base name made.0 made.1 read
-replay_output base name (Err error) read = prints (refusal_line error) Unusable
+replay_output base name (Ok made) read = play_output base name made.0 (faults_output (Ok made)) read
+replay_output base name (Err error) read = faults_output (Err error)
 
 -- what is printed for a folder's files, a base environment and a script, with some report of the folder's faults
 pub record Plays (files : List File) (base : List (List ℕ × List ℕ)) (name : List ℕ)

@@ -7,7 +7,7 @@ use Rattle.up_model.specs.declared.input.Input.{Input}
 use Rattle.up_model.specs.Answers.{answers, after_all}
 use Rattle.up_model.specs.Chronicle.{Chronicle}
 use Rattle.up_model.specs.Configuration.{Configuration}
-use Rattle.up_replay.specs.Lines.{step_lines}
+use Rattle.up_print.specs.Lines.{step_lines}
 
 -- a text grew by the lines of the answers to these inputs after a chronicle, and the engine stands for what is after them
 pub record Tells (old new : List ℕ) (engine : Engine) (config : Configuration) (c : Chronicle) (inputs : List Input) : Type 0 where

@@ -1,46 +1,30 @@
 //! Replays a bundle.
-ghost use Rattle.std.specs.Prelude.{◌≡◌, ◌⊎◌, ◌≤◌, ◌<◌, ◌+◌, [], ◌++◌, IfOk, IfSome, OnOk, length, take, codes};
-ghost use Rattle.up_replay.specs.declared.replay.TheConstants.{MAX_BUNDLE};
+ghost use Rattle.std.specs.Prelude.{◌≡◌, ◌⊎◌, ◌<◌, ◌+◌, [], ◌++◌, IfOk, IfSome, OnOk, length, take, codes};
 ghost use Rattle.std.specs.List.{flat_map};
 ghost use Rattle.std.specs.Io.KnownBytes.{Appends};
 ghost use Rattle.up_model.specs.Answers.{answers};
 ghost use Rattle.up_model.specs.ExitStatuses.{status_number};
-ghost use Rattle.up_model.specs.declared.exit_status.ExitStatus.TheVariants.{Unusable};
-ghost use Rattle.up_replay.specs.Folders.{fault_line, unusable};
-ghost use Rattle.up_replay.specs.Lines.{step_lines};
-ghost use Rattle.up_replay.specs.Replay.{bad_step_line, play_output, replay_output, unless_bad, Plays, Prints, Replays};
-ghost use Rattle.up_replay.specs.ScriptSteps.{script_inputs};
-ghost use Rattle.up_replay.specs.Writing.{IsBegun};
+ghost use Rattle.up_model.specs.declared.exit_status.ExitStatus.TheVariants.{Memory, Unusable};
+ghost use Rattle.up_print.specs.Folders.{unusable};
+ghost use Rattle.up_print.specs.Lines.{step_lines};
+ghost use Rattle.up_print.specs.Writing.{IsBegun};
+ghost use Rattle.up_script.specs.ScriptSteps.{script_inputs};
+ghost use Rattle.up_script.specs.declared.bundle.TheConstants.{MAX_BUNDLE};
+ghost use Rattle.up_replay.specs.Replay.{play_output, unless_bad, Plays, Prints, Replays};
 
-use crate::bundle::{Bundle, read_bundle};
-use crate::check::compile_outcome;
-use crate::lines::{push, push_decimal};
-use crate::printed::{Printed, cannot_use, push_faults, refused, status_of};
 use crate::reread::reread;
 use crate::running::push_run;
-use crate::script::read_inputs;
-use crate::scripted::ScriptInputs;
-use crate::writes::write_bytes;
 use std::alloc::{AllocError, Global};
 use std::io;
 use std::io::{ErrorKind, Read, Write};
-use up_conf::{Folder, Report};
-use up_image::{CompileError, Table};
+use up_conf::Folder;
+use up_image::Table;
 use up_model::ExitStatus;
+use up_print::check::faults_and_compile;
+use up_print::{Printed, cannot_use, push_bad_step, write_printed};
+use up_script::bundle::MAX_BUNDLE;
+use up_script::{Bundle, ScriptInputs, read_bundle, read_inputs};
 use up_text::{Env, Items};
-
-/// The most bytes that a bundle has: 64 MiB.
-pub const MAX_BUNDLE: usize = 67_108_864;
-
-#[tactic(auto, unfolding(crate::specs::Replay::bad_step_line))]
-fn push_bad_step(text: &mut Vec<u8>, name: &str, line: u32) -> Result<(), AllocError>
-    ensures { OnOk result (text.new.items ≡ text.old.items ++ bad_step_line name.now line) }
-{
-    push(text, name)?;
-    push(text, ":")?;
-    push_decimal(text, u64::from(line))?;
-    push(text, ": bad step\n")
-}
 
 // The inputs of a bundle, or its first bad line.
 fn inputs_in(alloc: Global, bundle: &Bundle<'_>) -> Result<Result<ScriptInputs, u32>, AllocError>
@@ -54,74 +38,49 @@ fn inputs_in(alloc: Global, bundle: &Bundle<'_>) -> Result<Result<ScriptInputs, 
     }
 }
 
-// A folder's faults, and after them what a run of its jobs gives.
+// What a run of a table's jobs gives.
 fn push_all(
     text: &mut Vec<u8>,
     alloc: Global,
-    report: &Report,
     table: Table,
     base: Env,
     inputs: ScriptInputs,
 ) -> Result<(), AllocError>
-    ensures { OnOk result (text.new.items ≡ text.old.items ++ (flat_map fault_line report.now
-        ++ flat_map step_lines (answers (record { base = base; jobs = table }) [] inputs))) }
+    ensures { OnOk result (text.new.items ≡ text.old.items
+        ++ flat_map step_lines (answers (record { base = base; jobs = table }) [] inputs)) }
 {
-    push_faults(text, report.as_slice())?;
     let table = reread(alloc, table)?;
     push_run(text, alloc, table, base, inputs)
 }
 
-// A folder's faults, and after them the first bad line of a script.
-fn push_no_run(text: &mut Vec<u8>, report: &Report, name: &str, line: u32) -> Result<(), AllocError>
-    ensures { OnOk result (text.new.items ≡ text.old.items
-        ++ (flat_map fault_line report.now ++ bad_step_line name.now line)) }
-{
-    push_faults(text, report.as_slice())?;
-    push_bad_step(text, name, line)
-}
-
+// A folder's faults, and after them what a run of its jobs gives, or the first bad line of the script.
 fn play(
     alloc: Global,
+    faults: Printed,
     table: Table,
-    report: &Report,
     base: Env,
     name: &str,
     read: Result<ScriptInputs, u32>,
 ) -> Result<Printed, AllocError>
-    ensures { IfOk result (λ made. made ≡ play_output base name.now table report.now read) }
+    ensures { IfOk result (λ made. made ≡ play_output base name.now table faults read) }
 {
-    let mut text: Vec<u8> = Vec::new(alloc);
+    let Printed { text, status } = faults;
+    let mut text = text.into_vec();
     match read {
         Ok(inputs) => {
-            push_all(&mut text, alloc, report, table, base, inputs)?;
+            push_all(&mut text, alloc, table, base, inputs)?;
             let text = Items::new(text);
-            let status = status_of(report);
             Ok(Printed { text, status })
         }
         Err(line) => {
             drop(table);
-            push_no_run(&mut text, report, name, line)?;
+            push_bad_step(&mut text, name, line)?;
             let text = Items::new(text);
             Ok(Printed {
                 text,
                 status: ExitStatus::Usage,
             })
         }
-    }
-}
-
-fn render_made(
-    alloc: Global,
-    made: Result<(Table, Report), CompileError>,
-    base: Env,
-    name: &str,
-    read: Result<ScriptInputs, u32>,
-) -> Result<Printed, AllocError>
-    ensures { IfOk result (λ printed. printed ≡ replay_output base name.now made read) }
-{
-    match made {
-        Ok((table, report)) => play(alloc, table, &report, base, name, read),
-        Err(error) => refused(alloc, error),
     }
 }
 
@@ -136,12 +95,15 @@ pub fn render_folder(
 ) -> Result<Printed, AllocError>
     ensures { IfOk result (Plays folder.now base name.now read) }
 {
-    let made = compile_outcome(alloc, folder)?;
-    render_made(alloc, made, base, name, read)
+    let (faults, table) = faults_and_compile(alloc, folder)?;
+    match table {
+        Some(table) => play(alloc, faults, table, base, name, read),
+        None => Ok(faults),
+    }
 }
 
 /// What is printed for the bytes of a bundle.
-#[tactic(auto, unfolding(crate::specs::Replay::bundle_printed, crate::specs::Replay::inputs_in), using(crate::proofs::Sizes::script_small, crate::proofs::Limits::prints_long))]
+#[tactic(auto, unfolding(crate::specs::Replay::bundle_printed, crate::specs::Replay::inputs_in), using(up_script::proofs::Sizes::script_small, crate::proofs::Limits::prints_long))]
 pub fn render_bundle(alloc: Global, bytes: &[u8]) -> Result<Printed, AllocError>
     ensures { IfOk result (Prints bytes.now) }
 {
@@ -164,28 +126,15 @@ fn read_all<R: Read>(alloc: Global, reader: &mut R) -> io::Result<Vec<u8>>
     Ok(bytes)
 }
 
-/// Writes what is printed, and returns the status: `Unusable` if it can't be written, and then only the first bytes were.
-pub fn write_printed<W: Write>(writer: &mut W, made: &Printed) -> ExitStatus
-    ensures written { status_number result < 3 → (result ≡ made.now.status)
-        × Appends (W.contents writer.old) (W.contents writer.new) made.now.text }
-    ensures status { (result ≡ made.now.status) ⊎ (result ≡ Unusable) }
-    ensures begun { IsBegun (W.contents writer.old) (W.contents writer.new) made.now.text }
-{
-    if write_bytes(writer, made.text.as_slice()) {
-        made.status
-    } else {
-        ExitStatus::Unusable
-    }
-}
-
 // Says that the bundle can't be read, and returns the status.
-#[tactic(auto, unfolding(crate::specs::Folders::unusable))]
-fn write_unreadable<W: Write>(writer: &mut W) -> ExitStatus
-    ensures status { result ≡ Unusable }
-    ensures begun { IsBegun (W.contents writer.old) (W.contents writer.new) (unusable (codes "-")) }
+fn write_unreadable<W: Write>(alloc: Global, writer: &mut W) -> ExitStatus
+    ensures status { (result ≡ Unusable) ⊎ (result ≡ Memory) }
+    ensures begun { result ≡ Unusable → IsBegun (W.contents writer.old) (W.contents writer.new) (unusable (codes "-")) }
 {
-    let _ = write_bytes(writer, b"initd: cannot use -\n");
-    ExitStatus::Unusable
+    match cannot_use(alloc, "-") {
+        Ok(made) => write_printed(writer, &made),
+        Err(_) => ExitStatus::Memory,
+    }
 }
 
 /// Reads a bundle, writes what is printed for it and returns the status: `Failed` with faulty files; `Usage` at a bad step; `Unusable` if
@@ -203,7 +152,7 @@ pub fn replay_bundle<R: Read, W: Write>(alloc: Global, reader: &mut R, writer: &
             if error.kind() == ErrorKind::OutOfMemory {
                 ExitStatus::Memory
             } else {
-                write_unreadable(writer)
+                write_unreadable(alloc, writer)
             }
         }
     }

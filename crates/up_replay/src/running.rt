@@ -6,16 +6,16 @@ ghost use Rattle.up_model.specs.declared.input.Input.TheVariants as input;
 ghost use Rattle.up_model.specs.Answers.{answer, answers, next};
 ghost use Rattle.up_model.specs.Chronicle.{Chronicle};
 ghost use Rattle.up_model.specs.Configuration.{Configuration};
-ghost use Rattle.up_replay.specs.Lines.{step_lines};
+ghost use Rattle.up_print.specs.Lines.{step_lines};
 ghost use Rattle.up_replay.specs.Running.{Tells};
-ghost use Rattle.up_replay.specs.ScriptInputs.{inputs_of_step, inputs_of_steps};
+ghost use Rattle.up_script.specs.ScriptInputs.{inputs_of_step, inputs_of_steps};
 
-use crate::lines::push_step;
-use crate::scripted::{ScriptInputs, StepInputs};
 use std::alloc::{AllocError, Global};
 use up_engine::{Engine, idle_turns};
 use up_image::Table;
 use up_model::Input;
+use up_print::push_step;
+use up_script::scripted::{ScriptInputs, StepInputs};
 use up_text::Env;
 
 // The lines of the answer to one input.

@@ -11,7 +11,7 @@ use Rattle.up_model.specs.Configuration.{Configuration}
 use Rattle.up_engine.specs.Stands.{Stands}
 use Rattle.up_daemon.specs.declared.daemon.Daemon.{Daemon}
 use Rattle.up_daemon.specs.Daemons.{engine_of, clients_of, was_refused}
-use Rattle.up_replay.specs.Folders.{prints, IsTable, PrintsFaults}
+use Rattle.up_print.specs.Folders.{prints, IsTable, PrintsFaults}
 use Rattle.up_disk.specs.Disk.{CannotWalk, IsRefusedImage, IsUnusable}
 use Rattle.up_disk.specs.Walk.{IsWalked}
 use Rattle.up_run.specs.declared.jobs.Jobs.{Jobs}

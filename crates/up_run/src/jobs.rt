@@ -13,8 +13,8 @@ use up_disk::walk::{WalkError, walk};
 use up_disk::why::{say, say_error};
 use up_image::{ImageError, Table};
 use up_model::ExitStatus;
-use up_replay::check::faults_and_compile;
-use up_replay::{Printed, cannot_use, image_refused};
+use up_print::check::faults_and_compile;
+use up_print::{Printed, cannot_use, image_refused};
 use up_text::Items;
 
 /// The jobs of a run, with what is printed before it; without a table there is no run.

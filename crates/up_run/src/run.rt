@@ -33,7 +33,7 @@ use up_engine::Engine;
 use up_host::{Host, RealHost};
 use up_image::Table;
 use up_model::{Event, ExitStatus, Input};
-use up_replay::cannot_use;
+use up_print::cannot_use;
 use up_text::{Env, Name};
 
 /// The folders in which the programs of jobs are looked for.

@@ -1,7 +1,7 @@
 //! What a run tells of its rounds: on standard output, in a file, and in a record.
 ghost use Rattle.std.specs.Prelude.{◌≡◌, ◌++◌, OnOk};
 ghost use Rattle.std.specs.List.{flat_map};
-ghost use Rattle.up_replay.specs.Lines.{output_lines};
+ghost use Rattle.up_print.specs.Lines.{output_lines};
 
 use crate::faults::{HostFaults, fault_count, fault_lines};
 use crate::outlet::Outlet;
@@ -14,7 +14,8 @@ use std::io::{Eprint, Write};
 use up_daemon::{DoorCall, Round};
 use up_disk::why::Reason;
 use up_model::{Input, Output};
-use up_replay::{push_outputs, script_lines};
+use up_print::push_outputs;
+use up_script::script_lines;
 use up_text::Items;
 
 /// So many bytes of the record may wait while nothing happens.

@@ -7,7 +7,7 @@ use up_command::answer::answer;
 use up_disk::print::print;
 use up_disk::{check_dir, compile_dir, read_bytes, replay_dir, replay_image, replay_source};
 use up_model::ExitStatus;
-use up_replay::Printed;
+use up_print::Printed;
 use up_text::{Env, Items};
 
 // Files that are written, by their paths in the folder; what is printed then, as `text_of` takes it; and the status.

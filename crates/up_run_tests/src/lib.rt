@@ -1,5 +1,5 @@
-//! The tests of the libraries that run jobs, over their public interfaces and the disk: `up_engine`, `up_replay`, `up_disk` and
-//! `up_command`.
+//! The tests of the libraries that run jobs, over their public interfaces and the disk: `up_engine`, `up_script`, `up_print`,
+//! `up_replay`, `up_disk` and `up_command`.
 #![tactic(auto)]
 
 #[cfg(test)]

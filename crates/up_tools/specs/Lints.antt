@@ -9,8 +9,8 @@ use Rattle.up_lint.specs.declared.warning.Kind.{Kind}
 use Rattle.up_lint.specs.Lint.{lint_of}
 use Rattle.up_model.specs.declared.exit_status.ExitStatus.{ExitStatus}
 use Rattle.up_model.specs.declared.exit_status.ExitStatus.TheVariants.{Done, Failed}
-use Rattle.up_replay.specs.declared.printed.Printed.{Printed}
-use Rattle.up_replay.specs.Folders.{IsTable, PrintsFaults, prints}
+use Rattle.up_print.specs.declared.printed.Printed.{Printed}
+use Rattle.up_print.specs.Folders.{IsTable, PrintsFaults, prints}
 
 -- the status, by whether a line is printed
 abbrev pub status_by : Bytes → ExitStatus

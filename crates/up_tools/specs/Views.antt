@@ -14,12 +14,12 @@ use Rattle.up_chart.specs.Moments.{clock_at, moments_from, no_clock, time_of}
 use Rattle.up_chart.specs.Svg.{svg_of}
 use Rattle.up_disk.specs.Disk.{CannotWalk, IsRefusedImage, IsUnusable}
 use Rattle.up_disk.specs.Walk.{IsWalked}
-use Rattle.up_replay.specs.declared.printed.Printed.{Printed}
-use Rattle.up_replay.specs.declared.replay.TheConstants.{MAX_BUNDLE}
-use Rattle.up_replay.specs.Bundle.{files_of, lines_of}
-use Rattle.up_replay.specs.Folders.{IsTable, PrintsFaults, prints}
+use Rattle.up_print.specs.declared.printed.Printed.{Printed}
+use Rattle.up_script.specs.declared.bundle.TheConstants.{MAX_BUNDLE}
+use Rattle.up_script.specs.Bundle.{files_of, lines_of}
+use Rattle.up_print.specs.Folders.{IsTable, PrintsFaults, prints}
 use Rattle.up_replay.specs.Replay.{Plays}
-use Rattle.up_replay.specs.ScriptSteps.{script_inputs}
+use Rattle.up_script.specs.ScriptSteps.{script_inputs}
 use Rattle.up_tools.specs.declared.view.View.{View}
 use Rattle.up_tools.specs.declared.view.View.TheVariants as view
 

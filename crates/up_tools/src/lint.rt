@@ -11,8 +11,8 @@ use up_disk::walk::walk;
 use up_image::Table;
 use up_lint::{Kind, push_lint};
 use up_model::ExitStatus;
-use up_replay::check::faults_and_compile;
-use up_replay::{Printed, cannot_use};
+use up_print::check::faults_and_compile;
+use up_print::{Printed, cannot_use};
 use up_text::{Items, Text};
 
 fn status_by(text: &[u8]) -> ExitStatus

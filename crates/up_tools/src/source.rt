@@ -2,7 +2,7 @@
 ghost use Rattle.std.specs.Prelude.{◌≤◌, ◌⊎◌, IfOk, IfSome, length};
 ghost use Rattle.up_disk.specs.Disk.{IsUnusable};
 ghost use Rattle.up_disk.specs.Walk.{IsWalked};
-ghost use Rattle.up_replay.specs.declared.replay.TheConstants.{MAX_BUNDLE};
+ghost use Rattle.up_script.specs.declared.bundle.TheConstants.{MAX_BUNDLE};
 ghost use Rattle.up_tools.specs.Views.{ViewsDir, ViewsFiles, ViewsOver, ViewsShown, ViewsSource, ViewsStored};
 
 use crate::view::{View, view_folder};
@@ -15,8 +15,9 @@ use up_disk::walk::walk;
 use up_disk::why::{say, say_error};
 use up_disk::{WalkError, read_file, show_image};
 use up_model::ExitStatus;
-use up_replay::replay::MAX_BUNDLE;
-use up_replay::{Printed, cannot_use, read_bundle, script_inputs};
+use up_print::{Printed, cannot_use};
+use up_script::bundle::MAX_BUNDLE;
+use up_script::{read_bundle, script_inputs};
 
 // The bytes of a record, if it can be read and is no longer than a bundle may be.
 fn read_record<R: Files + Eprint + AllocGlobal>(

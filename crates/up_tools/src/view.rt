@@ -9,8 +9,10 @@ use up_chart::blame::blame;
 use up_chart::svg::svg;
 use up_conf::Folder;
 use up_model::Input;
-use up_replay::check::faults_and_compile;
-use up_replay::{Printed, ScriptInputs, render_folder};
+use up_print::Printed;
+use up_print::check::faults_and_compile;
+use up_replay::render_folder;
+use up_script::ScriptInputs;
 use up_text::{Env, Items};
 
 /// How a run is shown.

@@ -3,7 +3,8 @@ use crate::engine::{both, environment};
 use std::alloc::{AllocError, Global};
 use std::test::Fail;
 use up_model::{Command, Input, Request};
-use up_replay::{script_inputs, script_lines};
+use up_script::scripted::StepInputs;
+use up_script::{read_inputs, script_inputs, script_lines};
 use up_text::Text;
 
 // A script in the form in which inputs are written, with each kind of input.
@@ -75,5 +76,34 @@ fn what_no_line_says_is_not_written(rt: HostRuntime) -> Result<(), Fail> {
     assert_eq!(rt; is_written(rt.alloc(), "a", "b c")?, true);
     assert_eq!(rt; is_written(rt.alloc(), "a", "b\nc")?, false);
     assert_eq!(rt; is_written(rt.alloc(), "--no-wait", "b c")?, false);
+    Ok(())
+}
+
+// Whether the steps of a script are these: a reading, and turns.
+fn steps_are(alloc: Global, script: &[u8], reading: u64, turns: u64) -> Result<bool, AllocError> {
+    if script.len() > 1_000_000 {
+        return Ok(false);
+    }
+    let Ok(inputs) = read_inputs(alloc, script, 1)? else {
+        return Ok(false);
+    };
+    let steps = inputs.into_steps();
+    let are = match steps.as_slice() {
+        [
+            StepInputs::One(Input::Clock(read)),
+            StepInputs::Turns(count),
+        ] => { *read == reading && *count == turns }
+        _ => false,
+    };
+    drop(steps);
+    Ok(are)
+}
+
+#[test]
+fn many_turns_are_one_step(rt: HostRuntime) -> Result<(), Fail> {
+    assert_eq!(rt;
+        steps_are(rt.alloc(), b"clock 5\nturn 1000000\n", 5, 1_000_000)?,
+        true
+    );
     Ok(())
 }

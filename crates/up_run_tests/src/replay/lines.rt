@@ -3,7 +3,7 @@ use crate::engine::{Untried, both, environment};
 use std::alloc::{AllocError, Global};
 use std::test::Fail;
 use up_model::{Answer, Event, Order, Output, Process, Who};
-use up_replay::push_output;
+use up_print::{push_bad_step, push_output};
 use up_text::{Items, Name, Text};
 
 // An output, as a case writes it.
@@ -133,5 +133,13 @@ fn outputs(rt: HostRuntime) -> Result<(), Fail> {
     for (topic, sent, lines) in &CASES {
         assert!(rt; is_case(rt.alloc(), sent, lines)?, "{topic}: {lines}");
     }
+    Ok(())
+}
+
+#[test]
+fn bad_steps(rt: HostRuntime) -> Result<(), Fail> {
+    let mut text: Vec<u8> = Vec::new(rt.alloc());
+    push_bad_step(&mut text, "a.script", 12)?;
+    assert_eq!(rt; text.as_slice(), b"a.script:12: bad step\n".as_slice());
     Ok(())
 }

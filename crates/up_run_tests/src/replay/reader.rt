@@ -6,8 +6,8 @@ use std::alloc::{AllocError, Global};
 use std::process::Abort;
 use std::test::Fail;
 use up_conf::Folder;
-use up_replay::check::{check, faults_and_compile};
-use up_replay::read_bundle;
+use up_print::check::{check, faults_and_compile};
+use up_script::read_bundle;
 
 // A check of a folder prints this, with this status.
 fn check_folder(

@@ -1,6 +1,6 @@
 use Rattle.std.proofs.Common.{arith}
 use Rattle.up_replay.specs.Replay.{bundle_printed, inputs_in}
-use Rattle.up_replay.proofs.Sizes.{script_small}
+use Rattle.up_script.proofs.Sizes.{script_small}
 use Rattle.up_replay.proofs.Limits.{prints_long}
 use Rattle.up_replay.proofs.replay.render_bundle.Goals as goal
 

@@ -2,7 +2,7 @@ use Rattle.std.proofs.Common.{◌++◌, ◌∷◌, [], length, sym, ◌∙◌, a
 use Rattle.std.specs.Vec.Iter.{into_iter_items}
 use Rattle.up_model.specs.Answers.{after_all}
 use Rattle.up_replay.specs.Running.{Tells}
-use Rattle.up_replay.specs.ScriptInputs.{inputs_of_step, inputs_of_steps}
+use Rattle.up_script.specs.ScriptInputs.{inputs_of_step, inputs_of_steps}
 use Rattle.up_replay.proofs.Telling.{tells-none, tells-then, one-step-more}
 use Rattle.up_replay.proofs.running.push_answers.Goals as goal
 

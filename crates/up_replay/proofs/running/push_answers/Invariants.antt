@@ -4,7 +4,7 @@ use Rattle.up_engine.specs.Stands.{Stands}
 use Rattle.up_model.specs.Chronicle.{Chronicle}
 use Rattle.up_model.specs.Configuration.{Configuration}
 use Rattle.up_replay.specs.Running.{Tells}
-use Rattle.up_replay.specs.ScriptInputs.{inputs_of_steps}
+use Rattle.up_script.specs.ScriptInputs.{inputs_of_steps}
 use Rattle.up_replay.proofs.running.push_answers.Given as goal
 
 -- what the steps so far gave is told of

@@ -1,6 +1,6 @@
 use Rattle.std.proofs.Common.{◌≡◌, ◌++◌, take}
 use Rattle.std.specs.List.{flat_map}
-use Rattle.up_replay.specs.Lines.{output_lines}
+use Rattle.up_print.specs.Lines.{output_lines}
 use Rattle.up_run.proofs.teller.push_gave.Given as goal
 
 abbrev pub invariant-loop-outputs : goal.invariant-loop-outputs

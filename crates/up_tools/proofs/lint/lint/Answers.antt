@@ -1,6 +1,6 @@
 use Rattle.std.proofs.Common.{◌≡◌}
 use Rattle.std.proofs.lemmas.Result.{IfOk-weaker}
-use Rattle.up_replay.specs.declared.printed.Printed.{Printed}
+use Rattle.up_print.specs.declared.printed.Printed.{Printed}
 use Rattle.up_tools.specs.Lints.{linted}
 use Rattle.up_tools.proofs.lint.lint.Goals as goal
 

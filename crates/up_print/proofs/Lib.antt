@@ -1,0 +1,4 @@
+pub mod Beginnings
+pub mod Explaining
+pub mod Growing
+pub mod Reports

@@ -1,0 +1,62 @@
+//! Writes what is printed, as far as a writer takes it.
+ghost use Rattle.std.specs.Prelude.{◌≡◌, ◌⊎◌, ◌≤◌, ◌<◌, true, length, take, MatchOption};
+ghost use Rattle.std.specs.Io.KnownBytes.{Appends, Keeps};
+ghost use Rattle.up_model.specs.ExitStatuses.{status_number};
+ghost use Rattle.up_model.specs.declared.exit_status.ExitStatus.TheVariants.{Unusable};
+ghost use Rattle.up_print.specs.Writing.{IsBegun};
+
+use crate::printed::Printed;
+use std::io::{ErrorKind, Write};
+use up_model::ExitStatus;
+
+// Writes some of these bytes, the first ones, and returns how many: none if it was interrupted. No count if the writer failed or takes
+// no more.
+fn write_some<W: Write>(writer: &mut W, bytes: &[u8]) -> Option<usize>
+    ensures { MatchOption result (Keeps (W.contents writer.old) (W.contents writer.new))
+        (λ count. (count ≤ length bytes.now)
+        × Appends (W.contents writer.old) (W.contents writer.new) (take count bytes.now)) }
+{
+    match writer.write(bytes) {
+        Ok(0) => None,
+        Ok(count) => Some(count),
+        Err(error) => {
+            if error.kind() == ErrorKind::Interrupted {
+                Some(0)
+            } else {
+                None
+            }
+        }
+    }
+}
+
+// Writes these bytes, from the first on. False if the writer fails or takes no more.
+fn write_bytes<W: Write>(writer: &mut W, bytes: &[u8]) -> bool
+    ensures all { result ≡ true → Appends (W.contents writer.old) (W.contents writer.new) bytes.now }
+    ensures begun { IsBegun (W.contents writer.old) (W.contents writer.new) bytes.now }
+{
+    let mut rest = bytes;
+    for _ in 0..u64::MAX {
+        if rest.is_empty() {
+            return true;
+        }
+        let Some(count) = write_some(writer, rest) else {
+            return false;
+        };
+        rest = &rest[count..];
+    }
+    false
+}
+
+/// Writes what is printed, and returns the status: `Unusable` if it can't be written, and then only the first bytes were.
+pub fn write_printed<W: Write>(writer: &mut W, made: &Printed) -> ExitStatus
+    ensures written { status_number result < 3 → (result ≡ made.now.status)
+        × Appends (W.contents writer.old) (W.contents writer.new) made.now.text }
+    ensures status { (result ≡ made.now.status) ⊎ (result ≡ Unusable) }
+    ensures begun { IsBegun (W.contents writer.old) (W.contents writer.new) made.now.text }
+{
+    if write_bytes(writer, made.text.as_slice()) {
+        made.status
+    } else {
+        ExitStatus::Unusable
+    }
+}

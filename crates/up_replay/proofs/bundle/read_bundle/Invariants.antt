@@ -1,9 +1,0 @@
-use Rattle.std.proofs.Common.{length}
-use Rattle.up_replay.proofs.Bundles.{Left}
-use Rattle.up_replay.proofs.bundle.read_bundle.Given as goal
-
-abbrev pub invariant-files : goal.invariant-files
-invariant-files l = Left l.text l.folder l.bad l.line l.rest
-
-abbrev pub decreases-files : goal.decreases-files
-decreases-files l = length l.rest

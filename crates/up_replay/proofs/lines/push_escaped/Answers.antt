@@ -1,7 +1,0 @@
-use Rattle.std.proofs.Common.{rules}
-use Rattle.up_replay.specs.Lines.{escaped}
-use Rattle.up_replay.proofs.lines.push_escaped.Goals as goal
-
-pub returns-in-92 : goal.returns-in-92
-unfolding escaped
-returns-in-92 c = search rules

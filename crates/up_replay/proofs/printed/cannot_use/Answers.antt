@@ -1,7 +1,0 @@
-use Rattle.std.proofs.Common.{rules}
-use Rattle.up_replay.specs.Folders.{unusable}
-use Rattle.up_replay.proofs.printed.cannot_use.Goals as goal
-
-pub returns : goal.returns
-unfolding unusable
-returns c = search rules

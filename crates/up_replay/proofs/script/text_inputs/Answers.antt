@@ -1,6 +1,0 @@
-use Rattle.std.proofs.Common.{arith}
-use Rattle.up_replay.proofs.Stepping.{bad_step, line_within, no_step, one_step, step_less}
-use Rattle.up_replay.proofs.script.text_inputs.Goals as goal
-
-pub returns-in-None : goal.returns-in-None
-returns-in-None c = grind (arith, bad_step, line_within, no_step, one_step, step_less)

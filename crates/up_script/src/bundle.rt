@@ -1,0 +1,219 @@
+//! Bundles: files of jobs, and a script, in one stream of bytes.
+ghost use Rattle.std.specs.Prelude.{◌≡◌, ◌+◌, ◌-◌, ◌<◌, ◌≤◌, ◌^◌, ℕ, true, false, ◌++◌, None, Some, if◌then◌else◌, IfOk, OnOk, IfSome, MatchOption, length, take, drop};
+ghost use Rattle.std.specs.List.{position_or_len};
+ghost use Rattle.std.specs.Option.{option_or};
+ghost use Rattle.std.specs.Str.{is_utf8};
+ghost use Rattle.up_text.specs.Tokens.{is_line_feed};
+ghost use Rattle.up_script.specs.Bundle as bundle;
+
+use memchr::memchr;
+use std::alloc::{AllocError, Global};
+use std::str;
+use up_conf::Folder;
+use up_text::{Items, Text};
+
+/// The most bytes that a bundle has: 64 MiB.
+pub const MAX_BUNDLE: usize = 67_108_864;
+
+/// What a bundle has: a folder of files, and a script.
+#[derive(Drop)]
+pub struct Bundle<'a> {
+    pub folder: Folder,
+    /// The first line, counted from 1, that belongs to no file and no script, or whose path is no text.
+    pub bad: Option<u32>,
+    pub script: &'a [u8],
+    /// The number of the script's first line.
+    pub line: u32,
+}
+
+// The place of the first line feed, or the end.
+#[tactic(auto, unfolding(up_text::specs::Tokens::is_line_feed))]
+fn feed_at(text: &[u8]) -> usize
+    ensures { result ≡ position_or_len is_line_feed text.now }
+{
+    memchr(b'\n', text).unwrap_or(text.len())
+}
+
+// How many bytes the first line has, with its line feed.
+#[tactic(auto, using(crate::proofs::BundleLemmas::line_take, crate::proofs::BundleLemmas::line_all))]
+fn line_len(text: &[u8]) -> usize
+    ensures line { take result text.now ≡ bundle.first_line text.now }
+    ensures after { drop result text.now ≡ bundle.after_line text.now }
+    ensures within { result ≤ length text.now }
+    ensures some { 0 < length text.now → 0 < result }
+{
+    let feed = feed_at(text);
+    if feed < text.len() {
+        feed + 1
+    } else {
+        text.len()
+    }
+}
+
+/// The first line, and what stands after it.
+pub(crate) fn split_line(text: &[u8]) -> (&[u8], &[u8])
+    ensures line { result.0.now ≡ bundle.first_line text.now }
+    ensures after { result.1.now ≡ bundle.after_line text.now }
+    ensures shorter { 0 < length text.now → length result.1.now < length text.now }
+{
+    text.split_at(line_len(text))
+}
+
+// A line without its line feed.
+#[tactic(auto, using(crate::proofs::BundleLemmas::trimmed_take, crate::proofs::BundleLemmas::feed_within))]
+fn trim_blanks(line: &[u8]) -> &[u8]
+    ensures { result.now ≡ bundle.without_feed line.now }
+{
+    &line[..feed_at(line)]
+}
+
+#[tactic(auto, unfolding(crate::specs::Bundle::is_script))]
+fn is_script(line: &[u8]) -> bool
+    ensures { result ≡ bundle.is_script line.now }
+{
+    trim_blanks(line) == b"%script".as_slice()
+}
+
+#[tactic(auto, unfolding(crate::specs::Bundle::is_file))]
+fn is_file(line: &[u8]) -> bool
+    ensures { result ≡ bundle.is_file line.now }
+{
+    line.starts_with(b"%file ")
+}
+
+fn is_header(line: &[u8]) -> bool
+    ensures { result ≡ bundle.is_header line.now }
+{
+    is_script(line) || is_file(line)
+}
+
+// Whether the text has no line, or begins with a header.
+#[tactic(auto, using(crate::proofs::Passing::begins_by_first))]
+fn begins_header(text: &[u8]) -> bool
+    ensures { result ≡ bundle.begins_header (bundle.lines_of text.now) }
+{
+    match text.first() {
+        Some(b'%') => is_header(split_line(text).0),
+        Some(_) => false,
+        None => true,
+    }
+}
+
+// The text up to the next header, the text from it on, and how many lines stand before it.
+fn to_header(text: &[u8]) -> (&[u8], &[u8], u32)
+    requires { length text.now < 2 ^ 32 }
+    ensures content { result.0.now ≡ bundle.lead (bundle.lines_of text.now) }
+    ensures header { bundle.begins_header (bundle.lines_of result.1.now) ≡ true }
+    ensures files { bundle.files_of (bundle.lines_of result.1.now)
+        ≡ bundle.files_of (bundle.lines_of text.now) }
+    ensures script { bundle.script_text (bundle.lines_of result.1.now)
+        ≡ bundle.script_text (bundle.lines_of text.now) }
+    ensures number { (n : ℕ) → bundle.script_line (n + result.2) (bundle.lines_of result.1.now)
+        ≡ bundle.script_line n (bundle.lines_of text.now) }
+    ensures bad { (n : ℕ) → bundle.bad_path (n + result.2) (bundle.lines_of result.1.now)
+        ≡ bundle.bad_path n (bundle.lines_of text.now) }
+    ensures within { length result.1.now + result.2 ≤ length text.now }
+{
+    let mut rest = text;
+    let mut lines = 0u32;
+    'place_after: while !begins_header(rest) {
+        rest = split_line(rest).1;
+        lines += 1;
+    }
+    let content = &text[..text.len() - rest.len()];
+    (content, rest, lines)
+}
+
+/// The bytes as a text, if they are UTF-8.
+pub(crate) fn as_text(bytes: &[u8]) -> Option<&str>
+    ensures test { MatchOption result (is_utf8 bytes.now ≡ false) (λ text. is_utf8 bytes.now ≡ true) }
+    ensures same { IfSome result (λ text. text.now ≡ bytes.now) }
+{
+    match str::from_utf8(bytes) {
+        Ok(text) => Some(text),
+        Err(_) => None,
+    }
+}
+
+// The path of a line that begins a file.
+#[tactic(auto, unfolding(crate::specs::Bundle::path_of))]
+fn path_of(line: &[u8]) -> &[u8]
+    ensures { result.now ≡ bundle.path_of line.now }
+{
+    let line = trim_blanks(line);
+    if line.len() < 6 { &[] } else { &line[6..] }
+}
+
+// Adds a file, and answers whether its path is text, without which it isn't added.
+fn add_file(
+    alloc: Global,
+    folder: &mut Folder,
+    path: &[u8],
+    bytes: &[u8],
+) -> Result<bool, AllocError>
+    ensures folder { OnOk result (folder.new ≡ folder.old ++ bundle.file_of path.now bytes.now) }
+    ensures text { IfOk result (λ added. added ≡ is_utf8 path.now) }
+{
+    let Some(path) = as_text(path) else {
+        return Ok(false);
+    };
+    let path = Text::from_str(alloc, path)?;
+    let bytes = Items::new(Vec::from_slice(alloc, bytes)?);
+    folder.add(path, bytes)?;
+    Ok(true)
+}
+
+// The first line that is bad, with one file more.
+fn first_bad(bad: Option<u32>, good: bool, line: u32) -> Option<u32>
+    ensures { result ≡ option_or bad (if good then None else Some line) }
+{
+    match bad {
+        Some(earlier) => Some(earlier),
+        None => { if good { None } else { Some(line) } }
+    }
+}
+
+// The first line, if it is neither a header nor the end.
+fn stray(text: &[u8]) -> Option<u32>
+    ensures { result ≡ (if bundle.begins_header (bundle.lines_of text.now) then None else Some 1) }
+{
+    if begins_header(text) { None } else { Some(1) }
+}
+
+/// Reads a bundle: a line `%file PATH` begins a file, whose bytes are the lines up to the next such line or to `%script`; all after
+/// that is the script.
+pub fn read_bundle(alloc: Global, text: &[u8]) -> Result<Bundle<'_>, AllocError>
+    requires { length text.now < 2 ^ 32 - 1 }
+    ensures folder { IfOk result (λ read. read.folder ≡ bundle.files_of (bundle.lines_of text.now)) }
+    ensures bad { IfOk result (λ read. read.bad ≡ bundle.bad_line (bundle.lines_of text.now)) }
+    ensures script { IfOk result (λ read. read.script.now ≡ bundle.script_text (bundle.lines_of text.now)) }
+    ensures line { IfOk result (λ read. read.line ≡ bundle.script_line 1 (bundle.lines_of text.now)) }
+{
+    let mut folder = Folder::new(alloc);
+    let mut bad = stray(text);
+    let (_, mut rest, passed) = to_header(text);
+    let mut line = passed + 1;
+    'files: while !rest.is_empty() {
+        let (header, after) = split_line(rest);
+        if is_script(header) {
+            let script = after;
+            return Ok(Bundle {
+                folder,
+                bad,
+                script,
+                line: line + 1,
+            });
+        }
+        let (content, next, count) = to_header(after);
+        let good = add_file(alloc, &mut folder, path_of(header), content)?;
+        bad = first_bad(bad, good, line);
+        rest = next;
+        line += count + 1;
+    }
+    Ok(Bundle {
+        folder,
+        bad,
+        script: rest,
+        line,
+    })
+}

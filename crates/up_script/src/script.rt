@@ -1,0 +1,192 @@
+//! Reads a script.
+ghost use Rattle.std.specs.Prelude.{◌≡◌, ◌≤◌, ◌<◌, ◌+◌, IfOk, IfSome, MatchOption, OnErr, true, false, length, option_map};
+ghost use Rattle.up_stanza.specs.Reading.{LacksMemory};
+ghost use Rattle.up_text.specs.Places.{reading};
+ghost use Rattle.up_text.specs.Lexemes.{lexemes_of, stanzas};
+ghost use Rattle.up_script.specs.Bundle.{lines_of};
+ghost use Rattle.up_script.specs.ScriptInputs.{inputs_of_step};
+ghost use Rattle.up_script.specs.ScriptSteps.{is_text, begins_text, after_step, inputs_from, lines_inputs, step_inputs, script_inputs, unless_left, texts_in, IsNext, Fronts, ReachesNoFurther};
+
+use crate::bundle::{as_text, split_line};
+use crate::scripted::{ScriptInputs, StepInputs};
+use crate::words::inputs_of;
+use std::alloc::{AllocError, Global};
+use up_model::Input;
+use up_text::{Items, Lexer, Text, TextFault, without_comments};
+
+// The bytes as a text, where they may stand in a script.
+#[tactic(auto, unfolding(crate::specs::ScriptSteps::is_text))]
+fn text_of(bytes: &[u8]) -> Option<&str>
+    ensures test { MatchOption result (is_text bytes.now ≡ false) (λ text. is_text bytes.now ≡ true) }
+    ensures same { IfSome result (λ text. text.now ≡ bytes.now) }
+{
+    if bytes.contains(&0) {
+        return None;
+    }
+    as_text(bytes)
+}
+
+// Whether the first line may stand in a script.
+#[tactic(auto, using(crate::proofs::Splitting::begins_none, crate::proofs::Splitting::begins_first))]
+fn begins_text(script: &[u8]) -> bool
+    ensures { result ≡ begins_text (lines_of script.now) }
+{
+    if script.is_empty() {
+        return false;
+    }
+    text_of(split_line(script).0).is_some()
+}
+
+// The lines up to the first that may not stand in a script, the bytes from it on, and how many lines stand before it.
+fn text_front(script: &[u8]) -> (&[u8], &[u8], u32)
+    requires { length script.now < 4294967295 }
+    ensures { Fronts script.now result.0.now result.1.now result.2 }
+{
+    let mut rest = script;
+    let mut count = 0u32;
+    'lines: while begins_text(rest) {
+        rest = split_line(rest).1;
+        count += 1;
+    }
+    let front = &script[..script.len() - rest.len()];
+    (front, rest, count)
+}
+
+/// What comes next in a step.
+#[derive(Drop)]
+enum Next {
+    Word(Text),
+    End,
+    Bad,
+}
+
+#[tactic(auto, using(up_text::proofs::Lexemes::reads_lexemes, up_stanza::proofs::Telling::lacks_by, crate::proofs::Stepping::reads_no_further))]
+fn next_word(alloc: Global, lexer: &mut Lexer) -> Result<Next, AllocError>
+    ensures next { IfOk result (IsNext (lexemes_of lexer.old) (lexemes_of lexer.new)) }
+    ensures memory { OnErr result (LacksMemory (reading lexer.old)) }
+    ensures within { ReachesNoFurther lexer.new lexer.old }
+{
+    match lexer.next(alloc) {
+        Ok(Some(token)) => Ok(Next::Word(token.text)),
+        Ok(None) => Ok(Next::End),
+        Err(TextFault::Memory) => Err(AllocError),
+        Err(_) => Ok(Next::Bad),
+    }
+}
+
+// The words of the step in front, where each is whole; the lexer then stands after it.
+fn step_words(alloc: Global, lexer: &mut Lexer) -> Result<Option<Items<Text>>, AllocError>
+    ensures words { IfOk result (λ words. words ≡ texts_in (lexemes_of lexer.old)) }
+    ensures after { IfOk result (λ words. IfSome words
+        (λ _. lexemes_of lexer.new ≡ after_step (lexemes_of lexer.old))) }
+    ensures within { ReachesNoFurther lexer.new lexer.old }
+{
+    let mut words: Vec<Text> = Vec::new(alloc);
+    'words: loop {
+        match next_word(alloc, lexer)? {
+            Next::Word(word) => words.push(word)?,
+            Next::End => break,
+            Next::Bad => return Ok(None),
+        }
+    }
+    Ok(Some(Items::new(words)))
+}
+
+// What the step in front gives, if it is no bad one; the lexer then stands after it.
+fn step_inputs(alloc: Global, lexer: &mut Lexer) -> Result<Option<StepInputs>, AllocError>
+    ensures inputs { IfOk result (λ given. option_map inputs_of_step given ≡ step_inputs (lexemes_of lexer.old)) }
+    ensures after { IfOk result (λ given. IfSome given
+        (λ _. lexemes_of lexer.new ≡ after_step (lexemes_of lexer.old))) }
+    ensures within { ReachesNoFurther lexer.new lexer.old }
+{
+    match step_words(alloc, lexer)? {
+        Some(words) => inputs_of(alloc, words.as_slice()),
+        None => Ok(None),
+    }
+}
+
+// The inputs of a text that begins on this line, or the line on which its first bad step begins.
+#[tactic(auto, using(crate::proofs::Stepping::bad_step, crate::proofs::Stepping::line_within, crate::proofs::Stepping::no_step, crate::proofs::Stepping::one_step, crate::proofs::Stepping::step_less))]
+fn text_inputs(
+    alloc: Global,
+    text: &str,
+    line: u32,
+) -> Result<Result<ScriptInputs, u32>, AllocError>
+    requires { line + length text.now < 4294967295 }
+    ensures { IfOk result (λ read. read ≡ inputs_from line (stanzas text.now)) }
+{
+    let mut inputs = ScriptInputs::none(alloc);
+    let mut lexer = Lexer::new(text);
+    'steps: while !lexer.at_end() {
+        let lines = lexer.line();
+        match step_inputs(alloc, &mut lexer)? {
+            Some(given) => inputs.push(given)?,
+            None => return Ok(Err(line + lines.saturating_sub(1))),
+        }
+    }
+    Ok(Ok(inputs))
+}
+
+// What is read of a script, of which these bytes are left from this line on, where they begin with a line that is no text.
+#[tactic(auto, using(crate::proofs::Splitting::left_none, crate::proofs::Splitting::left_ok, crate::proofs::Splitting::left_err))]
+fn unless_left(read: Result<ScriptInputs, u32>, rest: &[u8], line: u32) -> Result<ScriptInputs, u32>
+    ensures { result ≡ unless_left line (lines_of rest.now) read }
+{
+    if rest.is_empty() {
+        return read;
+    }
+    match read {
+        Ok(_) => Err(line),
+        Err(earlier) => Err(earlier),
+    }
+}
+
+// The inputs of the lines up to the first that is no text, where they begin on this line, or the first bad line.
+#[tactic(auto, using(crate::proofs::Splitting::by_front))]
+fn lines_inputs(
+    alloc: Global,
+    script: &[u8],
+    line: u32,
+) -> Result<Result<ScriptInputs, u32>, AllocError>
+    requires { line + length script.now < 4294967295 }
+    ensures { IfOk result (λ read. read ≡ lines_inputs line (lines_of script.now)) }
+{
+    let (front, rest, count) = text_front(script);
+    let Some(text) = as_text(front) else {
+        unreachable!()
+    };
+    let read = text_inputs(alloc, text, line)?;
+    Ok(unless_left(read, rest, line + count))
+}
+
+/// The inputs of a script that begins on this line, or its first bad line.
+#[tactic(auto, unfolding(crate::specs::ScriptSteps::script_inputs), using(up_text::proofs::Comments::no_longer))]
+pub fn read_inputs(
+    alloc: Global,
+    script: &[u8],
+    line: u32,
+) -> Result<Result<ScriptInputs, u32>, AllocError>
+    requires { line + length script.now < 4294967295 }
+    ensures { IfOk result (λ read. read ≡ script_inputs line script.now) }
+{
+    let bytes = without_comments(alloc, script)?;
+    lines_inputs(alloc, bytes.as_slice(), line)
+}
+
+/// The same, each turn for itself.
+pub fn script_inputs(
+    alloc: Global,
+    script: &[u8],
+    line: u32,
+) -> Result<Result<Items<Input>, u32>, AllocError>
+    requires { line + length script.now < 4294967295 }
+    ensures { IfOk result (λ read. read ≡ script_inputs line script.now) }
+{
+    match read_inputs(alloc, script, line)? {
+        Ok(inputs) => {
+            let inputs = inputs.expanded(alloc)?;
+            Ok(Ok(inputs))
+        }
+        Err(line) => Ok(Err(line)),
+    }
+}
