@@ -19,7 +19,7 @@ use Rattle.up_model.specs.Readings.{entry_at, holders, id_of, id_at}
 use Rattle.up_model.specs.Replies.{answering, releasing, if_waits, request_in, request_instance, status_if, status_of, waiter_in}
 use Rattle.up_model.specs.Values.{Bytes}
 use Rattle.up_model.proofs.Places.{bytes_same, count}
-use Rattle.up_job.specs.InstanceLists.{new_instance}
+use Rattle.up_job.specs.InstanceLists.{limits_of, new_instance}
 use Rattle.up_job.specs.JobLists.{position_at, job_of}
 use Rattle.up_job.specs.Lists.{nth}
 use Rattle.up_job.specs.declared.instance.Instance.{Instance as Kept}
@@ -302,7 +302,7 @@ step-made outputs asked on past config c place job name f there s = record {
     d = Made job.name name ∷ c
 
     new : Kept
-    new = new_instance name job.limit None
+    new = new_instance name (limits_of job) None
 
     moved : (key : InstanceKey) (i : ℕ) → on ≡ Some (Exists key) → request_instance c ≡ Some i → instance_place config c key ≡ Some i → instance_place config d (after_made place (position_at name place past.instances) key) ≡ Some i
     moved key i is acted found =

@@ -47,3 +47,4 @@ pub mod NextHearers
 pub mod Ledgers
 pub mod Acting
 pub mod Blocking
+pub mod Overdue

@@ -17,7 +17,7 @@ use Rattle.up_book.specs.declared.past.Past.{Past}
 use Rattle.up_job.specs.declared.instance_key.InstanceKey.{InstanceKey}
 use Rattle.up_job.specs.declared.instances.JobInstances.{JobInstances}
 use Rattle.up_job.specs.declared.instance.Instance.{Instance as Kept}
-use Rattle.up_job.specs.InstanceLists.{name_of, new_instance}
+use Rattle.up_job.specs.InstanceLists.{limits_of, name_of, new_instance}
 use Rattle.up_job.specs.Named.{named}
 use Rattle.up_job.specs.Named.{place_of as place_of_name}
 use Rattle.up_job.specs.JobLists.{list_of}
@@ -54,10 +54,10 @@ uses-more id kept (suc place) (j ∷ jobs) none = omega (arith, uses-more id kep
 
 pub forgets-made : (book after : Past) (config : Configuration) (c : Chronicle) (place : ℕ) (job : JobDef) (name : Bytes) (trigger : Option (List Mark)) → Forgets book config c → nth place config.jobs ≡ Some job
     → instance_named (called job.name name) c ≡ None → ((places : Places) → Remembers places trigger job.stop_on []) → ((id : EventId) → uses_by id trigger ≡ 0)
-    → after.instances ≡ with_at place (with_made (new_instance name job.limit trigger)) book.instances → after.starts ≡ book.starts → after.events ≡ book.events → after.reading ≡ book.reading → Forgets after config (Made job.name name ∷ c)
+    → after.instances ≡ with_at place (with_made (new_instance name (limits_of job) trigger)) book.instances → after.starts ≡ book.starts → after.events ≡ book.events → after.reading ≡ book.reading → Forgets after config (Made job.name name ∷ c)
 forgets-made book after config c place job name trigger f there none blank unused does starts events reading =
     let follow : MayFollow config c (Made job.name name) = (none, found place config.jobs job there) in
-    let kept = new_instance name job.limit trigger in
+    let kept = new_instance name (limits_of job) trigger in
     let places = place_of book.events (queue c) in
     let lives : Keeps places after.instances config (Made job.name name ∷ c) = record {
       jobs = rw does (keeps-made places kept book.instances config c place job name f.lives.jobs f.lives.distinct there f.lives.older

@@ -63,6 +63,7 @@ pub record Summary : Type 0 where
   pub blocker : Option (Option ℕ)
   pub children : Children
   pub kill_moment : Option ℕ
+  pub kill_timeout : ℕ
   pub moments : Buffer ℕ
 
 abbrev pub known : Option ℕ → Option (Option ℕ)
@@ -82,6 +83,7 @@ summary config job c its = record {
   blocker = known (blocker its.place c);
   children = works_at its.place c;
   kill_moment = kill_moment its.place c;
+  kill_timeout = job.kill_timeout;
   moments = buffer (take (room job.limit) (moments_of its.place c)) (room job.limit);
 }
 
@@ -111,5 +113,6 @@ blank job name = record {
   blocker = None;
   children = idle;
   kill_moment = None;
+  kill_timeout = job.kill_timeout;
   moments = buffer [] (room job.limit);
 }

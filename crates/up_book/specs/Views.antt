@@ -41,6 +41,7 @@ view places kept = record {
   blocker = option_map places kept.blocker;
   children = kept.children;
   kill_moment = kept.kill_moment;
+  kill_timeout = kept.kill_timeout;
   moments = kept.moments;
 }
 

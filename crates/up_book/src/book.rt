@@ -1,5 +1,5 @@
 //! What an engine keeps of the past, whatever that is.
-ghost use Rattle.std.specs.Prelude.{◌≡◌, ◌≤◌, ℕ, true, false, List, ◌∷◌, ◌++◌, [], map, length, Option, None, Some, is_some, option_map, OnOk, IsOk, IfOk, IfSome};
+ghost use Rattle.std.specs.Prelude.{◌≡◌, ◌≤◌, ◌<◌, ℕ, true, false, List, ◌∷◌, ◌++◌, [], map, length, Option, None, Some, is_some, option_map, OnOk, IsOk, IfOk, IfSome};
 ghost use Rattle.std.specs.Option.{option_copied, option_map_or};
 ghost use Rattle.up_book.specs.declared.holders.Holders.{Holders as HoldersValue};
 ghost use Rattle.up_book.specs.Asking.{given_place};
@@ -22,6 +22,7 @@ ghost use Rattle.up_model.specs.Clock as clock;
 ghost use Rattle.up_model.specs.Configuration.{Configuration, job_named};
 ghost use Rattle.up_model.specs.Environments.{env_of_job};
 ghost use Rattle.up_model.specs.Due.{turn_event, telling};
+ghost use Rattle.up_model.specs.Files.{names_in_order};
 ghost use Rattle.up_model.specs.Held as held;
 ghost use Rattle.up_model.specs.Instances.{Instance, instances_of, instance_named};
 ghost use Rattle.up_model.specs.Outputs.{outputs_of};
@@ -86,11 +87,22 @@ pub trait Book: Drop {
             → instance_place config c key ≡ Some i → job_at config key.job ≡ Some job.now
             → result ≡ clock.may_respawn job.now.limit i c };
 
-    /// What the clock read when main was sent its signal, until the timer has sent KILL.
-    fn kill_moment(&self, key: InstanceKey) -> Option<u64>
-        ensures { (mode : Mode) (config : Configuration) (c : Chronicle) (i : ℕ)
+    /// Whether the timer is to kill main of an instance (init(5), `kill timeout`).
+    fn is_overdue(&self, key: InstanceKey) -> bool
+        ensures { (mode : Mode) (config : Configuration) (c : Chronicle) (i : ℕ) (job : JobValue)
             → stands self.now mode config c
-            → instance_place config c key ≡ Some i → result ≡ clock.kill_moment i c };
+            → instance_place config c key ≡ Some i → job_at config key.job ≡ Some job
+            → result ≡ clock.kill_due job i c };
+
+    /// A reading of the clock, in milliseconds, before which the timer kills nobody. Takes no memory.
+    fn alarm(&self) -> u128
+        ensures { (mode : Mode) (config : Configuration) (c : Chronicle) → stands self.now mode config c
+            → clock.now c < result → clock.all_overdue config (names_in_order config c) c ≡ [] };
+
+    /// The alarm is set to the earliest reading at which the timer kills somebody. It takes no memory, and looks at each instance.
+    fn set_alarm(&mut self)
+        ensures { (mode : Mode) (config : Configuration) (c : Chronicle) → stands self.old mode config c
+            → stands self.new mode config c };
 
     /// The environment in force, if the instance has one.
     fn env(&self, key: InstanceKey) -> Option<&Env>

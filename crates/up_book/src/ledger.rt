@@ -176,8 +176,16 @@ impl Book for Ledger {
         self.past.may_respawn(key, job.limit)
     }
 
-    fn kill_moment(&self, key: InstanceKey) -> Option<u64> {
-        self.past.kill_moment(key)
+    fn is_overdue(&self, key: InstanceKey) -> bool {
+        self.past.is_overdue(key)
+    }
+
+    fn alarm(&self) -> u128 {
+        self.past.alarm()
+    }
+
+    fn set_alarm(&mut self) {
+        self.past.set_alarm();
     }
 
     fn env(&self, key: InstanceKey) -> Option<&Env> {

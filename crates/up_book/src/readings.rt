@@ -7,6 +7,7 @@ ghost use Rattle.up_model.specs.Instances.{Instance as InstanceValue, instances_
 ghost use Rattle.up_book.specs.Keys.{instance_at};
 ghost use Rattle.up_book.specs.Views.{bindings_of};
 ghost use Rattle.up_conf.specs.declared.job.JobDef.{JobDef as JobValue};
+ghost use Rattle.up_job.specs.Alarms.{AllFrom};
 ghost use Rattle.up_job.specs.Changes as spec;
 ghost use Rattle.up_job.specs.Lists.{nth};
 ghost use Rattle.up_model.specs.Chronicle.{Chronicle};
@@ -16,7 +17,7 @@ ghost use Rattle.up_model.specs.Readings as read;
 
 use crate::past::Past;
 use up_conf::{Limit, Process};
-use up_job::{Instance, InstanceKey, child_of};
+use up_job::{Instance, InstanceKey, child_of, is_overdue};
 use up_model::{Event, EventId, Failure, Goal, State};
 use up_text::Env;
 
@@ -86,15 +87,30 @@ impl Past {
         }
     }
 
-    /// What the clock read when main was sent its signal, in milliseconds, until the timer has sent KILL.
-    pub(crate) fn kill_moment(&self, key: InstanceKey) -> Option<u64>
-        ensures { (config : Configuration) (c : Chronicle) (i : ℕ) → Forgets self.now config c
-            → instance_place self.now c key ≡ Some i → result ≡ clock.kill_moment i c }
+    /// Whether the timer is to kill main of an instance (init(5), `kill timeout`).
+    pub(crate) fn is_overdue(&self, key: InstanceKey) -> bool
+        ensures { (config : Configuration) (c : Chronicle) (i : ℕ) (job : JobValue) → Forgets self.now config c
+            → instance_place self.now c key ≡ Some i → nth key.job config.jobs ≡ Some job
+            → result ≡ clock.kill_due job i c }
     {
         match self.instances.at(key) {
-            Some(kept) => kept.kill_moment,
-            None => None,
+            Some(kept) => is_overdue(kept, self.reading),
+            None => false,
         }
+    }
+
+    /// A reading of the clock before which the timer kills nobody.
+    pub(crate) fn alarm(&self) -> u128
+        ensures { AllFrom result self.now.instances }
+    {
+        self.instances.alarm()
+    }
+
+    /// The alarm is set to the earliest moment at which somebody is to be killed. Takes no memory.
+    pub(crate) fn set_alarm(&mut self)
+        ensures { self.new ≡ self.old }
+    {
+        self.instances.set_alarm();
     }
 
     /// Why an instance failed since it entered starting last.

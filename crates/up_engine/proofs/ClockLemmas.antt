@@ -1,5 +1,5 @@
 -- What the timer kills.
-use Rattle.std.proofs.Common.{◌≡◌, ℕ, zero, suc, ◌+◌, ◌<◌, Bool, true, false, List, [], ◌∷◌, ◌++◌, length, take, drop, get_or, map, Option, Some, refl, sym, ◌∙◌, ap, arith, add-one, drop-cons}
+use Rattle.std.proofs.Common.{◌≡◌, ℕ, zero, suc, ◌+◌, ◌<◌, Bool, true, false, List, [], ◌∷◌, ◌++◌, length, take, drop, get_or, map, Option, Some, refl, sym, ◌∙◌, ap, arith}
 use Rattle.up_conf.specs.declared.job.JobDef.{JobDef}
 use Rattle.up_job.specs.declared.instance_key.InstanceKey.{InstanceKey}
 use Rattle.up_model.specs.Chronicle.{Chronicle, Signalled}
@@ -35,13 +35,6 @@ instances_length places [] (first ∷ found) h = absurd cc
 instances_length places (key ∷ keys) [] h = absurd cc
 instances_length places (key ∷ keys) (first ∷ found) h = ap suc (instances_length places keys found (cc))
 
--- those of the jobs from one on
-pub overdue_left : (config : Configuration) (jobs : List JobDef) (i : ℕ) (job : JobDef) (c : Chronicle) → i < length jobs → job ≡ get_or jobs i job
-    → all_overdue config (job_names (drop i jobs)) c ≡ overdue config (instances_of job.name c) c ++ all_overdue config (job_names (drop (i + 1) jobs)) c
-overdue_left config jobs i job c within here =
-    let one : drop i jobs ≡ get_or jobs i job ∷ drop (i + 1) jobs = rw add-one (drop-cons jobs i job within) in
-    ap (λ left. all_overdue config (job_names left) c) one ∙ ap (λ j. overdue config (instances_of j.name c) c ++ all_overdue config (job_names (drop (i + 1) jobs)) c) (sym here)
-
 -- if none of these is overdue, no instance among them is
 pub none_due : (config : Configuration) (its : List Instance) (n : ℕ) (x : Instance) (rest : List Instance) (c : Chronicle) → overdue config its c ≡ [] → drop n its ≡ x ∷ rest
     → kill_due_by (file_of config x.place c) x.place c ≡ false
@@ -72,10 +65,11 @@ none_left config (job ∷ jobs) (suc n) c none = none_left config jobs n c (seco
     second [] none = none
     second (x ∷ xs) none = absurd cc
 
-pub none_of_job : (config : Configuration) (jobs : List JobDef) (n : ℕ) (job : JobDef) (c : Chronicle) → n < length jobs → job ≡ get_or jobs n job → all_overdue config (job_names jobs) c ≡ []
+pub none_of_job : (config : Configuration) (jobs : List JobDef) (n : ℕ) (job : JobDef) (rest : List JobDef) (c : Chronicle) → drop n jobs ≡ job ∷ rest → all_overdue config (job_names jobs) c ≡ []
     → overdue config (instances_of job.name c) c ≡ []
-none_of_job config jobs n job c within here none = first (overdue config (instances_of job.name c) c) (sym (overdue_left config jobs n job c within here) ∙ none_left config jobs n c none)
+none_of_job config jobs n job rest c is none =
+    first (overdue config (instances_of job.name c) c) (sym (ap (λ js. all_overdue config (job_names js) c) is) ∙ none_left config jobs n c none)
   where
-    first : (xs : List ℕ) → xs ++ all_overdue config (job_names (drop (n + 1) jobs)) c ≡ [] → xs ≡ []
+    first : (xs : List ℕ) → xs ++ all_overdue config (job_names rest) c ≡ [] → xs ≡ []
     first [] none = refl
     first (x ∷ xs) none = absurd cc

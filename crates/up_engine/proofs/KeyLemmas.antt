@@ -34,6 +34,16 @@ job_there config jobs n job same within here = ap (λ js. slice_get js n) (sym s
 pub job_name : (config : Configuration) (n : ℕ) (job : JobDef) → job_at config n ≡ Some job → name_at config n ≡ Some job.name
 job_name config n job there = ap (option_map (λ (its : JobDef). its.name)) there
 
+-- an item of a list at an index, and those after it
+split : {X : Type 0} (xs : List X) (n : ℕ) → n < length xs → (x : X) × ((slice_get xs n ≡ Some x) × (drop n xs ≡ x ∷ drop (suc n) xs))
+split [] n within = absurd (omega (arith, within))
+split (x ∷ xs) zero within = (x, (refl, refl))
+split (x ∷ xs) (suc n) within = let found = split xs n (omega (arith, within)) in (found.0, (found.1.0, found.1.1))
+
+-- the same of an index within the table
+pub job-at : (config : Configuration) (jobs : List JobDef) (n : ℕ) → jobs ≡ config.jobs → n < length jobs → (job : JobDef) × ((job_at config n ≡ Some job) × (drop n jobs ≡ job ∷ drop (suc n) jobs))
+job-at config jobs n same inside = let found = split jobs n inside in (found.0, (ap (λ js. slice_get js n) (sym same) ∙ found.1.0, found.1.1))
+
 -- what is found in a list is within it
 pub within : {X : Type 0} (xs : List X) (n : ℕ) (x : X) → slice_get xs n ≡ Some x → n < length xs
 within [] n x found = absurd cc
@@ -51,11 +61,6 @@ pub record InstanceThere (config : Configuration) (c : Chronicle) (key : Instanc
   pub is : instance_at config c key ≡ Some instance
   pub place : instance_place config c key ≡ Some instance.place
   pub rest : drop key.at instances ≡ instance ∷ drop (suc key.at) instances
-
-split : (xs : List Instance) (n : ℕ) → n < length xs → (x : Instance) × ((slice_get xs n ≡ Some x) × (drop n xs ≡ x ∷ drop (suc n) xs))
-split [] n within = absurd (omega (arith, within))
-split (x ∷ xs) zero within = (x, (refl, refl))
-split (x ∷ xs) (suc n) within = let found = split xs n (omega (arith, within)) in (found.0, (found.1.0, found.1.1))
 
 pub placed : (config : Configuration) (c : Chronicle) (key : InstanceKey) (its : Instance) → instance_at config c key ≡ Some its → instance_place config c key ≡ Some its.place
 placed config c key its there = ap (option_map (λ (it : Instance). it.place)) there

@@ -37,3 +37,4 @@ pub mod Alone
 pub mod Repeating
 pub mod Unblocked
 pub mod FreeLemmas
+pub mod Asked

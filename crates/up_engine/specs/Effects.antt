@@ -10,10 +10,11 @@ use Rattle.up_model.specs.declared.event_id.EventId.{EventId}
 use Rattle.up_model.specs.declared.failure.Verdict.{Verdict}
 use Rattle.up_model.specs.declared.input.Input.{Input}
 use Rattle.up_model.specs.declared.input.Input.TheVariants.{Turn}
+use Rattle.up_model.specs.declared.who.Who.{Who}
 use Rattle.up_model.specs.Chronicle.{Chronicle, Entry, Given, Handled}
 use Rattle.up_model.specs.Configuration.{Configuration}
 use Rattle.up_model.specs.Due.{due, effect}
-use Rattle.up_model.specs.Instances.{Instance}
+use Rattle.up_model.specs.Instances.{Instance, instance_named}
 use Rattle.up_model.specs.Judgement.{carry_out}
 use Rattle.up_model.specs.Offers.{offering}
 
@@ -40,6 +41,20 @@ Concerns places (Instance' key) config given c = due config c ≡ [] → IsAlone
 Concerns places (Event key) config given c = (e : ℕ) × (effect config given c ++ c ≡ Handled e ∷ Given Turn ∷ c)
     × (places (Handled e ∷ Given Turn ∷ c) key ≡ Some e)
 Concerns places Anybody config given c = offering (effect config given c ++ c) ≡ None
+
+-- whom the entries after a request concern, if nothing was due before it: nobody, an instance, or whoever may move
+abbrev pub ActsOn : Concern → Configuration → (before after : Chronicle) → Type 0
+ActsOn Nobody config c d = due config c ≡ [] → due config d ≡ []
+ActsOn (Instance' key) config c d = due config c ≡ [] → offering d ≡ None → IsAlone key config d
+ActsOn (Event key) config c d = ⊥
+ActsOn Anybody config c d = Unit {0}
+
+-- an instance by its names, if it is there; and else whoever may move
+abbrev pub IsCalled : Concern → Configuration → Who → Chronicle → Type 0
+IsCalled (Instance' key) config who c = (i : ℕ) × ((instance_place config c key ≡ Some i) × (instance_named who c ≡ Some i))
+IsCalled Anybody config who c = Unit {0}
+IsCalled Nobody config who c = ⊥
+IsCalled (Event key) config who c = ⊥
 
 -- whom the answer for a process concerns, or its end, by the key of its instance
 abbrev pub concern_of : Option InstanceKey → Concern

@@ -340,8 +340,8 @@ pub(crate) fn act<B: Book>(
             Ok(Concern::Nobody)
         }
         Input::Request { id, request } => {
-            take_request(alloc, setup, book, id, request)?;
-            Ok(Concern::Anybody)
+            let concern = take_request(alloc, setup, book, id, request)?;
+            Ok(concern)
         }
         Input::Spawned { who, process, pid } => {
             let concern = take_spawn(setup, book, who, process, pid);

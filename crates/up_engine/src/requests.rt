@@ -3,6 +3,7 @@ ghost use Rattle.std.specs.Prelude.{◌≡◌, ◌&&◌, ℕ, true, false, List,
 ghost use Rattle.up_model.specs.declared.event_id.EventId.{EventId as EventIdValue};
 ghost use Rattle.up_book.specs.Asking.{given_place};
 ghost use Rattle.up_book.specs.Keys.{job_at, Mode, Resting, Stepping, held_as, request_place, name_at, instance_place};
+ghost use Rattle.up_engine.specs.Effects.{ActsOn, Concerns, IsCalled};
 ghost use Rattle.up_engine.specs.Requests.{target_of as said_of, IsIndexed, answer_of, unless};
 ghost use Rattle.up_model.specs.declared.input.Input.{Input as InputValue};
 ghost use Rattle.up_model.specs.declared.input.Input.TheVariants as given_as;
@@ -19,6 +20,7 @@ ghost use Rattle.up_model.specs.Requests.{RequestValue};
 ghost use Rattle.up_model.specs.Values.{Bindings};
 ghost use Rattle.up_stanza.specs.declared.process.Process.TheVariants.{Main};
 
+use crate::due::Concern;
 use crate::events::event_of;
 use crate::life::{is_running, is_start};
 use crate::offers::{has_room, start_called, stop_of};
@@ -171,33 +173,55 @@ fn start_who<B: Book>(
     Ok(())
 }
 
+// The instance of these names, if it is there after a request.
+fn concern_of<B: Book>(book: &B, index: usize, who: &Who) -> Concern
+    ensures { (mode : Mode) (config : Configuration) (c : Chronicle) → B.stands book.now mode config c
+        → name_at config index ≡ Some who.now.job → IsCalled result config who.now c }
+{
+    match book.find(index, who.instance.as_str()) {
+        Some(key) => Concern::Instance(key),
+        None => Concern::Anybody,
+    }
+}
+
 fn start<B: Book>(
     alloc: Global,
     book: &mut B,
     holders: Holders,
     target: Target,
-) -> Result<(), AllocError>
-    ensures { OnOk result ((config : Configuration) (c : Chronicle) (input : InputValue) (places : List ℕ)
+) -> Result<Concern, AllocError>
+    ensures after { OnOk result ((config : Configuration) (c : Chronicle) (input : InputValue) (places : List ℕ)
         → B.stands book.old Stepping config (entry.Given input ∷ c) → IsIndexed config target.entry
         → held_as (B.event_place book.old (entry.Given input ∷ c)) (request_place (entry.Given input ∷ c)) holders
         ≡ map Some places
         → B.stands book.new Stepping config
         (model.entries_of (length c) (model.start places (said_of target.entry) (entry.Given input ∷ c))
         ++ entry.Given input ∷ c)) }
+    ensures concerns { IfOk result (λ concern. (config : Configuration) (c : Chronicle) (id : ℕ)
+        (request : RequestValue) (places : List ℕ)
+        → B.stands book.old Stepping config (entry.Given (given_as.Request id request) ∷ c)
+        → IsIndexed config target.entry
+        → held_as (B.event_place book.old (entry.Given (given_as.Request id request) ∷ c))
+        (request_place (entry.Given (given_as.Request id request) ∷ c)) holders ≡ map Some places
+        → ActsOn concern config c (model.entries_of (length c) (model.start places (said_of target.entry)
+        (entry.Given (given_as.Request id request) ∷ c)) ++ entry.Given (given_as.Request id request) ∷ c)) }
 {
     match target {
         Target::Nobody(text) => {
             drop(holders);
             refuse(book, text)?;
+            Ok(Concern::Nobody)
         }
         Target::Concerns {
             index,
             job,
             who,
             environment,
-        } => start_who(alloc, book, holders, index, job, &who, environment)?,
+        } => {
+            start_who(alloc, book, holders, index, job, &who, environment)?;
+            Ok(concern_of(book, index, &who))
+        }
     }
-    Ok(())
 }
 
 // An instance that exists is stopped, if its goal is start.
@@ -265,20 +289,29 @@ fn stop<B: Book>(
     holders: Holders,
     vars: Env,
     target: Target,
-) -> Result<(), AllocError>
-    ensures { OnOk result ((config : Configuration) (c : Chronicle) (input : InputValue) (places : List ℕ)
+) -> Result<Concern, AllocError>
+    ensures after { OnOk result ((config : Configuration) (c : Chronicle) (input : InputValue) (places : List ℕ)
         → B.stands book.old Stepping config (entry.Given input ∷ c) → IsIndexed config target.entry
         → held_as (B.event_place book.old (entry.Given input ∷ c)) (request_place (entry.Given input ∷ c)) holders
         ≡ map Some places
         → B.stands book.new Stepping config
         (model.entries_of (length c) (model.stop places vars (said_of target.entry) (entry.Given input ∷ c))
         ++ entry.Given input ∷ c)) }
+    ensures concerns { IfOk result (λ concern. (config : Configuration) (c : Chronicle) (id : ℕ)
+        (request : RequestValue) (places : List ℕ)
+        → B.stands book.old Stepping config (entry.Given (given_as.Request id request) ∷ c)
+        → IsIndexed config target.entry
+        → held_as (B.event_place book.old (entry.Given (given_as.Request id request) ∷ c))
+        (request_place (entry.Given (given_as.Request id request) ∷ c)) holders ≡ map Some places
+        → ActsOn concern config c (model.entries_of (length c) (model.stop places vars (said_of target.entry)
+        (entry.Given (given_as.Request id request) ∷ c)) ++ entry.Given (given_as.Request id request) ∷ c)) }
 {
     match target {
         Target::Nobody(text) => {
             drop(holders);
             drop(vars);
             refuse(book, text)?;
+            Ok(Concern::Nobody)
         }
         Target::Concerns {
             index,
@@ -288,9 +321,9 @@ fn stop<B: Book>(
         } => {
             drop(environment);
             stop_who(alloc, book, holders, vars, index, &who)?;
+            Ok(concern_of(book, index, &who))
         }
     }
-    Ok(())
 }
 
 // Whether a client may have main of an instance reload.
@@ -453,19 +486,28 @@ fn restart<B: Book>(
     book: &mut B,
     holders: Holders,
     target: Target,
-) -> Result<(), AllocError>
-    ensures { OnOk result ((config : Configuration) (c : Chronicle) (input : InputValue) (places : List ℕ)
+) -> Result<Concern, AllocError>
+    ensures after { OnOk result ((config : Configuration) (c : Chronicle) (input : InputValue) (places : List ℕ)
         → B.stands book.old Stepping config (entry.Given input ∷ c) → IsIndexed config target.entry
         → held_as (B.event_place book.old (entry.Given input ∷ c)) (request_place (entry.Given input ∷ c)) holders
         ≡ map Some places
         → B.stands book.new Stepping config
         (model.entries_of (length c) (model.restart places (said_of target.entry) (entry.Given input ∷ c))
         ++ entry.Given input ∷ c)) }
+    ensures concerns { IfOk result (λ concern. (config : Configuration) (c : Chronicle) (id : ℕ)
+        (request : RequestValue) (places : List ℕ)
+        → B.stands book.old Stepping config (entry.Given (given_as.Request id request) ∷ c)
+        → IsIndexed config target.entry
+        → held_as (B.event_place book.old (entry.Given (given_as.Request id request) ∷ c))
+        (request_place (entry.Given (given_as.Request id request) ∷ c)) holders ≡ map Some places
+        → ActsOn concern config c (model.entries_of (length c) (model.restart places (said_of target.entry)
+        (entry.Given (given_as.Request id request) ∷ c)) ++ entry.Given (given_as.Request id request) ∷ c)) }
 {
     match target {
         Target::Nobody(text) => {
             drop(holders);
             refuse(book, text)?;
+            Ok(Concern::Nobody)
         }
         Target::Concerns {
             index,
@@ -475,9 +517,9 @@ fn restart<B: Book>(
         } => {
             drop(environment);
             restart_who(alloc, book, holders, index, &who)?;
+            Ok(concern_of(book, index, &who))
         }
     }
-    Ok(())
 }
 
 // The name of an `emit` is one of an event.
@@ -506,13 +548,17 @@ fn change<B: Book>(
     setup: &Setup,
     book: &mut B,
     request: Request,
-) -> Result<(), AllocError>
-    ensures { OnOk result ((c : Chronicle) (input : InputValue)
+) -> Result<Concern, AllocError>
+    ensures after { OnOk result ((c : Chronicle) (input : InputValue)
         → B.stands book.old Stepping setup.now (entry.Given input ∷ c)
         → request_place (entry.Given input ∷ c) ≡ (if request.wait then Some (length c) else None)
         → B.stands book.new Stepping setup.now
         (model.entries_of (length c) (model.outcome_of setup.now (length c) request (entry.Given input ∷ c))
         ++ entry.Given input ∷ c)) }
+    ensures concerns { IfOk result (λ concern. (c : Chronicle) (id : ℕ)
+        → B.stands book.old Stepping setup.now (entry.Given (given_as.Request id request) ∷ c)
+        → ActsOn concern setup.now c (model.entries_of (length c) (model.outcome_of setup.now (length c) request
+        (entry.Given (given_as.Request id request) ∷ c)) ++ entry.Given (given_as.Request id request) ∷ c)) }
 {
     let Request {
         command,
@@ -524,55 +570,55 @@ fn change<B: Book>(
         Command::Start => {
             let target = target_of(alloc, setup, name.as_str(), &vars)?;
             let holders = holders_of(wait);
-            start(alloc, book, holders, target)?;
-            Ok(())
+            let concern = start(alloc, book, holders, target)?;
+            Ok(concern)
         }
         Command::Stop => {
             let target = target_of(alloc, setup, name.as_str(), &vars)?;
             let holders = holders_of(wait);
-            stop(alloc, book, holders, vars, target)?;
-            Ok(())
+            let concern = stop(alloc, book, holders, vars, target)?;
+            Ok(concern)
         }
         Command::Restart => {
             let target = target_of(alloc, setup, name.as_str(), &vars)?;
             let holders = holders_of(wait);
-            restart(alloc, book, holders, target)?;
-            Ok(())
+            let concern = restart(alloc, book, holders, target)?;
+            Ok(concern)
         }
         Command::Status => {
             let target = target_of(alloc, setup, name.as_str(), &vars)?;
             let answer = status(alloc, book, target)?;
             book.reply(answer)?;
-            Ok(())
+            Ok(Concern::Nobody)
         }
         Command::List => {
             let text = list(alloc, setup, book)?;
             tell(book, text)?;
-            Ok(())
+            Ok(Concern::Nobody)
         }
         Command::Emit => {
             emit(alloc, book, name.as_str(), vars)?;
-            Ok(())
+            Ok(Concern::Anybody)
         }
         Command::Version => {
             let text = version(alloc)?;
             tell(book, text)?;
-            Ok(())
+            Ok(Concern::Nobody)
         }
         Command::Reload => {
             let target = target_of(alloc, setup, name.as_str(), &vars)?;
             reload(alloc, book, target)?;
-            Ok(())
+            Ok(Concern::Nobody)
         }
         Command::ReloadConfiguration => {
             let text = not_supported(alloc, command)?;
             refuse(book, text)?;
-            Ok(())
+            Ok(Concern::Nobody)
         }
     }
 }
 
-/// Takes a request in, with what it does.
+/// Takes a request in, with what it does; returns whom that concerns.
 #[tactic(auto, unfolding(up_model::specs::Due::effect), using(crate::proofs::Entries::one_last))]
 pub(crate) fn take_request<B: Book>(
     alloc: Global,
@@ -580,12 +626,14 @@ pub(crate) fn take_request<B: Book>(
     book: &mut B,
     id: u64,
     request: Request,
-) -> Result<(), AllocError>
-    ensures { OnOk result ((c : Chronicle) → B.stands book.old Resting setup.now c
+) -> Result<Concern, AllocError>
+    ensures after { OnOk result ((c : Chronicle) → B.stands book.old Resting setup.now c
         → B.stands book.new Stepping setup.now (effect setup.now (given_as.Request id request) c ++ c)) }
+    ensures concerns { IfOk result (λ concern. (c : Chronicle) → B.stands book.old Resting setup.now c
+        → Concerns (B.event_place book.new) concern setup.now (given_as.Request id request) c) }
 {
     let asked = request.copy()?;
     book.given(&Input::Request { id, request }, None);
-    change(alloc, setup, book, asked)?;
-    Ok(())
+    let concern = change(alloc, setup, book, asked)?;
+    Ok(concern)
 }

@@ -1,6 +1,7 @@
-//! Times in milliseconds, and what the timer does.
+//! What the timer does.
 ghost use Rattle.std.specs.Prelude.{◌≡◌, ℕ, false, List, ◌∷◌, ◌++◌, [], map, Some, IsOk, IfOk, OnOk};
 ghost use Rattle.up_book.specs.Keys.{job_at, Mode, Stepping, instance_place};
+ghost use Rattle.up_conf.specs.declared.job.JobDef.{JobDef as JobValue};
 ghost use Rattle.up_model.specs.Chronicle.{Chronicle};
 ghost use Rattle.up_model.specs.Clock as clock;
 ghost use Rattle.up_model.specs.Configuration.{Configuration};
@@ -11,77 +12,26 @@ ghost use Rattle.up_model.specs.Predicates.{entries_if};
 use std::alloc::{AllocError, Global};
 use up_book::Book;
 use up_job::InstanceKey;
-use up_model::{JobDef, Process, State};
-
-/// So many seconds.
-pub(crate) fn milliseconds(seconds: u32) -> u64
-    ensures { result ≡ clock.milliseconds seconds }
-{
-    u64::from(seconds) * 1_000
-}
-
-fn is_killed(state: State) -> bool
-    ensures { result ≡ clock.is_killed state }
-{
-    matches!(state, State::Killed)
-}
-
-// Whether so much time has passed since a moment.
-fn has_passed(moment: Option<u64>, today: u64, span: u64) -> bool
-    ensures { result ≡ clock.has_passed moment today span }
-{
-    match moment {
-        Some(moment) => span <= today.saturating_sub(moment),
-        None => false,
-    }
-}
-
-fn is_overdue<B: Book>(book: &B, job: &JobDef, key: InstanceKey) -> bool
-    ensures { (mode : Mode) (config : Configuration) (c : Chronicle) (i : ℕ) → B.stands book.now mode config c
-        → instance_place config c key ≡ Some i
-        → result ≡ clock.has_passed (clock.kill_moment i c) (clock.now c)
-        (clock.milliseconds job.now.kill_timeout) }
-{
-    has_passed(
-        book.kill_moment(key),
-        book.now(),
-        milliseconds(job.kill_timeout),
-    )
-}
-
-fn is_in_killed<B: Book>(book: &B, key: InstanceKey) -> bool
-    ensures { (mode : Mode) (config : Configuration) (c : Chronicle) (i : ℕ) → B.stands book.now mode config c
-        → instance_place config c key ≡ Some i → result ≡ clock.is_dying i c }
-{
-    is_killed(book.state_of(key)) && book.lives(key, Process::Main)
-}
-
-// Whether the timer is to kill main of an instance.
-fn kill_due<B: Book>(book: &B, job: &JobDef, key: InstanceKey) -> bool
-    ensures { (mode : Mode) (config : Configuration) (c : Chronicle) (i : ℕ) → B.stands book.now mode config c
-        → instance_place config c key ≡ Some i → result ≡ clock.kill_due job.now i c }
-{
-    is_in_killed(book, key) && is_overdue(book, job, key)
-}
+use up_model::JobDef;
 
 // Adds an instance, if the timer is to kill its main process.
 fn add_if_due<B: Book>(
     book: &B,
-    job: &JobDef,
     key: InstanceKey,
     keys: &mut Vec<InstanceKey>,
 ) -> Result<(), AllocError>
-    ensures after { OnOk result ((mode : Mode) (config : Configuration) (c : Chronicle) (i : ℕ) (done : List ℕ)
+    ensures after { OnOk result ((mode : Mode) (config : Configuration) (c : Chronicle) (i : ℕ) (job : JobValue) (done : List ℕ)
         → B.stands book.now mode config c
-        → instance_place config c key ≡ Some i
+        → instance_place config c key ≡ Some i → job_at config key.job ≡ Some job
         → map (instance_place config c) keys.old.items ≡ map Some done
         → map (instance_place config c) keys.new.items
-        ≡ map Some (done ++ entries_if (clock.kill_due job.now i c) (i ∷ []))) }
-    ensures free { (mode : Mode) (config : Configuration) (c : Chronicle) (i : ℕ)
-        → B.stands book.now mode config c → instance_place config c key ≡ Some i
-        → clock.kill_due job.now i c ≡ false → IsOk result }
+        ≡ map Some (done ++ entries_if (clock.kill_due job i c) (i ∷ []))) }
+    ensures free { (mode : Mode) (config : Configuration) (c : Chronicle) (i : ℕ) (job : JobValue)
+        → B.stands book.now mode config c
+        → instance_place config c key ≡ Some i → job_at config key.job ≡ Some job
+        → clock.kill_due job i c ≡ false → IsOk result }
 {
-    if kill_due(book, job, key) {
+    if book.is_overdue(key) {
         keys.push(key)?;
     }
     Ok(())
@@ -91,20 +41,19 @@ fn add_if_due<B: Book>(
 fn add_overdue<B: Book>(
     book: &B,
     index: usize,
-    job: &JobDef,
     keys: &mut Vec<InstanceKey>,
 ) -> Result<(), AllocError>
-    ensures after { OnOk result ((mode : Mode) (config : Configuration) (c : Chronicle) (done : List ℕ)
-        → B.stands book.now mode config c → job_at config index ≡ Some job.now
+    ensures after { OnOk result ((mode : Mode) (config : Configuration) (c : Chronicle) (job : JobValue) (done : List ℕ)
+        → B.stands book.now mode config c → job_at config index ≡ Some job
         → map (instance_place config c) keys.old.items ≡ map Some done
         → map (instance_place config c) keys.new.items
-        ≡ map Some (done ++ clock.overdue config (instances_of job.now.name c) c)) }
-    ensures free { (mode : Mode) (config : Configuration) (c : Chronicle)
-        → B.stands book.now mode config c → job_at config index ≡ Some job.now
-        → clock.overdue config (instances_of job.now.name c) c ≡ [] → IsOk result }
+        ≡ map Some (done ++ clock.overdue config (instances_of job.name c) c)) }
+    ensures free { (mode : Mode) (config : Configuration) (c : Chronicle) (job : JobValue)
+        → B.stands book.now mode config c → job_at config index ≡ Some job
+        → clock.overdue config (instances_of job.name c) c ≡ [] → IsOk result }
 {
     for at in 0..book.count(index) {
-        add_if_due(book, job, InstanceKey { job: index, at }, keys)?;
+        add_if_due(book, InstanceKey { job: index, at }, keys)?;
     }
     Ok(())
 }
@@ -129,8 +78,8 @@ fn all_overdue<B: Book>(
         → clock.all_overdue config (names_in_order config c) c ≡ [] → IsOk result }
 {
     let mut keys = no_keys(alloc);
-    for (index, job) in jobs.iter().enumerate() {
-        add_overdue(book, index, job, &mut keys)?;
+    for index in 0..jobs.len() {
+        add_overdue(book, index, &mut keys)?;
     }
     Ok(keys)
 }
@@ -163,7 +112,11 @@ pub(crate) fn kill_overdue<B: Book>(
         → jobs.now ≡ config.jobs
         → clock.all_overdue config (names_in_order config c) c ≡ [] → IsOk result }
 {
+    if u128::from(book.now()) < book.alarm() {
+        return Ok(());
+    }
     let keys = all_overdue(alloc, book, jobs)?;
     kill_each(book, keys.as_slice())?;
+    book.set_alarm();
     Ok(())
 }

@@ -2,7 +2,7 @@
 use std::alloc::{AllocError, Global};
 use std::test::Fail;
 use up_conf::Limit;
-use up_job::{Change, InstanceKey, Instances, JobFault, Moments};
+use up_job::{Change, InstanceKey, Instances, JobFault, Limits, Moments};
 use up_marks::Trigger;
 use up_model::State;
 use up_text::Name;
@@ -13,6 +13,11 @@ const MAX: u32 = 1024;
 const LIMIT: Limit = Limit {
     count: 3,
     interval: 5,
+};
+
+const LIMITS: Limits = Limits {
+    respawn: LIMIT,
+    kill_timeout: 5,
 };
 
 const UNLIMITED: Limit = Limit {
@@ -32,7 +37,7 @@ fn make(
         return Ok(1);
     }
     let stop_on = Trigger::new(alloc, &None)?;
-    match instances.add(job, name, LIMIT, stop_on) {
+    match instances.add(job, name, LIMITS, stop_on) {
         Ok(()) => Ok(0),
         Err(fault) => Ok(fault.number()),
     }
@@ -164,6 +169,31 @@ fn keys_are_places_in_order(rt: HostRuntime) -> Result<(), Fail> {
     let places = (before, after, last, place(&instances, "a"));
     assert_eq!(rt; places, (Some(1), Some(2), Some(1), None));
     assert_eq!(rt; (instances.count(0), instances.count(1)), (2, 0));
+    Ok(())
+}
+
+// What the alarm reads after main of the first job's instances was sent a signal at these moments, before and after it is set.
+fn alarms(instances: &mut Instances, moments: &[u64]) -> (u128, u128) {
+    for (at, moment) in moments.iter().enumerate() {
+        instances.change_at(InstanceKey { job: 0, at }, Change::Signals(Some(*moment)));
+    }
+    let early = instances.alarm();
+    instances.set_alarm();
+    (early, instances.alarm())
+}
+
+#[test]
+fn the_alarm_is_the_first_kill(rt: HostRuntime) -> Result<(), Fail> {
+    let job = Name::new(rt.alloc(), "job")?;
+    let mut instances = Instances::new(rt.alloc());
+    make(rt.alloc(), &mut instances, &job, "a")?;
+    make(rt.alloc(), &mut instances, &job, "b")?;
+    instances.set_alarm();
+    assert_eq!(rt; instances.alarm(), u128::MAX);
+    // Each is killed five seconds after its signal.
+    assert_eq!(rt; alarms(&mut instances, &[2000, 1000]), (1000, 6000));
+    drop(instances.remove_at(InstanceKey { job: 0, at: 1 }));
+    assert_eq!(rt; alarms(&mut instances, &[]), (6000, 7000));
     Ok(())
 }
 

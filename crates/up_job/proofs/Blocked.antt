@@ -96,7 +96,7 @@ kept-as id x free = ap (λ (blocker : Option EventId). record x { blocker = bloc
     by_blocker None free = refl
     by_blocker (Some other) free = ap (λ (b : Bool). if b then None else Some other) free
 
-list-kept : (id : EventId) (low : ℕ) (its : List Instance) → blocked_from id low its ≡ None → map (unblocked id) its ≡ its
+pub list-kept : (id : EventId) (low : ℕ) (its : List Instance) → blocked_from id low its ≡ None → map (unblocked id) its ≡ its
 list-kept id low [] none = refl
 list-kept id low (x ∷ its) none = by_case (is_event id x.blocker) refl none (list-kept id (low + 1) its)
   where

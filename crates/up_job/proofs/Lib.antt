@@ -4,4 +4,6 @@ pub mod InstanceLemmas
 pub mod JobLemmas
 pub mod MomentLemmas
 pub mod TimerLemmas
+pub mod AlarmLemmas
+pub mod WaitLemmas
 pub mod Blocked

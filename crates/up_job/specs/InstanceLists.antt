@@ -1,7 +1,7 @@
 -- The instances of a job, as contracts see them: a list in byte order of their names.
 use Rattle.std.specs.Prelude.{ℕ, ◌≤◌, ◌==◌, false, List, [], Option, None, length, if◌then◌else◌}
 use Rattle.circular_buffer.specs.Buffer.{buffer}
-use Rattle.up_stanza.specs.declared.limit.Limit.{Limit}
+use Rattle.up_conf.specs.declared.job.JobDef.{JobDef}
 use Rattle.up_model.specs.declared.limits.TheConstants.{MAX_INSTANCES}
 use Rattle.up_model.specs.declared.state.Goal.TheVariants.{Stop}
 use Rattle.up_model.specs.declared.state.State.TheVariants.{Waiting}
@@ -12,6 +12,7 @@ use Rattle.up_job.specs.declared.child.Children.{Children}
 use Rattle.up_job.specs.declared.fault.JobFault.{JobFault}
 use Rattle.up_job.specs.declared.fault.JobFault.TheVariants.{Full, Memory}
 use Rattle.up_job.specs.declared.instance.Instance.{Instance}
+use Rattle.up_job.specs.declared.limits.Limits.{Limits}
 use Rattle.up_job.specs.Moments.{room}
 use Rattle.up_job.specs.Named as by_name
 
@@ -28,9 +29,13 @@ idle = record {
   post_stop = idle_child;
 }
 
--- an instance that was just made, of a job with this limit, by what its `stop on` remembers
-abbrev pub new_instance : Bytes → Limit → (stop_on : Option (List Mark)) → Instance
-new_instance name limit stop_on = record {
+-- the limits of a job
+abbrev pub limits_of : JobDef → Limits
+limits_of job = record { respawn = job.limit; kill_timeout = job.kill_timeout }
+
+-- an instance that was just made, of a job with these limits, by what its `stop on` remembers
+abbrev pub new_instance : Bytes → Limits → (stop_on : Option (List Mark)) → Instance
+new_instance name limits stop_on = record {
   name = name;
   goal = Stop;
   state = Waiting;
@@ -43,7 +48,8 @@ new_instance name limit stop_on = record {
   blocker = None;
   children = idle;
   kill_moment = None;
-  moments = buffer [] (room limit);
+  kill_timeout = limits.kill_timeout;
+  moments = buffer [] (room limits.respawn);
   stop_on = stop_on;
 }
 

@@ -2,6 +2,7 @@
 ghost use Rattle.std.specs.Prelude.{◌≡◌, ◌<◌, length, map, OnOk, OnErr, IfOk, IfErr, option_map, IsSome, Some, None};
 ghost use Rattle.std.specs.Option.{option_copied};
 ghost use Rattle.std.specs.Borrow.{sem};
+ghost use Rattle.up_job.specs.Alarms.{AllFrom};
 ghost use Rattle.up_job.specs.Changes.{changed};
 ghost use Rattle.up_job.specs.InstanceLists.{max_instances, name_of, named, new_instance, refusal};
 ghost use Rattle.up_job.specs.JobLists.{changed_at, changed_in, instance_at, instances_at, job_of, key_of, position_at, removed_at, removed_in, with_made};
@@ -10,14 +11,15 @@ ghost use Rattle.up_job.specs.Lists.{nth, with_at, position_in};
 ghost use Rattle.up_job.specs.Named as by_name;
 ghost use Rattle.up_job.specs.Unblocking.{IsBlocked, key_from, unblocked_in};
 
+use crate::alarm::{alarm_after, earliest};
 use crate::change::Change;
 use crate::fault::JobFault;
 use crate::instance::Instance;
 use crate::instance_key::InstanceKey;
 use crate::instances::{Instances, JobInstances};
+use crate::limits::Limits;
 use up_marks::Trigger;
 use up_model::EventId;
-use up_stanza::Limit;
 use up_text::Name;
 
 fn at(jobs: &[JobInstances], key: InstanceKey) -> Option<&Instance>
@@ -95,17 +97,17 @@ fn first_blocked(jobs: &[JobInstances], id: EventId) -> Option<InstanceKey>
 fn add_in(
     job: &mut JobInstances,
     name: &str,
-    limit: Limit,
+    limits: Limits,
     stop_on: Trigger,
 ) -> Result<usize, JobFault>
     requires { named name.now job.old.instances ≡ None }
-    ensures added { OnOk result (job.new ≡ with_made (new_instance name.now limit stop_on) job.old) }
+    ensures added { OnOk result (job.new ≡ with_made (new_instance name.now limits stop_on) job.old) }
     ensures position { IfOk result (λ at. at ≡ position_in name.now (map name_of job.old.instances)) }
     ensures fits { OnOk result (length job.old.instances < max_instances) }
     ensures refused { IfErr result (λ fault. fault ≡ refusal job.old.instances) }
     ensures unchanged { OnErr result (job.new ≡ job.old) }
 {
-    job.instances.add(name, limit, stop_on)
+    job.instances.add(name, limits, stop_on)
 }
 
 #[tactic(auto, using(crate::proofs::Places::set_with_at, crate::proofs::Places::nth_get))]
@@ -113,19 +115,19 @@ fn add_at(
     jobs: &mut Vec<JobInstances>,
     job: usize,
     name: &str,
-    limit: Limit,
+    limits: Limits,
     stop_on: Trigger,
 ) -> Result<usize, JobFault>
     requires { named name.now (instances_at job jobs.old.items) ≡ None }
     ensures added { OnOk result (jobs.new.items
-        ≡ with_at job (with_made (new_instance name.now limit stop_on)) jobs.old.items) }
+        ≡ with_at job (with_made (new_instance name.now limits stop_on)) jobs.old.items) }
     ensures position { IfOk result (λ at. at ≡ position_at name.now job jobs.old.items) }
     ensures fits { OnOk result (length (instances_at job jobs.old.items) < max_instances) }
     ensures refused { IfErr result (λ fault. fault ≡ refusal (instances_at job jobs.old.items)) }
     ensures unchanged { OnErr result (jobs.new.items ≡ jobs.old.items) }
 {
     if job < jobs.len() {
-        add_in(&mut jobs[job], name, limit, stop_on)
+        add_in(&mut jobs[job], name, limits, stop_on)
     } else {
         drop(stop_on);
         Err(JobFault::Memory)
@@ -187,7 +189,23 @@ impl Instances {
     pub fn change_at(&mut self, key: InstanceKey, its: Change)
         ensures { self.new ≡ changed_at key (changed its) self.old }
     {
+        self.alarm = alarm_after(&its, self.alarm);
         change_at(&mut self.jobs, key, its);
+    }
+
+    /// A reading of the clock before which the timer kills nobody.
+    pub fn alarm(&self) -> u128
+        ensures { AllFrom result self.now }
+    {
+        let alarm = self.alarm;
+        alarm
+    }
+
+    /// The alarm is set to the earliest moment at which somebody is to be killed. Looks at each instance.
+    pub fn set_alarm(&mut self)
+        ensures { self.new ≡ self.old }
+    {
+        self.alarm = earliest(self.jobs.as_slice());
     }
 
     /// Removes an instance, if there is one, and returns it.
@@ -204,18 +222,18 @@ impl Instances {
         &mut self,
         job: usize,
         name: &str,
-        limit: Limit,
+        limits: Limits,
         stop_on: Trigger,
     ) -> Result<usize, JobFault>
         requires { named name.now (instances_at job self.old) ≡ None }
         ensures added { OnOk result (self.new
-            ≡ with_at job (with_made (new_instance name.now limit stop_on)) self.old) }
+            ≡ with_at job (with_made (new_instance name.now limits stop_on)) self.old) }
         ensures position { IfOk result (λ at. at ≡ position_at name.now job self.old) }
         ensures fits { OnOk result (length (instances_at job self.old) < max_instances) }
         ensures refused { IfErr result (λ fault. fault ≡ refusal (instances_at job self.old)) }
         ensures unchanged { OnErr result (self.new ≡ self.old) }
     {
-        add_at(&mut self.jobs, job, name, limit, stop_on)
+        add_at(&mut self.jobs, job, name, limits, stop_on)
     }
 
     /// What the `stop on` of an instance remembers.

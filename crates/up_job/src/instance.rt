@@ -4,11 +4,11 @@ ghost use Rattle.up_job.specs.InstanceLists.{new_instance};
 
 use crate::child::{Children, idle};
 use crate::holder::Holder;
+use crate::limits::Limits;
 use crate::moments::Moments;
 use std::alloc::{AllocError, Global};
 use up_marks::Trigger;
 use up_model::{EventId, Failure, Goal, State};
-use up_stanza::Limit;
 use up_text::{Env, Items, Text};
 
 /// An instance of a job.
@@ -33,23 +33,25 @@ pub struct Instance {
     pub children: Children,
     /// What the clock read when main was sent its signal, until the timer has sent KILL.
     pub kill_moment: Option<u64>,
+    /// How many seconds after that main is killed.
+    pub kill_timeout: u32,
     /// The last respawns, as many as the limit counts.
     pub moments: Moments,
     /// What its `stop on` remembers.
     pub stop_on: Trigger,
 }
 
-/// An instance whose life begins, of a job with this limit, by what its `stop on` remembers.
+/// An instance whose life begins, of a job with these limits, by what its `stop on` remembers.
 pub(crate) fn new_instance(
     alloc: Global,
     name: &str,
-    limit: Limit,
+    limits: Limits,
     stop_on: Trigger,
 ) -> Result<Instance, AllocError>
-    ensures { IfOk result (λ instance. instance ≡ new_instance name.now limit stop_on) }
+    ensures { IfOk result (λ instance. instance ≡ new_instance name.now limits stop_on) }
 {
     let name = Text::from_str(alloc, name)?;
-    let moments = Moments::new(alloc, limit)?;
+    let moments = Moments::new(alloc, limits.respawn)?;
     Ok(Instance {
         name,
         goal: Goal::Stop,
@@ -63,6 +65,7 @@ pub(crate) fn new_instance(
         blocker: None,
         children: idle(),
         kill_moment: None,
+        kill_timeout: limits.kill_timeout,
         moments,
         stop_on,
     })

@@ -13,29 +13,33 @@ ghost use Rattle.up_job.specs.Unblocking.{blocked_from, unblocked};
 use crate::change::{Change, apply};
 use crate::fault::JobFault;
 use crate::instance::{Instance, new_instance};
-use crate::unblocking::{first_blocked, unblock_all};
+use crate::limits::Limits;
+use crate::unblocking::{any_waits, first_blocked, may_wait, unblock_all};
 use std::alloc::{AllocError, Global};
 use std::marker::Model;
 use up_marks::Trigger;
 use up_model::{EventId, MAX_INSTANCES};
-use up_stanza::Limit;
 
 /// The instances of a job in byte order of their names, which contracts see as their list.
 #[derive(Drop)]
 pub struct InstanceList {
     instances: Vec<Instance>,
+    // Whether one of them may wait for an event. Where none does, none is searched.
+    may_wait: bool,
 }
 
 impl Model for InstanceList {
-    ghost use Rattle.std.specs.Prelude.{List};
+    ghost use Rattle.std.specs.Prelude.{◌≡◌, false, List};
     ghost use Rattle.up_job.specs.declared.instance.Instance.{Instance};
     ghost use Rattle.up_job.specs.InstanceLists.{IsInstanceList};
+    ghost use Rattle.up_job.specs.Waiting.{any_waits};
 
     ghost Value = { List Instance };
 
     ghost view = { λ r. r.instances.items };
 
-    ghost invariant = { λ r. IsInstanceList r.instances.items };
+    ghost invariant = { λ r. IsInstanceList r.instances.items
+        × (r.may_wait ≡ false → any_waits r.instances.items ≡ false) };
 }
 
 fn is_before(name: &str, other: &str) -> bool
@@ -137,6 +141,7 @@ impl InstanceList {
     {
         InstanceList {
             instances: Vec::new(alloc),
+            may_wait: false,
         }
     }
 
@@ -146,7 +151,10 @@ impl InstanceList {
     {
         let mut instances = Vec::new(alloc);
         instances.push(instance)?;
-        Ok(InstanceList { instances })
+        Ok(InstanceList {
+            instances,
+            may_wait: true,
+        })
     }
 
     /// How many there are.
@@ -195,12 +203,12 @@ impl InstanceList {
     pub(crate) fn add(
         &mut self,
         name: &str,
-        limit: Limit,
+        limits: Limits,
         stop_on: Trigger,
     ) -> Result<usize, JobFault>
         requires { named name.now self.old ≡ None }
         ensures added { OnOk result (self.new
-            ≡ with_instance (new_instance name.now limit stop_on) self.old) }
+            ≡ with_instance (new_instance name.now limits stop_on) self.old) }
         ensures position { IfOk result (λ at. at ≡ position_in name.now (map name_of self.old)) }
         ensures fits { OnOk result (length self.old < max_instances) }
         ensures refused { IfErr result (λ fault. fault ≡ refusal self.old) }
@@ -210,7 +218,7 @@ impl InstanceList {
             drop(stop_on);
             return Err(JobFault::Full);
         }
-        let instance = new_instance(*self.instances.allocator(), name, limit, stop_on)?;
+        let instance = new_instance(*self.instances.allocator(), name, limits, stop_on)?;
         let at = insert(&mut self.instances, instance)?;
         Ok(at)
     }
@@ -236,6 +244,7 @@ impl InstanceList {
     pub(crate) fn change_at(&mut self, at: usize, its: Change)
         ensures { self.new ≡ with_at at (changed its) self.old }
     {
+        self.may_wait = may_wait(self.may_wait, &its);
         change_at(&mut self.instances, at, its);
     }
 
@@ -244,6 +253,7 @@ impl InstanceList {
         requires { IsSome (named name.now self.old) }
         ensures { self.new ≡ with_change name.now (changed its) self.old }
     {
+        self.may_wait = may_wait(self.may_wait, &its);
         change(&mut self.instances, name, its);
     }
 
@@ -261,6 +271,9 @@ impl InstanceList {
     pub(crate) fn first_blocked(&self, id: EventId) -> Option<usize>
         ensures { result ≡ blocked_from id 0 self.now }
     {
+        if !self.may_wait {
+            return None;
+        }
         first_blocked(self.instances.as_slice(), id)
     }
 
@@ -268,6 +281,9 @@ impl InstanceList {
     pub(crate) fn unblock(&mut self, id: EventId)
         ensures { self.new ≡ map (unblocked id) self.old }
     {
-        unblock_all(&mut self.instances, id);
+        if self.may_wait {
+            unblock_all(&mut self.instances, id);
+            self.may_wait = any_waits(self.instances.as_slice());
+        }
     }
 }

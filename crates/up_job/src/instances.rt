@@ -12,11 +12,11 @@ use crate::change::Change;
 use crate::fault::JobFault;
 use crate::instance::{Instance, new_instance};
 use crate::instance_list::InstanceList;
+use crate::limits::Limits;
 use std::alloc::{AllocError, Global};
 use std::marker::Model;
 use up_conf::JobDef;
 use up_marks::Trigger;
-use up_stanza::Limit;
 use up_text::Name;
 
 /// A job, and its instances in byte order of their names.
@@ -30,19 +30,22 @@ pub struct JobInstances {
 #[derive(Drop)]
 pub struct Instances {
     pub(crate) jobs: Vec<JobInstances>,
+    // The timer kills nobody before the clock reads this. It may be too early.
+    pub(crate) alarm: u128,
 }
 
 impl Model for Instances {
     ghost use Rattle.std.specs.Prelude.{List};
     ghost use Rattle.up_job.specs.declared.instances.JobInstances.{JobInstances};
     ghost use Rattle.up_job.specs.JobLists.{job_of};
+    ghost use Rattle.up_job.specs.Alarms.{AllFrom};
     ghost use Rattle.up_job.specs.Named.{AreInOrder};
 
     ghost Value = { List JobInstances };
 
     ghost view = { λ s. s.jobs.items };
 
-    ghost invariant = { λ s. AreInOrder job_of s.jobs.items };
+    ghost invariant = { λ s. AreInOrder job_of s.jobs.items × AllFrom s.alarm s.jobs.items };
 }
 
 fn is_before(name: &str, other: &str) -> bool
@@ -109,13 +112,13 @@ fn first_of(
     alloc: Global,
     job: &Name,
     instance: &str,
-    limit: Limit,
+    limits: Limits,
     stop_on: Trigger,
 ) -> Result<JobInstances, AllocError>
     ensures { IfOk result (λ its. its
-        ≡ record { name = job.now; instances = new_instance instance.now limit stop_on ∷ [] }) }
+        ≡ record { name = job.now; instances = new_instance instance.now limits stop_on ∷ [] }) }
 {
-    let instance = new_instance(alloc, instance, limit, stop_on)?;
+    let instance = new_instance(alloc, instance, limits, stop_on)?;
     match job.copy() {
         Ok(name) => with_first(alloc, name, instance),
         Err(fault) => {
@@ -130,17 +133,17 @@ fn add_first(
     jobs: &mut Vec<JobInstances>,
     job: &Name,
     instance: &str,
-    limit: Limit,
+    limits: Limits,
     stop_on: Trigger,
 ) -> Result<usize, AllocError>
     requires order { by_name.AreInOrder job_of jobs.old.items }
     requires absent { by_name.named job_of job.now jobs.old.items ≡ None }
     ensures order { OnOk result (by_name.AreInOrder job_of jobs.new.items) }
     ensures added { OnOk result (Changes job.now
-        (with_instance (new_instance instance.now limit stop_on)) jobs.old.items jobs.new.items) }
+        (with_instance (new_instance instance.now limits stop_on)) jobs.old.items jobs.new.items) }
     ensures unchanged { OnErr result (jobs.new.items ≡ jobs.old.items) }
 {
-    let its = first_of(*jobs.allocator(), job, instance, limit, stop_on)?;
+    let its = first_of(*jobs.allocator(), job, instance, limits, stop_on)?;
     let at = position(jobs.as_slice(), job);
     jobs.insert(at, its)?;
     Ok(at)
@@ -151,7 +154,7 @@ fn add_to(
     jobs: &mut Vec<JobInstances>,
     job: &Name,
     instance: &str,
-    limit: Limit,
+    limits: Limits,
     stop_on: Trigger,
 ) -> Result<usize, JobFault>
     requires order { by_name.AreInOrder job_of jobs.old.items }
@@ -159,13 +162,13 @@ fn add_to(
     requires absent { named instance.now (instances_in job.now jobs.old.items) ≡ None }
     ensures order { by_name.AreInOrder job_of jobs.new.items }
     ensures added { OnOk result (Changes job.now
-        (with_instance (new_instance instance.now limit stop_on)) jobs.old.items jobs.new.items) }
+        (with_instance (new_instance instance.now limits stop_on)) jobs.old.items jobs.new.items) }
     ensures fits { OnOk result (length (instances_in job.now jobs.old.items) < max_instances) }
     ensures refused { IfErr result (λ fault. fault ≡ refusal (instances_in job.now jobs.old.items)) }
     ensures unchanged { OnErr result (jobs.new.items ≡ jobs.old.items) }
 {
     let at = position(jobs.as_slice(), job);
-    jobs[at].instances.add(instance, limit, stop_on)
+    jobs[at].instances.add(instance, limits, stop_on)
 }
 
 fn take(jobs: &mut Vec<JobInstances>, job: &Name, instance: &str) -> Instance
@@ -196,6 +199,7 @@ impl Instances {
     {
         Instances {
             jobs: Vec::new(alloc),
+            alarm: u128::MAX,
         }
     }
 
@@ -205,7 +209,10 @@ impl Instances {
         ensures { IfOk result (λ instances. instances ≡ map new_job jobs.now) }
     {
         let jobs = empty_jobs(alloc, jobs)?;
-        Ok(Instances { jobs })
+        Ok(Instances {
+            jobs,
+            alarm: u128::MAX,
+        })
     }
 
     /// The instances of a job.
@@ -235,23 +242,24 @@ impl Instances {
         &mut self,
         job: &Name,
         instance: &str,
-        limit: Limit,
+        limits: Limits,
         stop_on: Trigger,
     ) -> Result<(), JobFault>
         requires { named instance.now (instances_in job.now self.old) ≡ None }
         ensures added { OnOk result (Changes job.now
-            (with_instance (new_instance instance.now limit stop_on)) self.old self.new) }
+            (with_instance (new_instance instance.now limits stop_on)) self.old self.new) }
         ensures fits { OnOk result (length (instances_in job.now self.old) < max_instances) }
         ensures refused { IfErr result (λ fault. fault ≡ refusal (instances_in job.now self.old)) }
         ensures unchanged { OnErr result (self.new ≡ self.old) }
     {
+        self.alarm = 0;
         match place(self.jobs.as_slice(), job) {
             Ok(_) => {
-                add_to(&mut self.jobs, job, instance, limit, stop_on)?;
+                add_to(&mut self.jobs, job, instance, limits, stop_on)?;
                 Ok(())
             }
             Err(_) => {
-                add_first(&mut self.jobs, job, instance, limit, stop_on)?;
+                add_first(&mut self.jobs, job, instance, limits, stop_on)?;
                 Ok(())
             }
         }
@@ -262,6 +270,7 @@ impl Instances {
         requires { IsSome (named instance.now (instances_in job.now self.old)) }
         ensures { Changes job.now (with_change instance.now (changed its)) self.old self.new }
     {
+        self.alarm = 0;
         change(&mut self.jobs, job, instance, its);
     }
 
@@ -271,6 +280,7 @@ impl Instances {
         ensures taken { named instance.now (instances_in job.now self.old) ≡ Some result }
         ensures rest { Changes job.now (without instance.now) self.old self.new }
     {
+        self.alarm = 0;
         take(&mut self.jobs, job, instance)
     }
 }

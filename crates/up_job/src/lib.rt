@@ -1,6 +1,7 @@
 //! Where each instance is in its life: the tables of its states, as functions of plain values that take no memory.
 #![tactic(auto)]
 
+mod alarm;
 mod by_position;
 mod change;
 mod child;
@@ -12,6 +13,7 @@ mod instance_key;
 mod instance_list;
 mod instances;
 mod judgement;
+mod limits;
 mod moments;
 mod state;
 mod timer;
@@ -27,6 +29,7 @@ pub use instance_key::InstanceKey;
 pub use instance_list::InstanceList;
 pub use instances::{Instances, JobInstances};
 pub use judgement::judge_end;
+pub use limits::Limits;
 pub use moments::Moments;
 pub use state::next_state;
 pub use timer::is_overdue;

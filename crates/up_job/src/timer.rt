@@ -3,7 +3,7 @@ ghost use Rattle.std.specs.Prelude.{◌≡◌, ℕ, is_some};
 ghost use Rattle.up_conf.specs.declared.job.JobDef.{JobDef as JobDefValue};
 ghost use Rattle.up_model.specs.Chronicle.{Chronicle};
 ghost use Rattle.up_model.specs.Clock as clock;
-ghost use Rattle.up_job.specs.Timers.{is_dying, is_overdue, IsKept};
+ghost use Rattle.up_job.specs.Timers.{is_dying, is_overdue, kill_at, IsKept};
 
 use crate::child::child_of;
 use crate::instance::Instance;
@@ -42,18 +42,34 @@ fn is_dying(instance: &Instance) -> bool
     is_killed(instance.state) && child_of(&instance.children, Process::Main).pid.is_some()
 }
 
-fn overdue(instance: &Instance, timeout: u32, now: u64) -> bool
-    ensures { result ≡ is_overdue timeout now instance.now }
+fn overdue(instance: &Instance, now: u64) -> bool
+    ensures { result ≡ is_overdue now instance.now }
 {
-    is_dying(instance) && has_passed(instance.kill_moment, now, milliseconds(timeout))
+    is_dying(instance)
+        && has_passed(
+            instance.kill_moment,
+            now,
+            milliseconds(instance.kill_timeout),
+        )
 }
 
-/// Whether the timer is to kill main of an instance, by the kill timeout of its job in seconds (init(5),
-/// `kill timeout`).
-pub fn is_overdue(instance: &Instance, timeout: u32, now: u64) -> bool
-    ensures kept { result ≡ is_overdue timeout now instance.now }
-    ensures model { (job : JobDefValue) (i : ℕ) (c : Chronicle) → now ≡ clock.now c
-        → timeout ≡ job.kill_timeout → IsKept i c instance.now → result ≡ clock.kill_due job i c }
+/// What the clock reads when the timer is to kill main of an instance, if it is to.
+pub(crate) fn kill_at(instance: &Instance) -> Option<u128>
+    ensures { result ≡ kill_at instance.now }
 {
-    overdue(instance, timeout, now)
+    match instance.kill_moment {
+        Some(moment) => {
+            Some(u128::from(moment) + u128::from(milliseconds(instance.kill_timeout)))
+        }
+        None => None,
+    }
+}
+
+/// Whether the timer is to kill main of an instance, by what the clock reads, in milliseconds (init(5), `kill timeout`).
+pub fn is_overdue(instance: &Instance, now: u64) -> bool
+    ensures kept { result ≡ is_overdue now instance.now }
+    ensures model { (job : JobDefValue) (i : ℕ) (c : Chronicle) → now ≡ clock.now c
+        → IsKept job i c instance.now → result ≡ clock.kill_due job i c }
+{
+    overdue(instance, now)
 }

@@ -1,9 +1,34 @@
 //! An event that finishes blocks nobody any more.
-ghost use Rattle.std.specs.Prelude.{◌≡◌, map};
+ghost use Rattle.std.specs.Prelude.{◌≡◌, ◌||◌, map};
 ghost use Rattle.up_job.specs.Unblocking.{blocked_from, is_event, unblocked};
+ghost use Rattle.up_job.specs.Waiting.{any_waits, is_wait};
 
+use crate::change::Change;
 use crate::instance::Instance;
 use up_model::EventId;
+
+fn is_wait(its: &Change) -> bool
+    ensures { result ≡ is_wait its.now }
+{
+    match its {
+        Change::Waits(event) => event.is_some(),
+        _ => false,
+    }
+}
+
+/// Whether one of several may wait for an event after a change.
+pub(crate) fn may_wait(before: bool, its: &Change) -> bool
+    ensures { result ≡ (before || is_wait its.now) }
+{
+    before || is_wait(its)
+}
+
+/// Whether one of these waits for an event of its own.
+pub(crate) fn any_waits(instances: &[Instance]) -> bool
+    ensures { result ≡ any_waits instances.now }
+{
+    instances.iter().any(|instance| instance.blocker.is_some())
+}
 
 fn is_event(event: Option<EventId>, id: EventId) -> bool
     ensures { result ≡ is_event id event }

@@ -1,7 +1,7 @@
-use Rattle.std.proofs.Common.{◌≡◌, ◌∙◌, ◌+◌, ◌++◌, [], Some, map, drop, sym, ap, arith, refl, append_assoc, append-nil}
+use Rattle.std.proofs.Common.{◌≡◌, ◌∙◌, ◌+◌, ◌++◌, ◌<◌, [], Some, map, drop, length, sym, ap, arith, refl, add-one, append_assoc, append-nil}
 use Rattle.std.proofs.lemmas.List.{drop_all}
-use Rattle.up_engine.proofs.ClockLemmas.{overdue_left, none_of_job}
-use Rattle.up_engine.proofs.KeyLemmas.{job_there}
+use Rattle.up_engine.proofs.ClockLemmas.{none_of_job}
+use Rattle.up_engine.proofs.KeyLemmas.{job-at}
 use Rattle.up_model.specs.Clock.{overdue, all_overdue}
 use Rattle.up_model.specs.Files.{job_names}
 use Rattle.up_model.specs.Instances.{instances_of}
@@ -12,30 +12,35 @@ loop-index-init g c mode config c' s are = ([], rw c.no_keys-keys.ensures refl, 
 
 pub loop-index-preserved : goal.loop-index-preserved
 loop-index-preserved g c mode config c' s are =
+    let jobs = c.args.jobs.now in
     let n = c.loop-index.index in
-    let job = c.index-jobs-index.result in
+    let inside : n < length jobs = omega (arith, c.loop-index-test.true) in
+    let at = job-at config jobs n are inside in
+    let job = at.0 in
     let old = c.loop-index.invariant mode config c' s are in
-    let named = job_there config c.args.jobs.now n job are c.loop-index-test.true c.index-jobs-index.is in
     let its = instances_of job.name c' in
-    let now = c.in_ok-add_overdue.ensures.after mode config c' old.0 s named old.1 in (
+    let now = c.in_ok-add_overdue.ensures.after mode config c' job old.0 s at.1.0 old.1 in
+    let left : all_overdue config (job_names (drop n jobs)) c' ≡ overdue config its c' ++ all_overdue config (job_names (drop (n + 1) jobs)) c' =
+    rw add-one (ap (λ js. all_overdue config (job_names js) c') at.1.1) in (
       old.0 ++ overdue config its c',
       now,
-      append_assoc old.0 (overdue config its c') (all_overdue config (job_names (drop (n + 1) c.args.jobs.now)) c')
-          ∙ ap (λ rest. old.0 ++ rest) (sym (overdue_left config c.args.jobs.now n job c' c.loop-index-test.true c.index-jobs-index.is)) ∙ old.2,
+      append_assoc old.0 (overdue config its c') (all_overdue config (job_names (drop (n + 1) jobs)) c') ∙ ap (λ rest. old.0 ++ rest) (sym left) ∙ old.2,
     )
 
 pub returns-clause-after : goal.returns-clause-after
 returns-clause-after g c mode config c' s are =
+    let jobs = c.args.jobs.now in
     let n = c.loop-index.index in
-    let over : drop n c.args.jobs.now ≡ [] = drop_all n c.args.jobs.now (omega arith) in
+    let over : drop n jobs ≡ [] = drop_all n jobs (omega arith) in
     let old = c.loop-index.invariant mode config c' s are in
     old.1 ∙ ap (map Some) (sym (append-nil old.0) ∙ ap (λ js. old.0 ++ all_overdue config (job_names js) c') (sym over) ∙ old.2 ∙ ap (λ js. all_overdue config (job_names js) c') are)
 
 pub returns-in_err-add_overdue-clause-free : goal.returns-in_err-add_overdue-clause-free
 returns-in_err-add_overdue-clause-free g c mode config c' s are none =
+    let jobs = c.args.jobs.now in
     let n = c.loop-index.index in
-    let job = c.index-jobs-index.result in
-    let named = job_there config c.args.jobs.now n job are c.loop-index-test.true c.index-jobs-index.is in
-    let never = c.in_err-add_overdue.ensures.free mode config c' s named
-    (none_of_job config c.args.jobs.now n job c' c.loop-index-test.true c.index-jobs-index.is (ap (λ js. all_overdue config (job_names js) c') are ∙ none)) in
+    let inside : n < length jobs = omega (arith, c.loop-index-test.true) in
+    let at = job-at config jobs n are inside in
+    let never = c.in_err-add_overdue.ensures.free mode config c' at.0 s at.1.0
+    (none_of_job config jobs n at.0 _ c' at.1.1 (ap (λ js. all_overdue config (job_names js) c') are ∙ none)) in
     absurd cc

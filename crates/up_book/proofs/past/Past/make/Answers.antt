@@ -1,4 +1,7 @@
-use Rattle.std.proofs.Common.{ap, refl}
+use Rattle.std.proofs.Common.{◌∙◌, ap, refl}
+use Rattle.up_job.specs.InstanceLists.{new_instance}
+use Rattle.up_job.specs.JobLists.{with_made}
+use Rattle.up_job.specs.Lists.{with_at}
 use Rattle.up_book.specs.declared.past.Past.{Past}
 use Rattle.up_book.proofs.Beginning.{blank-unused}
 use Rattle.up_book.proofs.Making.{forgets-made, made-key}
@@ -9,7 +12,9 @@ returns-clause-after c config c' f there none =
     let trigger = c.in_ok-stop_on.stop_on in
     let job = c.args.job.now in
     forgets-made c.args.self.now _ config c' c.args.place job c.args.name.now trigger f there none c.in_ok-stop_on.ensures (blank-unused trigger job.stop_on c.in_ok-stop_on.ensures)
-    (ap (λ (p : Past). p.instances) c.in_ok-at.ensures.added) (ap (λ (p : Past). p.starts) c.in_ok-at.ensures.added) (ap (λ (p : Past). p.events) c.in_ok-at.ensures.added) (ap (λ (p : Past). p.reading) c.in_ok-at.ensures.added)
+    (ap (λ (p : Past). p.instances) c.in_ok-at.ensures.added
+    ∙ ap (λ limits. with_at c.args.place (with_made (new_instance c.args.name.now limits trigger)) c.args.self.now.instances) c.limits_of.ensures)
+    (ap (λ (p : Past). p.starts) c.in_ok-at.ensures.added) (ap (λ (p : Past). p.events) c.in_ok-at.ensures.added) (ap (λ (p : Past). p.reading) c.in_ok-at.ensures.added)
 
 pub returns-clause-made : goal.returns-clause-made
 returns-clause-made c config c' f there =

@@ -10,4 +10,4 @@ returns-in-Ok c =
     let at : c.in-Ok.at ≡ by_name.position name_of c.args.name.now xs = search rules in
     let there : IsSome (named c.args.name.now xs) = search rules in
     let same : named c.args.name.now xs ≡ named c.args.name.now c.args.self.now = search rules in
-    ap (λ x. Some x) c.index.ensures ∙ sym (named_here name_of c.args.name.now xs c.in-Ok.at c.index.result.now at c.self.invariant.0 there) ∙ same
+    ap (λ x. Some x) c.index.ensures ∙ sym (named_here name_of c.args.name.now xs c.in-Ok.at c.index.result.now at c.self.invariant.0.0 there) ∙ same

@@ -9,7 +9,7 @@ returns-in-Ok c =
     let xs = c.self.inside.instances.items in
     let at : c.in-Ok.at ≡ by_name.position name_of c.args.name.now xs = search rules in
     let there : IsSome (named c.args.name.now xs) = search rules in
-    ap (λ n. Some n) at ∙ sym (place_found name_of c.args.name.now xs c.self.invariant.0 there) ∙ ap (λ ys. by_name.place_of name_of c.args.name.now ys) c.self.view_is
+    ap (λ n. Some n) at ∙ sym (place_found name_of c.args.name.now xs c.self.invariant.0.0 there) ∙ ap (λ ys. by_name.place_of name_of c.args.name.now ys) c.self.view_is
 
 pub returns-in-Err : goal.returns-in-Err
 returns-in-Err c =

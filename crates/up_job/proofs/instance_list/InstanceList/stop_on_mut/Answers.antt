@@ -2,15 +2,20 @@ use Rattle.std.proofs.Common.{◌∙◌, refl, sym, ap, subst, length, ◌<◌, 
 use Rattle.up_job.specs.InstanceLists.{IsInstanceList}
 use Rattle.up_job.specs.Lending.{stop_on_of, with_stop_on}
 use Rattle.up_job.specs.Lists.{nth, with_at}
+use Rattle.up_job.specs.Waiting.{any_waits}
 use Rattle.up_job.proofs.InstanceLemmas.{list_with_at}
 use Rattle.up_job.proofs.Places.{nth_get, set_with_at}
+use Rattle.up_job.proofs.WaitLemmas.{calm-with_at}
 use Rattle.up_job.proofs.instance_list.InstanceList.stop_on_mut.Goals as goal
 
 pub invariant_of-self-lent : goal.invariant_of-self-lent
 invariant_of-self-lent c w =
     let within : c.args.at < length c.self.inside.instances.items = rw c.self.view_is c.requires in
-    subst IsInstanceList (sym (set_with_at (with_stop_on w) c.args.at c.self.inside.instances.items c.index_mut-instance.result.now within c.index_mut-instance.ensures.value))
-    (list_with_at c.args.at (with_stop_on w) (λ x. refl) c.self.inside.instances.items c.self.invariant)
+    let xs = c.self.inside.instances.items in
+    let is = set_with_at (with_stop_on w) c.args.at xs c.index_mut-instance.result.now within c.index_mut-instance.ensures.value in (
+      subst IsInstanceList (sym is) (list_with_at c.args.at (with_stop_on w) (λ x. refl) xs c.self.invariant.0),
+      λ calm. ap any_waits is ∙ calm-with_at c.args.at (with_stop_on w) (λ x none. none) xs (c.self.invariant.1 calm),
+    )
 
 pub returns : goal.returns
 returns c =

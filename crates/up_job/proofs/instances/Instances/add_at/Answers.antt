@@ -1,10 +1,15 @@
 use Rattle.std.proofs.Common.{refl}
 use Rattle.up_job.specs.InstanceLists.{new_instance}
 use Rattle.up_job.specs.JobLists.{with_made}
+use Rattle.up_job.proofs.AlarmLemmas.{all-if_ok, from-made}
 use Rattle.up_job.proofs.JobLemmas.{order-if_ok}
 use Rattle.up_job.proofs.instances.Instances.add_at.Goals as goal
 
 pub invariant_of-self : goal.invariant_of-self
 invariant_of-self c =
-    order-if_ok c.add_at.result c.args.job (with_made (new_instance c.args.name.now c.args.limit c.args.stop_on)) (λ x. refl)
-    c.self.inside.jobs.items c.add_at.new.jobs.items c.add_at.ensures.added c.add_at.ensures.unchanged c.self.invariant
+    let old = c.self.inside.jobs.items in
+    let alarm = c.self.inside.alarm in
+    let new = new_instance c.args.name.now c.args.limits c.args.stop_on in (
+      order-if_ok c.add_at.result c.args.job (with_made new) (λ x. refl) old c.add_at.new.jobs.items c.add_at.ensures.added c.add_at.ensures.unchanged c.self.invariant.0,
+      all-if_ok c.add_at.result alarm c.args.job (with_made new) (from-made alarm new tt) old c.add_at.new.jobs.items c.add_at.ensures.added c.add_at.ensures.unchanged c.self.invariant.1,
+    )

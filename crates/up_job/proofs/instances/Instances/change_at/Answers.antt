@@ -1,10 +1,21 @@
 use Rattle.std.proofs.Common.{refl, sym, subst}
+use Rattle.up_job.specs.Alarms.{AllFrom, alarm_after}
 use Rattle.up_job.specs.Changes.{changed}
-use Rattle.up_job.specs.JobLists.{job_of, changed_in}
+use Rattle.up_job.specs.JobLists.{job_of, changed_in, changed_at}
 use Rattle.up_job.specs.Named.{AreInOrder}
+use Rattle.up_job.proofs.AlarmLemmas.{after-earlier, after-keeps, all-with_at, earlier-all, from-changed}
 use Rattle.up_job.proofs.JobLemmas.{order-with_at}
 use Rattle.up_job.proofs.instances.Instances.change_at.Goals as goal
 
 pub invariant_of-self : goal.invariant_of-self
 invariant_of-self c =
-    subst (AreInOrder job_of) (sym c.change_at.ensures) (order-with_at c.args.key.job (changed_in c.args.key.at (changed c.args.its)) (λ x. refl) c.self.inside.jobs.items c.self.invariant)
+    let jobs = c.self.inside.jobs.items in
+    let key = c.args.key in
+    let its = c.args.its in
+    let old = c.self.inside.alarm in
+    let alarm = alarm_after its old in
+    let from : AllFrom alarm (changed_at key (changed its) jobs) =
+    all-with_at alarm key.job (changed_in key.at (changed its)) (from-changed alarm key.at (changed its) (after-keeps its old)) jobs (earlier-all alarm old jobs (after-earlier its old) c.self.invariant.1) in (
+      subst (AreInOrder job_of) (sym c.change_at.ensures) (order-with_at key.job (changed_in key.at (changed its)) (λ x. refl) jobs c.self.invariant.0),
+      subst (AllFrom c.alarm_after-self-inside.result) (sym c.change_at.ensures) (subst (λ a. AllFrom a (changed_at key (changed its) jobs)) (sym c.alarm_after-self-inside.ensures) from),
+    )

@@ -9,5 +9,5 @@ returns-in-Ok-clause-list c =
     let jobs = c.self.inside.jobs.items in
     let at : c.in-Ok.at ≡ by_name.position job_of c.args.job.now jobs = search rules in
     let there : IsSome (by_name.named job_of c.args.job.now jobs) = search rules in
-    let instances : instances_in c.args.job.now jobs ≡ c.index.result.now.instances = list_here c.args.job.now jobs c.in-Ok.at c.index.result.now at c.self.invariant there c.index.ensures in
+    let instances : instances_in c.args.job.now jobs ≡ c.index.result.now.instances = list_here c.args.job.now jobs c.in-Ok.at c.index.result.now at c.self.invariant.0 there c.index.ensures in
     search rules

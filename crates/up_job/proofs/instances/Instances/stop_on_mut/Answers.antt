@@ -1,8 +1,10 @@
 use Rattle.std.proofs.Common.{◌∙◌, refl, ap, subst, sym, IsSome, option_map}
+use Rattle.up_job.specs.Alarms.{AllFrom}
 use Rattle.up_job.specs.JobLists.{job_of, list_of, changed_in, changed_at, instance_at}
 use Rattle.up_job.specs.Lending.{stop_on_of, with_stop_on}
 use Rattle.up_job.specs.Lists.{nth}
 use Rattle.up_job.specs.Named.{AreInOrder}
+use Rattle.up_job.proofs.AlarmLemmas.{all-with_at, from-changed}
 use Rattle.up_job.proofs.Places.{nth_get, set_with_at}
 use Rattle.up_job.proofs.JobLemmas.{job_within, order-with_at}
 use Rattle.up_job.proofs.instances.Instances.stop_on_mut.Goals as goal
@@ -11,8 +13,12 @@ pub invariant_of-self-lent : goal.invariant_of-self-lent
 invariant_of-self-lent c w =
     let jobs = c.self.inside.jobs.items in
     let there : IsSome (instance_at c.args.key jobs) = subst (λ js. IsSome (instance_at c.args.key js)) (sym c.self.view_is) c.requires in
-    subst (AreInOrder job_of) (sym (set_with_at (changed_in c.args.key.at (with_stop_on w)) c.args.key.job jobs c.index_mut-job.result.now (job_within c.args.key jobs there) c.index_mut-job.ensures.value))
-    (order-with_at c.args.key.job (changed_in c.args.key.at (with_stop_on w)) (λ x. refl) jobs c.self.invariant)
+    let key = c.args.key in
+    let alarm = c.self.inside.alarm in
+    let is = set_with_at (changed_in key.at (with_stop_on w)) key.job jobs c.index_mut-job.result.now (job_within key jobs there) c.index_mut-job.ensures.value in (
+      subst (AreInOrder job_of) (sym is) (order-with_at key.job (changed_in key.at (with_stop_on w)) (λ x. refl) jobs c.self.invariant.0),
+      subst (AllFrom alarm) (sym is) (all-with_at alarm key.job (changed_in key.at (with_stop_on w)) (from-changed alarm key.at (with_stop_on w) (λ x from. from)) jobs c.self.invariant.1),
+    )
 
 pub returns : goal.returns
 returns c =

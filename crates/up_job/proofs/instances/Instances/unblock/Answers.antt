@@ -1,13 +1,18 @@
 use Rattle.std.proofs.Common.{◌≡◌, sym, subst, None, Some}
+use Rattle.up_job.specs.Alarms.{AllFrom}
 use Rattle.up_job.specs.JobLists.{job_of}
 use Rattle.up_job.specs.Named.{AreInOrder}
 use Rattle.up_job.specs.Unblocking.{key_from}
 use Rattle.up_job.proofs.Blocked.{blocked-key, jobs-kept}
+use Rattle.up_job.proofs.AlarmLemmas.{all-unblocked}
 use Rattle.up_job.proofs.JobLemmas.{order-unblocked}
 use Rattle.up_job.proofs.instances.Instances.unblock.Goals as goal
 
 pub invariant_of-self : goal.invariant_of-self
-invariant_of-self c = subst (AreInOrder job_of) (sym c.unblock.ensures) (order-unblocked c.args.event c.self.inside.jobs.items c.self.invariant)
+invariant_of-self c =
+    let jobs = c.self.inside.jobs.items in
+    let alarm = c.self.inside.alarm in
+    (subst (AreInOrder job_of) (sym c.unblock.ensures) (order-unblocked c.args.event jobs c.self.invariant.0), subst (AllFrom alarm) (sym c.unblock.ensures) (all-unblocked alarm c.args.event jobs c.self.invariant.1))
 
 pub returns-in-Some-clause-blocked : goal.returns-in-Some-clause-blocked
 returns-in-Some-clause-blocked c =
