@@ -1,5 +1,5 @@
 -- After a request that starts, stops or restarts an instance that one alone may move, and after one that is answered at once nobody.
-use Rattle.std.proofs.Common.{◌≡◌, ℕ, ◌<◌, ◌==◌, Bool, true, false, not, ◌&&◌, nat_lt, List, [], ◌∷◌, ◌++◌, length, Option, None, Some, bytes_eq, if◌then◌else◌, refl, sym, ◌∙◌, ap, subst, eqb-true, eq-eqb, codes, append_assoc}
+use Rattle.std.proofs.Common.{◌≡◌, ℕ, ◌==◌, Bool, true, false, not, ◌&&◌, nat_lt, List, [], ◌∷◌, ◌++◌, length, Option, None, Some, bytes_eq, if◌then◌else◌, refl, sym, ◌∙◌, ap, subst, eqb-true, eq-eqb, codes, append_assoc}
 use Rattle.std.specs.List.{AllByRecursion}
 use Rattle.up_book.specs.Keeps.{AreDistinct}
 use Rattle.up_book.specs.Keys.{instance_place}
@@ -16,13 +16,13 @@ use Rattle.up_engine.proofs.Hearing.{none-moves}
 use Rattle.up_engine.proofs.JobMoves.{move_first}
 use Rattle.up_engine.proofs.Moving.{StayIn, Stay}
 use Rattle.up_engine.proofs.Opening.{About}
-use Rattle.up_engine.proofs.Settled.{StandsStill, still-instances}
+use Rattle.up_engine.proofs.Settled.{still-instances}
 use Rattle.up_job.specs.declared.instance_key.InstanceKey.{InstanceKey}
 use Rattle.up_model.proofs.NameLaws.{made-found}
 use Rattle.up_model.proofs.Places.{older-other}
 use Rattle.up_model.proofs.ReplyLaws.{releasing-all}
-use Rattle.up_model.proofs.Sparing.{all-append, same-append}
-use Rattle.up_model.specs.Chronicle.{Chronicle, Entry, Given, Made, Aimed, Restarted, Released, Signalled, Replied}
+use Rattle.up_model.proofs.Sparing.{same-append}
+use Rattle.up_model.specs.Chronicle.{Chronicle, Entry, Given, Made, Aimed, Restarted, Signalled, Replied}
 use Rattle.up_model.specs.Commands.{Outcome, Refused, Told, Done, Target, Nobody, Concerns, entries_of, start_at, stop_at, restart_at, start, stop, restart, is_running, refusal, status, status_at, stopped_text, reload, reload_at, reloading, target_of, listing, version_text, outcome_by, outcome_of}
 use Rattle.up_model.specs.Configuration.{Configuration}
 use Rattle.up_model.specs.Due.{due, effect}
@@ -34,7 +34,7 @@ use Rattle.up_model.specs.Moves.{is_over, may_leave}
 use Rattle.up_model.specs.Offers.{offering, max_instances}
 use Rattle.up_model.specs.Predicates.{is_start, entries_if}
 use Rattle.up_model.specs.Readings.{goal, state_of, is_awaited, pid_of, lives}
-use Rattle.up_model.specs.Replies.{asked, answering_hurried, releasing, unless_answered, was_answered}
+use Rattle.up_model.specs.Replies.{asked, answering_hurried, releasing, unless_answered}
 use Rattle.up_model.specs.Requests.{RequestValue, not_supported}
 use Rattle.up_model.specs.Values.{Bytes, Bindings}
 use Rattle.up_model.specs.declared.event_id.EventId.{EventId}
