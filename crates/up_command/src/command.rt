@@ -133,10 +133,7 @@ fn base_of(alloc: Global, words: &[&str]) -> Result<Env, TextFault> {
     Ok(base)
 }
 
-fn asked_replay<'a>(
-    alloc: Global,
-    given: &ArgMatches<'a>,
-) -> Result<Option<Asked<'a>>, TextFault> {
+fn asked_replay<'a>(alloc: Global, given: &ArgMatches<'a>) -> Result<Option<Asked<'a>>, TextFault> {
     let (Some(source), Some(script)) = (given.get_str("SOURCE"), given.get_str("SCRIPT")) else {
         return Ok(None);
     };

@@ -1,4 +1,4 @@
-use Rattle.std.proofs.Common.{◌≡◌, length, ◌∙◌, ap, sym}
+use Rattle.std.proofs.Common.{◌≡◌, length, ◌∙◌, sym}
 use Rattle.up_lint.specs.Circles.{started_in}
 use Rattle.up_lint.proofs.Rounds.{rounds_done, rounds_none}
 use Rattle.up_lint.proofs.circle.started_in.Goals as goal
