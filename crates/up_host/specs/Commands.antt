@@ -1,5 +1,6 @@
 -- The command that starts an order's process.
-use Rattle.std.specs.Prelude.{◌≡◌, ℕ, List, [], ◌∷◌, true, Some, option_map}
+use Rattle.std.specs.Prelude.{◌≡◌, ℕ, List, [], ◌∷◌, ◌++◌, true, Some, codes, option_map}
+use Rattle.std.specs.Fmt.{decimal}
 use Rattle.std.specs.declared.process.command.Command.{Command}
 use Rattle.std.specs.Process.{command_program, command_args, command_var, command_dir, clears_env}
 use Rattle.up_text.specs.Bindings.{value_of}
@@ -20,3 +21,10 @@ pub record IsCommandOf {A : Type 0} (order : Order) (command : Command A) : Type
   pub words : HasWords command order.argv
   pub dir : command_dir command ≡ Some order.dir
   pub env : HasEnv command order.env
+
+-- the words by which a shell sends the signal of this name to the process of this number (kill(1))
+abbrev pub kill_words : List ℕ → ℕ → List (List ℕ)
+kill_words name pid = codes "-c" ∷ (codes "kill -s " ++ name ++ codes " " ++ decimal pid) ∷ []
+
+abbrev pub IsKill : {A : Type 0} → List ℕ → ℕ → Command A → Type 0
+IsKill name pid command = HasWords command (codes "/bin/sh" ∷ kill_words name pid)

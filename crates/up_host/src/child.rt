@@ -1,7 +1,7 @@
 //! The children of a real host.
-ghost use Rattle.std.specs.Prelude.{◌≡◌, ◌<◌, length, IfSome};
+ghost use Rattle.std.specs.Prelude.{◌≡◌, ◌<◌, length, true, IfSome, None};
 ghost use Rattle.std.specs.Bool.{OnTrue};
-ghost use Rattle.std.specs.List.{HoldsAt};
+ghost use Rattle.std.specs.List.{All, HoldsAt};
 ghost use Rattle.up_host.specs.Ends.{byte_of, end_of};
 ghost use Rattle.up_host.specs.Looking.{LooksOn};
 
@@ -97,7 +97,8 @@ pub(crate) fn reap<P: OpenProcess + Drop>(helpers: &mut Vec<Child<P>>) {
 
 // Whether both are the same instance of a job.
 fn is_same(one: &Who, other: &Who) -> bool
-    ensures { OnTrue result (one.now ≡ other.now) }
+    ensures same { OnTrue result (one.now ≡ other.now) }
+    ensures differs { one.now ≡ other.now → result ≡ true }
 {
     one.job.as_str() == other.job.as_str() && one.instance.is(other.instance.as_str())
 }
@@ -111,6 +112,7 @@ pub(crate) fn place_of<P: OpenProcess>(
     ensures within { IfSome result (λ place. place < length children.now) }
     ensures child { IfSome result (λ place. HoldsAt (λ running. (running.who ≡ who.now)
         × (running.pid ≡ pid)) children.now place) }
+    ensures none { result ≡ None → All (λ running. running.who ≡ who.now → running.pid ≡ pid → ⊥) children.now }
 {
     for (place, running) in children.iter().enumerate() {
         if running.pid == pid && is_same(&running.who, who) {

@@ -1,8 +1,8 @@
 //! The command that starts an order's process.
-ghost use Rattle.std.specs.Prelude.{◌≡◌, ◌++◌, Some, IfOk, IfSome, OnOk, map, option_map, true, List, ℕ};
+ghost use Rattle.std.specs.Prelude.{◌≡◌, ◌++◌, [], MatchOption, Some, IfOk, OnOk, map, option_map, true, List, ℕ};
 ghost use Rattle.std.specs.Process.{command_program, command_args, command_var, command_dir, clears_env, SameProgramAndArgs, SameEnv, SameDir, SameOtherVars};
 ghost use Rattle.up_text.specs.Bindings.{value_of};
-ghost use Rattle.up_host.specs.Commands.{IsCommandOf, HasEnv};
+ghost use Rattle.up_host.specs.Commands.{HasEnv, IsCommandOf, IsKill, kill_words};
 
 use std::alloc::{AllocError, Global};
 use std::process::{Command, Stdio};
@@ -76,7 +76,7 @@ fn fill(command: &mut Command, words: &[Text], order: &Order) -> Result<(), Allo
 
 /// The command of an order. An order without words has none.
 pub(crate) fn command_of(alloc: Global, order: &Order) -> Result<Option<Command>, AllocError>
-    ensures { IfOk result (λ found. IfSome found (λ command. IsCommandOf order.now command)) }
+    ensures { IfOk result (λ found. MatchOption found (order.now.argv ≡ []) (λ command. IsCommandOf order.now command)) }
 {
     let Some((program, words)) = order.argv.as_slice().split_first() else {
         return Ok(None);
@@ -92,7 +92,10 @@ pub(crate) fn command_of(alloc: Global, order: &Order) -> Result<Option<Command>
 }
 
 // The words by which a shell sends a signal by its name (kill(1)), without any output.
-fn fill_kill(alloc: Global, command: &mut Command, name: &str, pid: u32) -> Result<(), AllocError> {
+fn fill_kill(alloc: Global, command: &mut Command, name: &str, pid: u32) -> Result<(), AllocError>
+    ensures words { OnOk result (command_args command.new ≡ command_args command.old ++ kill_words name.now pid) }
+    ensures program { OnOk result (command_program command.new ≡ command_program command.old) }
+{
     let line = format!(in alloc; "kill -s {name} {pid}")?;
     command.arg("-c")?;
     command.arg(line.as_str())?;
@@ -101,7 +104,9 @@ fn fill_kill(alloc: Global, command: &mut Command, name: &str, pid: u32) -> Resu
 }
 
 /// The command that sends a signal by its name.
-pub(crate) fn kill_command(alloc: Global, name: &str, pid: u32) -> Result<Command, AllocError> {
+pub(crate) fn kill_command(alloc: Global, name: &str, pid: u32) -> Result<Command, AllocError>
+    ensures { IfOk result (λ command. IsKill name.now pid command) }
+{
     let mut command = Command::new(alloc, "/bin/sh")?;
     match fill_kill(alloc, &mut command, name, pid) {
         Ok(()) => Ok(command),

@@ -1,7 +1,7 @@
 //! The host of real processes.
-ghost use Rattle.std.specs.Prelude.{◌≡◌, ◌+◌, ◌<◌, ◌++◌, ◌∷◌, ℕ, List, [], length, Some, None, IfSome, IfOk, if◌then◌else◌, is_some, option_map, vec_len, vec_capacity};
+ghost use Rattle.std.specs.Prelude.{◌≡◌, ◌⊎◌, ◌+◌, ◌<◌, ◌++◌, ◌∷◌, ℕ, List, [], length, Some, None, IfSome, IfOk, if◌then◌else◌, is_some, option_map, take, vec_len, vec_capacity};
 ghost use Rattle.std.specs.Bool.{OnTrue};
-ghost use Rattle.std.specs.List.{HoldsAt};
+ghost use Rattle.std.specs.List.{HoldsAt, swap_remove};
 ghost use Rattle.up_host.specs.Calls.{no_calls, with_failure};
 ghost use Rattle.up_host.specs.Journals.{calls_of, HasRoom};
 
@@ -97,6 +97,7 @@ impl<R: Processes> RealHost<R> {
         R: Clock + Drop,
         ensures calls { IfOk result (λ host. calls_of host.journal ≡ no_calls) }
         ensures living { IfOk result (λ host. host.children.items ≡ []) }
+        ensures refusals { IfOk result (λ host. host.refusals.items ≡ []) }
     {
         let start = Instant::now(&system)?;
         Ok(RealHost {
@@ -113,6 +114,9 @@ impl<R: Processes> RealHost<R> {
 
     // Keeps why the system refused an order, if there is memory for it.
     fn note_refusal(&mut self, order: &Order, error: io::Error)
+        ensures refusals { (self.new.refusals.items ≡ self.old.refusals.items
+            ++ record { who = order.now.who; process = order.now.process; error = error } ∷ [])
+            ⊎ (self.new.refusals.items ≡ self.old.refusals.items) }
         ensures children { self.new.children ≡ self.old.children }
         ensures journal { self.new.journal ≡ self.old.journal }
     {
@@ -128,7 +132,9 @@ impl<R: Processes> RealHost<R> {
     }
 
     /// The starts that the system refused since the record was emptied, oldest first. One for which there was no memory is left out.
-    pub fn refusals(&self) -> &[Refusal] {
+    pub fn refusals(&self) -> &[Refusal]
+        ensures { result.now ≡ self.now.refusals.items }
+    {
         self.refusals.as_slice()
     }
 
@@ -136,6 +142,10 @@ impl<R: Processes> RealHost<R> {
     fn start(&mut self, order: &Order) -> Option<u32>
         ensures children { length self.new.children.items
             ≡ length self.old.children.items + (if is_some result then 1 else 0) }
+        ensures child { IfSome result (λ pid. HoldsAt (λ running. (running.who ≡ order.now.who)
+            × (running.process ≡ order.now.process) × (running.pid ≡ pid))
+            self.new.children.items (length self.old.children.items)) }
+        ensures others { take (length self.old.children.items) self.new.children.items ≡ self.old.children.items }
         ensures journal { self.new.journal ≡ self.old.journal }
     {
         if self.children.reserve(1).is_err() {
@@ -173,6 +183,9 @@ impl<R: Processes> RealHost<R> {
             ≡ (running.who, running.process, how)) self.old.children.items place) }
         ensures children { length self.new.children.items + (if is_some result then 1 else 0)
             ≡ length self.old.children.items }
+        ensures gone { IfSome result (λ ends. HoldsAt (λ running. self.new.children.items
+            ≡ swap_remove self.old.children.items place running) self.old.children.items place) }
+        ensures kept { result ≡ None → self.new.children ≡ self.old.children }
         ensures journal { self.new.journal ≡ self.old.journal }
     {
         let running = &self.children[place];
