@@ -1,9 +1,14 @@
 -- What a round's inputs and the record of its host say of the host's calls that failed.
-use Rattle.std.specs.Prelude.{ℕ, Bool, true, false, if◌then◌else◌, Some, None}
+use Rattle.std.specs.Prelude.{ℕ, ◌==◌, zero, suc, Bool, true, false, ◌&&◌, ◌||◌, nat_lt, if◌then◌else◌, List, [], ◌++◌, codes, Some, None}
+use Rattle.std.specs.Fmt.{decimal}
+use Rattle.std.specs.List.{flat_map}
+use Rattle.up_daemon.specs.declared.call.DoorCall.{DoorCall}
+use Rattle.up_daemon.specs.declared.call.DoorCall.TheVariants as call
 use Rattle.up_host.specs.declared.happened.Happened.{Happened}
 use Rattle.up_host.specs.declared.happened.Happened.TheVariants.{Spawned, Polled, Signalled, Now}
 use Rattle.up_model.specs.declared.input.Input.{Input}
 use Rattle.up_model.specs.declared.input.Input.TheVariants as input
+use Rattle.up_run.specs.declared.faults.HostFaults.{HostFaults}
 
 -- the clock was read
 abbrev pub is_reading : Happened → Bool
@@ -33,3 +38,41 @@ is_refusal input.Turn = false
 -- how many calls failed, if one did
 abbrev pub number : Bool → ℕ
 number failed = if failed then 1 else 0
+
+-- some call of the host failed
+abbrev pub are_some : HostFaults → Bool
+are_some host = host.clock || host.poll || nat_lt 0 host.spawns || nat_lt 0 host.signals
+
+-- a line so many times
+abbrev pub repeated : ℕ → List ℕ → List ℕ
+repeated zero line = []
+repeated (suc count) line = repeated count line ++ line
+
+-- the comment on a call that failed
+unfoldable pub fault_line : List ℕ → List ℕ → List ℕ
+fault_line whose call = codes "# " ++ whose ++ codes " fault: " ++ call ++ codes "\n"
+
+-- the name of a door's call
+abbrev pub call_name : DoorCall → List ℕ
+call_name call.Accept = codes "accept"
+call_name call.Read = codes "read"
+call_name call.Write = codes "write"
+call_name call.Close = codes "close"
+
+-- the comment on a call of the door that failed
+abbrev pub door_line : DoorCall → List ℕ
+door_line call = fault_line (codes "door") (call_name call)
+
+-- a comment on each call that failed in a round
+unfoldable pub fault_lines : HostFaults → List DoorCall → List ℕ
+fault_lines host door =
+    repeated (number host.clock) (fault_line (codes "host") (codes "now"))
+    ++ repeated (number host.poll) (fault_line (codes "host") (codes "poll"))
+    ++ repeated host.spawns (fault_line (codes "host") (codes "spawn"))
+    ++ repeated host.signals (fault_line (codes "host") (codes "signal"))
+    ++ flat_map door_line door
+
+-- the comment on how many calls failed in a run; nothing if none did
+unfoldable pub fault_count : ℕ → ℕ → List ℕ
+fault_count host door = if host == 0 && door == 0 then []
+    else codes "# host faults: " ++ decimal host ++ codes ", door faults: " ++ decimal door ++ codes "\n"

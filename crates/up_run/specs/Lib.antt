@@ -4,3 +4,9 @@ pub mod Starts
 pub mod Faults
 -- How long a client has been silent.
 pub mod Silences
+-- The comment with which a record begins.
+pub mod Heads
+-- What waits of the lines that are told.
+pub mod Outlets
+-- How long a run pauses.
+pub mod Paces

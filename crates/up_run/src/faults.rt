@@ -1,7 +1,8 @@
 //! Which calls of the host and of the door failed in a round, as comments for who reads what happens.
-ghost use Rattle.std.specs.Prelude.{◌≡◌, ◌-◌, not};
-ghost use Rattle.std.specs.List.{list_any, count_by};
-ghost use Rattle.up_run.specs.Faults.{is_reading, is_last_poll, is_refusal, number};
+ghost use Rattle.std.specs.Prelude.{◌≡◌, ◌-◌, ◌++◌, not, IfOk, OnOk};
+ghost use Rattle.std.specs.Fmt.{decimal};
+ghost use Rattle.std.specs.List.{count_by, flat_map, list_any};
+ghost use Rattle.up_run.specs.Faults.{are_some, call_name, door_line, fault_count, fault_line, fault_lines, is_last_poll, is_reading, is_refusal, number, repeated};
 
 use std::alloc::{AllocError, Global};
 use up_daemon::DoorCall;
@@ -21,7 +22,9 @@ pub(crate) struct HostFaults {
 
 impl HostFaults {
     /// Whether some call failed.
-    pub(crate) fn are_some(&self) -> bool {
+    pub(crate) fn are_some(&self) -> bool
+        ensures { result ≡ are_some self.now }
+    {
         self.clock || self.poll || self.spawns > 0 || self.signals > 0
     }
 }
@@ -102,7 +105,9 @@ pub(crate) fn host_faults(fed: &[Input], happened: &[Happened], counted: u64) ->
 }
 
 // The name of a door's call.
-fn call_name(call: DoorCall) -> &'static str {
+fn call_name(call: DoorCall) -> &'static str
+    ensures { result.now ≡ call_name call }
+{
     match call {
         DoorCall::Accept => "accept",
         DoorCall::Read => "read",
@@ -111,40 +116,81 @@ fn call_name(call: DoorCall) -> &'static str {
     }
 }
 
-fn push_line(text: &mut Vec<u8>, whose: &str, call: &str, count: u64) -> Result<(), AllocError> {
+fn push(text: &mut Vec<u8>, more: &str) -> Result<(), AllocError>
+    ensures { OnOk result (text.new.items ≡ text.old.items ++ more.now) }
+{
+    text.extend_from_slice(more.as_bytes())
+}
+
+fn push_decimal(text: &mut Vec<u8>, number: u64) -> Result<(), AllocError>
+    ensures { OnOk result (text.new.items ≡ text.old.items ++ decimal number) }
+{
+    let digits = number.to_string(*text.allocator())?;
+    push(text, digits.as_str())
+}
+
+#[tactic(auto, unfolding(crate::specs::Faults::fault_line))]
+fn push_line(text: &mut Vec<u8>, whose: &str, call: &str) -> Result<(), AllocError>
+    ensures { OnOk result (text.new.items ≡ text.old.items ++ fault_line whose.now call.now) }
+{
+    push(text, "# ")?;
+    push(text, whose)?;
+    push(text, " fault: ")?;
+    push(text, call)?;
+    push(text, "\n")
+}
+
+// The same line for each of so many calls.
+fn push_lines(text: &mut Vec<u8>, whose: &str, call: &str, count: u64) -> Result<(), AllocError>
+    ensures { OnOk result (text.new.items
+        ≡ text.old.items ++ repeated count (fault_line whose.now call.now)) }
+{
     for _ in 0..count {
-        text.extend_from_slice(b"# ")?;
-        text.extend_from_slice(whose.as_bytes())?;
-        text.extend_from_slice(b" fault: ")?;
-        text.extend_from_slice(call.as_bytes())?;
-        text.push(b'\n')?;
+        push_line(text, whose, call)?;
+    }
+    Ok(())
+}
+
+fn push_door_lines(text: &mut Vec<u8>, calls: &[DoorCall]) -> Result<(), AllocError>
+    ensures { OnOk result (text.new.items ≡ text.old.items ++ flat_map door_line calls.now) }
+{
+    for call in calls {
+        push_line(text, "door", call_name(*call))?;
     }
     Ok(())
 }
 
 /// A comment for each call that failed in a round.
+#[tactic(auto, unfolding(crate::specs::Faults::fault_lines))]
 pub(crate) fn fault_lines(
     alloc: Global,
     host: &HostFaults,
     door: &[DoorCall],
-) -> Result<Vec<u8>, AllocError> {
+) -> Result<Vec<u8>, AllocError>
+    ensures { IfOk result (λ text. text.items ≡ fault_lines host.now door.now) }
+{
     let mut text: Vec<u8> = Vec::new(alloc);
-    push_line(&mut text, "host", "now", number(host.clock))?;
-    push_line(&mut text, "host", "poll", number(host.poll))?;
-    push_line(&mut text, "host", "spawn", host.spawns)?;
-    push_line(&mut text, "host", "signal", host.signals)?;
-    for call in door {
-        push_line(&mut text, "door", call_name(*call), 1)?;
-    }
+    push_lines(&mut text, "host", "now", number(host.clock))?;
+    push_lines(&mut text, "host", "poll", number(host.poll))?;
+    push_lines(&mut text, "host", "spawn", host.spawns)?;
+    push_lines(&mut text, "host", "signal", host.signals)?;
+    push_door_lines(&mut text, door)?;
     Ok(text)
 }
 
 /// The comment that a run ends with in which calls failed: how many of the host, and how many of the door.
-pub(crate) fn fault_count(alloc: Global, host: u64, door: u64) -> Result<Vec<u8>, AllocError> {
+#[tactic(auto, unfolding(crate::specs::Faults::fault_count))]
+pub(crate) fn fault_count(alloc: Global, host: u64, door: u64) -> Result<Vec<u8>, AllocError>
+    ensures { IfOk result (λ text. text.items ≡ fault_count host door) }
+{
     let mut text: Vec<u8> = Vec::new(alloc);
-    if host > 0 || door > 0 {
-        let line = format!(in alloc; "# host faults: {host}, door faults: {door}\n")?;
-        text.extend_from_slice(line.as_bytes())?;
+    if host == 0 && door == 0 {
+        return Ok(text);
     }
+    push(&mut text, "# host faults: ")?;
+    push_decimal(&mut text, host)?;
+    push(&mut text, ", door faults: ")?;
+    push_decimal(&mut text, door)?;
+    push(&mut text, "\n")?;
     Ok(text)
 }

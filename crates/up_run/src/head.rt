@@ -1,13 +1,21 @@
 //! The comment with which a record begins: the command that replays it.
+ghost use Rattle.std.specs.Prelude.{◌≡◌, ◌++◌, IfOk, OnOk};
+ghost use Rattle.std.specs.List.{flat_map, list_all};
+ghost use Rattle.up_run.specs.Heads.{is_plain, log_head, quoted, stands_bare, word};
+
 use std::alloc::{AllocError, Global};
 
 // Whether a shell takes the byte as it is (sh(1), "Quoting").
-fn is_plain(byte: u8) -> bool {
+fn is_plain(byte: u8) -> bool
+    ensures { result ≡ is_plain byte }
+{
     byte.is_ascii_alphanumeric() || b"/._-+:@%,=".contains(&byte)
 }
 
 // A byte between single quotes. A line feed, which would end the comment, is a question mark.
-fn push_quoted(text: &mut Vec<u8>, byte: u8) -> Result<(), AllocError> {
+fn push_quoted(text: &mut Vec<u8>, byte: u8) -> Result<(), AllocError>
+    ensures { OnOk result (text.new.items ≡ text.old.items ++ quoted byte) }
+{
     match byte {
         b'\'' => text.extend_from_slice(b"'\\''")?,
         b'\n' => text.push(b'?')?,
@@ -16,28 +24,53 @@ fn push_quoted(text: &mut Vec<u8>, byte: u8) -> Result<(), AllocError> {
     Ok(())
 }
 
-// A path as a word of a shell.
-fn push_word(text: &mut Vec<u8>, path: &str) -> Result<(), AllocError> {
-    let bytes = path.as_bytes();
-    if !bytes.is_empty() && bytes.iter().all(|byte| is_plain(*byte)) {
-        text.extend_from_slice(bytes)?;
-        return Ok(());
-    }
-    text.push(b'\'')?;
+fn push_all_quoted(text: &mut Vec<u8>, bytes: &[u8]) -> Result<(), AllocError>
+    ensures { OnOk result (text.new.items ≡ text.old.items ++ flat_map quoted bytes.now) }
+{
     for byte in bytes {
         push_quoted(text, *byte)?;
     }
+    Ok(())
+}
+
+fn are_all_plain(bytes: &[u8]) -> bool
+    ensures { result ≡ list_all is_plain bytes.now }
+{
+    bytes.iter().all(|byte| is_plain(*byte))
+}
+
+// Whether a word needs no quotes.
+fn stands_bare(bytes: &[u8]) -> bool
+    ensures { result ≡ stands_bare bytes.now }
+{
+    !bytes.is_empty() && are_all_plain(bytes)
+}
+
+// A path as a word of a shell.
+#[tactic(auto, unfolding(crate::specs::Heads::word))]
+fn push_word(text: &mut Vec<u8>, path: &str) -> Result<(), AllocError>
+    ensures { OnOk result (text.new.items ≡ text.old.items ++ word path.now) }
+{
+    let bytes = path.as_bytes();
+    if stands_bare(bytes) {
+        return text.extend_from_slice(bytes);
+    }
+    text.push(b'\'')?;
+    push_all_quoted(text, bytes)?;
     text.push(b'\'')?;
     Ok(())
 }
 
 /// The comment with which a record begins: the command that replays it, whose words a shell reads as they are.
+#[tactic(auto, unfolding(crate::specs::Heads::log_head))]
 pub(crate) fn log_head(
     alloc: Global,
     source: &str,
     log: &str,
     path: &str,
-) -> Result<Vec<u8>, AllocError> {
+) -> Result<Vec<u8>, AllocError>
+    ensures { IfOk result (λ text. text.items ≡ log_head source.now log.now path.now) }
+{
     let mut text: Vec<u8> = Vec::new(alloc);
     text.extend_from_slice(b"# initd replay ")?;
     push_word(&mut text, source)?;

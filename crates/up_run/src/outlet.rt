@@ -1,4 +1,8 @@
 //! Standard output that nobody waits for.
+ghost use Rattle.std.specs.Prelude.{◌≡◌, ◌⊎◌, ◌<◌, ◌+◌, ◌++◌, [], drop, length};
+ghost use Rattle.up_run.specs.Outlets.{is_feed, lines_in, more_by};
+ghost use Rattle.up_run.specs.declared.outlet.TheConstants.{MOST_UNREAD};
+
 use mio::unix::SourceFd;
 use mio::{Events, Interest, Poll, Token};
 use std::alloc::Global;
@@ -120,15 +124,17 @@ fn way_of<R: Files<File = File> + Net>(rt: &R, alloc: Global) -> Way {
     }
 }
 
+fn is_feed(byte: u8) -> bool
+    ensures { result ≡ is_feed byte }
+{
+    byte == b'\n'
+}
+
 // How many lines end in a text.
-fn lines_in(text: &[u8]) -> u64 {
-    let mut lines = 0u64;
-    for byte in text {
-        if *byte == b'\n' {
-            lines = lines.saturating_add(1);
-        }
-    }
-    lines
+fn lines_in(text: &[u8]) -> u64
+    ensures { result ≡ lines_in text.now }
+{
+    text.iter().filter(|byte| is_feed(**byte)).count() as u64
 }
 
 impl Watch {
@@ -218,7 +224,13 @@ impl Outlet {
     }
 
     // Puts lines after those that wait. They are lost if too many wait, or memory ran out.
-    fn keep(&mut self, text: &[u8]) {
+    fn keep(&mut self, text: &[u8])
+        ensures whole { ((self.new.waiting.items ≡ self.old.waiting.items ++ text.now) × (self.new.lost ≡ self.old.lost))
+            ⊎ ((self.new.waiting.items ≡ self.old.waiting.items) × (self.new.lost ≡ more_by (lines_in text.now) self.old.lost)) }
+        ensures many { MOST_UNREAD < length self.old.waiting.items + length text.now
+            → self.new.waiting.items ≡ self.old.waiting.items }
+        ensures written { self.new.written ≡ self.old.written }
+    {
         let room = MOST_UNREAD.saturating_sub(self.waiting.len());
         if text.len() > room || self.waiting.extend_from_slice(text).is_err() {
             self.lost = self.lost.saturating_add(lines_in(text));
@@ -233,7 +245,12 @@ impl Outlet {
     }
 
     /// How many lines were lost since this was asked, if none wait any more.
-    pub(crate) fn take_lost(&mut self) -> u64 {
+    pub(crate) fn take_lost(&mut self) -> u64
+        ensures none { self.old.waiting.items ≡ [] → (result ≡ self.old.lost) × (self.new.lost ≡ 0) }
+        ensures later { 0 < length self.old.waiting.items → (result ≡ 0) × (self.new.lost ≡ self.old.lost) }
+        ensures waiting { self.new.waiting ≡ self.old.waiting }
+        ensures written { self.new.written ≡ self.old.written }
+    {
         if !self.waiting.is_empty() {
             return 0;
         }
@@ -243,7 +260,9 @@ impl Outlet {
     }
 
     /// How many lines were lost or wait still.
-    pub(crate) fn unread(&self) -> u64 {
+    pub(crate) fn unread(&self) -> u64
+        ensures { result ≡ more_by (lines_in (drop self.now.written self.now.waiting.items)) self.now.lost }
+    {
         let left = self.waiting.get(self.written..).unwrap_or(&[]);
         self.lost.saturating_add(lines_in(left))
     }

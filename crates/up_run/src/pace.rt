@@ -1,8 +1,12 @@
 //! How long a run pauses between rounds.
-ghost use Rattle.std.specs.Prelude.{◌≡◌, ◌≤◌, ◌<◌, ◌+◌, ◌/◌, true, false};
+ghost use Rattle.std.specs.Prelude.{◌≡◌, ◌≤◌, ◌<◌, ◌+◌, ◌/◌, ◌-◌, ◌^◌, min, true, false};
+ghost use Rattle.std.specs.List.{list_all};
+ghost use Rattle.up_run.specs.Paces.{gave_nothing, is_idle, is_nothing, is_short, longer, pause_of};
 ghost use Rattle.up_run.specs.declared.pace.TheConstants.{FIRST_PAUSE, GROWTH, SHORT_PAUSES};
 
 use up_daemon::{Passed, Round};
+use up_model::Output;
+use up_text::Items;
 
 /// The longest pause of a run that is not told another, in milliseconds.
 pub const MOST_PAUSE: u64 = 10;
@@ -45,6 +49,7 @@ impl Pace {
 
     // The pause after the next one, in microseconds.
     fn longer(&self) -> u64
+        ensures value { result ≡ longer self.now.quiet self.now.next self.now.most }
         ensures same { self.now.quiet < SHORT_PAUSES → result ≡ self.now.next }
         ensures most { result ≤ self.now.next + self.now.next / GROWTH }
         ensures least { self.now.next ≤ result }
@@ -59,7 +64,8 @@ impl Pace {
     pub(crate) fn note(&mut self, idle: bool)
         ensures most { self.new.most ≡ self.old.most }
         ensures busy { idle ≡ false → (self.new.quiet ≡ 0) × (self.new.next ≡ FIRST_PAUSE) }
-        ensures idle { idle ≡ true → 0 < self.new.quiet }
+        ensures idle { idle ≡ true → (self.new.quiet ≡ min (self.old.quiet + 1) (2 ^ 64 - 1))
+            × (self.new.next ≡ longer self.old.quiet self.old.next self.old.most) }
         ensures grows { idle ≡ true → self.new.next ≤ self.old.next + self.old.next / GROWTH }
     {
         if idle {
@@ -73,6 +79,7 @@ impl Pace {
 
     /// How many milliseconds to pause now; 0 for not at all.
     pub(crate) fn pause(&self) -> u64
+        ensures value { result ≡ pause_of self.now.quiet self.now.next self.now.most }
         ensures most { result ≤ self.now.most }
         ensures busy { self.now.quiet ≡ 0 → result ≡ 0 }
         ensures idle { 0 < self.now.quiet → 0 < self.now.most → 0 < result }
@@ -85,6 +92,7 @@ impl Pace {
 
     /// Whether to pause now for a tenth of a millisecond instead.
     pub(crate) fn is_short(&self) -> bool
+        ensures value { result ≡ is_short self.now.quiet self.now.most }
         ensures none { self.now.most ≡ 0 → result ≡ false }
         ensures busy { self.now.quiet ≡ 0 → result ≡ false }
         ensures lately { 0 < self.now.most → 0 < self.now.quiet → self.now.quiet ≤ 8 → result ≡ true }
@@ -95,7 +103,9 @@ impl Pace {
 }
 
 // Whether a call of the door found nothing to do.
-fn is_nothing(passed: &Passed) -> bool {
+fn is_nothing(passed: &Passed) -> bool
+    ensures { result ≡ is_nothing passed.now }
+{
     match passed {
         Passed::Accepted(None) | Passed::Read(_, None) => true,
         Passed::Wrote(_, bytes) => bytes.as_slice().is_empty(),
@@ -103,13 +113,29 @@ fn is_nothing(passed: &Passed) -> bool {
     }
 }
 
+fn gave_nothing(outputs: &Items<Output>) -> bool
+    ensures { result ≡ gave_nothing outputs.now }
+{
+    outputs.as_slice().is_empty()
+}
+
+fn all_gave_nothing(gave: &[Items<Output>]) -> bool
+    ensures { result ≡ list_all gave_nothing gave.now }
+{
+    gave.iter().all(|outputs| gave_nothing(outputs))
+}
+
+fn are_nothing(passed: &[Passed]) -> bool
+    ensures { result ≡ list_all is_nothing passed.now }
+{
+    passed.iter().all(|entry| is_nothing(entry))
+}
+
 /// Whether a round did nothing: it was fed a reading of the clock alone, which asked for nothing, and no byte and no client came or went.
-pub(crate) fn is_idle(round: &Round, passed: &[Passed]) -> bool {
+pub(crate) fn is_idle(round: &Round, passed: &[Passed]) -> bool
+    ensures { result ≡ is_idle round.now passed.now }
+{
     round.fed.as_slice().len() <= 1
-        && round
-            .gave
-            .as_slice()
-            .iter()
-            .all(|outputs| outputs.as_slice().is_empty())
-        && passed.iter().all(|entry| is_nothing(entry))
+        && all_gave_nothing(round.gave.as_slice())
+        && are_nothing(passed)
 }

@@ -1,5 +1,5 @@
 //! What a run tells of its rounds: on standard output, in a file, and in a record.
-ghost use Rattle.std.specs.Prelude.{◌≡◌, ◌++◌, OnOk};
+ghost use Rattle.std.specs.Prelude.{◌≡◌, ◌++◌, IfOk, OnOk};
 ghost use Rattle.std.specs.List.{flat_map};
 ghost use Rattle.up_print.specs.Lines.{output_lines};
 
@@ -62,7 +62,9 @@ fn push_gave(text: &mut Vec<u8>, gave: &[Items<Output>]) -> Result<(), AllocErro
 }
 
 // The lines of what a round gave.
-fn gave_lines(alloc: Global, gave: &[Items<Output>]) -> Result<Vec<u8>, AllocError> {
+fn gave_lines(alloc: Global, gave: &[Items<Output>]) -> Result<Vec<u8>, AllocError>
+    ensures { IfOk result (λ text. text.items ≡ flat_map (flat_map output_lines) gave.now) }
+{
     let mut text: Vec<u8> = Vec::new(alloc);
     match push_gave(&mut text, gave) {
         Ok(()) => Ok(text),
