@@ -57,7 +57,7 @@ pub step-answered : (outputs more : List Output) (asked : Option Asked) (on : Op
     → Asks (outputs ++ more) (answered_of asked) on config (Replied (given_place c) answer ∷ c)
 unfolding outputs_of
 step-answered outputs more asked on config c answer replies s = record {
-  outputs = ap (λ outs. outs ++ more) s.outputs ∙ ap (λ outs. outputs_of config c ++ outs) (sym replies);
+  outputs = ap (λ outs. outs ++ more) s.outputs ∙ ap (λ outs. outputs_of c ++ outs) (sym replies);
   asked = ap answered_of s.asked ∙ answered-in (given_input c) (was_answered (given_place c) c) ∙ sym (ap (λ b. asked_in (given_input c) (if b then true else was_answered (given_place c) c)) (eq-eqb (given_place c) (given_place c) refl));
   on = on-stays-by config (Replied (given_place c) answer) c on tt (λ job. refl) (λ i gone. refl) s.on;
   unheld = s.unheld;
@@ -195,7 +195,7 @@ step-waiter outputs asked on config c e spoilt s = by_waiter (waiter e c) refl
         let number : id_at r c ≡ Some its.0 = ap id_of its.2 in
         let later : id_at r d ≡ Some its.0 = ap id_of (ap (λ b. if b then Some (Finished e) else entry_at r c) (older-other (length c) r within)) ∙ number in
         record {
-          outputs = ap (λ o. outputs ++ waiter_replies o spoilt) number ∙ ap (λ outs. outs ++ waiter_replies (Some its.0) spoilt) s.outputs ∙ sym (ap (λ o. outputs_of config d ++ reply_of o answer) later);
+          outputs = ap (λ o. outputs ++ waiter_replies o spoilt) number ∙ ap (λ outs. outs ++ waiter_replies (Some its.0) spoilt) s.outputs ∙ sym (ap (λ o. outputs_of d ++ reply_of o answer) later);
           asked = s.asked ∙ sym (answered-else r answer d (λ hurried. waiter-apart e c r is hurried));
           on = on-stays-by config (Replied r answer) d on tt (λ job. refl) (λ i gone. refl) s.on;
           unheld = s.unheld;

@@ -136,7 +136,7 @@ trigger-used places id (Some marks) None sights p names agrees = absurd agrees
 
 -- what instances hold
 instances-used : (places : Places) (config : Configuration) (job : JobDef) (c : Chronicle) (id : EventId) (p : ℕ) (origin : Origin) (event : Event) (its : List Kept) (xs : List Instance) → Names places id p
-    → entry_at p c ≡ Some (Queued origin event) → map (view places) its ≡ map (summary config job c) xs → InstancesRemember places config job c its xs → AllByRecursion (λ x. file_of config x.place c ≡ Some job) xs → count_in p (held_by_instances config xs c) ≡ kept_uses id its
+    → entry_at p c ≡ Some (Queued origin event) → map (view places) its ≡ map (summary config job c) xs → InstancesRemember places config job c its xs → AllByRecursion (λ x. file_of x.place c ≡ Some job) xs → count_in p (held_by_instances config xs c) ≡ kept_uses id its
 instances-used places config job c id p origin event [] [] names queued same remember files = refl
 instances-used places config job c id p origin event [] (x ∷ xs) names queued same remember files = absurd remember
 instances-used places config job c id p origin event (k ∷ its) [] names queued same remember files = absurd remember
@@ -144,7 +144,7 @@ instances-used places config job c id p origin event (k ∷ its) (x ∷ xs) name
     let first : view places k ≡ summary config job c x = cc in
     let rest : map (view places) its ≡ map (summary config job c) xs = cc in
     let hold : map (holding_of places) k.holders ≡ map (holding_at c) (holders x.place c) = ap (λ (s : Summary). s.holders) first in
-    let stops = kept (stop_on_of (file_of config x.place c)) (seen config (StopOn x.place) c) in
+    let stops = kept (stop_on_of (file_of x.place c)) (seen config (StopOn x.place) c) in
     omega (
       arith,
       count-append p (held_by config x.place c) (held_by_instances config xs c),
@@ -171,7 +171,7 @@ jobs-used places config c id p origin event (j ∷ its) (t ∷ ts) (job ∷ jobs
     let first : job_view places j ≡ job_summary config c job = cc in
     let rest : map (job_view places) its ≡ map (job_summary config c) jobs = cc in
     let keeps = kept (start_on_of (file_in_force config job.name c)) (seen config (StartOn job.name) c) in
-    let files = subst (λ file. AllByRecursion (λ x. file_of config x.place c ≡ file) (instances_of job.name c)) found.0 (file_of-job config job.name c) in
+    let files = subst (λ file. AllByRecursion (λ x. file_of x.place c ≡ file) (instances_of job.name c)) found.0 (file_of-job config job.name c) in
     omega (
       arith,
       count-append p (held_by_job config job.name c) (held_by_jobs config (job_names jobs) c),

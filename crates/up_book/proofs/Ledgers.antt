@@ -105,7 +105,7 @@ silent old past config c e s f still plain spares = stood (record old { past = p
 
 -- one that asks for something more
 pub more : (old new : Ledger) (config : Configuration) (c : Chronicle) (e : Entry) (outs : List Output) → Stands old Stepping config c → Forgets new.past config (e ∷ c) → new.index ≡ old.index → IsUnasked e → IsPlain e → Spares config c e
-    → outputs_of config (e ∷ c) ≡ outputs_of config c ++ outs → new.step.outputs.items ≡ old.step.outputs.items ++ outs → new.step.asked ≡ old.step.asked → new.step.on ≡ old.step.on → Stands new Stepping config (e ∷ c)
+    → outputs_of (e ∷ c) ≡ outputs_of c ++ outs → new.step.outputs.items ≡ old.step.outputs.items ++ outs → new.step.asked ≡ old.step.asked → new.step.on ≡ old.step.on → Stands new Stepping config (e ∷ c)
 more old new config c e outs s f index unasked plain spares out outputs asked on =
     stood new Stepping config (e ∷ c) f (subst (λ its. HasIndex its config.jobs) (sym index) s.index)
     (asks-same (old.step.outputs.items ++ outs) new.step.outputs.items old.step.asked new.step.asked old.step.on new.step.on config (e ∷ c) outputs asked on
@@ -128,13 +128,13 @@ same-job : {a b : JobDef} → Some a ≡ Some b → a ≡ b
 same-job e = cc
 
 pub ordered : (past : Past) (config : Configuration) (c : Chronicle) (key : InstanceKey) (i : ℕ) (job : JobDef) (its : Process) (out : Option Output) → Forgets past config c → instance_place config c key ≡ Some i
-    → job_at config key.job ≡ Some job → IsOrder job (kept_at key past.instances) its out → outputs_of config (Ordered i its ∷ c) ≡ outputs_of config c ++ listed out
+    → job_at config key.job ≡ Some job → IsOrder job (kept_at key past.instances) its out → outputs_of (Ordered i its ∷ c) ≡ outputs_of c ++ listed out
 ordered past config c key i job its out f found in_table is =
     let t = there-so past config c key i f found in
     let order : (places : Places) → listed out ≡ order_by job (view places t.kept) its = subst (λ (k : Option Kept). IsOrder job k its out) t.found is in
     let one : t.job ≡ job = same-job (sym t.in_jobs ∙ job-there config key.job job in_table) in
-    ap (λ p. outputs_of config (Ordered p its ∷ c)) (sym t.place) ∙ ordered-out config c key.job key.at t.job t.its its f.lives.distinct t.in_jobs t.in_instances
-    ∙ ap (λ os. outputs_of config c ++ os) (ap (λ s. order_by t.job s its) (sym t.same) ∙ ap (λ (j : JobDef). order_by j (view (place_of past.events (queue c)) t.kept) its) one ∙ sym (order (place_of past.events (queue c))))
+    ap (λ p. outputs_of (Ordered p its ∷ c)) (sym t.place) ∙ ordered-out config c key.job key.at t.job t.its its f.lives.distinct t.in_jobs t.in_instances
+    ∙ ap (λ os. outputs_of c ++ os) (ap (λ s. order_by t.job s its) (sym t.same) ∙ ap (λ (j : JobDef). order_by j (view (place_of past.events (queue c)) t.kept) its) one ∙ sym (order (place_of past.events (queue c))))
 
 -- a signal
 kept-job : (at : ℕ) (o : Option JobInstances) (kept : Kept) → kept_in at o ≡ Some kept → (j : JobInstances) × (o ≡ Some j)
@@ -142,7 +142,7 @@ kept-job at None kept found = absurd cc
 kept-job at (Some j) kept found = (j, refl)
 
 pub signalled : (past : Past) (config : Configuration) (c : Chronicle) (key : InstanceKey) (i : ℕ) (signal : ℕ) (by_timer : Bool) (out : Option Output) → Forgets past config c → instance_place config c key ≡ Some i
-    → IsSignal (nth key.job past.instances) (kept_at key past.instances) signal out → outputs_of config (Signalled i signal by_timer ∷ c) ≡ outputs_of config c ++ listed out
+    → IsSignal (nth key.job past.instances) (kept_at key past.instances) signal out → outputs_of (Signalled i signal by_timer ∷ c) ≡ outputs_of c ++ listed out
 signalled past config c key i signal by_timer out f found is =
     let places = place_of past.events (queue c) in
     let t = there-so past config c key i f found in
@@ -150,8 +150,8 @@ signalled past config c key i signal by_timer out f found is =
     let its = kept-name places past.instances config c key.job j.0 f.lives.jobs j.1 in
     let one : its.0 ≡ t.job = same-job (sym its.1 ∙ t.in_jobs) in
     let sent : IsSignal (Some j.0) (Some t.kept) signal out = subst (λ (k : Option Kept). IsSignal (Some j.0) k signal out) t.found (subst (λ (o : Option JobInstances). IsSignal o (kept_at key past.instances) signal out) j.1 is) in
-    ap (λ p. outputs_of config (Signalled p signal by_timer ∷ c)) (sym t.place) ∙ signalled-out config c key.at t.job t.its signal by_timer t.in_instances
-    ∙ ap (λ os. outputs_of config c ++ os) (ap (λ s. signal_by t.job s signal) (sym t.same) ∙ sym (sent places t.job (sym (its.2 ∙ ap (λ (job : JobDef). job.name) one))))
+    ap (λ p. outputs_of (Signalled p signal by_timer ∷ c)) (sym t.place) ∙ signalled-out config c key.at t.job t.its signal by_timer t.in_instances
+    ∙ ap (λ os. outputs_of c ++ os) (ap (λ s. signal_by t.job s signal) (sym t.same) ∙ sym (sent places t.job (sym (its.2 ∙ ap (λ (job : JobDef). job.name) one))))
 
 -- what clients read of an instance, by the name that is kept of its job
 pub named-job : (past : Past) (config : Configuration) (c : Chronicle) (key : InstanceKey) (i : ℕ) (t : There (place_of past.events (queue c)) past.instances config c key i) → Forgets past config c → option_map job_of (nth key.job past.instances) ≡ Some t.job.name

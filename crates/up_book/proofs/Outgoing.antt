@@ -69,28 +69,28 @@ made-there at job x c here =
 
 -- an order
 pub ordered-out : (config : Configuration) (c : Chronicle) (place at : ℕ) (job : JobDef) (x : Instance) (its : Process) → AreDistinct config.jobs → nth place config.jobs ≡ Some job
-    → nth at (instances_of job.name c) ≡ Some x → outputs_of config (Ordered x.place its ∷ c) ≡ outputs_of config c ++ order_by job (summary config job c x) its
+    → nth at (instances_of job.name c) ≡ Some x → outputs_of (Ordered x.place its ∷ c) ≡ outputs_of c ++ order_by job (summary config job c x) its
 unfolding outputs_of
 ordered-out config c place at job x its distinct there here = rw (made-there at job x c here, named-there place config.jobs job there distinct) refl
 
 -- a signal
 pub signalled-out : (config : Configuration) (c : Chronicle) (at : ℕ) (job : JobDef) (x : Instance) (signal : ℕ) (by_timer : Bool)
-    → nth at (instances_of job.name c) ≡ Some x → outputs_of config (Signalled x.place signal by_timer ∷ c) ≡ outputs_of config c ++ signal_by job (summary config job c x) signal
+    → nth at (instances_of job.name c) ≡ Some x → outputs_of (Signalled x.place signal by_timer ∷ c) ≡ outputs_of c ++ signal_by job (summary config job c x) signal
 unfolding outputs_of
 signalled-out config c at job x signal by_timer here = rw (made-there at job x c here) refl
 
 -- an event of an instance's life, and which that is
-pub entering-out : (config : Configuration) (c : Chronicle) (i : ℕ) (entered : State) (event : Event) → outputs_of config (Queued (Entering i entered) event ∷ c) ≡ outputs_of config c ++ output.Emitted event ∷ []
+pub entering-out : (config : Configuration) (c : Chronicle) (i : ℕ) (entered : State) (event : Event) → outputs_of (Queued (Entering i entered) event ∷ c) ≡ outputs_of c ++ output.Emitted event ∷ []
 unfolding outputs_of
 entering-out config c i entered event = refl
 
 -- an event that tells of another
-pub spoilt-out : (config : Configuration) (c : Chronicle) (spoilt : ℕ) (event : Event) → outputs_of config (Queued (Spoilt spoilt) event ∷ c) ≡ outputs_of config c ++ output.Emitted event ∷ []
+pub spoilt-out : (config : Configuration) (c : Chronicle) (spoilt : ℕ) (event : Event) → outputs_of (Queued (Spoilt spoilt) event ∷ c) ≡ outputs_of c ++ output.Emitted event ∷ []
 unfolding outputs_of
 spoilt-out config c spoilt event = refl
 
 -- an input begins anew
-pub given-out : (config : Configuration) (c : Chronicle) (given : Input) → outputs_of config (Given given ∷ c) ≡ []
+pub given-out : (config : Configuration) (c : Chronicle) (given : Input) → outputs_of (Given given ∷ c) ≡ []
 unfolding outputs_of
 given-out config c given = refl
 
@@ -104,7 +104,7 @@ IsSilent (Signalled i signal by_timer) = ⊥
 IsSilent (Replied request answer) = ⊥
 IsSilent entry = Unit {0}
 
-pub silent-out : (config : Configuration) (c : Chronicle) (e : Entry) → IsSilent e → outputs_of config (e ∷ c) ≡ outputs_of config c
+pub silent-out : (config : Configuration) (c : Chronicle) (e : Entry) → IsSilent e → outputs_of (e ∷ c) ≡ outputs_of c
 unfolding outputs_of
 silent-out config c (Given input) is = absurd is
 silent-out config c (Queued (Entering i entered) event) is = absurd is

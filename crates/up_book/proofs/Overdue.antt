@@ -69,7 +69,7 @@ none-of-job places config job c alarm before (k ∷ its) (x ∷ xs) same from =
 
 none-of-jobs : (places : Places) (config : Configuration) (c : Chronicle) (alarm : ℕ) → now c < alarm → (jobs : List JobInstances) (defs : List JobDef)
     → map (job_view places) jobs ≡ map (job_summary config c) defs → AllFrom alarm jobs → AllByRecursion (λ job. job_named job.name config.jobs ≡ Some job) defs
-    → all_overdue config (job_names defs) c ≡ []
+    → all_overdue (job_names defs) c ≡ []
 none-of-jobs places config c alarm before jobs [] same from found = refl
 none-of-jobs places config c alarm before [] (def ∷ defs) same from found = absurd cc
 none-of-jobs places config c alarm before (j ∷ jobs) (def ∷ defs) same from found =
@@ -77,9 +77,9 @@ none-of-jobs places config c alarm before (j ∷ jobs) (def ∷ defs) same from 
     let rest : map (job_view places) jobs ≡ map (job_summary config c) defs = cc in
     let its : map (view places) j.instances ≡ map (summary config def c) (instances_of def.name c) = ap (λ (s : JobSummary). s.instances) one in
     let none = overdue-job config def.name c ∙ ap (λ file. overdue_by file (instances_of def.name c) c) found.0 ∙ none-of-job places config def c alarm before j.instances (instances_of def.name c) its from.0 in
-    ap (λ xs. xs ++ all_overdue config (job_names defs) c) none ∙ none-of-jobs places config c alarm before jobs defs rest from.1 found.1
+    ap (λ xs. xs ++ all_overdue (job_names defs) c) none ∙ none-of-jobs places config c alarm before jobs defs rest from.1 found.1
 
 pub none-overdue : (past : Past) (config : Configuration) (c : Chronicle) (alarm : ℕ) → Forgets past config c → AllFrom alarm past.instances → now c < alarm
-    → all_overdue config (names_in_order config c) c ≡ []
+    → all_overdue (names_in_order config c) c ≡ []
 none-overdue past config c alarm f from before =
     none-of-jobs (place_of past.events (queue c)) config c alarm before past.instances config.jobs f.lives.jobs from (found-all config.jobs f.lives.distinct)

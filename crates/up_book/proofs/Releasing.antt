@@ -19,12 +19,12 @@ use Rattle.up_book.proofs.Replying.{Extends, replies-out}
 -- a release: the replies to the clients that are kept as holders, with the status text
 pub released-out : (places : Places) (config : Configuration) (c : Chronicle) (i : ℕ) (failed : Bool) (its : List Holder) (told : Bytes) → HoldsOlder i c
     → map (holding_of places) its ≡ map (holding_at c) (holders i c) → status_of i c ≡ told
-    → outputs_of config (releasing i failed c ++ c) ≡ outputs_of config c ++ replies_to its failed told
+    → outputs_of (releasing i failed c ++ c) ≡ outputs_of c ++ replies_to its failed told
 unfolding outputs_of
 released-out places config c i failed its told older same text =
-    ap (outputs_of config) (append_assoc (answering (holders i c) failed (status_of i c) c) (Released i failed ∷ []) c)
+    ap (outputs_of) (append_assoc (answering (holders i c) failed (status_of i c) c) (Released i failed ∷ []) c)
     ∙ replies-out places config c (holders i c) its failed (status_of i c) (Released i failed ∷ c) older same longer
-    ∙ ap (λ t. outputs_of config c ++ replies_to its failed t) text
+    ∙ ap (λ t. outputs_of c ++ replies_to its failed t) text
   where
     longer : Extends c (Released i failed ∷ c)
     longer = record {

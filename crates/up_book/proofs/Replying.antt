@@ -49,18 +49,18 @@ reply-same places (holder.Event id) p other failed told same = refl
 
 -- one more
 one-out : (config : Configuration) (p : ℕ) (request : Option RequestValue) (failed : Bool) (told : Bytes) (c d : Chronicle) → id_at p d ≡ id_at p c
-    → outputs_of config (answering_one p request failed told ++ d) ≡ outputs_of config d ++ one_reply p request (id_at p c) failed told
+    → outputs_of (answering_one p request failed told ++ d) ≡ outputs_of d ++ one_reply p request (id_at p c) failed told
 unfolding outputs_of
-one-out config p None failed told c d same = sym (append-nil (outputs_of config d))
-one-out config p (Some request) failed told c d same = ap (λ id. outputs_of config d ++ reply_of id (answer_to request.command failed told)) same
+one-out config p None failed told c d same = sym (append-nil (outputs_of d))
+one-out config p (Some request) failed told c d same = ap (λ id. outputs_of d ++ reply_of id (answer_to request.command failed told)) same
 
 extends-one : (p : ℕ) (request : Option RequestValue) (failed : Bool) (told : Bytes) (c d : Chronicle) → Extends c d → Extends c (answering_one p request failed told ++ d)
 extends-one p None failed told c d x = x
 extends-one p (Some request) failed told c d x = extends-more c d (Replied p (answer_to request.command failed told)) x
 
 pub replies-out : (places : Places) (config : Configuration) (c : Chronicle) (hs : List ℕ) (its : List Holder) (failed : Bool) (told : Bytes) (d : Chronicle) → AreOlder (length c) hs
-    → map (holding_of places) its ≡ map (holding_at c) hs → Extends c d → outputs_of config (answering hs failed told c ++ d) ≡ outputs_of config d ++ replies_to its failed told
-replies-out places config c [] [] failed told d older same x = sym (append-nil (outputs_of config d))
+    → map (holding_of places) its ≡ map (holding_at c) hs → Extends c d → outputs_of (answering hs failed told c ++ d) ≡ outputs_of d ++ replies_to its failed told
+replies-out places config c [] [] failed told d older same x = sym (append-nil (outputs_of d))
 replies-out places config c [] (h ∷ its) failed told d older same x = absurd cc
 replies-out places config c (p ∷ hs) [] failed told d older same x = absurd cc
 replies-out places config c (p ∷ hs) (h ∷ its) failed told d older same x =
@@ -70,10 +70,10 @@ replies-out places config c (p ∷ hs) (h ∷ its) failed told d older same x =
     let order : answering (p ∷ hs) failed told c ++ d ≡ answering hs failed told c ++ next = append_assoc (answering hs failed told c) (answering_one p (request_at p c) failed told) d in
     let one = one-out config p (request_at p c) failed told c d (ap id_of (x.same p older.0)) in
     let reply = reply-same places h p (entry_at p c) failed told first in
-    ap (outputs_of config) order
+    ap (outputs_of) order
     ∙ replies-out places config c hs its failed told next older.1 rest (extends-one p (request_at p c) failed told c d x)
-    ∙ ap (λ outs. outs ++ replies_to its failed told) (one ∙ ap (λ outs. outputs_of config d ++ outs) reply)
-    ∙ append_assoc (outputs_of config d) (reply_to h failed told) (replies_to its failed told)
+    ∙ ap (λ outs. outs ++ replies_to its failed told) (one ∙ ap (λ outs. outputs_of d ++ outs) reply)
+    ∙ append_assoc (outputs_of d) (reply_to h failed told) (replies_to its failed told)
 
 -- the replies from one holder on
 pub replies_left : (its : List Holder) (i : ℕ) (d : Holder) (failed : Bool) (told : Bytes) (outs : List Output) → i < length its

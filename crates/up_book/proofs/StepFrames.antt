@@ -104,7 +104,7 @@ step-silent outputs asked on config c e silent plain spares s = record {
 }
 
 -- one that asks for something more
-pub step-more : (outputs more : List Output) (asked : Option Asked) (on : Option ActedOn) (config : Configuration) (c : Chronicle) (e : Entry) → IsUnasked e → IsPlain e → Spares config c e → outputs_of config (e ∷ c) ≡ outputs_of config c ++ more
+pub step-more : (outputs more : List Output) (asked : Option Asked) (on : Option ActedOn) (config : Configuration) (c : Chronicle) (e : Entry) → IsUnasked e → IsPlain e → Spares config c e → outputs_of (e ∷ c) ≡ outputs_of c ++ more
     → Asks outputs asked on config c → Asks (outputs ++ more) asked on config (e ∷ c)
 step-more outputs more asked on config c e unasked plain spares out s = record {
   outputs = ap (λ its. its ++ more) s.outputs ∙ sym out;

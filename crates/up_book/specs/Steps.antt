@@ -11,7 +11,7 @@ use Rattle.up_book.specs.Asking.{asked_of, IsUnheld}
 use Rattle.up_book.specs.Requesting.{OnMeans}
 
 pub record Asks (outs : List Output) (request : Option Asked) (instance : Option ActedOn) (config : Configuration) (c : Chronicle) : Type 0 where
-  pub outputs : outs ≡ outputs_of config c
+  pub outputs : outs ≡ outputs_of c
   pub asked : request ≡ asked_of c
   pub on : OnMeans config c instance
   pub unheld : IsUnheld c

@@ -97,7 +97,7 @@ pub trait Book: Drop {
     /// A reading of the clock, in milliseconds, before which the timer kills nobody. Takes no memory.
     fn alarm(&self) -> u128
         ensures { (mode : Mode) (config : Configuration) (c : Chronicle) → stands self.now mode config c
-            → clock.now c < result → clock.all_overdue config (names_in_order config c) c ≡ [] };
+            → clock.now c < result → clock.all_overdue (names_in_order config c) c ≡ [] };
 
     /// The alarm is set to the earliest reading at which the timer kills somebody. It takes no memory, and looks at each instance.
     fn set_alarm(&mut self)
@@ -512,7 +512,7 @@ pub trait Book: Drop {
         ensures after { (config : Configuration) (c : Chronicle) → stands self.old Stepping config c
             → stands self.new Resting config c }
         ensures outputs { (config : Configuration) (c : Chronicle) → stands self.old Stepping config c
-            → result.items ≡ outputs_of config c };
+            → result.items ≡ outputs_of c };
 
     // no job but those of the table has instances
     ghost known: { (book : Self) (mode : Mode) (config : Configuration) (c : Chronicle) (job : Bytes)

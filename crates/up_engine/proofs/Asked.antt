@@ -280,7 +280,7 @@ status-told (Concerns job who environment) c = by_place (instance_named who c)
 pub reload-due : (config : Configuration) (id : ℕ) (request : RequestValue) (target : Target) (c : Chronicle) → AreDistinct config.jobs → due config c ≡ []
     → due config (entries_of (length c) (reload config (length c) target (Given (input.Request id request) ∷ c)) ++ Given (input.Request id request) ∷ c) ≡ []
 reload-due config id request (Nobody text) c distinct none = outcome-due config id request (Refused text) c tt distinct none
-reload-due config id request (Concerns job who environment) c distinct none = by_place (own_file config who d) (instance_named who d)
+reload-due config id request (Concerns job who environment) c distinct none = by_place (own_file who d) (instance_named who d)
   where
     d : Chronicle
     d = Given (input.Request id request) ∷ c

@@ -36,40 +36,40 @@ instances_length places (key ∷ keys) [] h = absurd cc
 instances_length places (key ∷ keys) (first ∷ found) h = ap suc (instances_length places keys found (cc))
 
 -- if none of these is overdue, no instance among them is
-pub none_due : (config : Configuration) (its : List Instance) (n : ℕ) (x : Instance) (rest : List Instance) (c : Chronicle) → overdue config its c ≡ [] → drop n its ≡ x ∷ rest
-    → kill_due_by (file_of config x.place c) x.place c ≡ false
+pub none_due : (config : Configuration) (its : List Instance) (n : ℕ) (x : Instance) (rest : List Instance) (c : Chronicle) → overdue its c ≡ [] → drop n its ≡ x ∷ rest
+    → kill_due_by (file_of x.place c) x.place c ≡ false
 none_due config [] zero x rest c none found = absurd cc
 none_due config [] (suc n) x rest c none found = absurd cc
-none_due config (y ∷ its) zero x rest c none found = rw (← same) (by_case (kill_due_by (file_of config y.place c) y.place c) none)
+none_due config (y ∷ its) zero x rest c none found = rw (← same) (by_case (kill_due_by (file_of y.place c) y.place c) none)
   where
     same : y ≡ x
     same = cc
 
-    by_case : (b : Bool) → entries_if b (y.place ∷ []) ++ overdue config its c ≡ [] → b ≡ false
+    by_case : (b : Bool) → entries_if b (y.place ∷ []) ++ overdue its c ≡ [] → b ≡ false
     by_case true none = absurd cc
     by_case false none = refl
-none_due config (y ∷ its) (suc n) x rest c none found = none_due config its n x rest c (by_case (kill_due_by (file_of config y.place c) y.place c) none) found
+none_due config (y ∷ its) (suc n) x rest c none found = none_due config its n x rest c (by_case (kill_due_by (file_of y.place c) y.place c) none) found
   where
-    by_case : (b : Bool) → entries_if b (y.place ∷ []) ++ overdue config its c ≡ [] → overdue config its c ≡ []
+    by_case : (b : Bool) → entries_if b (y.place ∷ []) ++ overdue its c ≡ [] → overdue its c ≡ []
     by_case true none = absurd cc
     by_case false none = none
 
 -- nor is one of a job
-pub none_left : (config : Configuration) (jobs : List JobDef) (n : ℕ) (c : Chronicle) → all_overdue config (job_names jobs) c ≡ [] → all_overdue config (job_names (drop n jobs)) c ≡ []
+pub none_left : (config : Configuration) (jobs : List JobDef) (n : ℕ) (c : Chronicle) → all_overdue (job_names jobs) c ≡ [] → all_overdue (job_names (drop n jobs)) c ≡ []
 none_left config [] zero c none = none
 none_left config [] (suc n) c none = none
 none_left config (job ∷ jobs) zero c none = none
-none_left config (job ∷ jobs) (suc n) c none = none_left config jobs n c (second (overdue config (instances_of job.name c) c) none)
+none_left config (job ∷ jobs) (suc n) c none = none_left config jobs n c (second (overdue (instances_of job.name c) c) none)
   where
-    second : (xs : List ℕ) → xs ++ all_overdue config (job_names jobs) c ≡ [] → all_overdue config (job_names jobs) c ≡ []
+    second : (xs : List ℕ) → xs ++ all_overdue (job_names jobs) c ≡ [] → all_overdue (job_names jobs) c ≡ []
     second [] none = none
     second (x ∷ xs) none = absurd cc
 
-pub none_of_job : (config : Configuration) (jobs : List JobDef) (n : ℕ) (job : JobDef) (rest : List JobDef) (c : Chronicle) → drop n jobs ≡ job ∷ rest → all_overdue config (job_names jobs) c ≡ []
-    → overdue config (instances_of job.name c) c ≡ []
+pub none_of_job : (config : Configuration) (jobs : List JobDef) (n : ℕ) (job : JobDef) (rest : List JobDef) (c : Chronicle) → drop n jobs ≡ job ∷ rest → all_overdue (job_names jobs) c ≡ []
+    → overdue (instances_of job.name c) c ≡ []
 none_of_job config jobs n job rest c is none =
-    first (overdue config (instances_of job.name c) c) (sym (ap (λ js. all_overdue config (job_names js) c) is) ∙ none_left config jobs n c none)
+    first (overdue (instances_of job.name c) c) (sym (ap (λ js. all_overdue (job_names js) c) is) ∙ none_left config jobs n c none)
   where
-    first : (xs : List ℕ) → xs ++ all_overdue config (job_names rest) c ≡ [] → xs ≡ []
+    first : (xs : List ℕ) → xs ++ all_overdue (job_names rest) c ≡ [] → xs ≡ []
     first [] none = refl
     first (x ∷ xs) none = absurd cc

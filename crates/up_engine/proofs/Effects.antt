@@ -133,12 +133,12 @@ effect-of config (input.Request id request) c none =
 effect-of config (input.Spawned who process pid) c none = record { entries = []; whole = refl; none = tt }
 effect-of config (input.Refused who process) c none =
     let d : Chronicle = Given (input.Refused who process) ∷ c in
-    record { entries = end_by config who process end.Refused d; whole = refl; none = end_of-none (own_file config who d) (instance_named who d) process end.Refused d }
+    record { entries = end_by who process end.Refused d; whole = refl; none = end_of-none (own_file who d) (instance_named who d) process end.Refused d }
 effect-of config (input.Ended who process how) c none =
     let d : Chronicle = Given (input.Ended who process how) ∷ c in
-    record { entries = end_by config who process (end.Ended how) d; whole = refl; none = end_of-none (own_file config who d) (instance_named who d) process (end.Ended how) d }
+    record { entries = end_by who process (end.Ended how) d; whole = refl; none = end_of-none (own_file who d) (instance_named who d) process (end.Ended how) d }
 effect-of config (input.Clock reading) c none =
-    let kills = all_overdue config (names_in_order config c) (Given (input.Clock reading) ∷ c) in
+    let kills = all_overdue (names_in_order config c) (Given (input.Clock reading) ∷ c) in
     record { entries = killing kills; whole = refl; none = killing-none kills }
 effect-of config input.Turn c none =
     let event = turn_event config (queue.queue c) c in

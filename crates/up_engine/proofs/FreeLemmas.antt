@@ -42,18 +42,18 @@ free-expected config c (input.Ended who process how) free = absurd free
 
 -- its effect asks for nothing
 turn-outputs : (config : Configuration) (e : ℕ) (handled : Bool) (c : Chronicle) → IsFreeOf config e handled (Given input.Turn ∷ c)
-    → outputs_of config (((if handled then finishing e (Given input.Turn ∷ c) else Handled e ∷ []) ++ Given input.Turn ∷ []) ++ c) ≡ []
+    → outputs_of (((if handled then finishing e (Given input.Turn ∷ c) else Handled e ∷ []) ++ Given input.Turn ∷ []) ++ c) ≡ []
 unfolding outputs_of
 turn-outputs config e false c free = refl
 turn-outputs config e true c free = rw (free.unspoilt, free.unasked) refl
 
 event-outputs : (config : Configuration) (live : Option Live) (c : Chronicle) → TurnIsFree config live (Given input.Turn ∷ c)
-    → outputs_of config ((turn_of live (Given input.Turn ∷ c) ++ Given input.Turn ∷ []) ++ c) ≡ []
+    → outputs_of ((turn_of live (Given input.Turn ∷ c) ++ Given input.Turn ∷ []) ++ c) ≡ []
 unfolding outputs_of
 event-outputs config None c free = refl
 event-outputs config (Some live) c free = turn-outputs config live.place live.handled c free
 
-pub free-outputs : (config : Configuration) (c : Chronicle) (given : Input) → IsFree config c given → outputs_of config (effect config given c ++ c) ≡ []
+pub free-outputs : (config : Configuration) (c : Chronicle) (given : Input) → IsFree config c given → outputs_of (effect config given c ++ c) ≡ []
 unfolding effect outputs_of
 free-outputs config c input.Turn free = event-outputs config (turn_event config (queue c) c) c free
 free-outputs config c (input.Clock reading) free = rw free refl

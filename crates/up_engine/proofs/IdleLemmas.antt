@@ -48,5 +48,5 @@ idle-turns engine config c (suc count) s none =
     let same = idle-after config c s.past.past.lives.distinct none s.rest.rested in
     let rest = idle-turns engine config d count (idle-stands engine config c s none) (turn-same config (queue c) c ∙ none) in (
       subst (λ f. Stands engine config (after_all config f (replicate count Turn))) (sym same) rest.0,
-      ap (λ f. Gave (outputs_of config f) ∷ answers config f (replicate count Turn)) same ∙ ap (λ steps. Gave [] ∷ steps) rest.1,
+      ap (λ f. Gave (outputs_of f) ∷ answers config f (replicate count Turn)) same ∙ ap (λ steps. Gave [] ∷ steps) rest.1,
     )

@@ -32,13 +32,13 @@ in-job job [] c = refl
 in-job job (x ∷ its) c = ap (or_else (move_of job x c)) (in-job job its c)
 
 job-by-job : (config : Configuration) (jobs : List JobDef) (c : Chronicle) → AllByRecursion (λ job. job_named job.name config.jobs ≡ Some job) jobs
-    → model.move_first config (job_names jobs) c ≡ move_first jobs c
+    → model.move_first (job_names jobs) c ≡ move_first jobs c
 job-by-job config [] c found = refl
 job-by-job config (job ∷ jobs) c found =
     let its = instances_of job.name c in
     ap₂ or_else (move_in-job config job.name c ∙ ap (λ file. moves_by file its c) found.0 ∙ in-job job its c) (job-by-job config jobs c found.1)
 
-pub by-jobs : (config : Configuration) (c : Chronicle) → AreDistinct config.jobs → model.move_first config (names_in_order config c) c ≡ move_first config.jobs c
+pub by-jobs : (config : Configuration) (c : Chronicle) → AreDistinct config.jobs → model.move_first (names_in_order config c) c ≡ move_first config.jobs c
 by-jobs config c distinct = job-by-job config config.jobs c (found-all config.jobs distinct)
 
 -- so what is due begins with them

@@ -74,7 +74,7 @@ there config c key job named within =
 
 -- the file of the instance of a key is its job's
 pub filed : (config : Configuration) (c : Chronicle) (key : InstanceKey) (job : JobDef) (x : Instance) → AreDistinct config.jobs → job_at config key.job ≡ Some job
-    → instance_at config c key ≡ Some x → file_of config x.place c ≡ Some job
+    → instance_at config c key ≡ Some x → file_of x.place c ≡ Some job
 filed config c key job x distinct in_table there =
     let at : slice_get (instances_of job.name c) key.at ≡ Some x =
     sym (ap (option_and_then (λ (name : Bytes). slice_get (instances_of name c) key.at)) (job_name config key.job job in_table)) ∙ there in

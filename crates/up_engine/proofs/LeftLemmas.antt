@@ -34,7 +34,7 @@ left_told config book c s = left-kept (place_of book.past.events (queue c)) book
 -- and the step leaves fewer processes to be ordered, by those that it orders
 pub left_after : (config : Configuration) (old new : Ledger) (given : Input) (outputs : List Output) → is_calm given ≡ true → ∥ Rests config old ∥₁
     → ((c : Chronicle) → Stands old Resting config c → IsAtRest config c → Stands new Resting config (after config c given))
-    → ((c : Chronicle) → Stands old Resting config c → IsAtRest config c → outputs ≡ outputs_of config (after config c given))
+    → ((c : Chronicle) → Stands old Resting config c → IsAtRest config c → outputs ≡ outputs_of (after config c given))
     → left_of_jobs new.past.instances + spawns outputs ≤ left_of_jobs old.past.instances
 left_after config old new given outputs calm sound steps gives =
     ∥∥₁_elim sound le_prop (λ rests. rw (left_told config new (after config rests.0 given) (steps rests.0 rests.1 rests.2), left_told config old rests.0 rests.1, gives rests.0 rests.1 rests.2) (spends config rests.0 given calm))

@@ -136,9 +136,9 @@ pub reading-due : (config : Configuration) (reading : ℕ) (c : Chronicle) → A
 unfolding effect
 reading-due config reading c distinct offers rests =
     let given : Entry = Given (input.Clock reading) in
-    let kills = killing (all_overdue config (names_in_order config c) (given ∷ c)) in
-    let unasked : asked (kills ++ given ∷ c) ≡ None = same-append asked GivesNone asked-same kills (given ∷ c) (killing-gives (all_overdue config (names_in_order config c) (given ∷ c))) in
-    quiet-due config (kills ++ given ∷ []) c distinct (all-append IsQuiet kills (given ∷ []) (killing-quiet (all_overdue config (names_in_order config c) (given ∷ c))) (tt, tt)) offers (ap asked (append_assoc kills (given ∷ []) c) ∙ unasked) rests
+    let kills = killing (all_overdue (names_in_order config c) (given ∷ c)) in
+    let unasked : asked (kills ++ given ∷ c) ≡ None = same-append asked GivesNone asked-same kills (given ∷ c) (killing-gives (all_overdue (names_in_order config c) (given ∷ c))) in
+    quiet-due config (kills ++ given ∷ []) c distinct (all-append IsQuiet kills (given ∷ []) (killing-quiet (all_overdue (names_in_order config c) (given ∷ c))) (tt, tt)) offers (ap asked (append_assoc kills (given ∷ []) c) ∙ unasked) rests
 
 -- nor is it after a turn that finds no event
 pub idle-due : (config : Configuration) (c : Chronicle) → AreDistinct config.jobs → turn_event config (queue c) c ≡ None → due config c ≡ [] → due config (effect config input.Turn c ++ c) ≡ []

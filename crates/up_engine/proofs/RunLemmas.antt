@@ -14,7 +14,7 @@ use Rattle.up_engine.specs.Stands.{Stands, DownAt, AnswerMeans, StepsMean}
 
 -- an expected input is answered by its outputs
 pub answered_expected : (outputs : List Output) (engine : Engine) (config : Configuration) (c : Chronicle) (given : Input)
-    → is_expected given c ≡ true → outputs ≡ outputs_of config (after config c given) → Stands engine config (after config c given) → AnswerMeans (Some (step.Gave outputs)) engine config c given
+    → is_expected given c ≡ true → outputs ≡ outputs_of (after config c given) → Stands engine config (after config c given) → AnswerMeans (Some (step.Gave outputs)) engine config c given
 answered_expected outputs engine config c given expected same stands = (rw expected (ap step.Gave same), rw expected stands)
 
 -- one that isn't expected leaves the engine with the same chronicle

@@ -64,7 +64,7 @@ after-untrue config input.Turn c distinct none untrue = by_event (turn_event con
 after-untrue config given c distinct none untrue = other-untrue config given c distinct (λ takes. takes) untrue
 
 -- nothing is due before anything has happened
-none-moves : (config : Configuration) (names : List Bytes) → move_first config names [] ≡ []
+none-moves : (config : Configuration) (names : List Bytes) → move_first names [] ≡ []
 none-moves config [] = refl
 none-moves config (name ∷ names) = none-moves config names
 

@@ -45,7 +45,7 @@ TurnIsFree config (Some live) c = IsFreeOf config live.place live.handled c
 abbrev pub IsFree : Configuration → Chronicle → Input → Type 0
 IsFree config c input.Turn = TurnIsFree config (turn_event config (queue c) c) (Given input.Turn ∷ c)
 IsFree config c (input.Clock reading) =
-    let d = Given (input.Clock reading) ∷ c in all_overdue config (names_in_order config d) d ≡ []
+    let d = Given (input.Clock reading) ∷ c in all_overdue (names_in_order config d) d ≡ []
 IsFree config c given = ⊥
 
 -- the input after so many steps isn't one of these

@@ -48,7 +48,7 @@ result_map f (Err e) = Err e
 -- memory the input was expected, and the engine is down.
 abbrev pub StepMeans : Result (List Output) StepError → Engine → Configuration → Chronicle → Input → Type 0
 StepMeans (Ok outputs) engine config c given = (is_expected given c ≡ true)
-    × (outputs ≡ outputs_of config (after config c given)) × Stands engine config (after config c given)
+    × (outputs ≡ outputs_of (after config c given)) × Stands engine config (after config c given)
 StepMeans (Err NotExpected) engine config c given = (is_expected given c ≡ false) × Stands engine config c
 StepMeans (Err Memory) engine config c given = (is_expected given c ≡ true) × DownAt engine config c
 StepMeans (Err Down) engine config c given = ⊥

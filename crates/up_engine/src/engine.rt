@@ -55,7 +55,7 @@ fn step_book<B: Book>(
         → B.stands book.new Resting setup.now (answer.after setup.now c given)) }
     ensures outputs { IfOk result (λ outputs. (c : Chronicle) → B.stands book.old Resting setup.now c
         → IsAtRest setup.now c
-        → outputs.items ≡ outputs_of setup.now (answer.after setup.now c given)) }
+        → outputs.items ≡ outputs_of (answer.after setup.now c given)) }
     ensures free { (c : Chronicle) → B.stands book.old Resting setup.now c → IsFree setup.now c given
         → IsOkAnd result (λ outputs. outputs.items ≡ []) }
 {

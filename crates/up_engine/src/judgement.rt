@@ -148,7 +148,7 @@ pub(crate) fn verdict_on<B: Book>(
     end: End,
 ) -> Option<(InstanceKey, Verdict)>
     ensures { (mode : Mode) (c : Chronicle) → B.stands book.now mode setup.now c
-        → Judges setup.now result (end_by setup.now who.now process end c) c }
+        → Judges setup.now result (end_by who.now process end c) c }
 {
     match setup.job_named(who.job.as_str()) {
         Some((index, job)) => verdict_in(book, index, job, who, process, end),

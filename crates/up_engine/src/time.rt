@@ -47,10 +47,10 @@ fn add_overdue<B: Book>(
         → B.stands book.now mode config c → job_at config index ≡ Some job
         → map (instance_place config c) keys.old.items ≡ map Some done
         → map (instance_place config c) keys.new.items
-        ≡ map Some (done ++ clock.overdue config (instances_of job.name c) c)) }
+        ≡ map Some (done ++ clock.overdue (instances_of job.name c) c)) }
     ensures free { (mode : Mode) (config : Configuration) (c : Chronicle) (job : JobValue)
         → B.stands book.now mode config c → job_at config index ≡ Some job
-        → clock.overdue config (instances_of job.name c) c ≡ [] → IsOk result }
+        → clock.overdue (instances_of job.name c) c ≡ [] → IsOk result }
 {
     for at in 0..book.count(index) {
         add_if_due(book, InstanceKey { job: index, at }, keys)?;
@@ -72,10 +72,10 @@ fn all_overdue<B: Book>(
     ensures after { IfOk result (λ keys. (mode : Mode) (config : Configuration) (c : Chronicle)
         → B.stands book.now mode config c → jobs.now ≡ config.jobs
         → map (instance_place config c) keys.items
-        ≡ map Some (clock.all_overdue config (names_in_order config c) c)) }
+        ≡ map Some (clock.all_overdue (names_in_order config c) c)) }
     ensures free { (mode : Mode) (config : Configuration) (c : Chronicle)
         → B.stands book.now mode config c → jobs.now ≡ config.jobs
-        → clock.all_overdue config (names_in_order config c) c ≡ [] → IsOk result }
+        → clock.all_overdue (names_in_order config c) c ≡ [] → IsOk result }
 {
     let mut keys = no_keys(alloc);
     for index in 0..jobs.len() {
@@ -107,10 +107,10 @@ pub(crate) fn kill_overdue<B: Book>(
     ensures after { OnOk result ((config : Configuration) (c : Chronicle) → B.stands book.old Stepping config c
         → jobs.now ≡ config.jobs
         → B.stands book.new Stepping config
-        (clock.killing (clock.all_overdue config (names_in_order config c) c) ++ c)) }
+        (clock.killing (clock.all_overdue (names_in_order config c) c) ++ c)) }
     ensures free { (config : Configuration) (c : Chronicle) → B.stands book.old Stepping config c
         → jobs.now ≡ config.jobs
-        → clock.all_overdue config (names_in_order config c) c ≡ [] → IsOk result }
+        → clock.all_overdue (names_in_order config c) c ≡ [] → IsOk result }
 {
     if u128::from(book.now()) < book.alarm() {
         return Ok(());

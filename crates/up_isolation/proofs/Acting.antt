@@ -509,19 +509,19 @@ plain-due job config c d facts plain = by_moves (moves-first job config config.j
     rest_there : List Entry
     rest_there = or_else (offer_next (only job config) (offering d) d) (answering_last d)
 
-    first : (es : List Entry) → move_first config (names_in_order config c) c ≡ es → (es ≡ [] → ⊥) → due config c ≡ es
-    first es is some = or_else-first (move_first config (names_in_order config c) c) rest (λ none. some (sym is ∙ none)) ∙ is
+    first : (es : List Entry) → move_first (names_in_order config c) c ≡ es → (es ≡ [] → ⊥) → due config c ≡ es
+    first es is some = or_else-first (move_first (names_in_order config c) c) rest (λ none. some (sym is ∙ none)) ∙ is
 
-    second : move_first config (names_in_order config c) c ≡ [] → due config c ≡ rest
-    second none = or_else-second (move_first config (names_in_order config c) c) rest none
+    second : move_first (names_in_order config c) c ≡ [] → due config c ≡ rest
+    second none = or_else-second (move_first (names_in_order config c) c) rest none
 
-    first_there : (es : List Entry) → move_first (only job config) (names_in_order (only job config) d) d ≡ es → (es ≡ [] → ⊥)
+    first_there : (es : List Entry) → move_first (names_in_order (only job config) d) d ≡ es → (es ≡ [] → ⊥)
         → due (only job config) d ≡ es
-    first_there es is some = or_else-first (move_first (only job config) (names_in_order (only job config) d) d) rest_there
+    first_there es is some = or_else-first (move_first (names_in_order (only job config) d) d) rest_there
         (λ none. some (sym is ∙ none)) ∙ is
 
-    second_there : move_first (only job config) (names_in_order (only job config) d) d ≡ [] → due (only job config) d ≡ rest_there
-    second_there none = or_else-second (move_first (only job config) (names_in_order (only job config) d) d) rest_there none
+    second_there : move_first (names_in_order (only job config) d) d ≡ [] → due (only job config) d ≡ rest_there
+    second_there none = or_else-second (move_first (names_in_order (only job config) d) d) rest_there none
 
     far : (es : List Entry) → due config c ≡ es → (es ≡ [] → ⊥) → AreStrange job es c → Did job config c d
     far es is some are = Far (λ none. some (sym is ∙ none))
@@ -621,11 +621,11 @@ plain-due job config c d facts plain = by_moves (moves-first job config config.j
             ∙ ap (λ xs. or_else xs (answering_last c)) (first-by-jobs config p c)
             ∙ or_else-first es (answering_last c) something) something are
 
-    by_moves : Moves job c d (move_first config (names_in_order config c) c) (move_first (only job config) (names_in_order (only job config) d) d)
+    by_moves : Moves job c d (move_first (names_in_order config c) c) (move_first (names_in_order (only job config) d) d)
         → Did job config c d
     by_moves (movers.Idle none void) = idle (second none) (second_there void) plain.offers
     by_moves (movers.Away some are) =
-        far (move_first config (names_in_order config c) c) (first (move_first config (names_in_order config c) c) refl some) some are
+        far (move_first (names_in_order config c) c) (first (move_first (names_in_order config c) c) refl some) some are
     by_moves (movers.Two def x y at left right) =
         near (move def x c) (move def y d) (first (move def x c) left (move-some def x c))
         (first_there (move def y d) right (move-some def y d)) (move-some def x c) (move-some def y d)

@@ -86,9 +86,9 @@ or-none [] others none = refl
 or-none (e ∷ es) others none = absurd (cc)
 
 pub still-of : (job : Bytes) (config : Configuration) (d : Chronicle) → due (only job config) d ≡ []
-    → move_first (only job config) (names_in_order (only job config) d) d ≡ []
+    → move_first (names_in_order (only job config) d) d ≡ []
 unfolding due
-still-of job config d none = or-none (move_first (only job config) (names_in_order (only job config) d) d) _ none
+still-of job config d none = or-none (move_first (names_in_order (only job config) d) d) _ none
 
 -- entries that begin no step aren't noticed
 mute-view : (job : Bytes) (config : Configuration) (e : Entry) (c : Chronicle) → IsMute e
@@ -242,8 +242,8 @@ end-named job config given who its how c d is like =
 
 end-like : (job : Bytes) (config : Configuration) (given : Input) (who : Who) (its : Process) (how : End)
     (c d : Chronicle) → bytes_eq who.job job ≡ true → Like job config c d
-    → Like job config (end_by config who its how (Given given ∷ c) ++ Given given ∷ c)
-    (end_by (only job config) who its how (Given given ∷ d) ++ Given given ∷ d)
+    → Like job config (end_by who its how (Given given ∷ c) ++ Given given ∷ c)
+    (end_by who its how (Given given ∷ d) ++ Given given ∷ d)
 end-like job config given who its how c d is like =
     subst₂ (λ es fs. Like job config (es ++ Given given ∷ c) (fs ++ Given given ∷ d))
     (sym (end_of-named config who its how (Given given ∷ c)))
@@ -265,16 +265,16 @@ effect-refused job config who its c d base = rw append_assoc (by_case (bytes_eq 
     g = input.Refused who its
 
     es : List Entry
-    es = end_by config who its end.Refused (Given g ∷ c)
+    es = end_by who its end.Refused (Given g ∷ c)
 
     fs : List Entry
-    fs = end_by (only job config) who its end.Refused (Given g ∷ d)
+    fs = end_by who its end.Refused (Given g ∷ d)
 
     mute : AllByRecursion IsMute es
-    mute = mute-end (own_file config who (Given g ∷ c)) (instance_named who c) its end.Refused (Given g ∷ c)
+    mute = mute-end (own_file who (Given g ∷ c)) (instance_named who c) its end.Refused (Given g ∷ c)
 
     mute_there : AllByRecursion IsMute fs
-    mute_there = mute-end (own_file (only job config) who (Given g ∷ d)) (instance_named who d) its
+    mute_there = mute-end (own_file who (Given g ∷ d)) (instance_named who d) its
         end.Refused (Given g ∷ d)
 
     by_case : (b : Bool) → bytes_eq who.job job ≡ b → Effected job config c d (es ++ Given g ∷ c)
@@ -291,7 +291,7 @@ effect-refused job config who its c d base = rw append_assoc (by_case (bytes_eq 
         }))
     by_case false other =
         unnoticed job config g es c d base other mute
-        (apart-end job config (own_file config who (Given g ∷ c)) (instance_named who c) its end.Refused
+        (apart-end job config (own_file who (Given g ∷ c)) (instance_named who c) its end.Refused
         (Given g ∷ c) (fair_more job (Given g) c base.like.fair tt) (other-end job g who c other))
         (no-asks job (Given g ∷ c) (es ++ Given g ∷ c) refl)
 
@@ -305,16 +305,16 @@ effect-ended job config who its how c d base = rw append_assoc (by_case (bytes_e
     g = input.Ended who its how
 
     es : List Entry
-    es = end_by config who its (end.Ended how) (Given g ∷ c)
+    es = end_by who its (end.Ended how) (Given g ∷ c)
 
     fs : List Entry
-    fs = end_by (only job config) who its (end.Ended how) (Given g ∷ d)
+    fs = end_by who its (end.Ended how) (Given g ∷ d)
 
     mute : AllByRecursion IsMute es
-    mute = mute-end (own_file config who (Given g ∷ c)) (instance_named who c) its (end.Ended how) (Given g ∷ c)
+    mute = mute-end (own_file who (Given g ∷ c)) (instance_named who c) its (end.Ended how) (Given g ∷ c)
 
     mute_there : AllByRecursion IsMute fs
-    mute_there = mute-end (own_file (only job config) who (Given g ∷ d)) (instance_named who d) its
+    mute_there = mute-end (own_file who (Given g ∷ d)) (instance_named who d) its
         (end.Ended how) (Given g ∷ d)
 
     by_case : (b : Bool) → bytes_eq who.job job ≡ b → Effected job config c d (es ++ Given g ∷ c)
@@ -331,7 +331,7 @@ effect-ended job config who its how c d base = rw append_assoc (by_case (bytes_e
         }))
     by_case false other =
         unnoticed job config g es c d base other mute
-        (apart-end job config (own_file config who (Given g ∷ c)) (instance_named who c) its (end.Ended how)
+        (apart-end job config (own_file who (Given g ∷ c)) (instance_named who c) its (end.Ended how)
         (Given g ∷ c) (fair_more job (Given g) c base.like.fair tt) (other-end job g who c other))
         (no-asks job (Given g ∷ c) (es ++ Given g ∷ c) refl)
 

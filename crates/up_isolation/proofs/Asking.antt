@@ -262,9 +262,9 @@ does-reload-by job config def r q its hers c d name acts =
 does-reload : (job : Bytes) (config : Configuration) (r q : ℕ) (its hers : List ℕ) (c d : Chronicle)
     (name : Bytes) → Acts job config r q c d
     → Does job config r q its hers c d
-    (entries_of r (reload_at r (own_file config (called job name) c) (called job name)
+    (entries_of r (reload_at r (own_file (called job name) c) (called job name)
     (instance_named (called job name) c) c))
-    (entries_of q (reload_at q (own_file (only job config) (called job name) d) (called job name)
+    (entries_of q (reload_at q (own_file (called job name) d) (called job name)
     (instance_named (called job name) d) d))
 does-reload job config r q its hers c d name acts =
     subst₂ (λ one other. Does job config r q its hers c d (entries_of r one) (entries_of q other))
@@ -434,8 +434,8 @@ does-outcome job config r q request c d asks same older there acts = by_command 
     reloads (Nobody text) is = Reply _ refl refl
     reloads (Concerns def who environment) is =
         subst (λ (w : Who). Does job config r q its hers c d
-        (entries_of r (reload_at r (own_file config w c) w (instance_named w c) c))
-        (entries_of q (reload_at q (own_file (only job config) w d) w (instance_named w d) d)))
+        (entries_of r (reload_at r (own_file w c) w (instance_named w c) c))
+        (entries_of q (reload_at q (own_file w d) w (instance_named w d) d)))
         (whom job who (whose (Concerns def who environment) is def who environment refl))
         (does-reload job config r q its hers c d who.instance acts)
 

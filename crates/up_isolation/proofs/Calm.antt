@@ -217,11 +217,11 @@ keeps-if job config def d true es calm keeps = keeps
 keeps-if job config def d false es calm keeps = calm
 
 calm-moves : (job : Bytes) (config : Configuration) (def : JobDef) (d : Chronicle) (xs : List Instance)
-    → IsCalm job config d def → Keeps job config def d (move_in (only job config) xs d)
+    → IsCalm job config d def → Keeps job config def d (move_in xs d)
 calm-moves job config def d [] calm = calm
 calm-moves job config def d (x ∷ xs) calm =
-    keeps-or job config def d (move_by (file_of (only job config) x.place d) x d)
-    (move_in (only job config) xs d) (by_file (file_of (only job config) x.place d))
+    keeps-or job config def d (move_by (file_of x.place d) x d)
+    (move_in xs d) (by_file (file_of x.place d))
     (calm-moves job config def d xs calm)
   where
     by_file : (file : Option JobDef) → Keeps job config def d (move_by file x d)
@@ -253,10 +253,10 @@ pub calm-due : (config : Configuration) (def : JobDef) (d : Chronicle)
     → IsCalm def.name config (due (only def.name config) d ++ d) def
 unfolding due
 calm-due config def d one calm =
-    keeps-or job config def d (move_first A (job_names own) d)
+    keeps-or job config def d (move_first (job_names own) d)
     (or_else (offer_next A (offering d) d) (answering_last d))
-    (subst (λ js. Keeps job config def d (move_first A (job_names js) d)) (sym one)
-    (keeps-or job config def d (move_in A (instances_of job d) d) []
+    (subst (λ js. Keeps job config def d (move_first (job_names js) d)) (sym one)
+    (keeps-or job config def d (move_in (instances_of job d) d) []
     (calm-moves job config def d (instances_of job d) calm) calm))
     (keeps-or job config def d (offer_next A (offering d) d) (answering_last d) (by_offer (offering d))
     (calm-last job config def d (unanswered d) calm))

@@ -97,7 +97,7 @@ pair_ordered job config c d x y its pair =
     (shows-item job config (Ordered x.place its) (Ordered y.place its) c d x y
     (λ name. parts.Ordered name its) pair refl
     (outputs-own (owns job x.place c) (owns job y.place d)
-    (order_of config x.place its c) (order_of (only job config) y.place its d)
+    (order_of x.place its c) (order_of y.place its d)
     (own-true job c x pair.left) (own-true job d y pair.right)
     (order-same job config its c d (called job x.name) (made_at x.place c) (made_at y.place d)
     (process_env x.place its c) (process_env y.place its d) refl pair.left.1

@@ -374,17 +374,17 @@ by-moving None x c = tt
 by-moving (Some def) x c = all-if IsMoving (may_leave def x.place c) (move def x c) (move-moving def x c)
 
 in-moving : (config : Configuration) (xs : List Instance) (c : Chronicle)
-    → AllByRecursion IsMoving (move_in config xs c)
+    → AllByRecursion IsMoving (move_in xs c)
 in-moving config [] c = tt
 in-moving config (x ∷ xs) c =
-    or-moving (move_by (file_of config x.place c) x c) (move_in config xs c)
-    (by-moving (file_of config x.place c) x c) (in-moving config xs c)
+    or-moving (move_by (file_of x.place c) x c) (move_in xs c)
+    (by-moving (file_of x.place c) x c) (in-moving config xs c)
 
 first-moving : (config : Configuration) (names : List Bytes) (c : Chronicle)
-    → AllByRecursion IsMoving (move_first config names c)
+    → AllByRecursion IsMoving (move_first names c)
 first-moving config [] c = tt
 first-moving config (name ∷ names) c =
-    or-moving (move_in config (instances_of name c) c) (move_first config names c)
+    or-moving (move_in (instances_of name c) c) (move_first names c)
     (in-moving config (instances_of name c) c) (first-moving config names c)
 
 -- what becomes of it by what is due
@@ -450,28 +450,28 @@ waits-due job config c d r q x y waits = by_moves (moves-first job config config
       silent_there = over d q answer_there waits.asking_there;
     }
 
-    by_moves : Moves job c d (move_first config (names_in_order config c) c) (move_first (only job config) (names_in_order (only job config) d) d)
+    by_moves : Moves job c d (move_first (names_in_order config c) c) (move_first (names_in_order (only job config) d) d)
         → Went job config c d r q x y
     by_moves (movers.Idle none void) =
         let here : due config c ≡ Replied r answer ∷ [] =
-        or_else-second (move_first config (names_in_order config c) c) rest none ∙ last in
+        or_else-second (move_first (names_in_order config c) c) rest none ∙ last in
         let there : due (only job config) d ≡ Replied q answer_there ∷ [] =
-        or_else-second (move_first (only job config) (names_in_order (only job config) d) d) rest_there void ∙ last_there in
+        or_else-second (move_first (names_in_order (only job config) d) d) rest_there void ∙ last_there in
         Last (λ bad. cons-some (Replied r answer) [] (sym here ∙ bad))
         (λ bad. cons-some (Replied q answer_there) [] (sym there ∙ bad))
         (subst₂ (λ (s t : List Entry). Plain job config (s ++ c) (t ++ d)) (sym here) (sym there) done)
     by_moves (movers.Away some are) =
-        let here : due config c ≡ move_first config (names_in_order config c) c =
-        or_else-first (move_first config (names_in_order config c) c) rest some in
+        let here : due config c ≡ move_first (names_in_order config c) c =
+        or_else-first (move_first (names_in_order config c) c) rest some in
         Away (λ none. some (sym here ∙ none))
         (subst (λ (t : List Entry). Waits job config (t ++ c) d r q x y) (sym here)
-        (waits-strange job config (move_first config (names_in_order config c) c) c d r q x y are (first-moving config (names_in_order config c) c)
+        (waits-strange job config (move_first (names_in_order config c) c) c d r q x y are (first-moving config (names_in_order config c) c)
         waits))
     by_moves (movers.Two def u v at left right) =
-        let here : due config c ≡ move def u c = or_else-first (move_first config (names_in_order config c) c) rest
+        let here : due config c ≡ move def u c = or_else-first (move_first (names_in_order config c) c) rest
         (λ none. move-some def u c (sym left ∙ none)) ∙ left in
         let there : due (only job config) d ≡ move def v d = or_else-first
-        (move_first (only job config) (names_in_order (only job config) d) d) rest_there
+        (move_first (names_in_order (only job config) d) d) rest_there
         (λ none. move-some def v d (sym right ∙ none)) ∙ right in
         Together (λ none. move-some def u c (sym here ∙ none)) (λ none. move-some def v d (sym there ∙ none))
         (subst₂ (λ (s t : List Entry). Waits job config (s ++ c) (t ++ d) r q x y) (sym here) (sym there)

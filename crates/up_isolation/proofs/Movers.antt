@@ -125,7 +125,7 @@ no-moves [] c = refl
 no-moves (x ∷ xs) c = no-moves xs c
 
 moves-own : (job : Bytes) (config : Configuration) (c d : Chronicle) → Like job config c d
-    → Moves job c d (move_in config (instances_of job c) c) (move_in (only job config) (instances_of job d) d)
+    → Moves job c d (move_in (instances_of job c) c) (move_in (instances_of job d) d)
 moves-own job config c d like =
     subst₂ (λ es fs. Moves job c d es fs) (sym (move_in-job config job c))
     (sym (move_in-job (only job config) job d
@@ -141,11 +141,11 @@ moves-own job config c d like =
 -- among those of another job
 away-in : (job : Bytes) (config : Configuration) (name : Bytes) (c d : Chronicle) (xs : List Instance)
     → Fair job c → bytes_eq name job ≡ false → AllByRecursion (IsKnown name c) xs
-    → Moves job c d (move_in config xs c) []
+    → Moves job c d (move_in xs c) []
 away-in job config name c d [] fair other known = Idle refl refl
 away-in job config name c d (x ∷ xs) fair other known =
-    moves-or job c d (move_by (file_of config x.place c) x c) (move_in config xs c) [] []
-    (by_file (file_of config x.place c)) (away-in job config name c d xs fair other known.1)
+    moves-or job c d (move_by (file_of x.place c) x c) (move_in xs c) [] []
+    (by_file (file_of x.place c)) (away-in job config name c d xs fair other known.1)
   where
     by_case : (def : JobDef) (b : Bool) → Moves job c d (entries_if b (move def x c)) []
     by_case def true = Away (move-some def x c)
@@ -159,8 +159,8 @@ away-in job config name c d (x ∷ xs) fair other known =
 -- job by job
 pub moves-first : (job : Bytes) (config : Configuration) (js : List JobDef) (c d : Chronicle)
     → Like job config c d
-    → Moves job c d (move_first config (job_names js) c)
-    (move_first (only job config) (job_names (jobs_called job js)) d)
+    → Moves job c d (move_first (job_names js) c)
+    (move_first (job_names (jobs_called job js)) d)
 moves-first job config [] c d like = Idle refl refl
 moves-first job config (def ∷ js) c d like =
     by_case (bytes_eq def.name job) refl (moves-first job config js c d like)
@@ -169,17 +169,17 @@ moves-first job config (def ∷ js) c d like =
     A = only job config
 
     by_case : (b : Bool) → bytes_eq def.name job ≡ b
-        → Moves job c d (move_first config (job_names js) c) (move_first A (job_names (jobs_called job js)) d)
+        → Moves job c d (move_first (job_names js) c) (move_first (job_names (jobs_called job js)) d)
         → Moves job c d
-        (or_else (move_in config (instances_of def.name c) c) (move_first config (job_names js) c))
-        (move_first A (job_names (if b then def ∷ jobs_called job js else jobs_called job js)) d)
+        (or_else (move_in (instances_of def.name c) c) (move_first (job_names js) c))
+        (move_first (job_names (if b then def ∷ jobs_called job js else jobs_called job js)) d)
     by_case true is ih =
-        moves-or job c d (move_in config (instances_of def.name c) c) (move_first config (job_names js) c)
-        (move_in A (instances_of def.name d) d) (move_first A (job_names (jobs_called job js)) d)
-        (subst (λ name. Moves job c d (move_in config (instances_of name c) c)
-        (move_in A (instances_of name d) d)) (sym (bytes_same def.name job is))
+        moves-or job c d (move_in (instances_of def.name c) c) (move_first (job_names js) c)
+        (move_in (instances_of def.name d) d) (move_first (job_names (jobs_called job js)) d)
+        (subst (λ name. Moves job c d (move_in (instances_of name c) c)
+        (move_in (instances_of name d) d)) (sym (bytes_same def.name job is))
         (moves-own job config c d like)) ih
     by_case false is ih =
-        moves-or job c d (move_in config (instances_of def.name c) c) (move_first config (job_names js) c) []
-        (move_first A (job_names (jobs_called job js)) d)
+        moves-or job c d (move_in (instances_of def.name c) c) (move_first (job_names js) c) []
+        (move_first (job_names (jobs_called job js)) d)
         (away-in job config def.name c d (instances_of def.name c) like.fair is (known def.name c)) ih

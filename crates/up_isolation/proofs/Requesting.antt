@@ -165,7 +165,7 @@ other-reload : (job : Bytes) (config : Configuration) (given : ℕ) (target : Ta
     → AreApart job config (entries_of given (reload config given target c)) c
 other-reload job config given (Nobody text) c older reply other = (reply, tt)
 other-reload job config given (Concerns def who environment) c older reply other =
-    by_case (own_file config who c) (instance_named who c) refl
+    by_case (own_file who c) (instance_named who c) refl
   where
     by_case : (file : Option JobDef) (o : Option ℕ) → instance_named who c ≡ o
         → AreApart job config (entries_of given (reload_at given file who o c)) c

@@ -72,7 +72,7 @@ pub record IsCalm (job : Bytes) (config : Configuration) (d : Chronicle) (def : 
 -- nothing is due of the job, and this step offers it no event that it names
 pub record Resting (job : Bytes) (config : Configuration) (c d : Chronicle) : Type 0 where
   pub like : Like job config c d
-  pub still : move_first (only job config) (names_in_order (only job config) d) d ≡ []
+  pub still : move_first (names_in_order (only job config) d) d ≡ []
   pub calm : AllByRecursion (IsCalm job config d) (jobs_called job config.jobs)
   pub offers : (p : ℕ) → offering c ≡ Some p
       → (p < length c) × (is_named_event (jobs_called job config.jobs) (event_at p c) ≡ false)
@@ -229,16 +229,16 @@ pub resting-due : (job : Bytes) (config : Configuration) (c d : Chronicle) → R
     → AreApart job config (due config c) c
 unfolding due
 resting-due job config c d resting =
-    apart-or job config (move_first config (names_in_order config c) c)
+    apart-or job config (move_first (names_in_order config c) c)
     (or_else (offer_next config (offering c) c) (answering_last c)) c
     (by_moves (moves-first job config config.jobs c d resting.like))
     (apart-or job config (offer_next config (offering c) c) (answering_last c) c (by_offer (offering c) refl)
     (by_asked (asked c) refl))
   where
-    by_moves : Moves job c d (move_first config (names_in_order config c) c) (move_first (only job config) (names_in_order (only job config) d) d)
-        → AreApart job config (move_first config (names_in_order config c) c) c
+    by_moves : Moves job c d (move_first (names_in_order config c) c) (move_first (names_in_order (only job config) d) d)
+        → AreApart job config (move_first (names_in_order config c) c) c
     by_moves (Idle none void) = subst (λ es. AreApart job config es c) (sym none) tt
-    by_moves (Away some strange) = strange-apart job config (move_first config (names_in_order config c) c) c strange
+    by_moves (Away some strange) = strange-apart job config (move_first (names_in_order config c) c) c strange
     by_moves (Two def x y at left right) = absurd (move-some def y d (sym right ∙ resting.still))
 
     by_offer : (o : Option ℕ) → offering c ≡ o → AreApart job config (offer_next config o c) c

@@ -205,23 +205,23 @@ effect-blind config (input.Request id request) c =
     (Given (input.Request id request) ∷ c) (λ i signal runs. tt))) (tt, tt)
 effect-blind config (input.Spawned who its pid) c = (tt, tt)
 effect-blind config (input.Refused who its) c =
-    all-append IsBlind (end_by config who its end.Refused
+    all-append IsBlind (end_by who its end.Refused
     (Given (input.Refused who its) ∷ c)) (Given (input.Refused who its) ∷ [])
-    (mutes-blind (end_by config who its end.Refused
+    (mutes-blind (end_by who its end.Refused
     (Given (input.Refused who its) ∷ c))
-    (mute-end (own_file config who (Given (input.Refused who its) ∷ c)) (instance_named who (Given (input.Refused who its) ∷ c)) its end.Refused
+    (mute-end (own_file who (Given (input.Refused who its) ∷ c)) (instance_named who (Given (input.Refused who its) ∷ c)) its end.Refused
     (Given (input.Refused who its) ∷ c))) (tt, tt)
 effect-blind config (input.Ended who its how) c =
-    all-append IsBlind (end_by config who its (end.Ended how)
+    all-append IsBlind (end_by who its (end.Ended how)
     (Given (input.Ended who its how) ∷ c)) (Given (input.Ended who its how) ∷ [])
-    (mutes-blind (end_by config who its (end.Ended how)
+    (mutes-blind (end_by who its (end.Ended how)
     (Given (input.Ended who its how) ∷ c))
-    (mute-end (own_file config who (Given (input.Ended who its how) ∷ c)) (instance_named who (Given (input.Ended who its how) ∷ c)) its (end.Ended how)
+    (mute-end (own_file who (Given (input.Ended who its how) ∷ c)) (instance_named who (Given (input.Ended who its how) ∷ c)) its (end.Ended how)
     (Given (input.Ended who its how) ∷ c))) (tt, tt)
 effect-blind config (input.Clock reading) c =
-    all-append IsBlind (killing (all_overdue config (names_in_order config c) (Given (input.Clock reading) ∷ c)))
+    all-append IsBlind (killing (all_overdue (names_in_order config c) (Given (input.Clock reading) ∷ c)))
     (Given (input.Clock reading) ∷ [])
-    (killing-blind (all_overdue config (names_in_order config c) (Given (input.Clock reading) ∷ c))) (tt, tt)
+    (killing-blind (all_overdue (names_in_order config c) (Given (input.Clock reading) ∷ c))) (tt, tt)
 effect-blind config input.Turn c =
     all-append IsBlind (turn_of (turn_event config (queue c) c) (Given input.Turn ∷ c))
     (Given input.Turn ∷ []) (turn-blind (turn_event config (queue c) c) (Given input.Turn ∷ c)) (tt, tt)
@@ -393,7 +393,7 @@ calm-nil job config (def ∷ js) covered = (
   calm-nil job config js covered.1,
 )
 
-first-none : (config : Configuration) (names : List Bytes) → move_first config names [] ≡ []
+first-none : (config : Configuration) (names : List Bytes) → move_first names [] ≡ []
 first-none config [] = refl
 first-none config (name ∷ names) = first-none config names
 

@@ -50,6 +50,6 @@ steps-of job config c (given ∷ inputs) =
     (by_case (is_expected given c), steps-of job config (next config c given) inputs)
   where
     by_case : (b : Bool) → AreOf (if b then deeds_in job config (after config c given) else [])
-        (if b then step.Gave (outputs_of config (after config c given)) else step.NotExpected)
+        (if b then step.Gave (outputs_of (after config c given)) else step.NotExpected)
     by_case true = deeds-among job config (after config c given)
     by_case false = refl

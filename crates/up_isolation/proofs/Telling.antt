@@ -60,34 +60,34 @@ among-if false xs = tt
 
 -- what a job does in the last step is among the outputs
 pub deeds-among : (job : Bytes) (config : Configuration) (c : Chronicle)
-    → AreAmong (deeds_in job config c) (outputs_of config c)
+    → AreAmong (deeds_in job config c) (outputs_of c)
 unfolding deeds_in outputs_of
 deeds-among job config [] = tt
 deeds-among job config (Given given ∷ c) = tt
 deeds-among job config (Ordered i its ∷ c) =
-    among-append (deeds_in job config c) (outputs_of config c)
-    (outputs_if (owns job i c) (order_of config i its c))
-    (order_of config i its c)
+    among-append (deeds_in job config c) (outputs_of c)
+    (outputs_if (owns job i c) (order_of i its c))
+    (order_of i its c)
     (deeds-among job config c)
-    (among-if (owns job i c) (order_of config i its c))
+    (among-if (owns job i c) (order_of i its c))
 deeds-among job config (Signalled i signal by_timer ∷ c) =
-    among-append (deeds_in job config c) (outputs_of config c)
+    among-append (deeds_in job config c) (outputs_of c)
     (outputs_if (owns job i c) (signal_of (made_at i c) signal (pid_of i Main c)))
     (signal_of (made_at i c) signal (pid_of i Main c))
     (deeds-among job config c) (among-if (owns job i c) (signal_of (made_at i c) signal (pid_of i Main c)))
 deeds-among job config (Queued (Entering i to) event ∷ c) =
-    among-append (deeds_in job config c) (outputs_of config c)
+    among-append (deeds_in job config c) (outputs_of c)
     (outputs_if (owns job i c) (output.Emitted event ∷ [])) (output.Emitted event ∷ [])
     (deeds-among job config c) (among-if (owns job i c) (output.Emitted event ∷ []))
 deeds-among job config (Queued (Spoilt spoilt) event ∷ c) =
-    among-append (deeds_in job config c) (outputs_of config c) [] (output.Emitted event ∷ [])
+    among-append (deeds_in job config c) (outputs_of c) [] (output.Emitted event ∷ [])
     (deeds-among job config c) tt
 deeds-among job config (Replied r answer ∷ c) =
-    among-append (deeds_in job config c) (outputs_of config c)
+    among-append (deeds_in job config c) (outputs_of c)
     (outputs_if (was_asked job (request_at r c)) (reply_of (id_at r c) answer))
     (reply_of (id_at r c) answer)
     (deeds-among job config c) (among-if (was_asked job (request_at r c)) (reply_of (id_at r c) answer))
-deeds-among job config (e ∷ c) = subst (λ xs. AreAmong xs (outputs_of config c))
+deeds-among job config (e ∷ c) = subst (λ xs. AreAmong xs (outputs_of c))
     (sym (append-nil (deeds_in job config c))) (deeds-among job config c)
 
 -- what it did is what it did before, and in the last step
@@ -184,20 +184,20 @@ effect-step config (input.Request id request) c =
     (Given (input.Request id request) ∷ c) (λ i signal runs. tt)))
 effect-step config (input.Spawned who its pid) c = step-of (input.Spawned who its pid) [] c tt
 effect-step config (input.Refused who its) c =
-    step-of (input.Refused who its) (end_by config who its end.Refused (Given (input.Refused who its) ∷ c)) c
-    (mute-plain (end_by config who its end.Refused
+    step-of (input.Refused who its) (end_by who its end.Refused (Given (input.Refused who its) ∷ c)) c
+    (mute-plain (end_by who its end.Refused
     (Given (input.Refused who its) ∷ c))
-    (mute-end (own_file config who (Given (input.Refused who its) ∷ c)) (instance_named who (Given (input.Refused who its) ∷ c)) its end.Refused
+    (mute-end (own_file who (Given (input.Refused who its) ∷ c)) (instance_named who (Given (input.Refused who its) ∷ c)) its end.Refused
     (Given (input.Refused who its) ∷ c)))
 effect-step config (input.Ended who its how) c =
-    step-of (input.Ended who its how) (end_by config who its (end.Ended how) (Given (input.Ended who its how) ∷ c)) c
-    (mute-plain (end_by config who its (end.Ended how)
+    step-of (input.Ended who its how) (end_by who its (end.Ended how) (Given (input.Ended who its how) ∷ c)) c
+    (mute-plain (end_by who its (end.Ended how)
     (Given (input.Ended who its how) ∷ c))
-    (mute-end (own_file config who (Given (input.Ended who its how) ∷ c)) (instance_named who (Given (input.Ended who its how) ∷ c)) its (end.Ended how)
+    (mute-end (own_file who (Given (input.Ended who its how) ∷ c)) (instance_named who (Given (input.Ended who its how) ∷ c)) its (end.Ended how)
     (Given (input.Ended who its how) ∷ c)))
 effect-step config (input.Clock reading) c =
-    step-of (input.Clock reading) (killing (all_overdue config (names_in_order config c) (Given (input.Clock reading) ∷ c))) c
-    (killing-plain (all_overdue config (names_in_order config c) (Given (input.Clock reading) ∷ c)))
+    step-of (input.Clock reading) (killing (all_overdue (names_in_order config c) (Given (input.Clock reading) ∷ c))) c
+    (killing-plain (all_overdue (names_in_order config c) (Given (input.Clock reading) ∷ c)))
 effect-step config input.Turn c =
     step-of input.Turn (turn_of (turn_event config (queue c) c) (Given input.Turn ∷ c)) c
     (turn-plain (turn_event config (queue c) c) (Given input.Turn ∷ c))

@@ -132,12 +132,12 @@ kill-own job config def c d later after (x ∷ xs) [] today twins at like = absu
 -- of another job's
 kill-other : (job : Bytes) (config : Configuration) (c later d : Chronicle)
     (xs : List Instance) → AllByRecursion (λ x. IsOther job x.place later) xs → Like job config later d
-    → Like job config (killing (overdue config xs c) ++ later) d
+    → Like job config (killing (overdue xs c) ++ later) d
 kill-other job config c later d [] other like = like
 kill-other job config c later d (x ∷ xs) other like =
     subst (λ (s : Chronicle). Like job config s d)
-    (sym (kill-one x.place (overdue config xs c) (kill_due_by (file_of config x.place c) x.place c) later))
-    (by_case (kill_due_by (file_of config x.place c) x.place c) (λ s all grown. kill-other job config c s d xs all grown))
+    (sym (kill-one x.place (overdue xs c) (kill_due_by (file_of x.place c) x.place c) later))
+    (by_case (kill_due_by (file_of x.place c) x.place c) (λ s all grown. kill-other job config c s d xs all grown))
   where
     more : (ys : List Instance) → AllByRecursion (λ y. IsOther job y.place later) ys
         → AllByRecursion (λ y. IsOther job y.place (Signalled x.place kill true ∷ later)) ys
@@ -153,8 +153,8 @@ kill-other job config c later d (x ∷ xs) other like =
 
     by_case : (b : Bool)
         → ((s : Chronicle) → AllByRecursion (λ y. IsOther job y.place s) xs → Like job config s d
-        → Like job config (killing (overdue config xs c) ++ s) d)
-        → Like job config (killing (overdue config xs c)
+        → Like job config (killing (overdue xs c) ++ s) d)
+        → Like job config (killing (overdue xs c)
         ++ (entries_if b (Signalled x.place kill true ∷ []) ++ later)) d
     by_case true next = next (Signalled x.place kill true ∷ later) (more xs other.1)
         (foreign job config (Signalled x.place kill true) later d other.0 like)
@@ -205,23 +205,23 @@ others-later job name c later (x ∷ xs) other l known =
 kill-all : (job : Bytes) (config : Configuration) (js : List JobDef) (c d later after : Chronicle)
     → Like job config c d → Later c later → Later d after
     → Like job config later after
-    → Like job config (killing (all_overdue config (job_names js) c) ++ later)
-    (killing (all_overdue (only job config) (job_names (jobs_called job js)) d) ++ after)
+    → Like job config (killing (all_overdue (job_names js) c) ++ later)
+    (killing (all_overdue (job_names (jobs_called job js)) d) ++ after)
 kill-all job config [] c d later after base l m like = like
 kill-all job config (def ∷ js) c d later after base l m like =
     by_case (bytes_eq def.name job) refl (λ s t grown more like. kill-all job config js c d s t base grown
     more like)
   where
     here : List ℕ
-    here = overdue config (instances_of def.name c) c
+    here = overdue (instances_of def.name c) c
 
     there : List ℕ
-    there = overdue (only job config) (instances_of def.name d) d
+    there = overdue (instances_of def.name d) d
 
     own : def.name ≡ job → Like job config (killing here ++ later) (killing there ++ after)
     own name =
-        subst (λ k. Like job config (killing (overdue config (instances_of k c) c) ++ later)
-        (killing (overdue (only job config) (instances_of k d) d) ++ after)) (sym name)
+        subst (λ k. Like job config (killing (overdue (instances_of k c) c) ++ later)
+        (killing (overdue (instances_of k d) d) ++ after)) (sym name)
         (subst₂ (λ is js. Like job config (killing is ++ later) (killing js ++ after))
         (sym (overdue-job config job c))
         (sym (overdue-job (only job config) job d
@@ -237,20 +237,20 @@ kill-all job config (def ∷ js) c d later after base l m like =
 
     by_case : (b : Bool) → bytes_eq def.name job ≡ b
         → ((s t : Chronicle) → Later c s → Later d t → Like job config s t
-        → Like job config (killing (all_overdue config (job_names js) c) ++ s)
-        (killing (all_overdue (only job config) (job_names (jobs_called job js)) d) ++ t))
-        → Like job config (killing (here ++ all_overdue config (job_names js) c) ++ later)
-        (killing (all_overdue (only job config) (job_names (if b then def ∷ jobs_called job js
+        → Like job config (killing (all_overdue (job_names js) c) ++ s)
+        (killing (all_overdue (job_names (jobs_called job js)) d) ++ t))
+        → Like job config (killing (here ++ all_overdue (job_names js) c) ++ later)
+        (killing (all_overdue (job_names (if b then def ∷ jobs_called job js
         else jobs_called job js)) d) ++ after)
     by_case true is next =
-        subst₂ (λ (s t : Chronicle). Like job config s t) (sym (joined here (all_overdue config (job_names js) c) later))
-        (sym (joined there (all_overdue (only job config) (job_names (jobs_called job js)) d) after))
+        subst₂ (λ (s t : Chronicle). Like job config s t) (sym (joined here (all_overdue (job_names js) c) later))
+        (sym (joined there (all_overdue (job_names (jobs_called job js)) d) after))
         (next (killing here ++ later) (killing there ++ after) (later-kills here c later l)
         (later-kills there d after m) (own (bytes_same def.name job is)))
     by_case false is next =
         subst (λ (s : Chronicle). Like job config s
-        (killing (all_overdue (only job config) (job_names (jobs_called job js)) d) ++ after))
-        (sym (joined here (all_overdue config (job_names js) c) later))
+        (killing (all_overdue (job_names (jobs_called job js)) d) ++ after))
+        (sym (joined here (all_overdue (job_names js) c) later))
         (next (killing here ++ later) after (later-kills here c later l) m
         (kill-other job config c later after (instances_of def.name c)
         (others-later job def.name c later (instances_of def.name c) is l (known def.name c)) like))
@@ -283,16 +283,16 @@ effect-clock job config reading c d base = rw append_assoc
         all-append IsMute (killing is) (Signalled i kill true ∷ []) (killing-mute is) (tt, tt)
 
     es : List Entry
-    es = killing (all_overdue config (names_in_order config c) (Given g ∷ c))
+    es = killing (all_overdue (names_in_order config c) (Given g ∷ c))
 
     fs : List Entry
-    fs = killing (all_overdue (only job config) (names_in_order (only job config) d) (Given g ∷ d))
+    fs = killing (all_overdue (names_in_order (only job config) d) (Given g ∷ d))
 
     mute : AllByRecursion IsMute es
-    mute = killing-mute (all_overdue config (names_in_order config c) (Given g ∷ c))
+    mute = killing-mute (all_overdue (names_in_order config c) (Given g ∷ c))
 
     mute_there : AllByRecursion IsMute fs
-    mute_there = killing-mute (all_overdue (only job config) (names_in_order (only job config) d) (Given g ∷ d))
+    mute_there = killing-mute (all_overdue (names_in_order (only job config) d) (Given g ∷ d))
 
 clash : (o : Option ℕ) (a : ℕ) → o ≡ None → o ≡ Some a → ⊥
 clash o a none some = absurd (cc)

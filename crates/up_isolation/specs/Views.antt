@@ -130,7 +130,7 @@ outputs_if false outputs = []
 -- and the answers to the requests that name it
 abbrev pub deeds_by : Bytes → Configuration → Entry → Chronicle → List Output
 deeds_by job config (Ordered instance its) c =
-    outputs_if (owns job instance c) (order_of config instance its c)
+    outputs_if (owns job instance c) (order_of instance its c)
 deeds_by job config (Signalled instance signal by_timer) c =
     outputs_if (owns job instance c) (signal_of (made_at instance c) signal (pid_of instance Main c))
 deeds_by job config (Queued (Entering instance state) event) c =

@@ -48,7 +48,7 @@ pub fn deeds_are_outputs()
         → deeds job config (after config c given)
         ≡ deeds job config c ++ deeds_in job config (after config c given) }
     ensures among { (job : List ℕ) (config : Configuration) (c : Chronicle)
-        → AreAmong (deeds_in job config c) (outputs_of config c) }
+        → AreAmong (deeds_in job config c) (outputs_of c) }
 {}
 
 /// What a job does in each step of a run is among the outputs of that step's answer, in their order, and is together all that

@@ -79,7 +79,7 @@ skip_of config moving (Some event) (Some next) c =
 
 abbrev pub next_skip : Configuration → Chronicle → Option Entry
 next_skip config c =
-    skip_of config (is_filled (move_first config (names_in_order config c) c)) (offering c) (next_offer config.jobs c) c
+    skip_of config (is_filled (move_first (names_in_order config c) c)) (offering c) (next_offer config.jobs c) c
 
 abbrev pub with_note : (Chronicle → Chronicle) → Option Entry → Chronicle → Chronicle
 with_note more None c = c

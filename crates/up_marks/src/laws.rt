@@ -44,13 +44,13 @@ pub fn next_is_offered()
 /// it is all that is due; the step ends as it would without it, and no instance may move after it.
 pub fn skipped()
     ensures { (config : Configuration) (next : Next) (e : ℕ) (c : Chronicle)
-        → move_first config (names_in_order config c) c ≡ [] → offering c ≡ Some e
+        → move_first (names_in_order config c) c ≡ [] → offering c ≡ Some e
         → next_offer config.jobs c ≡ Some next → IsSkipped config next e c
         → (due config c ≡ Offered (expression_of next) e ∷ [])
         × (settle (work config (Offered (expression_of next) e ∷ c)) config (Offered
         (expression_of next) e ∷ c)
         ≡ settle (work config c) config c)
-        × (move_first config (names_in_order config c) (Offered (expression_of next) e ∷ c) ≡ []) }
+        × (move_first (names_in_order config c) (Offered (expression_of next) e ∷ c) ≡ []) }
 {}
 
 /// Marks that agree with what an expression has seen agree with that and an event that no leaf names.
@@ -82,7 +82,7 @@ pub fn skipping_comes_to_rest()
 /// Where none is left, and no instance may move, the next expression names the event, if it isn't true
 /// already.
 pub fn next_is_named()
-    ensures { (config : Configuration) (next : Next) (e : ℕ) (c : Chronicle) → move_first config (names_in_order config c) c ≡ []
+    ensures { (config : Configuration) (next : Next) (e : ℕ) (c : Chronicle) → move_first (names_in_order config c) c ≡ []
         → offering c ≡ Some e → next_offer config.jobs c ≡ Some next → next_skip config c ≡ None
         → holds (condition_of next) (seen config (expression_of next) c) ≡ false
         → names_event (condition_of next) (event_at e c) ≡ true }

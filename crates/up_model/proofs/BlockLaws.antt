@@ -22,7 +22,7 @@ use Rattle.up_model.specs.declared.who.Who.{Who}
 use Rattle.up_model.specs.Answers.{after, next, is_expected, after_all}
 use Rattle.up_model.specs.Blocks.{IsPatient, unfinished}
 use Rattle.up_model.specs.Chronicle.{Chronicle, Entry, Given, Queued, Handled, Offered, Fired, Finished, Made, Aimed, Failed, Entered, Ordered, Signalled, Outside, Entering, Spoilt, StartOn, StopOn}
-use Rattle.up_model.specs.Clock.{is_killed, kill_due, overdue, all_overdue, has_passed, kill_moment, now, milliseconds, kill, killing, kill_due_by}
+use Rattle.up_model.specs.Clock.{is_killed, kill_due, overdue, all_overdue, has_passed, kill_moment, now, milliseconds, kill, killing}
 use Rattle.up_model.specs.Configuration.{Configuration}
 use Rattle.up_model.specs.Due.{due, end_of, telling, failed_event_of, finishing, turn_event, turn_of, effect, end_by}
 use Rattle.up_model.specs.Environments.{env_of_job, instance_name}
@@ -31,12 +31,12 @@ use Rattle.up_model.specs.Held.{is_spoilt}
 use Rattle.up_model.specs.Instances.{Instance, instances_of, instance_named}
 use Rattle.up_model.specs.Judgement.{end_itself, keep_failure, fail, carry_out, verdict_on_end}
 use Rattle.up_model.specs.Life.{wait_in, entering}
-use Rattle.up_model.specs.Moves.{has_process, job_event, emitting, ordering, enter, enter_whole, is_over, may_leave, next_of, who_of, move, move_of, move_in, move_first, move_by}
-use Rattle.up_model.specs.Offers.{is_open, stop_of, stop_by, stop_offer, max_instances, start_of, who_called, start_who, start_by, start_offer, offering, offer_next, start_env}
+use Rattle.up_model.specs.Moves.{has_process, job_event, emitting, ordering, enter, enter_whole, is_over, may_leave, next_of, who_of, move, move_of, move_in, move_first}
+use Rattle.up_model.specs.Offers.{is_open, stop_of, stop_by, stop_offer, stop_offer_in, max_instances, start_of, who_called, start_who, start_by, start_offer, offering, offer_next, start_env}
 use Rattle.up_model.specs.Queue.{Live, queue}
 use Rattle.up_model.specs.Readings.{goal, state_of, failure, holders, is_blocking, without, blocker, lives}
 use Rattle.up_model.specs.Commands.{outcome_of, entries_of, is_running}
-use Rattle.up_model.specs.Files.{own_file, names_in_order, file_of}
+use Rattle.up_model.specs.Files.{own_file, names_in_order}
 use Rattle.up_model.specs.Replies.{releasing, waiter, answering_waiter, unanswered, answering_last}
 use Rattle.up_model.specs.Seen.{seen, holds, taken, was_offered}
 use Rattle.up_model.specs.Predicates.{is_start, entries_if, or_else}
@@ -44,7 +44,7 @@ use Rattle.up_model.specs.Values.{Bindings, Bytes}
 use Rattle.up_model.specs.Work.{work, settle}
 use Rattle.up_model.proofs.ReplyLaws.{Allows, releasing-all, answering_waiter-all, answering_hurried-all, start_of-all, stop_of-all, outcome-all}
 use Rattle.up_model.proofs.Sparing.{all-append, all-if}
-use Rattle.up_model.proofs.JobOffers.{stop_offer_in, offer_in, offer_first, first-by-jobs}
+use Rattle.up_model.proofs.JobOffers.{offer_in, offer_first, first-by-jobs}
 
 -- an event, if there is one
 abbrev pub listed : Option ℕ → List ℕ
@@ -314,19 +314,15 @@ move_of-keeps job x c keeps = by_case (may_leave job x.place c) refl
         (leave-free job x.place from c refl may keeps) keeps
     by_case false stays = keeps
 
-move_by-keeps : (file : Option JobDef) (x : Instance) (c : Chronicle) → Keeps c → Keeps (move_by file x c ++ c)
-move_by-keeps None x c keeps = keeps
-move_by-keeps (Some job) x c keeps = move_of-keeps job x c keeps
+move_in-keeps : (xs : List Instance) (c : Chronicle) → Keeps c → Keeps (move_in xs c ++ c)
+move_in-keeps [] c keeps = keeps
+move_in-keeps (x ∷ xs) c keeps =
+    or_else-keeps (move_of x.file x c) (move_in xs c) c (move_of-keeps x.file x c keeps) (move_in-keeps xs c keeps)
 
-move_in-keeps : (config : Configuration) (xs : List Instance) (c : Chronicle) → Keeps c → Keeps (move_in config xs c ++ c)
-move_in-keeps config [] c keeps = keeps
-move_in-keeps config (x ∷ xs) c keeps =
-    or_else-keeps (move_by (file_of config x.place c) x c) (move_in config xs c) c (move_by-keeps (file_of config x.place c) x c keeps) (move_in-keeps config xs c keeps)
-
-move_first-keeps : (config : Configuration) (names : List Bytes) (c : Chronicle) → Keeps c → Keeps (move_first config names c ++ c)
-move_first-keeps config [] c keeps = keeps
-move_first-keeps config (name ∷ names) c keeps =
-    or_else-keeps (move_in config (instances_of name c) c) (move_first config names c) c (move_in-keeps config (instances_of name c) c keeps) (move_first-keeps config names c keeps)
+move_first-keeps : (names : List Bytes) (c : Chronicle) → Keeps c → Keeps (move_first names c ++ c)
+move_first-keeps [] c keeps = keeps
+move_first-keeps (name ∷ names) c keeps =
+    or_else-keeps (move_in (instances_of name c) c) (move_first names c) c (move_in-keeps (instances_of name c) c keeps) (move_first-keeps names c keeps)
 
 -- an offer to an instance's `stop on` is idle
 stop_by-idle : (p : ℕ) (events : List ℕ) (c : Chronicle) → AllByRecursion IsIdle (stop_by p events c)
@@ -351,28 +347,28 @@ stop_offer-idle config job p event c =
     fires : List Entry
     fires = stop_by p events fired ++ Fired (StopOn p) events ∷ []
 
-stop_offer_in-keeps : (config : Configuration) (job : JobDef) (xs : List Instance) (event : ℕ) (c : Chronicle) → Keeps c → Keeps (stop_offer_in config job xs event c ++ c)
-stop_offer_in-keeps config job [] event c keeps = keeps
-stop_offer_in-keeps config job (x ∷ xs) event c keeps =
-    or_else-keeps (entries_if (is_open x.place c) (stop_offer config job x.place event c)) (stop_offer_in config job xs event c) c
-    (if-keeps (is_open x.place c) (stop_offer config job x.place event c) c (idles-keep (stop_offer config job x.place event c) c (stop_offer-idle config job x.place event c) keeps) keeps)
-    (stop_offer_in-keeps config job xs event c keeps)
+stop_offer_in-keeps : (config : Configuration) (xs : List Instance) (event : ℕ) (c : Chronicle) → Keeps c → Keeps (stop_offer_in config xs event c ++ c)
+stop_offer_in-keeps config [] event c keeps = keeps
+stop_offer_in-keeps config (x ∷ xs) event c keeps =
+    or_else-keeps (entries_if (is_open x.place c) (stop_offer config x.file x.place event c)) (stop_offer_in config xs event c) c
+    (if-keeps (is_open x.place c) (stop_offer config x.file x.place event c) c (idles-keep (stop_offer config x.file x.place event c) c (stop_offer-idle config x.file x.place event c) keeps) keeps)
+    (stop_offer_in-keeps config xs event c keeps)
 
 -- so is one to a job's `start on`
-start_of-idle : (who : Who) (environment : Bindings) (holders : List ℕ) (o : Option ℕ) (c : Chronicle) → AllByRecursion IsIdle (start_of who environment holders o c)
-start_of-idle who environment holders None c =
-    all-if IsIdle (nat_lt (length (instances_of who.job c)) max_instances) (Aimed (length c) Start environment holders ∷ Made who.job who.instance ∷ []) (tt, (tt, tt))
-start_of-idle who environment holders (Some p) c = start_of-all IsIdle idle-allows who environment holders p c
+start_of-idle : (job : JobDef) (who : Who) (environment : Bindings) (holders : List ℕ) (o : Option ℕ) (c : Chronicle) → AllByRecursion IsIdle (start_of job who environment holders o c)
+start_of-idle job who environment holders None c =
+    all-if IsIdle (nat_lt (length (instances_of who.job c)) max_instances) (Aimed (length c) Start environment holders ∷ Made job who.instance ∷ []) (tt, (tt, tt))
+start_of-idle job who environment holders (Some p) c = start_of-all IsIdle idle-allows job who environment holders p c
 
-start_who-idle : (environment : Bindings) (holders : List ℕ) (o : Option Who) (c : Chronicle) → AllByRecursion IsIdle (start_who environment holders o c)
-start_who-idle environment holders None c = tt
-start_who-idle environment holders (Some who) c = start_of-idle who (with_instance who environment) holders (instance_named who c) c
+start_who-idle : (job : JobDef) (environment : Bindings) (holders : List ℕ) (o : Option Who) (c : Chronicle) → AllByRecursion IsIdle (start_who job environment holders o c)
+start_who-idle job environment holders None c = tt
+start_who-idle job environment holders (Some who) c = start_of-idle job who (with_instance who environment) holders (instance_named who c) c
 
 start_offer-idle : (config : Configuration) (job : JobDef) (event : ℕ) (c : Chronicle) → AllByRecursion IsIdle (start_offer config job event c)
 start_offer-idle config job event c =
     all-append IsIdle (entries_if (holds job.start_on sights) fires) (Offered (StartOn job.name) event ∷ [])
     (all-if IsIdle (holds job.start_on sights) fires
-    (all-append IsIdle (start_by config job events fired) (Fired (StartOn job.name) events ∷ []) (start_who-idle environment events (who_called job.name name) fired) (tt, tt)))
+    (all-append IsIdle (start_by config job events fired) (Fired (StartOn job.name) events ∷ []) (start_who-idle job environment events (who_called job.name name) fired) (tt, tt)))
     (tt, tt)
   where
     sights : List Sight
@@ -395,8 +391,8 @@ start_offer-idle config job event c =
 
 offer_in-keeps : (config : Configuration) (job : JobDef) (event : ℕ) (c : Chronicle) → Keeps c → Keeps (offer_in config job event c ++ c)
 offer_in-keeps config job event c keeps =
-    or_else-keeps (stop_offer_in config job (instances_of job.name c) event c) (entries_if (not (was_offered (StartOn job.name) c)) (start_offer config job event c)) c
-    (stop_offer_in-keeps config job (instances_of job.name c) event c keeps)
+    or_else-keeps (stop_offer_in config (instances_of job.name c) event c) (entries_if (not (was_offered (StartOn job.name) c)) (start_offer config job event c)) c
+    (stop_offer_in-keeps config (instances_of job.name c) event c keeps)
     (if-keeps (not (was_offered (StartOn job.name) c)) (start_offer config job event c) c (idles-keep (start_offer config job event c) c (start_offer-idle config job event c) keeps) keeps)
 
 offer_first-keeps : (config : Configuration) (jobs : List JobDef) (event : ℕ) (c : Chronicle) → Keeps c → Keeps (offer_first config jobs event c ++ c)
@@ -412,7 +408,7 @@ offer_next-keeps config (Some event) c keeps = subst (λ es. Keeps (es ++ c)) (s
 due-keeps : (config : Configuration) (c : Chronicle) → Keeps c → Keeps (due config c ++ c)
 unfolding due
 due-keeps config c keeps =
-    or_else-keeps (move_first config (names_in_order config c) c) (or_else (offer_next config (offering c) c) (answering_last c)) c (move_first-keeps config (names_in_order config c) c keeps)
+    or_else-keeps (move_first (names_in_order config c) c) (or_else (offer_next config (offering c) c) (answering_last c)) c (move_first-keeps (names_in_order config c) c keeps)
     (or_else-keeps (offer_next config (offering c) c) (answering_last c) c (offer_next-keeps config (offering c) c keeps)
     (idles-keep (answering_last c) c (answering_hurried-all IsIdle (λ request answer. tt) (unanswered c) c) keeps))
 
@@ -464,24 +460,20 @@ due-free job p c h keeps =
     keeps.waiting p (killed-apart (state_of p c) (and-left (is_killed (state_of p c)) (lives p Main c)
     (and-left (is_killed (state_of p c) && lives p Main c) (has_passed (kill_moment p c) (now c) (milliseconds job.kill_timeout)) h)))
 
-due_by-free : (file : Option JobDef) (p : ℕ) (c : Chronicle) → kill_due_by file p c ≡ true → Keeps c → blocker p c ≡ None
-due_by-free None p c h keeps = absurd cc
-due_by-free (Some job) p c h keeps = due-free job p c h keeps
-
-overdue-free : (config : Configuration) (xs : List Instance) (c : Chronicle) → Keeps c → AreFree c (overdue config xs c)
-overdue-free config [] c keeps = tt
-overdue-free config (x ∷ xs) c keeps =
-    free-append c (entries_if (kill_due_by (file_of config x.place c) x.place c) (x.place ∷ [])) (overdue config xs c)
-    (by_case (kill_due_by (file_of config x.place c) x.place c) refl) (overdue-free config xs c keeps)
+overdue-free : (xs : List Instance) (c : Chronicle) → Keeps c → AreFree c (overdue xs c)
+overdue-free [] c keeps = tt
+overdue-free (x ∷ xs) c keeps =
+    free-append c (entries_if (kill_due x.file x.place c) (x.place ∷ [])) (overdue xs c)
+    (by_case (kill_due x.file x.place c) refl) (overdue-free xs c keeps)
   where
-    by_case : (b : Bool) → kill_due_by (file_of config x.place c) x.place c ≡ b → AreFree c (entries_if b (x.place ∷ []))
-    by_case true h = (due_by-free (file_of config x.place c) x.place c h keeps, tt)
+    by_case : (b : Bool) → kill_due x.file x.place c ≡ b → AreFree c (entries_if b (x.place ∷ []))
+    by_case true h = (due-free x.file x.place c h keeps, tt)
     by_case false h = tt
 
-all_overdue-free : (config : Configuration) (names : List Bytes) (c : Chronicle) → Keeps c → AreFree c (all_overdue config names c)
-all_overdue-free config [] c keeps = tt
-all_overdue-free config (name ∷ names) c keeps =
-    free-append c (overdue config (instances_of name c) c) (all_overdue config names c) (overdue-free config (instances_of name c) c keeps) (all_overdue-free config names c keeps)
+all_overdue-free : (names : List Bytes) (c : Chronicle) → Keeps c → AreFree c (all_overdue names c)
+all_overdue-free [] c keeps = tt
+all_overdue-free (name ∷ names) c keeps =
+    free-append c (overdue (instances_of name c) c) (all_overdue names c) (overdue-free (instances_of name c) c keeps) (all_overdue-free names c keeps)
 
 -- so the timer's signals leave the rules kept
 killing-keeps : (places : List ℕ) (c : Chronicle) → AreFree c places → Keeps c → Keeps (killing places ++ c)
@@ -525,16 +517,16 @@ effect-keeps config (input.Request id request) c keeps =
 effect-keeps config (input.Spawned who process pid) c keeps = idle-keeps (Given (input.Spawned who process pid)) c tt keeps
 effect-keeps config (input.Refused who process) c keeps =
     let d : Chronicle = Given (input.Refused who process) ∷ c in
-    given-keeps (end_by config who process end.Refused d) (input.Refused who process) c
-    (end_of-idle (own_file config who d) (instance_named who d) process end.Refused d) keeps
+    given-keeps (end_by who process end.Refused d) (input.Refused who process) c
+    (end_of-idle (own_file who d) (instance_named who d) process end.Refused d) keeps
 effect-keeps config (input.Ended who process how) c keeps =
     let d : Chronicle = Given (input.Ended who process how) ∷ c in
-    given-keeps (end_by config who process (end.Ended how) d) (input.Ended who process how) c
-    (end_of-idle (own_file config who d) (instance_named who d) process (end.Ended how) d) keeps
+    given-keeps (end_by who process (end.Ended how) d) (input.Ended who process how) c
+    (end_of-idle (own_file who d) (instance_named who d) process (end.Ended how) d) keeps
 effect-keeps config (input.Clock reading) c keeps =
     let d : List Entry = Given (input.Clock reading) ∷ c in
     let given : Keeps d = idle-keeps (Given (input.Clock reading)) c tt keeps in
-    rw append_assoc (killing-keeps (all_overdue config (names_in_order config d) d) d (all_overdue-free config (names_in_order config d) d given) given)
+    rw append_assoc (killing-keeps (all_overdue (names_in_order config d) d) d (all_overdue-free (names_in_order config d) d given) given)
 effect-keeps config input.Turn c keeps =
     given-keeps (turn_of (turn_event config (queue c) c) (Given input.Turn ∷ c)) input.Turn c
     (turn-idle (turn_event config (queue c) c) (Given input.Turn ∷ c)) keeps

@@ -4,25 +4,19 @@ use Rattle.std.specs.List.{AllByRecursion}
 use Rattle.up_conf.specs.declared.job.JobDef.{JobDef}
 use Rattle.up_model.specs.Chronicle.{Chronicle, Entry, Offered, StartOn, StopOn}
 use Rattle.up_model.specs.Configuration.{Configuration, job_named}
-use Rattle.up_model.specs.Files.{file_of, job_names, names_in_order}
+use Rattle.up_model.specs.Files.{job_names, names_in_order}
 use Rattle.up_model.specs.Instances.{Instance, instances_of}
-use Rattle.up_model.specs.Offers.{is_open, stop_offer, stop_offer_by, start_offer, start_offer_by}
+use Rattle.up_model.specs.Offers.{is_open, stop_offer, stop_offer_in, start_offer, start_offer_by}
 use Rattle.up_model.specs.Offers as model
 use Rattle.up_model.specs.Predicates.{entries_if, or_else}
 use Rattle.up_model.specs.Seen.{was_offered}
 use Rattle.up_model.specs.Values.{Bytes}
-use Rattle.up_model.proofs.FileLaws.{file_of-job}
 use Rattle.up_model.proofs.Places.{bytes_same, bytes_refl}
 
--- the event is offered to the `stop on` of the first of a job's instances that it is still to be offered to
-abbrev pub stop_offer_in : Configuration → JobDef → List Instance → (event : ℕ) → Chronicle → List Entry
-stop_offer_in config job [] event c = []
-stop_offer_in config job (x ∷ its) event c = or_else (entries_if (is_open x.place c) (stop_offer config job x.place event c)) (stop_offer_in config job its event c)
-
--- to the first expression of a job
+-- the event is offered to the first expression of a job
 abbrev pub offer_in : Configuration → JobDef → (event : ℕ) → Chronicle → List Entry
 offer_in config job event c =
-    or_else (stop_offer_in config job (instances_of job.name c) event c) (entries_if (not (was_offered (StartOn job.name) c)) (start_offer config job event c))
+    or_else (stop_offer_in config (instances_of job.name c) event c) (entries_if (not (was_offered (StartOn job.name) c)) (start_offer config job event c))
 
 -- and to the first of these jobs
 abbrev pub offer_first : Configuration → List JobDef → (event : ℕ) → Chronicle → List Entry
@@ -58,47 +52,35 @@ not-not true is = refl
 not-not false is = absurd cc
 
 -- so what is offered nothing is shut
-shut-stops : (config : Configuration) (job : JobDef) (its : List Instance) (event : ℕ) (c : Chronicle) → stop_offer_in config job its event c ≡ [] → AreShut its c
-shut-stops config job [] event c none = tt
-shut-stops config job (x ∷ its) event c none =
-    let parts = or-parts (entries_if (is_open x.place c) (stop_offer config job x.place event c)) (stop_offer_in config job its event c) none in
-    (if-not (is_open x.place c) _ (Offered (StopOn x.place) event) parts.0, shut-stops config job its event c parts.1)
+shut-stops : (config : Configuration) (its : List Instance) (event : ℕ) (c : Chronicle) → stop_offer_in config its event c ≡ [] → AreShut its c
+shut-stops config [] event c none = tt
+shut-stops config (x ∷ its) event c none =
+    let parts = or-parts (entries_if (is_open x.place c) (stop_offer config x.file x.place event c)) (stop_offer_in config its event c) none in
+    (if-not (is_open x.place c) _ (Offered (StopOn x.place) event) parts.0, shut-stops config its event c parts.1)
 
 shut-job : (config : Configuration) (job : JobDef) (event : ℕ) (c : Chronicle) → offer_in config job event c ≡ [] → IsShut job.name c
 shut-job config job event c none =
-    let parts = or-parts (stop_offer_in config job (instances_of job.name c) event c) (entries_if (not (was_offered (StartOn job.name) c)) (start_offer config job event c)) none in (
-      shut-stops config job (instances_of job.name c) event c parts.0,
+    let parts = or-parts (stop_offer_in config (instances_of job.name c) event c) (entries_if (not (was_offered (StartOn job.name) c)) (start_offer config job event c)) none in (
+      shut-stops config (instances_of job.name c) event c parts.0,
       not-not (was_offered (StartOn job.name) c) (if-not (not (was_offered (StartOn job.name) c)) _ (Offered (StartOn job.name) event) parts.1),
     )
 
 -- and what is shut is offered nothing
-stops-none : (config : Configuration) (job : JobDef) (its : List Instance) (event : ℕ) (c : Chronicle) → AreShut its c → stop_offer_in config job its event c ≡ []
-stops-none config job [] event c shut = refl
-stops-none config job (x ∷ its) event c shut = rw shut.0 (stops-none config job its event c shut.1)
+stops-none : (config : Configuration) (its : List Instance) (event : ℕ) (c : Chronicle) → AreShut its c → stop_offer_in config its event c ≡ []
+stops-none config [] event c shut = refl
+stops-none config (x ∷ its) event c shut = rw shut.0 (stops-none config its event c shut.1)
 
 job-none : (config : Configuration) (job : JobDef) (event : ℕ) (c : Chronicle) → IsShut job.name c → offer_in config job event c ≡ []
-job-none config job event c shut = rw (stops-none config job (instances_of job.name c) event c shut.0, shut.1) refl
-
-stops-none-named : (config : Configuration) (its : List Instance) (event : ℕ) (c : Chronicle) → AreShut its c → model.stop_offer_in config its event c ≡ []
-stops-none-named config [] event c shut = refl
-stops-none-named config (x ∷ its) event c shut = rw shut.0 (stops-none-named config its event c shut.1)
+job-none config job event c shut = rw (stops-none config (instances_of job.name c) event c shut.0, shut.1) refl
 
 named-none : (config : Configuration) (name : Bytes) (event : ℕ) (c : Chronicle) → IsShut name c → model.offer_in config name event c ≡ []
-named-none config name event c shut = rw (stops-none-named config (instances_of name c) event c shut.0, shut.1) refl
+named-none config name event c shut = rw (stops-none config (instances_of name c) event c shut.0, shut.1) refl
 
 -- the first job of a name is offered what the name is
-stops-same : (config : Configuration) (job : JobDef) (its : List Instance) (event : ℕ) (c : Chronicle) → AllByRecursion (λ x. file_of config x.place c ≡ Some job) its
-    → model.stop_offer_in config its event c ≡ stop_offer_in config job its event c
-stops-same config job [] event c files = refl
-stops-same config job (x ∷ its) event c files =
-    ap₂ (λ file rest. or_else (entries_if (is_open x.place c) (stop_offer_by config file x.place event c)) rest) files.0 (stops-same config job its event c files.1)
-
 job-same : (config : Configuration) (job : JobDef) (event : ℕ) (c : Chronicle) → job_named job.name config.jobs ≡ Some job
     → model.offer_in config job.name event c ≡ offer_in config job event c
 job-same config job event c found =
-    let files = subst (λ file. AllByRecursion (λ x. file_of config x.place c ≡ file) (instances_of job.name c)) found (file_of-job config job.name c) in
-    ap₂ (λ es file. or_else es (entries_if (not (was_offered (StartOn job.name) c)) (start_offer_by config file event c)))
-    (stops-same config job (instances_of job.name c) event c files) found
+    ap (λ file. or_else (stop_offer_in config (instances_of job.name c) event c) (entries_if (not (was_offered (StartOn job.name) c)) (start_offer_by config file event c))) found
 
 -- a job is the first of its name, or that is shut
 abbrev AllShut : List JobDef → Chronicle → Type 0

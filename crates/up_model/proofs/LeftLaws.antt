@@ -25,22 +25,22 @@ use Rattle.up_model.specs.declared.who.Who.{Who}
 use Rattle.up_model.specs.Answers.{after}
 use Rattle.up_model.specs.Chronicle.{Chronicle, Entry, Given, Queued, Handled, Finished, Made, Aimed, Released, Failed, Respawned, Entered, Ordered, Signalled, Replied, Outside, Entering, Spoilt}
 use Rattle.up_model.specs.Clock.{all_overdue, kill, killing}
-use Rattle.up_model.specs.Configuration.{Configuration, job_named}
+use Rattle.up_model.specs.Configuration.{Configuration}
 use Rattle.up_model.specs.Due.{due, effect, end_of}
-use Rattle.up_model.specs.Files.{own_file, file_of, names_in_order}
+use Rattle.up_model.specs.Files.{own_file, names_in_order}
 use Rattle.up_model.specs.Instances.{Instance, without_instance, instances_of, instance_named, all_instances}
 use Rattle.up_model.specs.Judgement.{verdict_on_end, end_itself, keep_failure, fail, carry_out}
 use Rattle.up_model.specs.Left.{left_in, left_at, left_among, left, is_calm, spawns, Spends}
 use Rattle.up_model.specs.Life.{next_state, entering}
-use Rattle.up_model.specs.Moves.{has_process, emitting, ordering, enter, enter_whole, may_leave, next_of, who_of, move, move_in, move_first, move_by}
+use Rattle.up_model.specs.Moves.{has_process, emitting, ordering, enter, enter_whole, may_leave, next_of, who_of, move, move_of, move_in, move_first}
 use Rattle.up_model.specs.Offers.{offering, offer_next}
 use Rattle.up_model.specs.Outputs.{order_for, order_by, order_of, signal_of, reply_of, outputs_of}
-use Rattle.up_model.specs.Readings.{made_at, id_at, goal, state_of, process_env, is_blocking, blocker, failure, holders, pid_of, lives}
+use Rattle.up_model.specs.Readings.{made_at, file_of, id_at, goal, state_of, process_env, is_blocking, blocker, failure, holders, pid_of, lives}
 use Rattle.up_model.specs.Replies.{releasing, unanswered, answering_last}
 use Rattle.up_model.specs.Predicates.{is_start, entries_if, or_else}
 use Rattle.up_model.specs.Values.{Bindings, Bytes}
 use Rattle.up_model.specs.Work.{work, settle}
-use Rattle.up_model.proofs.FileLaws.{file_of-job, named-name}
+use Rattle.up_model.proofs.FileLaws.{files-named}
 use Rattle.up_model.proofs.LeftSums.{IsKept, among-no_more, kept-fewer, gone-no_more}
 use Rattle.up_model.proofs.MoveLaws.{Leaves, leaves, IsMove, move-goal, move-is_of, enter-moves, enter-state, is_waiting, enter-all_instances}
 use Rattle.up_model.proofs.Places.{count, all-counted, instances-exist}
@@ -223,25 +223,20 @@ if-spends : (c : Chronicle) (b : Bool) (es : List Entry) → (b ≡ true → Spe
 if-spends c true es spent = spent refl
 if-spends c false es spent = none-spent c
 
-move_in-spends : (config : Configuration) (name : Bytes) (xs : List Instance) (c : Chronicle) → AllByRecursion (λ x. file_of config x.place c ≡ job_named name config.jobs) xs
-    → AllByRecursion (λ x. 0 < count x.place (instances_of name c)) xs → Spent c (move_in config xs c)
-move_in-spends config name [] c files there = none-spent c
-move_in-spends config name (x ∷ xs) c files there =
-    or_else-spends c (move_by (file_of config x.place c) x c) (move_in config xs c) (by_file (job_named name config.jobs) refl)
-    (move_in-spends config name xs c files.1 there.1)
-  where
-    by_file : (file : Option JobDef) → job_named name config.jobs ≡ file → Spent c (move_by (file_of config x.place c) x c)
-    by_file None none = rw (files.0 ∙ none) (none-spent c)
-    by_file (Some job) found =
-        let own : 0 < count x.place (instances_of job.name c) = subst (λ n. 0 < count x.place (instances_of n c)) (sym (named-name name config.jobs job found)) there.0 in
-        rw (files.0 ∙ found) (if-spends c (may_leave job x.place c) (move job x c) (λ may. move-spends job x c own may))
+move_in-spends : (name : Bytes) (xs : List Instance) (c : Chronicle) → AllByRecursion (λ x. x.file.name ≡ name) xs
+    → AllByRecursion (λ x. 0 < count x.place (instances_of name c)) xs → Spent c (move_in xs c)
+move_in-spends name [] c named there = none-spent c
+move_in-spends name (x ∷ xs) c named there =
+    let own : 0 < count x.place (instances_of x.file.name c) = subst (λ n. 0 < count x.place (instances_of n c)) (sym named.0) there.0 in
+    or_else-spends c (move_of x.file x c) (move_in xs c) (if-spends c (may_leave x.file x.place c) (move x.file x c) (λ may. move-spends x.file x c own may))
+    (move_in-spends name xs c named.1 there.1)
 
-move_first-spends : (config : Configuration) (names : List Bytes) (c : Chronicle) → Spent c (move_first config names c)
-move_first-spends config [] c = none-spent c
-move_first-spends config (name ∷ names) c =
-    or_else-spends c (move_in config (instances_of name c) c) (move_first config names c)
-    (move_in-spends config name (instances_of name c) c (file_of-job config name c) (all-counted (instances_of name c)))
-    (move_first-spends config names c)
+move_first-spends : (names : List Bytes) (c : Chronicle) → Spent c (move_first names c)
+move_first-spends [] c = none-spent c
+move_first-spends (name ∷ names) c =
+    or_else-spends c (move_in (instances_of name c) c) (move_first names c)
+    (move_in-spends name (instances_of name c) c (files-named name c) (all-counted (instances_of name c)))
+    (move_first-spends names c)
 
 -- an entry of the effect of an input that is no turn and no request, or of an answer
 abbrev IsCalm : Entry → Type 0
@@ -285,7 +280,7 @@ calm-lefts p (e ∷ es) c calm = omega (arith, calm-left p e (es ++ c) calm.0, c
 
 -- it brings none and takes none away
 calm-all_instances : (e : Entry) (c : Chronicle) → IsCalm e → all_instances (e ∷ c) ≡ all_instances c
-calm-all_instances (Made job name) c calm = absurd calm
+calm-all_instances (Made file name) c calm = absurd calm
 calm-all_instances (Entered instance entered) c calm = absurd calm
 calm-all_instances e c calm = refl
 
@@ -313,7 +308,7 @@ offer-spends config (Some event) c none = absurd cc
 due-spends : (config : Configuration) (c : Chronicle) → offering c ≡ None → Spent c (due config c)
 unfolding due
 due-spends config c none =
-    or_else-spends c (move_first config (names_in_order config c) c) (or_else (offer_next config (offering c) c) (answering_last c)) (move_first-spends config (names_in_order config c) c)
+    or_else-spends c (move_first (names_in_order config c) c) (or_else (offer_next config (offering c) c) (answering_last c)) (move_first-spends (names_in_order config c) c)
     (or_else-spends c (offer_next config (offering c) c) (answering_last c) (offer-spends config (offering c) c none)
     (calm-spends (answering_last c) c (answering_hurried-all IsCalm (λ request answer. tt) (unanswered c) c)))
 
@@ -348,26 +343,26 @@ reply-none : (o : Option ℕ) (answer : Answer) → spawns (reply_of o answer) �
 reply-none None answer = refl
 reply-none (Some id) answer = refl
 
-output-few : (config : Configuration) (e : Entry) (c : Chronicle) → spawns (outputs_of config (e ∷ c)) ≤ spawns (outputs_of config c) + ordered (e ∷ [])
+output-few : (config : Configuration) (e : Entry) (c : Chronicle) → spawns (outputs_of (e ∷ c)) ≤ spawns (outputs_of c) + ordered (e ∷ [])
 unfolding outputs_of
 output-few config (Given given) c = omega arith
 output-few config (Ordered instance its) c =
-    omega (arith, spawns-append (outputs_of config c) (order_of config instance its c), order-few (file_of config instance c) (made_at instance c) its (process_env instance its c))
+    omega (arith, spawns-append (outputs_of c) (order_of instance its c), order-few (file_of instance c) (made_at instance c) its (process_env instance its c))
 output-few config (Signalled instance signal by_timer) c =
-    omega (arith, spawns-append (outputs_of config c) (signal_of (made_at instance c) signal (pid_of instance Main c)), signal-none (made_at instance c) signal (pid_of instance Main c))
-output-few config (Queued (Entering instance entered) event) c = omega (arith, spawns-append (outputs_of config c) (output.Emitted event ∷ []))
-output-few config (Queued (Spoilt spoilt) event) c = omega (arith, spawns-append (outputs_of config c) (output.Emitted event ∷ []))
+    omega (arith, spawns-append (outputs_of c) (signal_of (made_at instance c) signal (pid_of instance Main c)), signal-none (made_at instance c) signal (pid_of instance Main c))
+output-few config (Queued (Entering instance entered) event) c = omega (arith, spawns-append (outputs_of c) (output.Emitted event ∷ []))
+output-few config (Queued (Spoilt spoilt) event) c = omega (arith, spawns-append (outputs_of c) (output.Emitted event ∷ []))
 output-few config (Replied request answer) c =
-    omega (arith, spawns-append (outputs_of config c) (reply_of (id_at request c) answer), reply-none (id_at request c) answer)
+    omega (arith, spawns-append (outputs_of c) (reply_of (id_at request c) answer), reply-none (id_at request c) answer)
 output-few config e c = omega arith
 
-outputs-few : (config : Configuration) (es c : List Entry) → spawns (outputs_of config (es ++ c)) ≤ spawns (outputs_of config c) + ordered es
+outputs-few : (config : Configuration) (es c : List Entry) → spawns (outputs_of (es ++ c)) ≤ spawns (outputs_of c) + ordered es
 outputs-few config [] c = omega arith
 outputs-few config (e ∷ es) c = omega (arith, output-few config e (es ++ c), outputs-few config es c, ordered-append (e ∷ []) es)
 
 -- so what is due leaves fewer, by what it orders
 settle-spends : (n : ℕ) (config : Configuration) (c : Chronicle) → offering c ≡ None
-    → left (settle n config c) + spawns (outputs_of config (settle n config c)) ≤ left c + spawns (outputs_of config c)
+    → left (settle n config c) + spawns (outputs_of (settle n config c)) ≤ left c + spawns (outputs_of c)
 unfolding settle
 settle-spends zero config c none = omega arith
 settle-spends (suc n) config c none =
@@ -405,9 +400,9 @@ killing-calm (place ∷ places) = all-append IsCalm (killing places) (Signalled 
 -- a step begins: no event is offered, no more can be ordered, and nothing was yet
 record Begins (config : Configuration) (c d : Chronicle) : Type 0 where
   none : offering d ≡ None
-  few : left d + spawns (outputs_of config d) ≤ left c
+  few : left d + spawns (outputs_of d) ≤ left c
 
-given-none : (config : Configuration) (given : Input) (c : Chronicle) → spawns (outputs_of config (Given given ∷ c)) ≡ 0
+given-none : (config : Configuration) (given : Input) (c : Chronicle) → spawns (outputs_of (Given given ∷ c)) ≡ 0
 unfolding outputs_of
 given-none config given c = refl
 
@@ -427,11 +422,11 @@ effect-begins config input.Turn c calm = absurd cc
 effect-begins config (input.Emit event) c calm = begins config (Queued (Outside _) event ∷ []) (input.Emit event) c (tt, tt)
 effect-begins config (input.Spawned who its pid) c calm = begins config [] (input.Spawned who its pid) c tt
 effect-begins config (input.Refused who its) c calm =
-    begins config _ (input.Refused who its) c (end_of-calm (own_file config who (Given (input.Refused who its) ∷ c)) (instance_named who (Given (input.Refused who its) ∷ c)) its end.Refused (Given (input.Refused who its) ∷ c))
+    begins config _ (input.Refused who its) c (end_of-calm (own_file who (Given (input.Refused who its) ∷ c)) (instance_named who (Given (input.Refused who its) ∷ c)) its end.Refused (Given (input.Refused who its) ∷ c))
 effect-begins config (input.Ended who its how) c calm =
-    begins config _ (input.Ended who its how) c (end_of-calm (own_file config who (Given (input.Ended who its how) ∷ c)) (instance_named who (Given (input.Ended who its how) ∷ c)) its (end.Ended how) (Given (input.Ended who its how) ∷ c))
+    begins config _ (input.Ended who its how) c (end_of-calm (own_file who (Given (input.Ended who its how) ∷ c)) (instance_named who (Given (input.Ended who its how) ∷ c)) its (end.Ended how) (Given (input.Ended who its how) ∷ c))
 effect-begins config (input.Clock reading) c calm =
-    begins config _ (input.Clock reading) c (killing-calm (all_overdue config (names_in_order config c) (Given (input.Clock reading) ∷ c)))
+    begins config _ (input.Clock reading) c (killing-calm (all_overdue (names_in_order config c) (Given (input.Clock reading) ∷ c)))
 
 -- by an input that is no turn and no request fewer can be ordered, by those that it orders
 pub spends : (config : Configuration) (c : Chronicle) (given : Input) → is_calm given ≡ true → Spends config c given

@@ -28,19 +28,19 @@ use Rattle.up_model.specs.Blocks.{IsLone}
 use Rattle.up_model.specs.Chronicle.{Chronicle, Entry, Given, Queued, Handled, Offered, Fired, Finished, Made, Aimed, Failed, Entered, Ordered, Signalled, Replied, Outside, StartOn, StopOn}
 use Rattle.up_model.specs.Clock.{all_overdue, kill, killing}
 use Rattle.up_model.specs.Commands.{Refused, Done, Target, Nobody, Concerns, refusal, target_of, start_at, start, holders_of, outcome_by, outcome_of, entries_of}
-use Rattle.up_model.specs.Configuration.{Configuration, job_named}
+use Rattle.up_model.specs.Configuration.{Configuration}
 use Rattle.up_model.specs.Due.{due, end_of, telling, failed_event_of, finishing, turn_event, turn_of, effect, end_by}
 use Rattle.up_model.specs.Environments.{env_of_job, instance_name}
 use Rattle.up_model.specs.Events.{events_at, events_env, with_instance, stopped_by}
-use Rattle.up_model.specs.Files.{own_file, names_in_order, file_of}
+use Rattle.up_model.specs.Files.{own_file, names_in_order}
 use Rattle.up_model.specs.Held.{is_spoilt}
 use Rattle.up_model.specs.Instances.{Instance, instances_of, instance_named}
 use Rattle.up_model.specs.Judgement.{end_itself, keep_failure, fail, carry_out, verdict_on_end}
 use Rattle.up_model.specs.Life.{next_state, wait_in, entering}
-use Rattle.up_model.specs.Moves.{has_process, emitting, ordering, enter, enter_whole, is_over, may_leave, next_of, who_of, move, move_of, move_in, move_first, move_by}
-use Rattle.up_model.specs.Offers.{is_open, stop_of, stop_by, stop_offer, max_instances, start_of, who_called, start_who, start_by, start_offer, offering, offer_next, start_env}
+use Rattle.up_model.specs.Moves.{has_process, emitting, ordering, enter, enter_whole, is_over, may_leave, next_of, who_of, move, move_of, move_in, move_first}
+use Rattle.up_model.specs.Offers.{is_open, stop_of, stop_by, stop_offer, stop_offer_in, max_instances, start_of, who_called, start_who, start_by, start_offer, offering, offer_next, start_env}
 use Rattle.up_model.specs.Queue.{Live, queue}
-use Rattle.up_model.specs.Readings.{goal, state_of, failure, holders, made_at, speaks_of, is_awaited, pid_of, lives}
+use Rattle.up_model.specs.Readings.{goal, state_of, failure, holders, made_at, file_of, speaks_of, is_awaited, pid_of, lives}
 use Rattle.up_model.specs.Replies.{releasing, waiter, answering_waiter, unanswered, answering_last}
 use Rattle.up_model.specs.Requests.{RequestValue}
 use Rattle.up_model.specs.Seen.{seen, holds, taken, was_offered}
@@ -48,12 +48,12 @@ use Rattle.up_model.specs.Predicates.{same_process, same_who, is_start, entries_
 use Rattle.up_model.specs.Values.{Bytes, Bindings}
 use Rattle.up_model.specs.Work.{work, settle}
 use Rattle.up_model.proofs.BlockLaws.{five, and-left}
-use Rattle.up_model.proofs.FileLaws.{file_of-job, named-name, named-again}
+use Rattle.up_model.proofs.FileLaws.{HasFile, files, file_of-later, IsCalled, target-called}
 use Rattle.up_model.proofs.NameLaws.{called, made-named, AreSingle, Singles, entered-singles, entered-named, made-singles, made-found}
 use Rattle.up_model.proofs.Places.{bytes_same}
 use Rattle.up_model.proofs.ReplyLaws.{Allows, releasing-all, answering_waiter-all, answering_hurried-all, start_of-all, stop_of-all, stop-all, restart-all, reload-all, status-all, emit-all}
 use Rattle.up_model.proofs.Sparing.{all-append, all-if}
-use Rattle.up_model.proofs.JobOffers.{stop_offer_in, offer_in, offer_first, first-by-jobs}
+use Rattle.up_model.proofs.JobOffers.{offer_in, offer_first, first-by-jobs}
 
 -- the states in which main may live
 abbrev may_live : State → Bool
@@ -65,29 +65,36 @@ may_live Stopping = true
 may_live Killed = true
 may_live other = false
 
--- whether a job is there and has a main process
+-- whether a file is there and has a main process
 abbrev has_main : Option JobDef → Bool
 has_main None = false
 has_main (Some job) = has_process job process.Main
 
--- what is so of an instance that exists, by its job's name: its main lives in these states alone, and is awaited in spawned alone, if its
--- job has one
-record Fits (config : Configuration) (job : Bytes) (p : ℕ) (c : Chronicle) : Type 0 where
+-- what is so of an instance that exists: its main lives in these states alone, and is awaited in spawned alone, if its file has one
+record Fits (p : ℕ) (c : Chronicle) : Type 0 where
   alive : lives p process.Main c ≡ true → may_live (state_of p c) ≡ true
-  asked : is_awaited p process.Main c ≡ true → (state_of p c ≡ Spawned) × (has_main (job_named job config.jobs) ≡ true)
+  asked : is_awaited p process.Main c ≡ true → (state_of p c ≡ Spawned) × (has_main (file_of p c) ≡ true)
 
 -- each instance is found by its name, these things are so of each, and none ordered its main while that lived
-record Keeps (config : Configuration) (c : Chronicle) : Type 0 where
+record Keeps (c : Chronicle) : Type 0 where
   single : Singles c
-  fits : (who : Who) (p : ℕ) → instance_named who c ≡ Some p → Fits config who.job p c
+  fits : (who : Who) (p : ℕ) → instance_named who c ≡ Some p → Fits p c
   lone : IsLone c
+
+-- the file of an instance that is found stays as it is
+has-later : (who : Who) (p : ℕ) (e : Entry) (c : Chronicle) → instance_named who c ≡ Some p → has_main (file_of p c) ≡ true → has_main (file_of p (e ∷ c)) ≡ true
+has-later who p e c found has = ap has_main (file_of-later p e c (made-named who p c found).0) ∙ has
+
+spawned-later : (who : Who) (p : ℕ) (e : Entry) (c : Chronicle) → instance_named who c ≡ Some p → (state_of p c ≡ Spawned) × (has_main (file_of p c) ≡ true)
+    → (state_of p c ≡ Spawned) × (has_main (file_of p (e ∷ c)) ≡ true)
+spawned-later who p e c found is = (is.0, has-later who p e c found is.1)
 
 -- an entry that changes no instance, no state, and nothing of what is awaited or lives
 abbrev IsStill : Entry → Type 0
 IsStill (Given (input.Spawned who its pid)) = ⊥
 IsStill (Given (input.Refused who its)) = ⊥
 IsStill (Given (input.Ended who its how)) = ⊥
-IsStill (Made job name) = ⊥
+IsStill (Made file name) = ⊥
 IsStill (Entered instance entered) = ⊥
 IsStill (Ordered instance process) = ⊥
 IsStill entry = Unit {0}
@@ -106,37 +113,37 @@ releasing-still : (p : ℕ) (failed : Bool) (c : Chronicle) → AllByRecursion I
 releasing-still p failed c = releasing-all IsStill (λ request answer. tt) p failed tt c
 
 -- it leaves the rules kept
-still-keeps : (config : Configuration) (e : Entry) (c : Chronicle) → IsStill e → Keeps config c → Keeps config (e ∷ c)
+still-keeps : (config : Configuration) (e : Entry) (c : Chronicle) → IsStill e → Keeps c → Keeps (e ∷ c)
 still-keeps config (Given (input.Spawned who its pid)) c still keeps = absurd still
 still-keeps config (Given (input.Refused who its)) c still keeps = absurd still
 still-keeps config (Given (input.Ended who its how)) c still keeps = absurd still
-still-keeps config (Made job name) c still keeps = absurd still
+still-keeps config (Made file name) c still keeps = absurd still
 still-keeps config (Entered instance entered) c still keeps = absurd still
 still-keeps config (Ordered instance its) c still keeps = absurd still
 still-keeps config (Given given) c still keeps = record {
   single = keeps.single;
-  fits = λ who p found. record { alive = (keeps.fits who p found).alive; asked = (keeps.fits who p found).asked };
+  fits = λ who p found. record { alive = (keeps.fits who p found).alive; asked = λ so. spawned-later who p (Given given) c found ((keeps.fits who p found).asked so) };
   lone = keeps.lone;
 }
 still-keeps config e c still keeps = record {
   single = keeps.single;
-  fits = λ who p found. record { alive = (keeps.fits who p found).alive; asked = (keeps.fits who p found).asked };
+  fits = λ who p found. record { alive = (keeps.fits who p found).alive; asked = λ so. spawned-later who p e c found ((keeps.fits who p found).asked so) };
   lone = keeps.lone;
 }
 
 -- so do several
-stills-keep : (config : Configuration) (es c : Chronicle) → AllByRecursion IsStill es → Keeps config c → Keeps config (es ++ c)
+stills-keep : (config : Configuration) (es c : Chronicle) → AllByRecursion IsStill es → Keeps c → Keeps (es ++ c)
 stills-keep config [] c still keeps = keeps
 stills-keep config (e ∷ es) c still keeps = still-keeps config e (es ++ c) still.0 (stills-keep config es c still.1 keeps)
 
 -- an instance whose main isn't awaited enters a state in which main may live if it lives
 entered-keeps : (config : Configuration) (p : ℕ) (to : State) (c : Chronicle) → is_awaited p process.Main c ≡ false → (lives p process.Main c ≡ true → may_live to ≡ true)
-    → Keeps config c → Keeps config (Entered p to ∷ c)
+    → Keeps c → Keeps (Entered p to ∷ c)
 entered-keeps config p to c idle may keeps = record {
   single = entered-singles p to c keeps.single;
   fits = λ who q found. record {
     alive = λ lives_still. alive-now q lives_still ((keeps.fits who q (entered-named who p q to c keeps.single found)).alive) (p == q) refl;
-    asked = λ awaited_still. asked-now who q awaited_still ((keeps.fits who q (entered-named who p q to c keeps.single found)).asked) (p == q) refl;
+    asked = λ awaited_still. asked-now who q (entered-named who p q to c keeps.single found) awaited_still (p == q) refl;
   };
   lone = keeps.lone;
 }
@@ -146,20 +153,19 @@ entered-keeps config p to c idle may keeps = record {
     alive-now q so before true same = may (subst (λ its. lives its process.Main c ≡ true) (sym (eqb-true p q same)) so)
     alive-now q so before false differs = before so
 
-    asked-now : (who : Who) (q : ℕ) → is_awaited q process.Main c ≡ true
-        → (is_awaited q process.Main c ≡ true → (state_of q c ≡ Spawned) × (has_main (job_named who.job config.jobs) ≡ true)) → (b : Bool) → (p == q) ≡ b
-        → ((if b then to else state_of q c) ≡ Spawned) × (has_main (job_named who.job config.jobs) ≡ true)
-    asked-now who q so before true same =
+    asked-now : (who : Who) (q : ℕ) → instance_named who c ≡ Some q → is_awaited q process.Main c ≡ true → (b : Bool) → (p == q) ≡ b
+        → ((if b then to else state_of q c) ≡ Spawned) × (has_main (file_of q (Entered p to ∷ c)) ≡ true)
+    asked-now who q found so true same =
         let no : is_awaited q process.Main c ≡ false = subst (λ its. is_awaited its process.Main c ≡ false) (eqb-true p q same) idle in
         absurd (cc)
-    asked-now who q so before false differs = before so
+    asked-now who q found so false differs = spawned-later who q (Entered p to) c found ((keeps.fits who q found).asked so)
 
 -- an instance orders another process than main
-other-keeps : (config : Configuration) (p : ℕ) (its : Process) (c : Chronicle) → same_process its process.Main ≡ false → Keeps config c → Keeps config (Ordered p its ∷ c)
+other-keeps : (config : Configuration) (p : ℕ) (its : Process) (c : Chronicle) → same_process its process.Main ≡ false → Keeps c → Keeps (Ordered p its ∷ c)
 other-keeps config p process.Main c other keeps = cc
 other-keeps config p its c other keeps = record {
   single = keeps.single;
-  fits = λ who q found. record { alive = (keeps.fits who q found).alive; asked = λ so. (keeps.fits who q found).asked (by_case q (p == q) so) };
+  fits = λ who q found. record { alive = (keeps.fits who q found).alive; asked = λ so. spawned-later who q (Ordered p its) c found ((keeps.fits who q found).asked (by_case q (p == q) so)) };
   lone = keeps.lone;
 }
   where
@@ -175,8 +181,8 @@ one-name who other p c found again = one (made-named who p c found).1 (made-name
     one e f = cc
 
 -- an instance in spawned, whose main doesn't live, orders main
-main-keeps : (config : Configuration) (its : Who) (p : ℕ) (c : Chronicle) → instance_named its c ≡ Some p → state_of p c ≡ Spawned → has_main (job_named its.job config.jobs) ≡ true
-    → lives p process.Main c ≡ false → Keeps config c → Keeps config (Ordered p process.Main ∷ c)
+main-keeps : (config : Configuration) (its : Who) (p : ℕ) (c : Chronicle) → instance_named its c ≡ Some p → state_of p c ≡ Spawned → has_main (file_of p c) ≡ true
+    → lives p process.Main c ≡ false → Keeps c → Keeps (Ordered p process.Main ∷ c)
 main-keeps config its p c there here has gone keeps = record {
   single = keeps.single;
   fits = λ who q found. record { alive = (keeps.fits who q found).alive; asked = λ so. by_case who q found (p == q) refl so };
@@ -184,17 +190,15 @@ main-keeps config its p c there here has gone keeps = record {
 }
   where
     by_case : (who : Who) (q : ℕ) → instance_named who c ≡ Some q → (b : Bool) → (p == q) ≡ b → (if b && true then true else is_awaited q process.Main c) ≡ true
-        → (state_of q c ≡ Spawned) × (has_main (job_named who.job config.jobs) ≡ true)
+        → (state_of q c ≡ Spawned) × (has_main (file_of q (Ordered p process.Main ∷ c)) ≡ true)
     by_case who q found true same so =
-        let place : p ≡ q = eqb-true p q same in
-        let name : its ≡ who = one-name its who q c (subst (λ at. instance_named its c ≡ Some at) place there) found in
-        (subst (λ at. state_of at c ≡ Spawned) place here, subst (λ who. has_main (job_named who.job config.jobs) ≡ true) name has)
-    by_case who q found false differs so = (keeps.fits who q found).asked so
+        spawned-later who q (Ordered p process.Main) c found (subst (λ at. (state_of at c ≡ Spawned) × (has_main (file_of at c) ≡ true)) (eqb-true p q same) (here, has))
+    by_case who q found false differs so = spawned-later who q (Ordered p process.Main) c found ((keeps.fits who q found).asked so)
 
 -- an instance of a new name is made
-made-keeps : (config : Configuration) (job name : Bytes) (c : Chronicle) → instance_named (called job name) c ≡ None → Keeps config c → Keeps config (Made job name ∷ c)
-made-keeps config job name c none keeps = record {
-  single = made-singles job name c none keeps.single;
+made-keeps : (config : Configuration) (file : JobDef) (name : Bytes) (c : Chronicle) → instance_named (called file.name name) c ≡ None → Keeps c → Keeps (Made file name ∷ c)
+made-keeps config file name c none keeps = record {
+  single = made-singles file name c none keeps.single;
   fits = λ who q found. record {
     alive = λ so. by_alive who q found (length c == q) refl so;
     asked = λ so. by_asked who q found (length c == q) refl so;
@@ -202,15 +206,17 @@ made-keeps config job name c none keeps = record {
   lone = keeps.lone;
 }
   where
-    by_alive : (who : Who) (q : ℕ) → instance_named who (Made job name ∷ c) ≡ Some q → (b : Bool) → (length c == q) ≡ b
+    by_alive : (who : Who) (q : ℕ) → instance_named who (Made file name ∷ c) ≡ Some q → (b : Bool) → (length c == q) ≡ b
         → is_some (if b then None else pid_of q process.Main c) ≡ true → may_live (state_of q c) ≡ true
     by_alive who q found true same so = cc
-    by_alive who q found false differs so = (keeps.fits who q (made-found who job name q c differs found)).alive so
+    by_alive who q found false differs so = (keeps.fits who q (made-found who file name q c differs found)).alive so
 
-    by_asked : (who : Who) (q : ℕ) → instance_named who (Made job name ∷ c) ≡ Some q → (b : Bool) → (length c == q) ≡ b
-        → (if b then false else is_awaited q process.Main c) ≡ true → (state_of q c ≡ Spawned) × (has_main (job_named who.job config.jobs) ≡ true)
+    by_asked : (who : Who) (q : ℕ) → instance_named who (Made file name ∷ c) ≡ Some q → (b : Bool) → (length c == q) ≡ b
+        → (if b then false else is_awaited q process.Main c) ≡ true → (state_of q c ≡ Spawned) × (has_main (file_of q (Made file name ∷ c)) ≡ true)
     by_asked who q found true same so = cc
-    by_asked who q found false differs so = (keeps.fits who q (made-found who job name q c differs found)).asked so
+    by_asked who q found false differs so =
+        let before = made-found who file name q c differs found in
+        spawned-later who q (Made file name) c before ((keeps.fits who q before).asked so)
 
 and-right : (a b : Bool) → a && b ≡ true → b ≡ true
 and-right true b h = h
@@ -228,12 +234,12 @@ main_same its h = cc
 
 -- an awaited process was spawned
 spawned-keeps : (config : Configuration) (who : Who) (its : Process) (pid : ℕ) (c : Chronicle) → awaits (instance_named who c) its c ≡ true
-    → Keeps config c → Keeps config (Given (input.Spawned who its pid) ∷ c)
+    → Keeps c → Keeps (Given (input.Spawned who its pid) ∷ c)
 spawned-keeps config who its pid c expected keeps = record {
   single = keeps.single;
   fits = λ other q found. record {
     alive = λ so. alive-now other q found (made_at q c) (made-named other q c found).1 so;
-    asked = λ so. (keeps.fits other q found).asked (asked-then q (speaks_of (made_at q c) process.Main who its) so);
+    asked = λ so. spawned-later other q (Given (input.Spawned who its pid)) c found ((keeps.fits other q found).asked (asked-then q (speaks_of (made_at q c) process.Main who its) so));
   };
   lone = keeps.lone;
 }
@@ -262,12 +268,12 @@ spawned-keeps config who its pid c expected keeps = record {
         (subst (λ o. is_some (if speaks_of o process.Main who its then Some pid else pid_of q process.Main c) ≡ true) is so)
 
 -- a process was refused, or ended
-refused-keeps : (config : Configuration) (who : Who) (its : Process) (c : Chronicle) → Keeps config c → Keeps config (Given (input.Refused who its) ∷ c)
+refused-keeps : (config : Configuration) (who : Who) (its : Process) (c : Chronicle) → Keeps c → Keeps (Given (input.Refused who its) ∷ c)
 refused-keeps config who its c keeps = record {
   single = keeps.single;
   fits = λ other q found. record {
     alive = (keeps.fits other q found).alive;
-    asked = λ so. (keeps.fits other q found).asked (by_case q (speaks_of (made_at q c) process.Main who its) so);
+    asked = λ so. spawned-later other q (Given (input.Refused who its)) c found ((keeps.fits other q found).asked (by_case q (speaks_of (made_at q c) process.Main who its) so));
   };
   lone = keeps.lone;
 }
@@ -276,12 +282,12 @@ refused-keeps config who its c keeps = record {
     by_case q true so = cc
     by_case q false so = so
 
-ended-keeps : (config : Configuration) (who : Who) (its : Process) (how : How) (c : Chronicle) → Keeps config c → Keeps config (Given (input.Ended who its how) ∷ c)
+ended-keeps : (config : Configuration) (who : Who) (its : Process) (how : How) (c : Chronicle) → Keeps c → Keeps (Given (input.Ended who its how) ∷ c)
 ended-keeps config who its how c keeps = record {
   single = keeps.single;
   fits = λ other q found. record {
     alive = λ so. (keeps.fits other q found).alive (by_case q (speaks_of (made_at q c) process.Main who its) so);
-    asked = (keeps.fits other q found).asked;
+    asked = λ so. spawned-later other q (Given (input.Ended who its how)) c found ((keeps.fits other q found).asked so);
   };
   lone = keeps.lone;
 }
@@ -291,12 +297,12 @@ ended-keeps config who its how c keeps = record {
     by_case q false so = so
 
 -- what holds with and without some entries holds with those that a test lets in
-if-keeps : (config : Configuration) (b : Bool) (es c : Chronicle) → Keeps config (es ++ c) → Keeps config c → Keeps config (entries_if b es ++ c)
+if-keeps : (config : Configuration) (b : Bool) (es c : Chronicle) → Keeps (es ++ c) → Keeps c → Keeps (entries_if b es ++ c)
 if-keeps config true es c some none = some
 if-keeps config false es c some none = none
 
 -- the first of two lists in which there is anything does what both do
-or_else-keeps : (config : Configuration) (es others c : Chronicle) → Keeps config (es ++ c) → Keeps config (others ++ c) → Keeps config (or_else es others ++ c)
+or_else-keeps : (config : Configuration) (es others c : Chronicle) → Keeps (es ++ c) → Keeps (others ++ c) → Keeps (or_else es others ++ c)
 or_else-keeps config [] others c some other = other
 or_else-keeps config (e ∷ es) others c some other = some
 
@@ -357,29 +363,29 @@ not-both true false e f h = cc
 not-both false b e f h = cc
 
 -- an instance that may leave its state doesn't await main
-leave-idle : (config : Configuration) (job : JobDef) (p : ℕ) (c : Chronicle) → job_named job.name config.jobs ≡ Some job → Fits config job.name p c
+leave-idle : (config : Configuration) (job : JobDef) (p : ℕ) (c : Chronicle) → file_of p c ≡ Some job → Fits p c
     → may_leave job p c ≡ true → is_awaited p process.Main c ≡ false
 leave-idle config job p c found fits may = by_case (is_awaited p process.Main c) refl
   where
     by_case : (b : Bool) → is_awaited p process.Main c ≡ b → b ≡ false
     by_case true so =
-        let spawned : (state_of p c ≡ Spawned) × (has_main (job_named job.name config.jobs) ≡ true) = fits.asked so in
+        let spawned : (state_of p c ≡ Spawned) × (has_main (file_of p c) ≡ true) = fits.asked so in
         let has : has_process job process.Main ≡ true = subst (λ o. has_main o ≡ true) found spawned.1 in
         absurd (not-both (has_process job process.Main) (is_awaited p process.Main c) has so (subst (λ from. is_over job p (wait_in from) c ≡ true) spawned.0 may))
     by_case false so = refl
 
 -- the order for another process
-other-order : (config : Configuration) (job : JobDef) (p : ℕ) (its : Process) (c : Chronicle) → same_process its process.Main ≡ false → Keeps config c
-    → Keeps config (ordering job p (Some its) ++ c)
+other-order : (config : Configuration) (job : JobDef) (p : ℕ) (its : Process) (c : Chronicle) → same_process its process.Main ≡ false → Keeps c
+    → Keeps (ordering job p (Some its) ++ c)
 other-order config job p its c other keeps = if-keeps config (has_process job its) (Ordered p its ∷ []) c (other-keeps config p its c other keeps) keeps
 
 -- the order on entering a state
-order-keeps : (config : Configuration) (job : JobDef) (its : Who) (p : ℕ) (to from : State) (task : Bool) (c : Chronicle) → job_named its.job config.jobs ≡ Some job
-    → state_of p c ≡ to → (to ≡ Spawned → (instance_named its c ≡ Some p) × (lives p process.Main c ≡ false)) → Keeps config c
-    → Keeps config (ordering job p (entering to from task).orders ++ c)
+order-keeps : (config : Configuration) (job : JobDef) (its : Who) (p : ℕ) (to from : State) (task : Bool) (c : Chronicle) → file_of p c ≡ Some job
+    → state_of p c ≡ to → (to ≡ Spawned → (instance_named its c ≡ Some p) × (lives p process.Main c ≡ false)) → Keeps c
+    → Keeps (ordering job p (entering to from task).orders ++ c)
 order-keeps config job its p Spawned from task c found here ready keeps = by_case (has_process job process.Main) refl
   where
-    by_case : (b : Bool) → has_process job process.Main ≡ b → Keeps config (entries_if b (Ordered p process.Main ∷ []) ++ c)
+    by_case : (b : Bool) → has_process job process.Main ≡ b → Keeps (entries_if b (Ordered p process.Main ∷ []) ++ c)
     by_case true has = main-keeps config its p c (ready refl).0 here (ap has_main found ∙ has) (ready refl).1 keeps
     by_case false has = keeps
 order-keeps config job its p PreStart from task c found here ready keeps = other-order config job p process.PreStart c refl keeps
@@ -394,9 +400,9 @@ emitting-still job who p to (Some kind) c = (tt, tt)
 
 -- what an instance does on entering a state, after its order
 enter-keeps : (config : Configuration) (job : JobDef) (who : Who) (p : ℕ) (to : State) (entry : table.Entry) (c : Chronicle)
-    → Keeps config (ordering job p entry.orders ++ Entered p to ∷ c) → Keeps config (enter_whole job who p to entry c ++ c)
+    → Keeps (ordering job p entry.orders ++ Entered p to ∷ c) → Keeps (enter_whole job who p to entry c ++ c)
 enter-keeps config job who p to entry c keeps =
-    subst (Keeps config) (sym (five releases signals emits orders (Entered p to ∷ []) c))
+    subst Keeps (sym (five releases signals emits orders (Entered p to ∷ []) c))
     (stills-keep config releases (signals ++ (emits ++ (orders ++ Entered p to ∷ c))) (all-if IsStill entry.releases (releasing p false (enter job who p to entry c ++ c)) (releasing-still p false (enter job who p to entry c ++ c)))
     (stills-keep config signals (emits ++ (orders ++ Entered p to ∷ c)) (all-if IsStill (entry.kills && lives p process.Main c) (Signalled p job.kill_signal false ∷ []) (tt, tt))
     (stills-keep config emits (orders ++ Entered p to ∷ c) (emitting-still job who p to entry.emits ((orders ++ Entered p to ∷ []) ++ c)) keeps)))
@@ -414,11 +420,11 @@ enter-keeps config job who p to entry c keeps =
     releases = entries_if entry.releases (releasing p false (enter job who p to entry c ++ c))
 
 -- a move leaves the rules kept
-move-keeps : (config : Configuration) (job : JobDef) (x : Instance) (c : Chronicle) → job_named job.name config.jobs ≡ Some job
-    → instance_named (called job.name x.name) c ≡ Some x.place → may_leave job x.place c ≡ true → Keeps config c → Keeps config (move job x c ++ c)
+move-keeps : (config : Configuration) (job : JobDef) (x : Instance) (c : Chronicle) → file_of x.place c ≡ Some job
+    → instance_named (called job.name x.name) c ≡ Some x.place → may_leave job x.place c ≡ true → Keeps c → Keeps (move job x c ++ c)
 move-keeps config job x c found there may keeps =
     enter-keeps config job (who_of job x) p to (entering to from job.task) c
-    (order-keeps config job its p to from job.task (Entered p to ∷ c) found (rw (eq-eqb p p refl) refl) ready
+    (order-keeps config job its p to from job.task (Entered p to ∷ c) (file_of-later p (Entered p to) c (made-named its p c there).0 ∙ found) (rw (eq-eqb p p refl) refl) ready
     (entered-keeps config p to c (leave-idle config job p c found fits may)
     (lived-next (goal p c) from (has_process job process.Main) (lives p process.Main c) (goes job p from c may) fits.alive) keeps))
   where
@@ -434,7 +440,7 @@ move-keeps config job x c found there may keeps =
     to : State
     to = next_of job p c
 
-    fits : Fits config job.name p c
+    fits : Fits p c
     fits = keeps.fits its p there
 
     ready : to ≡ Spawned → (instance_named its (Entered p to ∷ c) ≡ Some p) × (lives p process.Main c ≡ false)
@@ -443,32 +449,28 @@ move-keeps config job x c found there may keeps =
       spawned-next (goal p c) from (has_process job process.Main) (lives p process.Main c) fits.alive e,
     )
 
-move_of-keeps : (config : Configuration) (job : JobDef) (x : Instance) (c : Chronicle) → job_named job.name config.jobs ≡ Some job
-    → instance_named (called job.name x.name) c ≡ Some x.place → Keeps config c → Keeps config (move_of job x c ++ c)
+move_of-keeps : (config : Configuration) (job : JobDef) (x : Instance) (c : Chronicle) → file_of x.place c ≡ Some job
+    → instance_named (called job.name x.name) c ≡ Some x.place → Keeps c → Keeps (move_of job x c ++ c)
 move_of-keeps config job x c found there keeps = by_case (may_leave job x.place c) refl
   where
-    by_case : (b : Bool) → may_leave job x.place c ≡ b → Keeps config (entries_if b (move job x c) ++ c)
+    by_case : (b : Bool) → may_leave job x.place c ≡ b → Keeps (entries_if b (move job x c) ++ c)
     by_case true may = move-keeps config job x c found there may keeps
     by_case false stays = keeps
 
-move_in-keeps : (config : Configuration) (name : Bytes) (xs : List Instance) (c : Chronicle) → AllByRecursion (λ x. file_of config x.place c ≡ job_named name config.jobs) xs
-    → AreSingle (instances_of name c) xs → Keeps config c → Keeps config (move_in config xs c ++ c)
-move_in-keeps config name [] c files single keeps = keeps
-move_in-keeps config name (x ∷ xs) c files single keeps =
-    or_else-keeps config (move_by (file_of config x.place c) x c) (move_in config xs c) c (by_file (job_named name config.jobs) refl) (move_in-keeps config name xs c files.1 single.1 keeps)
-  where
-    by_file : (file : Option JobDef) → job_named name config.jobs ≡ file → Keeps config (move_by (file_of config x.place c) x c ++ c)
-    by_file None none = rw (files.0 ∙ none) keeps
-    by_file (Some job) found =
-        let there : instance_named (called job.name x.name) c ≡ Some x.place =
-        subst (λ n. instance_named (called n x.name) c ≡ Some x.place) (sym (named-name name config.jobs job found)) single.0 in
-        rw (files.0 ∙ found) (move_of-keeps config job x c (named-again name config.jobs job found) there keeps)
+move_in-keeps : (config : Configuration) (name : Bytes) (xs : List Instance) (c : Chronicle) → AllByRecursion (HasFile name c) xs
+    → AreSingle (instances_of name c) xs → Keeps c → Keeps (move_in xs c ++ c)
+move_in-keeps config name [] c has single keeps = keeps
+move_in-keeps config name (x ∷ xs) c has single keeps =
+    let there : instance_named (called x.file.name x.name) c ≡ Some x.place =
+    subst (λ n. instance_named (called n x.name) c ≡ Some x.place) (sym has.0.2) single.0 in
+    or_else-keeps config (move_of x.file x c) (move_in xs c) c (move_of-keeps config x.file x c has.0.1 there keeps)
+    (move_in-keeps config name xs c has.1 single.1 keeps)
 
-move_first-keeps : (config : Configuration) (names : List Bytes) (c : Chronicle) → Keeps config c → Keeps config (move_first config names c ++ c)
+move_first-keeps : (config : Configuration) (names : List Bytes) (c : Chronicle) → Keeps c → Keeps (move_first names c ++ c)
 move_first-keeps config [] c keeps = keeps
 move_first-keeps config (name ∷ names) c keeps =
-    or_else-keeps config (move_in config (instances_of name c) c) (move_first config names c) c
-    (move_in-keeps config name (instances_of name c) c (file_of-job config name c) (keeps.single name) keeps) (move_first-keeps config names c keeps)
+    or_else-keeps config (move_in (instances_of name c) c) (move_first names c) c
+    (move_in-keeps config name (instances_of name c) c (files name c) (keeps.single name) keeps) (move_first-keeps config names c keeps)
 
 -- an offer to an instance's `stop on` is still
 stop_by-still : (p : ℕ) (events : List ℕ) (c : Chronicle) → AllByRecursion IsStill (stop_by p events c)
@@ -494,31 +496,35 @@ stop_offer-still config job p event c =
     fires : List Entry
     fires = stop_by p events fired ++ Fired (StopOn p) events ∷ []
 
-stop_offer_in-keeps : (config : Configuration) (job : JobDef) (xs : List Instance) (event : ℕ) (c : Chronicle) → Keeps config c → Keeps config (stop_offer_in config job xs event c ++ c)
-stop_offer_in-keeps config job [] event c keeps = keeps
-stop_offer_in-keeps config job (x ∷ xs) event c keeps =
-    or_else-keeps config (entries_if (is_open x.place c) (stop_offer config job x.place event c)) (stop_offer_in config job xs event c) c
-    (if-keeps config (is_open x.place c) (stop_offer config job x.place event c) c (stills-keep config (stop_offer config job x.place event c) c (stop_offer-still config job x.place event c) keeps) keeps)
-    (stop_offer_in-keeps config job xs event c keeps)
+stop_offer_in-keeps : (config : Configuration) (xs : List Instance) (event : ℕ) (c : Chronicle) → Keeps c → Keeps (stop_offer_in config xs event c ++ c)
+stop_offer_in-keeps config [] event c keeps = keeps
+stop_offer_in-keeps config (x ∷ xs) event c keeps =
+    or_else-keeps config (entries_if (is_open x.place c) (stop_offer config x.file x.place event c)) (stop_offer_in config xs event c) c
+    (if-keeps config (is_open x.place c) (stop_offer config x.file x.place event c) c (stills-keep config (stop_offer config x.file x.place event c) c (stop_offer-still config x.file x.place event c) keeps) keeps)
+    (stop_offer_in-keeps config xs event c keeps)
 
 -- a start makes an instance only if none has its name
-start_of-keeps : (config : Configuration) (who : Who) (environment : Bindings) (its : List ℕ) (o : Option ℕ) (c : Chronicle) → instance_named who c ≡ o
-    → Keeps config c → Keeps config (start_of who environment its o c ++ c)
-start_of-keeps config who environment its None c none keeps =
-    if-keeps config (nat_lt (length (instances_of who.job c)) max_instances) (Aimed (length c) Start environment its ∷ Made who.job who.instance ∷ []) c
-    (still-keeps config (Aimed (length c) Start environment its) (Made who.job who.instance ∷ c) tt (made-keeps config who.job who.instance c none keeps)) keeps
-start_of-keeps config who environment its (Some p) c found keeps =
-    stills-keep config (start_of who environment its (Some p) c) c (start_of-all IsStill still-allows who environment its p c) keeps
+start_of-keeps : (config : Configuration) (job : JobDef) (who : Who) (environment : Bindings) (its : List ℕ) (o : Option ℕ) (c : Chronicle) → who.job ≡ job.name
+    → instance_named who c ≡ o → Keeps c → Keeps (start_of job who environment its o c ++ c)
+start_of-keeps config job who environment its None c named none keeps =
+    let new : instance_named (called job.name who.instance) c ≡ None = subst (λ n. instance_named (called n who.instance) c ≡ None) named none in
+    if-keeps config (nat_lt (length (instances_of who.job c)) max_instances) (Aimed (length c) Start environment its ∷ Made job who.instance ∷ []) c
+    (still-keeps config (Aimed (length c) Start environment its) (Made job who.instance ∷ c) tt (made-keeps config job who.instance c new keeps)) keeps
+start_of-keeps config job who environment its (Some p) c named found keeps =
+    stills-keep config (start_of job who environment its (Some p) c) c (start_of-all IsStill still-allows job who environment its p c) keeps
 
-start_who-keeps : (config : Configuration) (environment : Bindings) (its : List ℕ) (o : Option Who) (c : Chronicle) → Keeps config c → Keeps config (start_who environment its o c ++ c)
-start_who-keeps config environment its None c keeps = keeps
-start_who-keeps config environment its (Some who) c keeps = start_of-keeps config who (with_instance who environment) its (instance_named who c) c refl keeps
+start_who-keeps : (config : Configuration) (job : JobDef) (environment : Bindings) (its : List ℕ) (name : Option Bytes) (c : Chronicle) → Keeps c
+    → Keeps (start_who job environment its (who_called job.name name) c ++ c)
+start_who-keeps config job environment its None c keeps = keeps
+start_who-keeps config job environment its (Some name) c keeps =
+    let who = called job.name name in
+    start_of-keeps config job who (with_instance who environment) its (instance_named who c) c refl refl keeps
 
 three : (xs c : Chronicle) (e f : Entry) → ((xs ++ e ∷ []) ++ f ∷ []) ++ c ≡ xs ++ e ∷ f ∷ c
 three xs c e f = append_assoc (xs ++ e ∷ []) (f ∷ []) c ∙ append_assoc xs (e ∷ []) (f ∷ c)
 
 -- so an offer to a job's `start on` leaves the rules kept
-start_offer-keeps : (config : Configuration) (job : JobDef) (event : ℕ) (c : Chronicle) → Keeps config c → Keeps config (start_offer config job event c ++ c)
+start_offer-keeps : (config : Configuration) (job : JobDef) (event : ℕ) (c : Chronicle) → Keeps c → Keeps (start_offer config job event c ++ c)
 start_offer-keeps config job event c keeps = by_case (holds job.start_on sights)
   where
     sights : List Sight
@@ -536,39 +542,39 @@ start_offer-keeps config job event c keeps = by_case (holds job.start_on sights)
     environment : Bindings
     environment = start_env config (who_called job.name name) (events_at events fired) fired
 
-    done : Keeps config fired
+    done : Keeps fired
     done = stills-keep config (Fired (StartOn job.name) events ∷ Offered (StartOn job.name) event ∷ []) c (tt, (tt, tt)) keeps
 
-    by_case : (b : Bool) → Keeps config ((entries_if b (start_by config job events fired ++ Fired (StartOn job.name) events ∷ []) ++ Offered (StartOn job.name) event ∷ []) ++ c)
+    by_case : (b : Bool) → Keeps ((entries_if b (start_by config job events fired ++ Fired (StartOn job.name) events ∷ []) ++ Offered (StartOn job.name) event ∷ []) ++ c)
     by_case true =
-        subst (Keeps config) (sym (three (start_by config job events fired) c (Fired (StartOn job.name) events) (Offered (StartOn job.name) event)))
-        (start_who-keeps config environment events (who_called job.name name) fired done)
+        subst Keeps (sym (three (start_by config job events fired) c (Fired (StartOn job.name) events) (Offered (StartOn job.name) event)))
+        (start_who-keeps config job environment events name fired done)
     by_case false = still-keeps config (Offered (StartOn job.name) event) c tt keeps
 
-offer_in-keeps : (config : Configuration) (job : JobDef) (event : ℕ) (c : Chronicle) → Keeps config c → Keeps config (offer_in config job event c ++ c)
+offer_in-keeps : (config : Configuration) (job : JobDef) (event : ℕ) (c : Chronicle) → Keeps c → Keeps (offer_in config job event c ++ c)
 offer_in-keeps config job event c keeps =
-    or_else-keeps config (stop_offer_in config job (instances_of job.name c) event c) (entries_if (not (was_offered (StartOn job.name) c)) (start_offer config job event c)) c
-    (stop_offer_in-keeps config job (instances_of job.name c) event c keeps)
+    or_else-keeps config (stop_offer_in config (instances_of job.name c) event c) (entries_if (not (was_offered (StartOn job.name) c)) (start_offer config job event c)) c
+    (stop_offer_in-keeps config (instances_of job.name c) event c keeps)
     (if-keeps config (not (was_offered (StartOn job.name) c)) (start_offer config job event c) c (start_offer-keeps config job event c keeps) keeps)
 
-offer_first-keeps : (config : Configuration) (jobs : List JobDef) (event : ℕ) (c : Chronicle) → Keeps config c → Keeps config (offer_first config jobs event c ++ c)
+offer_first-keeps : (config : Configuration) (jobs : List JobDef) (event : ℕ) (c : Chronicle) → Keeps c → Keeps (offer_first config jobs event c ++ c)
 offer_first-keeps config [] event c keeps = keeps
 offer_first-keeps config (job ∷ jobs) event c keeps =
     or_else-keeps config (offer_in config job event c) (offer_first config jobs event c) c (offer_in-keeps config job event c keeps) (offer_first-keeps config jobs event c keeps)
 
-offer_next-keeps : (config : Configuration) (event : Option ℕ) (c : Chronicle) → Keeps config c → Keeps config (offer_next config event c ++ c)
+offer_next-keeps : (config : Configuration) (event : Option ℕ) (c : Chronicle) → Keeps c → Keeps (offer_next config event c ++ c)
 offer_next-keeps config None c keeps = keeps
-offer_next-keeps config (Some event) c keeps = subst (λ es. Keeps config (es ++ c)) (sym (first-by-jobs config event c)) (offer_first-keeps config config.jobs event c keeps)
+offer_next-keeps config (Some event) c keeps = subst (λ es. Keeps (es ++ c)) (sym (first-by-jobs config event c)) (offer_first-keeps config config.jobs event c keeps)
 
 -- what is due leaves the rules kept
-due-keeps : (config : Configuration) (c : Chronicle) → Keeps config c → Keeps config (due config c ++ c)
+due-keeps : (config : Configuration) (c : Chronicle) → Keeps c → Keeps (due config c ++ c)
 unfolding due
 due-keeps config c keeps =
-    or_else-keeps config (move_first config (names_in_order config c) c) (or_else (offer_next config (offering c) c) (answering_last c)) c (move_first-keeps config (names_in_order config c) c keeps)
+    or_else-keeps config (move_first (names_in_order config c) c) (or_else (offer_next config (offering c) c) (answering_last c)) c (move_first-keeps config (names_in_order config c) c keeps)
     (or_else-keeps config (offer_next config (offering c) c) (answering_last c) c (offer_next-keeps config (offering c) c keeps)
     (stills-keep config (answering_last c) c (answering_hurried-all IsStill (λ request answer. tt) (unanswered c) c) keeps))
 
-settle-keeps : (n : ℕ) (config : Configuration) (c : Chronicle) → Keeps config c → Keeps config (settle n config c)
+settle-keeps : (n : ℕ) (config : Configuration) (c : Chronicle) → Keeps c → Keeps (settle n config c)
 unfolding settle
 settle-keeps zero config c keeps = keeps
 settle-keeps (suc n) config c keeps = settle-keeps n config (due config c ++ c) (due-keeps config c keeps)
@@ -617,47 +623,47 @@ turn-still (Some live) c = by_case live.handled
     by_case false = (tt, tt)
 
 -- still entries before an input
-given-keeps : (config : Configuration) (es : List Entry) (given : Input) (c : Chronicle) → AllByRecursion IsStill es → Keeps config (Given given ∷ c)
-    → Keeps config ((es ++ Given given ∷ []) ++ c)
+given-keeps : (config : Configuration) (es : List Entry) (given : Input) (c : Chronicle) → AllByRecursion IsStill es → Keeps (Given given ∷ c)
+    → Keeps ((es ++ Given given ∷ []) ++ c)
 given-keeps config es given c still keeps = rw append_assoc (stills-keep config es (Given given ∷ c) still keeps)
 
 -- a start leaves the rules kept
-start-keeps : (config : Configuration) (given : ℕ) (its : List ℕ) (target : Target) (c : Chronicle) → Keeps config c
-    → Keeps config (entries_of given (start its target c) ++ c)
-start-keeps config given its (Nobody text) c keeps = still-keeps config (Replied given _) c tt keeps
-start-keeps config given its (Concerns job who environment) c keeps = by_case (instance_named who c) refl
+start-keeps : (config : Configuration) (given : ℕ) (its : List ℕ) (target : Target) (c : Chronicle) → IsCalled target → Keeps c
+    → Keeps (entries_of given (start its target c) ++ c)
+start-keeps config given its (Nobody text) c named keeps = still-keeps config (Replied given _) c tt keeps
+start-keeps config given its (Concerns job who environment) c named keeps = by_case (instance_named who c) refl
   where
     told : Bindings
     told = with_instance who environment
 
     by_room : (b : Bool) → instance_named who c ≡ None
-        → Keeps config (entries_of given (if b then Done (start_of who told its None c) else Refused (codes "Too many instances: " ++ who.job)) ++ c)
-    by_room true none = start_of-keeps config who told its None c none keeps
+        → Keeps (entries_of given (if b then Done (start_of job who told its None c) else Refused (codes "Too many instances: " ++ who.job)) ++ c)
+    by_room true none = start_of-keeps config job who told its None c named none keeps
     by_room false none = still-keeps config (Replied given _) c tt keeps
 
     by_goal : (p : ℕ) (b : Bool) → instance_named who c ≡ Some p
-        → Keeps config (entries_of given (if b then refusal (codes "Job is already running: ") who else Done (start_of who told its (Some p) c)) ++ c)
+        → Keeps (entries_of given (if b then refusal (codes "Job is already running: ") who else Done (start_of job who told its (Some p) c)) ++ c)
     by_goal p true found = still-keeps config (Replied given _) c tt keeps
-    by_goal p false found = start_of-keeps config who told its (Some p) c found keeps
+    by_goal p false found = start_of-keeps config job who told its (Some p) c named found keeps
 
-    by_case : (o : Option ℕ) → instance_named who c ≡ o → Keeps config (entries_of given (start_at its who told o c) ++ c)
+    by_case : (o : Option ℕ) → instance_named who c ≡ o → Keeps (entries_of given (start_at its job who told o c) ++ c)
     by_case None none = by_room (nat_lt (length (instances_of who.job c)) max_instances) none
     by_case (Some p) found = by_goal p (is_start (goal p c)) found
 
 -- so does any request
-request-keeps : (config : Configuration) (given : ℕ) (request : RequestValue) (c : Chronicle) → Keeps config c
-    → Keeps config (entries_of given (outcome_of config given request c) ++ c)
+request-keeps : (config : Configuration) (given : ℕ) (request : RequestValue) (c : Chronicle) → Keeps c
+    → Keeps (entries_of given (outcome_of config given request c) ++ c)
 request-keeps config given request c keeps = by_case request.command
   where
-    by_case : (asked : Command) → Keeps config (entries_of given (outcome_by asked config given request c) ++ c)
-    by_case command.Start = start-keeps config given (holders_of given request.wait) (target_of config request.name request.vars c) c keeps
+    by_case : (asked : Command) → Keeps (entries_of given (outcome_by asked config given request c) ++ c)
+    by_case command.Start = start-keeps config given (holders_of given request.wait) (target_of config request.name request.vars c) c (target-called config request.name request.vars c) keeps
     by_case command.Stop = stills-keep config _ c (stop-all IsStill still-allows given (holders_of given request.wait) request.vars (target_of config request.name request.vars c) c) keeps
     by_case command.Restart = stills-keep config _ c (restart-all IsStill still-allows given (holders_of given request.wait) (target_of config request.name request.vars c) c) keeps
     by_case command.Status = stills-keep config _ c (status-all IsStill still-allows given (target_of config request.name request.vars c) c) keeps
     by_case command.List = still-keeps config (Replied given _) c tt keeps
     by_case command.Emit = stills-keep config _ c (emit-all IsStill still-allows given request c) keeps
     by_case command.Version = still-keeps config (Replied given _) c tt keeps
-    by_case command.Reload = stills-keep config _ c (reload-all IsStill still-allows config given (target_of config request.name request.vars c) c (λ p signal runs. tt)) keeps
+    by_case command.Reload = stills-keep config _ c (reload-all IsStill still-allows given (target_of config request.name request.vars c) c (λ p signal runs. tt)) keeps
     by_case command.ReloadConfiguration = still-keeps config (Replied given _) c tt keeps
 
 -- an answer that is expected is awaited
@@ -666,7 +672,7 @@ unfolding is_expected
 expected_spawned who its pid c expected = expected
 
 -- the effect of an input that is expected leaves the rules kept
-effect-keeps : (config : Configuration) (given : Input) (c : Chronicle) → is_expected given c ≡ true → Keeps config c → Keeps config (effect config given c ++ c)
+effect-keeps : (config : Configuration) (given : Input) (c : Chronicle) → is_expected given c ≡ true → Keeps c → Keeps (effect config given c ++ c)
 unfolding effect
 effect-keeps config (input.Emit event) c expected keeps = stills-keep config (Queued (Outside (length c)) event ∷ Given (input.Emit event) ∷ []) c (tt, (tt, tt)) keeps
 effect-keeps config (input.Request id request) c expected keeps =
@@ -674,39 +680,39 @@ effect-keeps config (input.Request id request) c expected keeps =
 effect-keeps config (input.Spawned who its pid) c expected keeps = spawned-keeps config who its pid c (expected_spawned who its pid c expected) keeps
 effect-keeps config (input.Refused who its) c expected keeps =
     let d : Chronicle = Given (input.Refused who its) ∷ c in
-    given-keeps config (end_by config who its end.Refused d) (input.Refused who its) c
-    (end_of-still (own_file config who d) (instance_named who d) its end.Refused d) (refused-keeps config who its c keeps)
+    given-keeps config (end_by who its end.Refused d) (input.Refused who its) c
+    (end_of-still (own_file who d) (instance_named who d) its end.Refused d) (refused-keeps config who its c keeps)
 effect-keeps config (input.Ended who its how) c expected keeps =
     let d : Chronicle = Given (input.Ended who its how) ∷ c in
-    given-keeps config (end_by config who its (end.Ended how) d) (input.Ended who its how) c
-    (end_of-still (own_file config who d) (instance_named who d) its (end.Ended how) d) (ended-keeps config who its how c keeps)
+    given-keeps config (end_by who its (end.Ended how) d) (input.Ended who its how) c
+    (end_of-still (own_file who d) (instance_named who d) its (end.Ended how) d) (ended-keeps config who its how c keeps)
 effect-keeps config (input.Clock reading) c expected keeps =
-    given-keeps config (killing (all_overdue config (names_in_order config c) (Given (input.Clock reading) ∷ c))) (input.Clock reading) c
-    (killing-still (all_overdue config (names_in_order config c) (Given (input.Clock reading) ∷ c))) (still-keeps config (Given (input.Clock reading)) c tt keeps)
+    given-keeps config (killing (all_overdue (names_in_order config c) (Given (input.Clock reading) ∷ c))) (input.Clock reading) c
+    (killing-still (all_overdue (names_in_order config c) (Given (input.Clock reading) ∷ c))) (still-keeps config (Given (input.Clock reading)) c tt keeps)
 effect-keeps config input.Turn c expected keeps =
     given-keeps config (turn_of (turn_event config (queue c) c) (Given input.Turn ∷ c)) input.Turn c
     (turn-still (turn_event config (queue c) c) (Given input.Turn ∷ c)) (still-keeps config (Given input.Turn) c tt keeps)
 
 -- so do inputs, one after another
-after-keeps : (config : Configuration) (c : Chronicle) (given : Input) → is_expected given c ≡ true → Keeps config c → Keeps config (after config c given)
+after-keeps : (config : Configuration) (c : Chronicle) (given : Input) → is_expected given c ≡ true → Keeps c → Keeps (after config c given)
 unfolding after
 after-keeps config c given expected keeps =
     settle-keeps (work config (effect config given c ++ c)) config (effect config given c ++ c) (effect-keeps config given c expected keeps)
 
-next-keeps : (config : Configuration) (c : Chronicle) (given : Input) → Keeps config c → Keeps config (next config c given)
+next-keeps : (config : Configuration) (c : Chronicle) (given : Input) → Keeps c → Keeps (next config c given)
 next-keeps config c given keeps = by_case (is_expected given c) refl
   where
-    by_case : (b : Bool) → is_expected given c ≡ b → Keeps config (if b then after config c given else c)
+    by_case : (b : Bool) → is_expected given c ≡ b → Keeps (if b then after config c given else c)
     by_case true expected = after-keeps config c given expected keeps
     by_case false other = keeps
 
-after_all-keeps : (config : Configuration) (c : Chronicle) (inputs : List Input) → Keeps config c → Keeps config (after_all config c inputs)
+after_all-keeps : (config : Configuration) (c : Chronicle) (inputs : List Input) → Keeps c → Keeps (after_all config c inputs)
 unfolding after_all
 after_all-keeps config c [] keeps = keeps
 after_all-keeps config c (given ∷ inputs) keeps = after_all-keeps config (next config c given) inputs (next-keeps config c given keeps)
 
 -- at the start no instance exists
-empty-keeps : (config : Configuration) → Keeps config []
+empty-keeps : (config : Configuration) → Keeps []
 empty-keeps config = record { single = λ job. tt; fits = λ who p found. record { alive = λ so. absurd (cc); asked = λ so. absurd (cc) }; lone = tt }
 
 -- so no instance orders its main while that lives

@@ -118,7 +118,7 @@ move-goal p q e c is = refl
 -- which instances were made in this step
 move-newborn : (p q : ℕ) (e : Entry) (c : Chronicle) → IsMove p e → is_newborn q (e ∷ c) ≡ is_newborn q c
 move-newborn p q (Given input) c is = absurd is
-move-newborn p q (Made job name) c is = absurd is
+move-newborn p q (Made file name) c is = absurd is
 move-newborn p q e c is = refl
 
 -- and what was offered the event
@@ -134,7 +134,7 @@ beside-state p q e c is = refl
 
 -- and the instances
 beside-all_instances : (p : ℕ) (e : Entry) (c : Chronicle) → IsBeside p e → all_instances (e ∷ c) ≡ all_instances c
-beside-all_instances p (Made job name) c is = absurd is
+beside-all_instances p (Made file name) c is = absurd is
 beside-all_instances p (Entered i entered) c is = absurd is
 beside-all_instances p e c is = refl
 

@@ -1,6 +1,7 @@
 -- Instances by their names: each stands where it was made, and if each is found by its name, that stays so.
 use Rattle.std.proofs.Common.{◌≡◌, ℕ, ◌<◌, ◌==◌, Bool, true, false, List, [], ◌∷◌, length, None, Some, if◌then◌else◌, bytes_eq, refl, sym, ◌∙◌, ap, subst, arith, eq-eqb}
 use Rattle.std.specs.List.{AllByRecursion}
+use Rattle.up_conf.specs.declared.job.JobDef.{JobDef}
 use Rattle.up_model.specs.declared.state.State.{State}
 use Rattle.up_model.specs.declared.state.State.TheVariants as state
 use Rattle.up_model.specs.declared.who.Who.{Who}
@@ -24,7 +25,7 @@ known-later job e c [] all = tt
 known-later job e c (x ∷ xs) all = ((omega (arith, all.0.0), rw (older-other (length c) x.place all.0.0) all.0.1), known-later job e c xs all.1)
 
 -- what holds of an instance and of others holds of them together
-all-with : (P : Instance → Type 0) (y : Instance) (ys : List Instance) → P y → AllByRecursion P ys → AllByRecursion P (with_instance y ys)
+pub all-with : (P : Instance → Type 0) (y : Instance) (ys : List Instance) → P y → AllByRecursion P ys → AllByRecursion P (with_instance y ys)
 all-with P y [] h all = (h, tt)
 all-with P y (z ∷ zs) h all = by_case (is_before z y) (all-with P y zs h all.1)
   where
@@ -35,18 +36,18 @@ all-with P y (z ∷ zs) h all = by_case (is_before z y) (all-with P y zs h all.1
 -- each instance of a job is known
 pub known : (job : Bytes) (c : Chronicle) → AllByRecursion (IsKnown job c) (instances_of job c)
 known job [] = tt
-known job (Made other name ∷ c) = by_case (bytes_eq other job) refl (known-later job (Made other name) c (instances_of job c) (known job c))
+known job (Made file name ∷ c) = by_case (bytes_eq file.name job) refl (known-later job (Made file name) c (instances_of job c) (known job c))
   where
     d : Chronicle
-    d = Made other name ∷ c
+    d = Made file name ∷ c
 
     made : Instance
-    made = record { place = length c; name = name }
+    made = record { place = length c; name = name; file = file }
 
-    by_case : (b : Bool) → bytes_eq other job ≡ b → AllByRecursion (IsKnown job d) (instances_of job c)
+    by_case : (b : Bool) → bytes_eq file.name job ≡ b → AllByRecursion (IsKnown job d) (instances_of job c)
         → AllByRecursion (IsKnown job d) (if b then with_instance made (instances_of job c) else instances_of job c)
     by_case true same rest =
-        all-with (IsKnown job d) made (instances_of job c) (omega arith, rw (eq-eqb (length c) (length c) refl) (ap (λ its. Some (called its name)) (bytes_same other job same))) rest
+        all-with (IsKnown job d) made (instances_of job c) (omega arith, rw (eq-eqb (length c) (length c) refl) (ap (λ its. Some (called its name)) (bytes_same file.name job same))) rest
     by_case false differs rest = rest
 known job (Entered i state.Waiting ∷ c) = known-later job (Entered i state.Waiting) c (without_instance i (instances_of job c)) (all-without (IsKnown job c) i (instances_of job c) (known job c))
 known job (entry ∷ c) = known-later job entry c (instances_of job c) (known job c)
@@ -187,24 +188,24 @@ entered-named who p q state.Waiting c single found = named-without p q who.insta
 entered-named who p q to c single found = found
 
 -- it stays so when an instance of a new name is made
-pub made-singles : (job name : Bytes) (c : Chronicle) → instance_named (called job name) c ≡ None → Singles c → Singles (Made job name ∷ c)
-made-singles job name c none single = λ other. by_case other (bytes_eq job other) refl
+pub made-singles : (file : JobDef) (name : Bytes) (c : Chronicle) → instance_named (called file.name name) c ≡ None → Singles c → Singles (Made file name ∷ c)
+made-singles file name c none single = λ other. by_case other (bytes_eq file.name other) refl
   where
     made : Instance
-    made = record { place = length c; name = name }
+    made = record { place = length c; name = name; file = file }
 
-    by_case : (other : Bytes) (b : Bool) → bytes_eq job other ≡ b
+    by_case : (other : Bytes) (b : Bool) → bytes_eq file.name other ≡ b
         → AreSingle (if b then with_instance made (instances_of other c) else instances_of other c) (if b then with_instance made (instances_of other c) else instances_of other c)
     by_case other true same =
-        single-with made (instances_of other c) (subst (λ its. place_named name (instances_of its c) ≡ None) (bytes_same job other same) none) (single other)
+        single-with made (instances_of other c) (subst (λ its. place_named name (instances_of its c) ≡ None) (bytes_same file.name other same) none) (single other)
     by_case other false differs = single other
 
 -- and one that is found then is that, or was found before
-pub made-found : (who : Who) (job name : Bytes) (q : ℕ) (c : Chronicle) → (length c == q) ≡ false → instance_named who (Made job name ∷ c) ≡ Some q → instance_named who c ≡ Some q
-made-found who job name q c apart found = by_case (bytes_eq job who.job) found
+pub made-found : (who : Who) (file : JobDef) (name : Bytes) (q : ℕ) (c : Chronicle) → (length c == q) ≡ false → instance_named who (Made file name ∷ c) ≡ Some q → instance_named who c ≡ Some q
+made-found who file name q c apart found = by_case (bytes_eq file.name who.job) found
   where
     made : Instance
-    made = record { place = length c; name = name }
+    made = record { place = length c; name = name; file = file }
 
     by_case : (b : Bool) → place_named who.instance (if b then with_instance made (instances_of who.job c) else instances_of who.job c) ≡ Some q → instance_named who c ≡ Some q
     by_case true found = named-with q who.instance made (instances_of who.job c) apart found

@@ -43,7 +43,7 @@ stop-is_of job p e is = absurd is
 
 -- it leaves the instances alone
 stop-all_instances : (p : ℕ) (e : Entry) (c : Chronicle) → IsStop p e → all_instances (e ∷ c) ≡ all_instances c
-stop-all_instances p (Made job name) c is = absurd is
+stop-all_instances p (Made file name) c is = absurd is
 stop-all_instances p (Entered i entered) c is = absurd is
 stop-all_instances p e c is = refl
 
@@ -157,14 +157,14 @@ start-is_of job p e is = absurd is
 
 -- it leaves the instances alone
 start-all_instances : (job : Bytes) (p : ℕ) (e : Entry) (c : Chronicle) → IsStart job p e → all_instances (e ∷ c) ≡ all_instances c
-start-all_instances job p (Made its name) c is = absurd is
+start-all_instances job p (Made file name) c is = absurd is
 start-all_instances job p (Entered i entered) c is = absurd is
 start-all_instances job p e c is = refl
 
 -- which of them were made in this step
 start-newborn : (job : Bytes) (p q : ℕ) (e : Entry) (c : Chronicle) → IsStart job p e → is_newborn q (e ∷ c) ≡ is_newborn q c
 start-newborn job p q (Given input) c is = absurd is
-start-newborn job p q (Made its name) c is = absurd is
+start-newborn job p q (Made file name) c is = absurd is
 start-newborn job p q e c is = refl
 
 -- and what was offered to them
@@ -281,9 +281,9 @@ start-aims name event p events environment c left = starts-lessens name p es c o
         omega (arith, now, more)
 
 -- one that makes an instance
-start-makes : (name its : Bytes) (event : ℕ) (events : List ℕ) (environment : Bindings) (c : Chronicle) → was_offered (StartOn name) c ≡ false
-    → Lessens true name c (Aimed (suc (suc (length c))) Start environment events ∷ Made name its ∷ Fired (StartOn name) events ∷ Offered (StartOn name) event ∷ [])
-start-makes name its event events environment c left = starts-lessens name p es c of (rw (bytes_refl name) refl) left few
+start-makes : (job : JobDef) (its : Bytes) (event : ℕ) (events : List ℕ) (environment : Bindings) (c : Chronicle) → was_offered (StartOn job.name) c ≡ false
+    → Lessens true job.name c (Aimed (suc (suc (length c))) Start environment events ∷ Made job its ∷ Fired (StartOn job.name) events ∷ Offered (StartOn job.name) event ∷ [])
+start-makes job its event events environment c left = starts-lessens job.name p es c of (rw (bytes_refl job.name) refl) left few
   where
     p : ℕ
     p = suc (suc (length c))
@@ -292,9 +292,9 @@ start-makes name its event events environment c left = starts-lessens name p es 
     young = count-older p (length c) (all_instances c) (all_instances-older c) (omega arith)
 
     es : List Entry
-    es = Aimed p Start environment events ∷ Made name its ∷ Fired (StartOn name) events ∷ Offered (StartOn name) event ∷ []
+    es = Aimed p Start environment events ∷ Made job its ∷ Fired (StartOn job.name) events ∷ Offered (StartOn job.name) event ∷ []
 
-    of : AllByRecursion (IsOf name p) es
+    of : AllByRecursion (IsOf job.name p) es
     of = (refl, (refl, (tt, (refl, tt))))
 
     few : work_in true (all_instances (es ++ c)) (es ++ c) < work_in true (all_instances c) c + 6
@@ -302,38 +302,38 @@ start-makes name its event events environment c left = starts-lessens name p es 
         let moves = moves-few (goal p (es ++ c)) (state_of p (es ++ c)) (is_some (blocker p (es ++ c))) in
         let newborn : is_newborn p (es ++ c) ≡ true = rw (eq-eqb p p refl) refl in
         let shut : offer_work true (is_open p (es ++ c)) ≡ 0 = ap (λ b. offer_work true (not (b || was_offered (StopOn p) (es ++ c)))) newborn in
-        let same = sum-same true p c (es ++ c) (all_instances c) (λ q. spared-works true name p q es c of) (all_instances-older c) young in
+        let same = sum-same true p c (es ++ c) (all_instances c) (λ q. spared-works true job.name p q es c of) (all_instances-older c) young in
         omega (arith, moves, shut, same)
 
 -- whatever instance a start concerns, the offer leaves the job less to do
-start-lessens : (name : Bytes) (event : ℕ) (events : List ℕ) (environment : Bindings) (c : Chronicle) (found : Option Bytes) (b : Bool)
-    → was_offered (StartOn name) c ≡ false
-    → Lessens true name c (offer_with name event b events (start_who environment events (who_called name found) (Fired (StartOn name) events ∷ Offered (StartOn name) event ∷ c)))
-start-lessens name event events environment c found false left = start-none name event c left
-start-lessens name event events environment c None true left = start-vain name event events c left
-start-lessens name event events environment c (Some its) true left = by_case (instance_named who fired)
+start-lessens : (job : JobDef) (event : ℕ) (events : List ℕ) (environment : Bindings) (c : Chronicle) (found : Option Bytes) (b : Bool)
+    → was_offered (StartOn job.name) c ≡ false
+    → Lessens true job.name c (offer_with job.name event b events (start_who job environment events (who_called job.name found) (Fired (StartOn job.name) events ∷ Offered (StartOn job.name) event ∷ c)))
+start-lessens job event events environment c found false left = start-none job.name event c left
+start-lessens job event events environment c None true left = start-vain job.name event events c left
+start-lessens job event events environment c (Some its) true left = by_case (instance_named who fired)
   where
     who : Who
-    who = record { job = name; instance = its }
+    who = record { job = job.name; instance = its }
 
     fired : Chronicle
-    fired = Fired (StartOn name) events ∷ Offered (StartOn name) event ∷ c
+    fired = Fired (StartOn job.name) events ∷ Offered (StartOn job.name) event ∷ c
 
     told : Bindings
     told = with_instance who environment
 
     by_room : (b : Bool)
-        → Lessens true name c ((entries_if b (Aimed (length fired) Start told events ∷ Made name its ∷ []) ++ Fired (StartOn name) events ∷ []) ++ Offered (StartOn name) event ∷ [])
-    by_room true = start-makes name its event events told c left
-    by_room false = start-vain name event events c left
+        → Lessens true job.name c ((entries_if b (Aimed (length fired) Start told events ∷ Made job its ∷ []) ++ Fired (StartOn job.name) events ∷ []) ++ Offered (StartOn job.name) event ∷ [])
+    by_room true = start-makes job its event events told c left
+    by_room false = start-vain job.name event events c left
 
     by_goal : (p : ℕ) (b : Bool)
-        → Lessens true name c ((entries_if b (Aimed p Start told events ∷ releasing p false fired) ++ Fired (StartOn name) events ∷ []) ++ Offered (StartOn name) event ∷ [])
-    by_goal p true = start-aims name event p events told c left
-    by_goal p false = start-vain name event events c left
+        → Lessens true job.name c ((entries_if b (Aimed p Start told events ∷ releasing p false fired) ++ Fired (StartOn job.name) events ∷ []) ++ Offered (StartOn job.name) event ∷ [])
+    by_goal p true = start-aims job.name event p events told c left
+    by_goal p false = start-vain job.name event events c left
 
-    by_case : (o : Option ℕ) → Lessens true name c ((start_of who told events o fired ++ Fired (StartOn name) events ∷ []) ++ Offered (StartOn name) event ∷ [])
-    by_case None = by_room (nat_lt (length (instances_of name fired)) max_instances)
+    by_case : (o : Option ℕ) → Lessens true job.name c ((start_of job who told events o fired ++ Fired (StartOn job.name) events ∷ []) ++ Offered (StartOn job.name) event ∷ [])
+    by_case None = by_room (nat_lt (length (instances_of job.name fired)) max_instances)
     by_case (Some p) = by_goal p (not (is_start (goal p fired)))
 
 -- an offer to a job's `start on` leaves it less to do
@@ -357,5 +357,5 @@ start_offer-lessens config job event c left = by_case (holds job.start_on sights
     environment = start_env config (who_called job.name name) (events_at events fired) fired
 
     by_case : (b : Bool) → Lessens true job.name c (entries_if b (start_by config job events fired ++ Fired (StartOn job.name) events ∷ []) ++ Offered (StartOn job.name) event ∷ [])
-    by_case true = start-lessens job.name event events environment c name true left
-    by_case false = start-lessens job.name event events environment c None false left
+    by_case true = start-lessens job event events environment c name true left
+    by_case false = start-lessens job event events environment c None false left

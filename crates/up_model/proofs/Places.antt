@@ -95,7 +95,7 @@ older-suc n (x ∷ xs) all = (omega (arith, all.0), older-suc n xs all.1)
 -- instances are older than the end of the chronicle
 pub all_instances-older : (c : Chronicle) → AreOlder (length c) (all_instances c)
 all_instances-older [] = tt
-all_instances-older (Made job name ∷ c) = (omega arith, older-suc (length c) (all_instances c) (all_instances-older c))
+all_instances-older (Made file name ∷ c) = (omega arith, older-suc (length c) (all_instances c) (all_instances-older c))
 all_instances-older (Entered i state.Waiting ∷ c) =
     older-suc (length c) (without_instance i (all_instances c)) (all-without (λ x. x.place < length c) i (all_instances c) (all_instances-older c))
 all_instances-older (entry ∷ c) = older-suc (length c) (all_instances c) (all_instances-older c)
@@ -111,7 +111,7 @@ count-older p n (x ∷ xs) all h =
 -- so each stands there once
 pub all_instances-once : (p : ℕ) (c : Chronicle) → count p (all_instances c) ≤ 1
 all_instances-once p [] = omega arith
-all_instances-once p (Made job name ∷ c) = by_case (length c == p) refl (all_instances-once p c)
+all_instances-once p (Made file name ∷ c) = by_case (length c == p) refl (all_instances-once p c)
   where
     by_case : (here : Bool) → (length c == p) ≡ here → count p (all_instances c) ≤ 1 → one_if here + count p (all_instances c) ≤ 1
     by_case true e once =
@@ -132,10 +132,10 @@ count-both p i xs ys h = by_case (p == i) refl
 -- the instances of a job exist
 pub instances-exist : (p : ℕ) (job : Bytes) (c : Chronicle) → count p (instances_of job c) ≤ count p (all_instances c)
 instances-exist p job [] = omega arith
-instances-exist p job (Made other name ∷ c) = by_case (bytes_eq other job) (instances-exist p job c)
+instances-exist p job (Made file name ∷ c) = by_case (bytes_eq file.name job) (instances-exist p job c)
   where
     made : Instance
-    made = record { place = length c; name = name }
+    made = record { place = length c; name = name; file = file }
 
     by_case : (b : Bool) → count p (instances_of job c) ≤ count p (all_instances c)
         → count p (if b then with_instance made (instances_of job c) else instances_of job c) ≤ one_if (length c == p) + count p (all_instances c)
@@ -147,7 +147,7 @@ instances-exist p job (entry ∷ c) = instances-exist p job c
 -- there are no more than entries
 pub all_instances-few : (c : Chronicle) → length (all_instances c) ≤ length c
 all_instances-few [] = omega arith
-all_instances-few (Made job name ∷ c) = omega (arith, all_instances-few c)
+all_instances-few (Made file name ∷ c) = omega (arith, all_instances-few c)
 all_instances-few (Entered i state.Waiting ∷ c) = omega (arith, fewer i (all_instances c), all_instances-few c)
 all_instances-few (entry ∷ c) = omega (arith, all_instances-few c)
 

@@ -70,9 +70,9 @@ if-all P given true some other all rest = all
 if-all P given false some other all rest = rest
 
 -- the goal of an instance that is there changes
-pub start_of-all : (P : Entry → Type 0) → Allows P → (who : Who) (environment : Bindings) (its : List ℕ) (p : ℕ) (c : Chronicle)
-    → AllByRecursion P (start_of who environment its (Some p) c)
-start_of-all P allows who environment its p c =
+pub start_of-all : (P : Entry → Type 0) → Allows P → (job : JobDef) (who : Who) (environment : Bindings) (its : List ℕ) (p : ℕ) (c : Chronicle)
+    → AllByRecursion P (start_of job who environment its (Some p) c)
+start_of-all P allows job who environment its p c =
     all-if P (not (is_start (goal p c))) (Aimed p Start environment its ∷ releasing p false c)
     (allows.aimed p Start environment its, releasing-all P allows.replied p false (allows.released p false) c)
 
@@ -102,10 +102,10 @@ restart-all P allows given its (Concerns job who environment) c = by_case (insta
         (allows.restarted p its, releasing-all P allows.replied p false (allows.released p false) c) (allows.replied given _, tt)
 
 -- `reload`, if the signal to an instance that runs is such too
-pub reload-all : (P : Entry → Type 0) → Allows P → (config : Configuration) (given : ℕ) (target : Target) (c : Chronicle)
-    → ((p signal : ℕ) → is_running (state_of p c) ≡ true → P (Signalled p signal false)) → AllByRecursion P (entries_of given (reload config given target c))
-reload-all P allows config given (Nobody text) c signals = (allows.replied given _, tt)
-reload-all P allows config given (Concerns job who environment) c signals = by_case (own_file config who c) (instance_named who c)
+pub reload-all : (P : Entry → Type 0) → Allows P → (given : ℕ) (target : Target) (c : Chronicle)
+    → ((p signal : ℕ) → is_running (state_of p c) ≡ true → P (Signalled p signal false)) → AllByRecursion P (entries_of given (reload given target c))
+reload-all P allows given (Nobody text) c signals = (allows.replied given _, tt)
+reload-all P allows given (Concerns job who environment) c signals = by_case (own_file who c) (instance_named who c)
   where
     by_state : (p signal : ℕ) (runs alive : Bool) → is_running (state_of p c) ≡ runs
         → AllByRecursion P (entries_of given (if runs && alive then Done (reloading given p signal) else refusal (codes "Job is not running: ") who))
@@ -133,7 +133,7 @@ emit-all P allows given request c =
     if-all P given (nat_lt (length (queue c)) max_events) _ _ (allows.queued given _, tt) (allows.replied given _, tt)
 
 -- `start`, if what it does to an instance that isn't there is such too
-pub start-all : (P : Entry → Type 0) → Allows P → ((job name : Bytes) → P (Made job name)) → (given : ℕ) (its : List ℕ) (target : Target) (c : Chronicle)
+pub start-all : (P : Entry → Type 0) → Allows P → ((file : JobDef) (name : Bytes) → P (Made file name)) → (given : ℕ) (its : List ℕ) (target : Target) (c : Chronicle)
     → AllByRecursion P (entries_of given (start its target c))
 start-all P allows made given its (Nobody text) c = (allows.replied given _, tt)
 start-all P allows made given its (Concerns job who environment) c = by_case (instance_named who c)
@@ -141,17 +141,17 @@ start-all P allows made given its (Concerns job who environment) c = by_case (in
     told : Bindings
     told = with_instance who environment
 
-    by_case : (o : Option ℕ) → AllByRecursion P (entries_of given (start_at its who told o c))
+    by_case : (o : Option ℕ) → AllByRecursion P (entries_of given (start_at its job who told o c))
     by_case None =
-        if-all P given (nat_lt (length (instances_of who.job c)) max_instances) (Done (start_of who told its None c)) _
-        (all-if P (nat_lt (length (instances_of who.job c)) max_instances) (Aimed (length c) Start told its ∷ Made who.job who.instance ∷ [])
-        (allows.aimed (length c) Start told its, (made who.job who.instance, tt)))
+        if-all P given (nat_lt (length (instances_of who.job c)) max_instances) (Done (start_of job who told its None c)) _
+        (all-if P (nat_lt (length (instances_of who.job c)) max_instances) (Aimed (length c) Start told its ∷ Made job who.instance ∷ [])
+        (allows.aimed (length c) Start told its, (made job who.instance, tt)))
         (allows.replied given _, tt)
     by_case (Some p) =
-        if-all P given (is_start (goal p c)) _ (Done (start_of who told its (Some p) c)) (allows.replied given _, tt) (start_of-all P allows who told its p c)
+        if-all P given (is_start (goal p c)) _ (Done (start_of job who told its (Some p) c)) (allows.replied given _, tt) (start_of-all P allows job who told its p c)
 
 -- each request, if making an instance is such too, and the signal to one that runs
-pub outcome-all : (P : Entry → Type 0) → Allows P → ((job name : Bytes) → P (Made job name)) → (config : Configuration) (given : ℕ) (request : RequestValue) (c : Chronicle)
+pub outcome-all : (P : Entry → Type 0) → Allows P → ((file : JobDef) (name : Bytes) → P (Made file name)) → (config : Configuration) (given : ℕ) (request : RequestValue) (c : Chronicle)
     → ((p signal : ℕ) → is_running (state_of p c) ≡ true → P (Signalled p signal false)) → AllByRecursion P (entries_of given (outcome_of config given request c))
 outcome-all P allows made config given request c signals = by_case request.command
   where
@@ -166,5 +166,5 @@ outcome-all P allows made config given request c signals = by_case request.comma
     by_case command.List = (allows.replied given _, tt)
     by_case command.Emit = emit-all P allows given request c
     by_case command.Version = (allows.replied given _, tt)
-    by_case command.Reload = reload-all P allows config given target c signals
+    by_case command.Reload = reload-all P allows given target c signals
     by_case command.ReloadConfiguration = (allows.replied given _, tt)

@@ -43,7 +43,7 @@ IsOf job p (Queued (Entering instance entered) event) = instance ≡ p
 IsOf job p (Offered (StartOn other) event) = other ≡ job
 IsOf job p (Offered (StopOn instance) event) = instance ≡ p
 IsOf job p (Fired expression taken) = Unit {0}
-IsOf job p (Made other name) = other ≡ job
+IsOf job p (Made file name) = file.name ≡ job
 IsOf job p (Aimed instance aim environment its) = instance ≡ p
 IsOf job p (Released instance failed) = Unit {0}
 IsOf job p (Entered instance entered) = instance ≡ p
@@ -74,7 +74,7 @@ spared-blocker job p q e c of h = refl
 
 -- whether it was made in this step
 spared-newborn : (job : Bytes) (p q : ℕ) (e : Entry) (c : Chronicle) → IsOf job p e → q < length c → is_newborn q (e ∷ c) ≡ is_newborn q c
-spared-newborn job p q (Made other name) c of older = rw (older-other (length c) q older) refl
+spared-newborn job p q (Made file name) c of older = rw (older-other (length c) q older) refl
 spared-newborn job p q (Given input) c of older = absurd of
 spared-newborn job p q e c of older = refl
 

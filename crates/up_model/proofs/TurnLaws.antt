@@ -231,15 +231,15 @@ effect-keeps config (input.Request id request) c keeps =
 effect-keeps config (input.Spawned who process pid) c keeps = quiet-keeps config (Given (input.Spawned who process pid)) c tt keeps
 effect-keeps config (input.Refused who process) c keeps =
     let d : List Entry = Given (input.Refused who process) ∷ c in
-    let its : List Entry = end_by config who process end.Refused d in
-    rw append_assoc (quiets-keep config its d (end_of-quiet (own_file config who d) (instance_named who d) process end.Refused d) (quiet-keeps config (Given (input.Refused who process)) c tt keeps))
+    let its : List Entry = end_by who process end.Refused d in
+    rw append_assoc (quiets-keep config its d (end_of-quiet (own_file who d) (instance_named who d) process end.Refused d) (quiet-keeps config (Given (input.Refused who process)) c tt keeps))
 effect-keeps config (input.Ended who process how) c keeps =
     let d : List Entry = Given (input.Ended who process how) ∷ c in
-    let its : List Entry = end_by config who process (end.Ended how) d in
-    rw append_assoc (quiets-keep config its d (end_of-quiet (own_file config who d) (instance_named who d) process (end.Ended how) d) (quiet-keeps config (Given (input.Ended who process how)) c tt keeps))
+    let its : List Entry = end_by who process (end.Ended how) d in
+    rw append_assoc (quiets-keep config its d (end_of-quiet (own_file who d) (instance_named who d) process (end.Ended how) d) (quiet-keeps config (Given (input.Ended who process how)) c tt keeps))
 effect-keeps config (input.Clock reading) c keeps =
     let d : List Entry = Given (input.Clock reading) ∷ c in
-    rw append_assoc (quiets-keep config (killing (all_overdue config (names_in_order config d) d)) d (killing-quiet (all_overdue config (names_in_order config d) d)) (quiet-keeps config (Given (input.Clock reading)) c tt keeps))
+    rw append_assoc (quiets-keep config (killing (all_overdue (names_in_order config d) d)) d (killing-quiet (all_overdue (names_in_order config d) d)) (quiet-keeps config (Given (input.Clock reading)) c tt keeps))
 effect-keeps config input.Turn c keeps = rw append_assoc (turn-keeps config c (turn_event config (queue c) c) refl (quiet-keeps config (Given input.Turn) c tt keeps))
 
 -- so does an input

@@ -3,12 +3,12 @@ use Rattle.std.proofs.Common.{◌≡◌, ℕ, ◌+◌, ◌*◌, ◌<◌, ◌≤�
 use Rattle.std.specs.List.{AllByRecursion}
 use Rattle.up_conf.specs.declared.job.JobDef.{JobDef}
 use Rattle.up_model.specs.Chronicle.{Chronicle, Entry, Given, Replied, StartOn}
-use Rattle.up_model.specs.Configuration.{Configuration, job_named}
+use Rattle.up_model.specs.Configuration.{Configuration}
 use Rattle.up_model.specs.Due.{due}
-use Rattle.up_model.specs.Files.{file_of, names_in_order, job_names}
+use Rattle.up_model.specs.Files.{names_in_order, job_names}
 use Rattle.up_model.specs.Instances.{Instance, instances_of, all_instances}
-use Rattle.up_model.specs.Moves.{may_leave, move, move_in, move_first, move_by}
-use Rattle.up_model.specs.Offers.{is_open, stop_offer, start_offer, offering, offer_next}
+use Rattle.up_model.specs.Moves.{may_leave, move, move_of, move_in, move_first}
+use Rattle.up_model.specs.Offers.{is_open, stop_offer, stop_offer_in, start_offer, offering, offer_next}
 use Rattle.up_model.specs.Readings.{goal, state_of, blocker}
 use Rattle.up_model.specs.Replies.{asked, was_answered, unless_answered, unanswered, request_instance, status_if, answering_hurried, answering_last}
 use Rattle.up_model.specs.declared.request.Answer.{Answer}
@@ -16,8 +16,8 @@ use Rattle.up_model.specs.Seen.{was_offered}
 use Rattle.up_model.specs.Predicates.{entries_if, or_else}
 use Rattle.up_model.specs.Values.{Bytes}
 use Rattle.up_model.specs.Work.{offer_work, instance_work, work_in, start_work, starts_work, answer_work, work}
-use Rattle.up_model.proofs.JobOffers.{stop_offer_in, offer_in, offer_first, first-by-jobs}
-use Rattle.up_model.proofs.FileLaws.{file_of-job, named-name}
+use Rattle.up_model.proofs.JobOffers.{offer_in, offer_first, first-by-jobs}
+use Rattle.up_model.proofs.FileLaws.{files-named}
 use Rattle.up_model.proofs.MoveLaws.{moves-few, Lessens, move-lessens}
 use Rattle.up_model.proofs.OfferLaws.{stop_offer-lessens, start_offer-lessens}
 use Rattle.up_model.proofs.Places.{count, all-counted}
@@ -73,40 +73,35 @@ weaker h (inl none) = inl none
 weaker h (inr p) = inr (h p)
 
 -- the first move among the instances of a job leaves it less to do
-move_in-lessens : (offers : Bool) (config : Configuration) (name : Bytes) (xs : List Instance) (c : Chronicle) → AllByRecursion (λ x. file_of config x.place c ≡ job_named name config.jobs) xs
-    → AllByRecursion (λ x. 0 < count x.place (instances_of name c)) xs → (move_in config xs c ≡ []) ⊎ Lessens offers name c (move_in config xs c)
-move_in-lessens offers config name [] c files there = inl refl
-move_in-lessens offers config name (x ∷ xs) c files there =
-    or_else-either (Lessens offers name c) (move_by (file_of config x.place c) x c) (move_in config xs c) (by_file (job_named name config.jobs) refl)
-    (move_in-lessens offers config name xs c files.1 there.1)
-  where
-    by_file : (file : Option JobDef) → job_named name config.jobs ≡ file
-        → (move_by (file_of config x.place c) x c ≡ []) ⊎ Lessens offers name c (move_by (file_of config x.place c) x c)
-    by_file None none = rw (files.0 ∙ none) (inl refl)
-    by_file (Some job) found =
-        let same : job.name ≡ name = named-name name config.jobs job found in
-        let own : 0 < count x.place (instances_of job.name c) = subst (λ n. 0 < count x.place (instances_of n c)) (sym same) there.0 in
-        rw (files.0 ∙ found) (entries_if-either (Lessens offers name c) (may_leave job x.place c) (move job x c)
-        (λ may. subst (λ n. Lessens offers n c (move job x c)) same (move-lessens offers job x c own may)))
+move_in-lessens : (offers : Bool) (name : Bytes) (xs : List Instance) (c : Chronicle) → AllByRecursion (λ x. x.file.name ≡ name) xs
+    → AllByRecursion (λ x. 0 < count x.place (instances_of name c)) xs → (move_in xs c ≡ []) ⊎ Lessens offers name c (move_in xs c)
+move_in-lessens offers name [] c named there = inl refl
+move_in-lessens offers name (x ∷ xs) c named there =
+    let own : 0 < count x.place (instances_of x.file.name c) = subst (λ n. 0 < count x.place (instances_of n c)) (sym named.0) there.0 in
+    or_else-either (Lessens offers name c) (move_of x.file x c) (move_in xs c)
+    (entries_if-either (Lessens offers name c) (may_leave x.file x.place c) (move x.file x c)
+    (λ may. subst (λ n. Lessens offers n c (move x.file x c)) named.0 (move-lessens offers x.file x c own may)))
+    (move_in-lessens offers name xs c named.1 there.1)
 
 -- so the first move lowers the work
-move_first-lowers : (offers : Bool) (config : Configuration) (names : List Bytes) (c : Chronicle)
-    → (move_first config names c ≡ []) ⊎ Lowers offers names c (move_first config names c)
-move_first-lowers offers config [] c = inl refl
-move_first-lowers offers config (name ∷ names) c =
-    or_else-either (Lowers offers (name ∷ names) c) (move_in config (instances_of name c) c) (move_first config names c)
-    (weaker (lowers-here offers name names c _) (move_in-lessens offers config name (instances_of name c) c (file_of-job config name c) (all-counted (instances_of name c))))
-    (weaker (lowers-later offers name names c _) (move_first-lowers offers config names c))
+move_first-lowers : (offers : Bool) (names : List Bytes) (c : Chronicle) → (move_first names c ≡ []) ⊎ Lowers offers names c (move_first names c)
+move_first-lowers offers [] c = inl refl
+move_first-lowers offers (name ∷ names) c =
+    or_else-either (Lowers offers (name ∷ names) c) (move_in (instances_of name c) c) (move_first names c)
+    (weaker (lowers-here offers name names c _) (move_in-lessens offers name (instances_of name c) c (files-named name c) (all-counted (instances_of name c))))
+    (weaker (lowers-later offers name names c _) (move_first-lowers offers names c))
 
 -- the first offer among the instances of a job leaves it less to do
-stop_offer_in-lessens : (config : Configuration) (job : JobDef) (xs : List Instance) (event : ℕ) (c : Chronicle)
-    → AllByRecursion (λ x. 0 < count x.place (instances_of job.name c)) xs
-    → (stop_offer_in config job xs event c ≡ []) ⊎ Lessens true job.name c (stop_offer_in config job xs event c)
-stop_offer_in-lessens config job [] event c there = inl refl
-stop_offer_in-lessens config job (x ∷ xs) event c there =
-    or_else-either (Lessens true job.name c) (entries_if (is_open x.place c) (stop_offer config job x.place event c)) (stop_offer_in config job xs event c)
-    (entries_if-either (Lessens true job.name c) (is_open x.place c) (stop_offer config job x.place event c) (λ left. stop_offer-lessens config job x.place event c there.0 left))
-    (stop_offer_in-lessens config job xs event c there.1)
+stop_offer_in-lessens : (config : Configuration) (name : Bytes) (xs : List Instance) (event : ℕ) (c : Chronicle) → AllByRecursion (λ x. x.file.name ≡ name) xs
+    → AllByRecursion (λ x. 0 < count x.place (instances_of name c)) xs
+    → (stop_offer_in config xs event c ≡ []) ⊎ Lessens true name c (stop_offer_in config xs event c)
+stop_offer_in-lessens config name [] event c named there = inl refl
+stop_offer_in-lessens config name (x ∷ xs) event c named there =
+    let own : 0 < count x.place (instances_of x.file.name c) = subst (λ n. 0 < count x.place (instances_of n c)) (sym named.0) there.0 in
+    or_else-either (Lessens true name c) (entries_if (is_open x.place c) (stop_offer config x.file x.place event c)) (stop_offer_in config xs event c)
+    (entries_if-either (Lessens true name c) (is_open x.place c) (stop_offer config x.file x.place event c)
+    (λ left. subst (λ n. Lessens true n c (stop_offer config x.file x.place event c)) named.0 (stop_offer-lessens config x.file x.place event c own left)))
+    (stop_offer_in-lessens config name xs event c named.1 there.1)
 
 -- what isn't so is false
 not-false : (b : Bool) → not b ≡ true → b ≡ false
@@ -116,8 +111,8 @@ not-false false h = refl
 -- so does the first offer to a job
 offer_in-lessens : (config : Configuration) (job : JobDef) (event : ℕ) (c : Chronicle) → (offer_in config job event c ≡ []) ⊎ Lessens true job.name c (offer_in config job event c)
 offer_in-lessens config job event c =
-    or_else-either (Lessens true job.name c) (stop_offer_in config job (instances_of job.name c) event c) (entries_if (not (was_offered (StartOn job.name) c)) (start_offer config job event c))
-    (stop_offer_in-lessens config job (instances_of job.name c) event c (all-counted (instances_of job.name c)))
+    or_else-either (Lessens true job.name c) (stop_offer_in config (instances_of job.name c) event c) (entries_if (not (was_offered (StartOn job.name) c)) (start_offer config job event c))
+    (stop_offer_in-lessens config job.name (instances_of job.name c) event c (files-named job.name c) (all-counted (instances_of job.name c)))
     (entries_if-either (Lessens true job.name c) (not (was_offered (StartOn job.name) c)) (start_offer config job event c) (λ left. start_offer-lessens config job event c (not-false _ left)))
 
 -- so the first offer lowers the work
@@ -228,8 +223,8 @@ last-falls config c = by_request (asked c) refl
 due-falls : (config : Configuration) (c : Chronicle) → (due config c ≡ []) ⊎ Falls config c (due config c)
 unfolding due
 due-falls config c =
-    or_else-either (Falls config c) (move_first config (names_in_order config c) c) (or_else (offer_next config (offering c) c) (answering_last c))
-    (weaker (lowers-falls config c (move_first config (names_in_order config c) c)) (move_first-lowers (is_some (offering c)) config (names_in_order config c) c))
+    or_else-either (Falls config c) (move_first (names_in_order config c) c) (or_else (offer_next config (offering c) c) (answering_last c))
+    (weaker (lowers-falls config c (move_first (names_in_order config c) c)) (move_first-lowers (is_some (offering c)) (names_in_order config c) c))
     (or_else-either (Falls config c) (offer_next config (offering c) c) (answering_last c)
     (weaker (lowers-falls config c (offer_next config (offering c) c)) (offer_next-lowers config (offering c) c))
     (last-falls config c))

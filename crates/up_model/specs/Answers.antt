@@ -36,7 +36,7 @@ is_expected given c = true
 
 -- the answer to one input after a chronicle
 abbrev pub answer : Configuration → Chronicle → Input → Step
-answer config c given = if is_expected given c then step.Gave (outputs_of config (after config c given))
+answer config c given = if is_expected given c then step.Gave (outputs_of (after config c given))
     else step.NotExpected
 
 -- the chronicle after one input; an input that isn't expected is no part of the history

@@ -1,5 +1,6 @@
 -- The chronicle: what happened since the start, newest first. It is all that a run keeps beside its configuration.
 use Rattle.std.specs.Prelude.{ℕ, Bool, List}
+use Rattle.up_conf.specs.declared.job.JobDef.{JobDef}
 use Rattle.up_stanza.specs.declared.process.Process.{Process}
 use Rattle.up_model.specs.declared.event.Event.{Event}
 use Rattle.up_model.specs.declared.failure.Failure.{Failure}
@@ -36,8 +37,8 @@ pub data Entry : Type 0 where
   Fired : (expression : Expression) → (taken : List ℕ) → Entry
   -- an event left the queue
   Finished : (event : ℕ) → Entry
-  -- a job got an instance of this name
-  Made : (job : Bytes) → (name : Bytes) → Entry
+  -- a job got an instance of this name, by this file of it
+  Made : (file : JobDef) → (name : Bytes) → Entry
   -- an instance's goal changed, with the environment and the holders that go with it
   Aimed : (instance : ℕ) → (goal : Goal) → (environment : Bindings) → (holders : List ℕ) → Entry
   -- a restart was taken

@@ -8,8 +8,6 @@ use Rattle.up_model.specs.declared.input.Input.TheVariants as input
 use Rattle.up_model.specs.declared.state.State.{State}
 use Rattle.up_model.specs.declared.state.State.TheVariants as state
 use Rattle.up_model.specs.Chronicle.{Chronicle, Entry, Given, Respawned, Entered, Signalled}
-use Rattle.up_model.specs.Configuration.{Configuration}
-use Rattle.up_model.specs.Files.{file_of}
 use Rattle.up_model.specs.Instances.{Instance, instances_of}
 use Rattle.up_model.specs.Readings.{state_of, lives}
 use Rattle.up_model.specs.Predicates.{entries_if}
@@ -70,21 +68,16 @@ abbrev pub kill_due : JobDef → ℕ → Chronicle → Bool
 kill_due job instance c = is_dying instance c
     && has_passed (kill_moment instance c) (now c) (milliseconds job.kill_timeout)
 
-abbrev pub kill_due_by : Option JobDef → ℕ → Chronicle → Bool
-kill_due_by None instance c = false
-kill_due_by (Some job) instance c = kill_due job instance c
-
 -- the instances of which that is so by their files, in order
-abbrev pub overdue : Configuration → List Instance → Chronicle → List ℕ
-overdue config [] c = []
-overdue config (instance ∷ instances) c =
-    entries_if (kill_due_by (file_of config instance.place c) instance.place c) (instance.place ∷ [])
-    ++ overdue config instances c
+abbrev pub overdue : List Instance → Chronicle → List ℕ
+overdue [] c = []
+overdue (instance ∷ instances) c =
+    entries_if (kill_due instance.file instance.place c) (instance.place ∷ []) ++ overdue instances c
 
 -- those of the jobs of these names
-abbrev pub all_overdue : Configuration → (names : List Bytes) → Chronicle → List ℕ
-all_overdue config [] c = []
-all_overdue config (name ∷ names) c = overdue config (instances_of name c) c ++ all_overdue config names c
+abbrev pub all_overdue : (names : List Bytes) → Chronicle → List ℕ
+all_overdue [] c = []
+all_overdue (name ∷ names) c = overdue (instances_of name c) c ++ all_overdue names c
 
 -- the signal that no process can pass over (signal(7))
 abbrev pub kill : ℕ

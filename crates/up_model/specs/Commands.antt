@@ -68,19 +68,19 @@ abbrev pub refusal : Bytes → Who → Outcome
 refusal text who = Refused (text ++ who_name who)
 
 -- `start`: an instance whose goal is stop, or a new one if the job may have one more, gets the goal start
-abbrev pub start_at : (holders : List ℕ) → Who → Bindings → Option ℕ → Chronicle → Outcome
-start_at holders who environment None c =
+abbrev pub start_at : (holders : List ℕ) → JobDef → Who → Bindings → Option ℕ → Chronicle → Outcome
+start_at holders job who environment None c =
     if nat_lt (length (instances_of who.job c)) max_instances
-    then Done (start_of who environment holders None c)
+    then Done (start_of job who environment holders None c)
     else Refused (codes "Too many instances: " ++ who.job)
-start_at holders who environment (Some instance) c =
+start_at holders job who environment (Some instance) c =
     if is_start (goal instance c) then refusal (codes "Job is already running: ") who
-    else Done (start_of who environment holders (Some instance) c)
+    else Done (start_of job who environment holders (Some instance) c)
 
 abbrev pub start : (holders : List ℕ) → Target → Chronicle → Outcome
 start holders (Nobody text) c = Refused text
 start holders (Concerns job who environment) c =
-    start_at holders who (with_instance who environment) (instance_named who c) c
+    start_at holders job who (with_instance who environment) (instance_named who c) c
 
 -- `stop`: an instance whose goal is start gets the goal stop, with the request's variables for pre-stop and post-stop
 abbrev pub stop_at : (holders : List ℕ) → (vars : Bindings) → Who → Option ℕ → Chronicle → Outcome
@@ -122,10 +122,10 @@ reload_at given (Some job) who (Some instance) c =
     then Done (reloading given instance job.reload_signal)
     else refusal (codes "Job is not running: ") who
 
-abbrev pub reload : Configuration → (given : ℕ) → Target → Chronicle → Outcome
-reload config given (Nobody text) c = Refused text
-reload config given (Concerns job who environment) c =
-    reload_at given (own_file config who c) who (instance_named who c) c
+abbrev pub reload : (given : ℕ) → Target → Chronicle → Outcome
+reload given (Nobody text) c = Refused text
+reload given (Concerns job who environment) c =
+    reload_at given (own_file who c) who (instance_named who c) c
 
 -- the status text of a job without an instance
 abbrev pub stopped_text : (job : Bytes) → Bytes
@@ -201,7 +201,7 @@ outcome_by command.List config given request c = Told (listing config c)
 outcome_by command.Emit config given request c = emit given request c
 outcome_by command.Version config given request c = Told version_text
 outcome_by command.Reload config given request c =
-    reload config given (target_of config request.name request.vars c) c
+    reload given (target_of config request.name request.vars c) c
 outcome_by command.ReloadConfiguration config given request c =
     Refused (not_supported command.ReloadConfiguration)
 

@@ -29,7 +29,7 @@ use Rattle.up_model.specs.Predicates.{or_else}
 -- the client is answered that asked for this step and doesn't wait
 unfoldable pub due : Configuration → Chronicle → List Entry
 due config c =
-    or_else (move_first config (names_in_order config c) c)
+    or_else (move_first (names_in_order config c) c)
     (or_else (offer_next config (offering c) c) (answering_last c))
 
 -- what the end or the refusal of a process does to an instance, if there is one, by its file
@@ -40,8 +40,8 @@ end_of (Some job) (Some instance) process end c =
     carry_out instance (verdict_on_end job instance process end c) c
 
 -- the same of an instance that is known outside by these names
-abbrev pub end_by : Configuration → Who → Process → End → Chronicle → List Entry
-end_by config who process end c = end_of (own_file config who c) (instance_named who c) process end c
+abbrev pub end_by : Who → Process → End → Chronicle → List Entry
+end_by who process end c = end_of (own_file who c) (instance_named who c) process end c
 
 -- the event of a turn: the oldest that is unhandled, or handled and not held
 abbrev pub turn_event : Configuration → List Live → Chronicle → Option Live
@@ -79,12 +79,12 @@ effect config (input.Request id request) c =
 effect config (input.Spawned who process pid) c = Given (input.Spawned who process pid) ∷ []
 effect config (input.Refused who process) c =
     let d = Given (input.Refused who process) ∷ c in
-    end_by config who process end.Refused d ++ Given (input.Refused who process) ∷ []
+    end_by who process end.Refused d ++ Given (input.Refused who process) ∷ []
 effect config (input.Ended who process how) c =
     let d = Given (input.Ended who process how) ∷ c in
-    end_by config who process (end.Ended how) d ++ Given (input.Ended who process how) ∷ []
+    end_by who process (end.Ended how) d ++ Given (input.Ended who process how) ∷ []
 effect config (input.Clock reading) c =
     let d = Given (input.Clock reading) ∷ c in
-    killing (all_overdue config (names_in_order config d) d) ++ Given (input.Clock reading) ∷ []
+    killing (all_overdue (names_in_order config d) d) ++ Given (input.Clock reading) ∷ []
 effect config input.Turn c = turn_of (turn_event config (queue c) c) (Given input.Turn ∷ c)
     ++ Given input.Turn ∷ []

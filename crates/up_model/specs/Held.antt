@@ -5,7 +5,7 @@ use Rattle.up_conf.specs.declared.job.JobDef.{JobDef}
 use Rattle.up_expr.specs.Trees.{Tree}
 use Rattle.up_model.specs.Chronicle.{Chronicle, Released, StartOn, StopOn}
 use Rattle.up_model.specs.Configuration.{Configuration}
-use Rattle.up_model.specs.Files.{file_in_force, file_of, names_in_order}
+use Rattle.up_model.specs.Files.{file_in_force, names_in_order}
 use Rattle.up_model.specs.Instances.{Instance, instances_of}
 use Rattle.up_model.specs.Readings.{holders}
 use Rattle.up_model.specs.Seen.{seen, kept}
@@ -15,20 +15,16 @@ abbrev pub start_on_of : Option JobDef → Option Tree
 start_on_of None = None
 start_on_of (Some job) = job.start_on
 
-abbrev pub stop_on_of : Option JobDef → Option Tree
-stop_on_of None = None
-stop_on_of (Some job) = job.stop_on
-
 -- what an instance holds: the events that the `stop on` of its file keeps, and what started or stopped it
-abbrev pub held_by : Configuration → ℕ → Chronicle → List ℕ
+abbrev pub held_by : Configuration → Instance → Chronicle → List ℕ
 held_by config instance c =
-    kept (stop_on_of (file_of config instance c)) (seen config (StopOn instance) c) ++ holders instance c
+    kept instance.file.stop_on (seen config (StopOn instance.place) c) ++ holders instance.place c
 
 -- the same of several instances
 abbrev pub held_by_instances : Configuration → List Instance → Chronicle → List ℕ
 held_by_instances config [] c = []
 held_by_instances config (instance ∷ instances) c =
-    held_by config instance.place c ++ held_by_instances config instances c
+    held_by config instance c ++ held_by_instances config instances c
 
 -- what a job holds: the events that the `start on` of its file in force keeps, and what its instances hold
 abbrev pub held_by_job : Configuration → (name : Bytes) → Chronicle → List ℕ

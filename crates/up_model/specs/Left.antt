@@ -66,4 +66,4 @@ spawns (other ∷ outputs) = spawns outputs
 -- by an input it falls by at least the processes that are ordered
 abbrev pub Spends : Configuration → Chronicle → Input → Type 0
 Spends config c given =
-    left (after config c given) + spawns (outputs_of config (after config c given)) ≤ left c
+    left (after config c given) + spawns (outputs_of (after config c given)) ≤ left c

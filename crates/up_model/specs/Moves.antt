@@ -11,9 +11,7 @@ use Rattle.up_model.specs.declared.life.JobEvent.{JobEvent}
 use Rattle.up_model.specs.declared.state.State.{State}
 use Rattle.up_model.specs.declared.who.Who.{Who}
 use Rattle.up_model.specs.Chronicle.{Chronicle, Entry, Queued, Entered, Ordered, Signalled, Entering}
-use Rattle.up_model.specs.Configuration.{Configuration}
 use Rattle.up_model.specs.Events.{life_event, exporting}
-use Rattle.up_model.specs.Files.{file_of}
 use Rattle.up_model.specs.Instances.{Instance, instances_of}
 use Rattle.up_model.specs.Life.{Wait, ForStart, ForEvent, ForAnswer, ForProcess, ForChange, ForMain, wait_in, next_state, entering}
 use Rattle.up_model.specs.Readings.{goal, state_of, was_restarted, env, failure, blocker, is_awaited, lives}
@@ -97,18 +95,12 @@ move job instance c =
 abbrev pub move_of : JobDef → Instance → Chronicle → List Entry
 move_of job instance c = entries_if (may_leave job instance.place c) (move job instance c)
 
-abbrev pub move_by : Option JobDef → Instance → Chronicle → List Entry
-move_by None instance c = []
-move_by (Some job) instance c = move_of job instance c
-
 -- the move of the first of these instances that may leave its state, by its file
-abbrev pub move_in : Configuration → List Instance → Chronicle → List Entry
-move_in config [] c = []
-move_in config (instance ∷ instances) c =
-    or_else (move_by (file_of config instance.place c) instance c) (move_in config instances c)
+abbrev pub move_in : List Instance → Chronicle → List Entry
+move_in [] c = []
+move_in (instance ∷ instances) c = or_else (move_of instance.file instance c) (move_in instances c)
 
 -- the move of the first instance that may, of the jobs of these names
-abbrev pub move_first : Configuration → (names : List Bytes) → Chronicle → List Entry
-move_first config [] c = []
-move_first config (name ∷ names) c =
-    or_else (move_in config (instances_of name c) c) (move_first config names c)
+abbrev pub move_first : (names : List Bytes) → Chronicle → List Entry
+move_first [] c = []
+move_first (name ∷ names) c = or_else (move_in (instances_of name c) c) (move_first names c)

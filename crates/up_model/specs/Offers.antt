@@ -10,7 +10,7 @@ use Rattle.up_model.specs.Chronicle.{Chronicle, Entry, Given, Handled, Offered, 
 use Rattle.up_model.specs.Configuration.{Configuration}
 use Rattle.up_model.specs.Environments.{env_of_job, start_base, instance_name}
 use Rattle.up_model.specs.Events.{events_at, events_env, with_instance, stopped_by}
-use Rattle.up_model.specs.Files.{file_in_force, file_of, names_in_order}
+use Rattle.up_model.specs.Files.{file_in_force, names_in_order}
 use Rattle.up_model.specs.Instances.{Instance, instances_of, instance_named}
 use Rattle.up_model.specs.Readings.{goal}
 use Rattle.up_model.specs.Replies.{releasing}
@@ -22,7 +22,7 @@ use Rattle.up_model.specs.Values.{Bytes, Bindings}
 abbrev pub is_newborn : ℕ → Chronicle → Bool
 is_newborn instance [] = false
 is_newborn instance (Given input ∷ c) = false
-is_newborn instance (Made job name ∷ c) = if length c == instance then true else is_newborn instance c
+is_newborn instance (Made file name ∷ c) = if length c == instance then true else is_newborn instance c
 is_newborn instance (entry ∷ c) = is_newborn instance c
 
 -- the goal becomes stop, with this environment and these holders: what the instance held is released before
@@ -44,10 +44,6 @@ stop_offer config job instance event c =
     ++ Fired (StopOn instance) events ∷ [])
     ++ Offered (StopOn instance) event ∷ []
 
-abbrev pub stop_offer_by : Configuration → Option JobDef → ℕ → (event : ℕ) → Chronicle → List Entry
-stop_offer_by config None instance event c = []
-stop_offer_by config (Some job) instance event c = stop_offer config job instance event c
-
 -- whether an instance's `stop on` is still to be offered the event of this step: an instance that it made isn't offered it
 abbrev pub is_open : ℕ → Chronicle → Bool
 is_open instance c = not (is_newborn instance c || was_offered (StopOn instance) c)
@@ -56,21 +52,20 @@ is_open instance c = not (is_newborn instance c || was_offered (StopOn instance)
 abbrev pub stop_offer_in : Configuration → List Instance → (event : ℕ) → Chronicle → List Entry
 stop_offer_in config [] event c = []
 stop_offer_in config (instance ∷ instances) event c =
-    let file = file_of config instance.place c in
-    or_else (entries_if (is_open instance.place c) (stop_offer_by config file instance.place event c))
+    or_else (entries_if (is_open instance.place c) (stop_offer config instance.file instance.place event c))
     (stop_offer_in config instances event c)
 
 -- how many instances a job may have
 abbrev pub max_instances : ℕ
 max_instances = MAX_INSTANCES
 
--- the goal becomes start, with this environment and these holders: of the instance, if its goal is stop, or of a new one, if the job
--- may have one more
-abbrev pub start_of : Who → Bindings → (holders : List ℕ) → Option ℕ → Chronicle → List Entry
-start_of who environment holders None c =
+-- the goal becomes start, with this environment and these holders: of the instance, if its goal is stop, or of a new one by this file,
+-- if the job may have one more
+abbrev pub start_of : JobDef → Who → Bindings → (holders : List ℕ) → Option ℕ → Chronicle → List Entry
+start_of job who environment holders None c =
     entries_if (nat_lt (length (instances_of who.job c)) max_instances)
-    (Aimed (length c) Start environment holders ∷ Made who.job who.instance ∷ [])
-start_of who environment holders (Some instance) c =
+    (Aimed (length c) Start environment holders ∷ Made job who.instance ∷ [])
+start_of job who environment holders (Some instance) c =
     entries_if (not (is_start (goal instance c))) (Aimed instance Start environment holders
     ∷ releasing instance false c)
 
@@ -79,10 +74,10 @@ abbrev pub who_called : (job : Bytes) → Option Bytes → Option Who
 who_called job None = None
 who_called job (Some name) = Some (record { job = job; instance = name })
 
-abbrev pub start_who : Bindings → (holders : List ℕ) → Option Who → Chronicle → List Entry
-start_who environment holders None c = []
-start_who environment holders (Some who) c =
-    start_of who (with_instance who environment) holders (instance_named who c) c
+abbrev pub start_who : JobDef → Bindings → (holders : List ℕ) → Option Who → Chronicle → List Entry
+start_who job environment holders None c = []
+start_who job environment holders (Some who) c =
+    start_of job who (with_instance who environment) holders (instance_named who c) c
 
 -- the environment of a start by these events
 abbrev pub start_env : Configuration → Option Who → List Event → Chronicle → Bindings
@@ -95,7 +90,7 @@ start_by config job events c =
     let those = events_at events c in
     let name = instance_name job (events_env (env_of_job config job.name) those) in
     let who = who_called job.name name in
-    start_who (start_env config who those c) events who c
+    start_who job (start_env config who those c) events who c
 
 -- a job's `start on` is offered the event, and fires if it is true then
 abbrev pub start_offer : Configuration → JobDef → (event : ℕ) → Chronicle → List Entry

@@ -10,10 +10,8 @@ use Rattle.up_model.specs.declared.output.Output.TheVariants as output
 use Rattle.up_model.specs.declared.request.Answer.{Answer}
 use Rattle.up_model.specs.declared.who.Who.{Who}
 use Rattle.up_model.specs.Chronicle.{Chronicle, Given, Queued, Ordered, Signalled, Replied, Entering, Spoilt}
-use Rattle.up_model.specs.Configuration.{Configuration}
-use Rattle.up_model.specs.Files.{file_of}
 use Rattle.up_model.specs.Moves.{action_of}
-use Rattle.up_model.specs.Readings.{made_at, id_at, process_env, pid_of}
+use Rattle.up_model.specs.Readings.{made_at, file_of, id_at, process_env, pid_of}
 use Rattle.up_model.specs.Values.{Bytes, Bindings}
 
 -- the words that run an action (init(5), "exec" and "script")
@@ -46,9 +44,9 @@ order_by (Some job) None its environment = []
 order_by (Some job) (Some who) its environment = order_for job who its (action_of job its) environment
 
 -- the order for a process of the instance that was made at a place, by its file
-abbrev pub order_of : Configuration → (instance : ℕ) → Process → Chronicle → List Output
-order_of config instance its c =
-    order_by (file_of config instance c) (made_at instance c) its (process_env instance its c)
+abbrev pub order_of : (instance : ℕ) → Process → Chronicle → List Output
+order_of instance its c =
+    order_by (file_of instance c) (made_at instance c) its (process_env instance its c)
 
 -- a signal to a process, if it lives
 abbrev pub signal_of : Option Who → (signal : ℕ) → Option ℕ → List Output
@@ -62,15 +60,15 @@ reply_of None answer = []
 reply_of (Some id) answer = output.Reply id answer ∷ []
 
 -- the starts, signals, events and replies of the last step, in order. The events of inputs are not among them
-unfoldable pub outputs_of : Configuration → Chronicle → List Output
-outputs_of config [] = []
-outputs_of config (Given input ∷ c) = []
-outputs_of config (Ordered instance its ∷ c) =
-    outputs_of config c ++ order_of config instance its c
-outputs_of config (Signalled instance signal by_timer ∷ c) =
-    outputs_of config c ++ signal_of (made_at instance c) signal (pid_of instance Main c)
-outputs_of config (Queued (Entering instance state) event ∷ c) =
-    outputs_of config c ++ output.Emitted event ∷ []
-outputs_of config (Queued (Spoilt spoilt) event ∷ c) = outputs_of config c ++ output.Emitted event ∷ []
-outputs_of config (Replied request answer ∷ c) = outputs_of config c ++ reply_of (id_at request c) answer
-outputs_of config (entry ∷ c) = outputs_of config c
+unfoldable pub outputs_of : Chronicle → List Output
+outputs_of [] = []
+outputs_of (Given input ∷ c) = []
+outputs_of (Ordered instance its ∷ c) =
+    outputs_of c ++ order_of instance its c
+outputs_of (Signalled instance signal by_timer ∷ c) =
+    outputs_of c ++ signal_of (made_at instance c) signal (pid_of instance Main c)
+outputs_of (Queued (Entering instance state) event ∷ c) =
+    outputs_of c ++ output.Emitted event ∷ []
+outputs_of (Queued (Spoilt spoilt) event ∷ c) = outputs_of c ++ output.Emitted event ∷ []
+outputs_of (Replied request answer ∷ c) = outputs_of c ++ reply_of (id_at request c) answer
+outputs_of (entry ∷ c) = outputs_of c

@@ -1,5 +1,6 @@
 -- Readings of the chronicle. Each looks back for the latest entry that fits, and computes when an entry is added.
 use Rattle.std.specs.Prelude.{ℕ, Bool, true, false, ◌&&◌, ◌==◌, List, [], ◌∷◌, Option, None, Some, if◌then◌else◌, length, is_some}
+use Rattle.up_conf.specs.declared.job.JobDef.{JobDef}
 use Rattle.up_stanza.specs.declared.process.Process.{Process}
 use Rattle.up_stanza.specs.declared.process.Process.TheVariants.{PreStop, PostStop}
 use Rattle.up_text.specs.Bindings.{set_all}
@@ -29,12 +30,20 @@ abbrev pub event_at : ℕ → Chronicle → Option Event
 event_at place c = event_of (entry_at place c)
 
 abbrev pub made_of : Option Entry → Option Who
-made_of (Some (Made job name)) = Some (record { job = job; instance = name })
+made_of (Some (Made file name)) = Some (record { job = file.name; instance = name })
 made_of other = None
 
 -- the instance that was made at a place, as it is known outside
 abbrev pub made_at : ℕ → Chronicle → Option Who
 made_at place c = made_of (entry_at place c)
+
+abbrev pub file_in : Option Entry → Option JobDef
+file_in (Some (Made file name)) = Some file
+file_in other = None
+
+-- the job file of the instance that was made at a place: it keeps the one by which it was made
+abbrev pub file_of : ℕ → Chronicle → Option JobDef
+file_of place c = file_in (entry_at place c)
 
 abbrev pub id_of : Option Entry → Option ℕ
 id_of (Some (Given (input.Request id request))) = Some id
@@ -142,7 +151,7 @@ speaks_of (Some its) process who named = same_who who its && same_process named 
 -- one name
 abbrev pub is_awaited : ℕ → Process → Chronicle → Bool
 is_awaited instance process [] = false
-is_awaited instance process (Made job name ∷ c) =
+is_awaited instance process (Made file name ∷ c) =
     if length c == instance then false else is_awaited instance process c
 is_awaited instance process (Ordered other its ∷ c) =
     if (other == instance) && same_process its process then true else is_awaited instance process c
@@ -155,7 +164,7 @@ is_awaited instance process (entry ∷ c) = is_awaited instance process c
 -- the number of a living process of an instance: it was spawned and has not ended since
 abbrev pub pid_of : ℕ → Process → Chronicle → Option ℕ
 pid_of instance process [] = None
-pid_of instance process (Made job name ∷ c) = if length c == instance then None else pid_of instance process c
+pid_of instance process (Made file name ∷ c) = if length c == instance then None else pid_of instance process c
 pid_of instance process (Given (input.Spawned who its pid) ∷ c) =
     if speaks_of (made_at instance c) process who its then Some pid else pid_of instance process c
 pid_of instance process (Given (input.Ended who its how) ∷ c) =

@@ -18,7 +18,7 @@ returns-clause-after g c c' s =
     let d : Chronicle = Given (input.Ended c.args.who c.args.process c.args.how) ∷ c' in
     let config = c.args.setup.now in
     let now = c.given.ensures.after config c' s (c.find-on.ensures Resting c' s) in
-    let does : Who → List Entry = λ who. end_by config who c.args.process (end.Ended c.args.how) d in
+    let does : Who → List Entry = λ who. end_by who c.args.process (end.Ended c.args.how) d in
     let done = c.in_ok-conclude.ensures config d (does c.in_ok-its.its) now (c.verdict_on-verdict_on_end.ensures Stepping d now) in
     rw one_last (subst (λ who. g.B.Book.stands c.conclude.new.book Stepping config (does who ++ d)) c.in_ok-its.ensures done)
 
@@ -29,7 +29,7 @@ returns-clause-concerns g c c' s =
     let d : Chronicle = Given given ∷ c' in
     let config = c.args.setup.now in
     let who = c.args.who in
-    let es = end_by config who c.args.process (end.Ended c.args.how) d in
+    let es = end_by who c.args.process (end.Ended c.args.how) d in
     rw c.concern_of.ensures
     (concerns-alone (g.B.Book.event_place c.conclude.new.book) config given who c' c.find-on.result es c.names_differ.ensures (c.names_differ-2.ensures Resting config c' s) refl (c.find-on.ensures Resting c' s)
-    (λ i named. end_of-own (own_file config who d) (instance_named who d) i c.args.process (end.Ended c.args.how) d named) (append_assoc es (Given given ∷ []) c') (effect-offers config given c' (λ no. no)))
+    (λ i named. end_of-own (own_file who d) (instance_named who d) i c.args.process (end.Ended c.args.how) d named) (append_assoc es (Given given ∷ []) c') (effect-offers config given c' (λ no. no)))

@@ -23,11 +23,11 @@ loop-at-preserved g c mode config c' job done s in_table start =
     let i = it.instance.place in
     let file = filed config c' key job it.instance (g.met.B.Book.distinct c.args.book.now mode config c' s) in_table it.is in
     let old = c.loop-at.invariant mode config c' job done s in_table start in
-    let one : List ℕ = entries_if (kill_due_by (file_of config i c') i c') (i ∷ []) in
-    let left : overdue config (drop n its) c' ≡ one ++ overdue config (drop (n + 1) its) c' = rw add-one (ap (λ is. overdue config is c') it.rest) in (
+    let one : List ℕ = entries_if (kill_due_by (file_of i c') i c') (i ∷ []) in
+    let left : overdue (drop n its) c' ≡ one ++ overdue (drop (n + 1) its) c' = rw add-one (ap (λ is. overdue is c') it.rest) in (
       old.0 ++ one,
       c.in_ok-add_if_due.ensures.after mode config c' i job old.0 s it.place in_table old.1 ∙ ap (λ f. map Some (old.0 ++ entries_if (kill_due_by f i c') (i ∷ []))) (sym file),
-      append_assoc old.0 one (overdue config (drop (n + 1) its) c') ∙ ap (λ rest. old.0 ++ rest) (sym left) ∙ old.2,
+      append_assoc old.0 one (overdue (drop (n + 1) its) c') ∙ ap (λ rest. old.0 ++ rest) (sym left) ∙ old.2,
     )
 
 pub returns-clause-after : goal.returns-clause-after
@@ -38,7 +38,7 @@ returns-clause-after g c mode config c' job done s in_table start =
     let count = c.count-at-end.ensures mode config c' job.name s named in
     let over : drop n its ≡ [] = drop_all n its (omega (arith, count)) in
     let old = c.loop-at.invariant mode config c' job done s in_table start in
-    old.1 ∙ ap (map Some) (sym (append-nil old.0) ∙ ap (λ is. old.0 ++ overdue config is c') (sym over) ∙ old.2)
+    old.1 ∙ ap (map Some) (sym (append-nil old.0) ∙ ap (λ is. old.0 ++ overdue is c') (sym over) ∙ old.2)
 
 pub returns-in_err-add_if_due-clause-free : goal.returns-in_err-add_if_due-clause-free
 returns-in_err-add_if_due-clause-free g c mode config c' job s in_table none =

@@ -13,4 +13,4 @@ invariant-loop-at g l =
     (mode : Mode) (config : Configuration) (c : Chronicle) (job : JobDef) (done : List ℕ) → g.B.Book.stands l.book mode config c → job_at config l.index ≡ Some job
     → map (instance_place config c) l.initial.keys.items ≡ map Some done
     → (found : List ℕ) × (map (instance_place config c) l.keys.items ≡ map Some found)
-    × (found ++ overdue config (drop l.at (instances_of job.name c)) c ≡ done ++ overdue config (instances_of job.name c) c)
+    × (found ++ overdue (drop l.at (instances_of job.name c)) c ≡ done ++ overdue (instances_of job.name c) c)

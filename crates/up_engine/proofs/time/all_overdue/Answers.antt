@@ -20,11 +20,11 @@ loop-index-preserved g c mode config c' s are =
     let old = c.loop-index.invariant mode config c' s are in
     let its = instances_of job.name c' in
     let now = c.in_ok-add_overdue.ensures.after mode config c' job old.0 s at.1.0 old.1 in
-    let left : all_overdue config (job_names (drop n jobs)) c' ≡ overdue config its c' ++ all_overdue config (job_names (drop (n + 1) jobs)) c' =
-    rw add-one (ap (λ js. all_overdue config (job_names js) c') at.1.1) in (
-      old.0 ++ overdue config its c',
+    let left : all_overdue (job_names (drop n jobs)) c' ≡ overdue its c' ++ all_overdue (job_names (drop (n + 1) jobs)) c' =
+    rw add-one (ap (λ js. all_overdue (job_names js) c') at.1.1) in (
+      old.0 ++ overdue its c',
       now,
-      append_assoc old.0 (overdue config its c') (all_overdue config (job_names (drop (n + 1) jobs)) c') ∙ ap (λ rest. old.0 ++ rest) (sym left) ∙ old.2,
+      append_assoc old.0 (overdue its c') (all_overdue (job_names (drop (n + 1) jobs)) c') ∙ ap (λ rest. old.0 ++ rest) (sym left) ∙ old.2,
     )
 
 pub returns-clause-after : goal.returns-clause-after
@@ -33,7 +33,7 @@ returns-clause-after g c mode config c' s are =
     let n = c.loop-index.index in
     let over : drop n jobs ≡ [] = drop_all n jobs (omega arith) in
     let old = c.loop-index.invariant mode config c' s are in
-    old.1 ∙ ap (map Some) (sym (append-nil old.0) ∙ ap (λ js. old.0 ++ all_overdue config (job_names js) c') (sym over) ∙ old.2 ∙ ap (λ js. all_overdue config (job_names js) c') are)
+    old.1 ∙ ap (map Some) (sym (append-nil old.0) ∙ ap (λ js. old.0 ++ all_overdue (job_names js) c') (sym over) ∙ old.2 ∙ ap (λ js. all_overdue (job_names js) c') are)
 
 pub returns-in_err-add_overdue-clause-free : goal.returns-in_err-add_overdue-clause-free
 returns-in_err-add_overdue-clause-free g c mode config c' s are none =
@@ -42,5 +42,5 @@ returns-in_err-add_overdue-clause-free g c mode config c' s are none =
     let inside : n < length jobs = omega (arith, c.loop-index-test.true) in
     let at = job-at config jobs n are inside in
     let never = c.in_err-add_overdue.ensures.free mode config c' at.0 s at.1.0
-    (none_of_job config jobs n at.0 _ c' at.1.1 (ap (λ js. all_overdue config (job_names js) c') are ∙ none)) in
+    (none_of_job config jobs n at.0 _ c' at.1.1 (ap (λ js. all_overdue (job_names js) c') are ∙ none)) in
     absurd cc

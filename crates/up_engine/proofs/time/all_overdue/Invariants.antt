@@ -11,4 +11,4 @@ abbrev pub invariant-loop-index : goal.invariant-loop-index
 invariant-loop-index g l =
     (mode : Mode) (config : Configuration) (c : Chronicle) → g.B.Book.stands l.book mode config c → l.jobs ≡ config.jobs
     → (found : List ℕ) × (map (instance_place config c) l.keys.items ≡ map Some found)
-    × (found ++ all_overdue config (job_names (drop l.index l.jobs)) c ≡ all_overdue config (job_names l.jobs) c)
+    × (found ++ all_overdue (job_names (drop l.index l.jobs)) c ≡ all_overdue (job_names l.jobs) c)
