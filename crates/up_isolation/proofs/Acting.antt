@@ -298,18 +298,18 @@ offering-stopped job config def p q c d x y pair carries some same event one oth
     twins))
 
 -- an offer to a `start on`
-start_who-given : (o : Option ℕ) (who : Who) (environment : Bindings) (ps : List ℕ) (c : Chronicle)
-    → AllByRecursion NotGiven (start_of who environment ps o c)
-start_who-given None who environment ps c =
-    all-if NotGiven _ (Aimed (length c) _ environment ps ∷ Made who.job who.instance ∷ []) (tt, (tt, tt))
-start_who-given (Some i) who environment ps c =
+start_who-given : (job : JobDef) (o : Option ℕ) (who : Who) (environment : Bindings) (ps : List ℕ) (c : Chronicle)
+    → AllByRecursion NotGiven (start_of job who environment ps o c)
+start_who-given job None who environment ps c =
+    all-if NotGiven _ (Aimed (length c) _ environment ps ∷ Made job who.instance ∷ []) (tt, (tt, tt))
+start_who-given job (Some i) who environment ps c =
     all-if NotGiven (not (is_start (goal i c))) (Aimed i _ environment ps ∷ releasing i false c)
     (tt, releasing-all NotGiven (λ request answer. tt) i false tt c)
 
-start_by-given : (o : Option Who) (environment : Bindings) (ps : List ℕ) (c : Chronicle)
-    → AllByRecursion NotGiven (start_who environment ps o c)
-start_by-given None environment ps c = tt
-start_by-given (Some who) environment ps c = start_who-given _ who _ ps c
+start_by-given : (job : JobDef) (o : Option Who) (environment : Bindings) (ps : List ℕ) (c : Chronicle)
+    → AllByRecursion NotGiven (start_who job environment ps o c)
+start_by-given job None environment ps c = tt
+start_by-given job (Some who) environment ps c = start_who-given job _ who _ ps c
 
 abbrev start_rest : Configuration → JobDef → ℕ → Chronicle → List Entry
 start_rest config def p c =
@@ -323,7 +323,7 @@ start_rest-given : (config : Configuration) (def : JobDef) (p : ℕ) (c : Chroni
 start_rest-given config def p c =
     all-if NotGiven (holds def.start_on ss) (start_by config def ps fired ++ Fired (StartOn def.name) ps ∷ [])
     (all-append NotGiven (start_by config def ps fired) (Fired (StartOn def.name) ps ∷ [])
-    (start_by-given (who_called def.name name) environment ps fired) (tt, tt))
+    (start_by-given def (who_called def.name name) environment ps fired) (tt, tt))
   where
     ss : List Sight
     ss = seen config (StartOn def.name) (Offered (StartOn def.name) p ∷ c)
@@ -376,18 +376,18 @@ tame-offering (Given given) c is = absurd is
 tame-offering (Handled event) c is = absurd is
 tame-offering e c is = refl
 
-start_who-tame : (o : Option ℕ) (who : Who) (environment : Bindings) (ps : List ℕ) (c : Chronicle)
-    → AllByRecursion IsTame (start_of who environment ps o c)
-start_who-tame None who environment ps c =
-    all-if IsTame _ (Aimed (length c) _ environment ps ∷ Made who.job who.instance ∷ []) (tt, (tt, tt))
-start_who-tame (Some i) who environment ps c =
+start_who-tame : (job : JobDef) (o : Option ℕ) (who : Who) (environment : Bindings) (ps : List ℕ) (c : Chronicle)
+    → AllByRecursion IsTame (start_of job who environment ps o c)
+start_who-tame job None who environment ps c =
+    all-if IsTame _ (Aimed (length c) _ environment ps ∷ Made job who.instance ∷ []) (tt, (tt, tt))
+start_who-tame job (Some i) who environment ps c =
     all-if IsTame (not (is_start (goal i c))) (Aimed i _ environment ps ∷ releasing i false c)
     (tt, releasing-all IsTame (λ request answer. tt) i false tt c)
 
-start_by-tame : (o : Option Who) (environment : Bindings) (ps : List ℕ) (c : Chronicle)
-    → AllByRecursion IsTame (start_who environment ps o c)
-start_by-tame None environment ps c = tt
-start_by-tame (Some who) environment ps c = start_who-tame _ who _ ps c
+start_by-tame : (job : JobDef) (o : Option Who) (environment : Bindings) (ps : List ℕ) (c : Chronicle)
+    → AllByRecursion IsTame (start_who job environment ps o c)
+start_by-tame job None environment ps c = tt
+start_by-tame job (Some who) environment ps c = start_who-tame job _ who _ ps c
 
 start-tame : (config : Configuration) (def : JobDef) (p : ℕ) (c : Chronicle)
     → AllByRecursion IsTame (start_offer config def p c)
@@ -395,7 +395,7 @@ start-tame config def p c =
     all-append IsTame (start_rest config def p c) (Offered (StartOn def.name) p ∷ [])
     (all-if IsTame (holds def.start_on ss) (start_by config def ps fired ++ Fired (StartOn def.name) ps ∷ [])
     (all-append IsTame (start_by config def ps fired) (Fired (StartOn def.name) ps ∷ [])
-    (start_by-tame (who_called def.name name) environment ps fired) (tt, tt)))
+    (start_by-tame def (who_called def.name name) environment ps fired) (tt, tt)))
     (tt, tt)
   where
     ss : List Sight
@@ -489,14 +489,15 @@ plain-moved job config def c d x y at plain = record {
     carries = pair_move job config def c d x y (pair-at job config c d x y at plain.like)
 
 start-like : (job : Bytes) (config : Configuration) (def : JobDef) (p q : ℕ) (c d : Chronicle)
-    → def.name ≡ job → SameEvent c d p q → AreCovered (jobs_called job config.jobs) def.start_on
+    → def.name ≡ job → job_named job config.jobs ≡ Some def → SameEvent c d p q
+    → AreCovered (jobs_called job config.jobs) def.start_on
     → jobs_called job (jobs_called job config.jobs) ≡ jobs_called job config.jobs → Like job config c d
     → Like job config (start_offer config def p c ++ c) (start_offer (only job config) def q d ++ d)
-start-like job config def p q c d name event =
-    subst (λ its. AreCovered (jobs_called its config.jobs) def.start_on
+start-like job config def p q c d name in_force event =
+    subst (λ its. job_named its config.jobs ≡ Some def → AreCovered (jobs_called its config.jobs) def.start_on
     → jobs_called its (jobs_called its config.jobs) ≡ jobs_called its config.jobs → Like its config c d
     → Like its config (start_offer config def p c ++ c) (start_offer (only its config) def q d ++ d)) name
-    (λ covered twice like. like_start_offer config def c d p q covered event.event event.content twice like)
+    (λ found covered twice like. like_start_offer config def c d p q found covered event.event event.content twice like) in_force
 
 pub plain-due : (job : Bytes) (config : Configuration) (c d : Chronicle) → Facts job config
     → Plain job config c d → Did job config c d
@@ -591,7 +592,7 @@ plain-due job config c d facts plain = by_moves (moves-first job config config.j
             (λ none. start-some (only job config) def q d (sym are ∙ none)) ∙ are)
             (start-some config def p c) (start-some (only job config) def q d)
             (record {
-              like = start-like job config def p q c d name event
+              like = start-like job config def p q c d name named event
                   (covered-of job (jobs_called job config.jobs) config.jobs def facts.covered named).0
                   facts.twice plain.like;
               offers = offering-started job config def p q c d name some same shut closed;

@@ -11,7 +11,7 @@ use Rattle.up_model.specs.Configuration.{Configuration, job_named}
 use Rattle.up_model.specs.Instances.{Instance, instances_of}
 use Rattle.up_model.specs.Replies.{request_at}
 use Rattle.up_model.specs.Values.{Bytes}
-use Rattle.up_model.proofs.FileLaws.{end_of-named}
+use Rattle.up_model.proofs.FileLaws.{AreBy, end_of-named}
 use Rattle.up_model.proofs.Places.{bytes_same}
 use Rattle.up_model.proofs.NameLaws.{called}
 use Rattle.up_isolation.specs.Views.{Notice, jobs_called, is_of, was_asked}
@@ -35,7 +35,7 @@ use Rattle.up_model.proofs.NameLaws.{made-named}
 use Rattle.up_model.proofs.Sparing.{all-weaker}
 use Rattle.up_isolation.specs.Views.{Received, Arrived, Unblocked, concerns, view}
 use Rattle.up_isolation.proofs.Likes.{IsOther, foreign, owns-later}
-use Rattle.up_isolation.proofs.Entries.{named-only}
+use Rattle.up_isolation.proofs.Likes.{named-only, like-files, like-files-there}
 use Rattle.up_isolation.proofs.Locals.{NotGiven, silent-more}
 use Rattle.up_isolation.proofs.Steps.{like_given}
 use Rattle.up_isolation.proofs.Offering.{pair-at, found, Found, Neither, Two}
@@ -246,9 +246,14 @@ end-like : (job : Bytes) (config : Configuration) (given : Input) (who : Who) (i
     (end_by who its how (Given given ∷ d) ++ Given given ∷ d)
 end-like job config given who its how c d is like =
     subst₂ (λ es fs. Like job config (es ++ Given given ∷ c) (fs ++ Given given ∷ d))
-    (sym (end_of-named config who its how (Given given ∷ c)))
-    (sym (end_of-named (only job config) who its how (Given given ∷ d)))
+    (sym (end_of-named config.jobs who its how (Given given ∷ c)
+    (subst (λ k. AreBy config.jobs k c) (sym name) (like-files job config c d like))))
+    (sym (end_of-named (jobs_called job config.jobs) who its how (Given given ∷ d)
+    (subst (λ k. AreBy (jobs_called job config.jobs) k d) (sym name) (like-files-there job config c d like))))
     (end-named job config given who its how c d is like)
+  where
+    name : who.job ≡ job
+    name = bytes_same who.job job is
 
 other-end : (job : Bytes) (given : Input) (who : Who) (c : Chronicle) → bytes_eq who.job job ≡ false → (i : ℕ)
     → instance_named who c ≡ Some i → IsOther job i (Given given ∷ c)

@@ -11,7 +11,7 @@ use Rattle.up_model.specs.Configuration.{Configuration, job_named}
 use Rattle.up_model.specs.Instances.{Instance, instances_of}
 use Rattle.up_model.specs.Readings.{entry_at, holders}
 use Rattle.up_model.specs.Values.{Bytes, Bindings}
-use Rattle.up_model.proofs.FileLaws.{named-name, reload_at-named, target_as-one, target_as_one}
+use Rattle.up_model.proofs.FileLaws.{named-name, AreBy, reload_at-named, target_as-one, target_as_one}
 use Rattle.up_model.proofs.Places.{bytes_same}
 use Rattle.up_model.proofs.NameLaws.{called}
 use Rattle.up_isolation.specs.Views.{jobs_called, was_asked}
@@ -31,7 +31,7 @@ use Rattle.up_model.specs.Predicates.{entries_if}
 use Rattle.up_model.specs.Replies.{asked, unanswered}
 use Rattle.up_isolation.specs.Views.{Received, view}
 use Rattle.up_isolation.proofs.Twins.{At}
-use Rattle.up_isolation.proofs.Entries.{named-only}
+use Rattle.up_isolation.proofs.Likes.{named-only, like-files, like-files-there}
 use Rattle.up_isolation.proofs.Steps.{like_given}
 use Rattle.up_isolation.proofs.Offering.{pair-at, found, Found, Neither, Two}
 use Rattle.up_isolation.proofs.Ends.{IsMute}
@@ -65,7 +65,7 @@ use Rattle.up_isolation.specs.Parts.{content_of}
 use Rattle.up_isolation.proofs.Releases.{entry-append}
 use Rattle.up_isolation.proofs.Alone.{begin, Effected, Noticed, Hurried, Base, mutes-view, given-view}
 use Rattle.up_isolation.proofs.Alone.{mutes-offering, mutes-asked}
-use Rattle.up_isolation.proofs.Requesting.{target-name, mute-allows}
+use Rattle.up_isolation.proofs.Requesting.{target-name, target-file, mute-allows}
 use Rattle.up_isolation.proofs.Twins.{at-twins}
 use Rattle.up_isolation.proofs.Entries.{pair_signalled}
 use Rattle.up_isolation.proofs.Others.{like_replied, env-only}
@@ -76,13 +76,13 @@ use Rattle.up_isolation.proofs.Changing.{Acts, Does, Reply, Signal, Act, act-aim
 
 -- `start`
 does-start : (job : Bytes) (config : Configuration) (r q : ℕ) (its hers : List ℕ) (c d : Chronicle)
-    (name : Bytes) (environment : Bindings)
+    (def : JobDef) (name : Bytes) (environment : Bindings) → def.name ≡ job → job_named job config.jobs ≡ Some def
     → contents its c ≡ contents hers d → AreOlder (length c) its → AreOlder (length d) hers
     → Acts job config r q c d
     → Does job config r q its hers c d
-    (entries_of r (start_at its (called job name) environment (instance_named (called job name) c) c))
-    (entries_of q (start_at hers (called job name) environment (instance_named (called job name) d) d))
-does-start job config r q its hers c d name environment same older there acts =
+    (entries_of r (start_at its def (called job name) environment (instance_named (called job name) c) c))
+    (entries_of q (start_at hers def (called job name) environment (instance_named (called job name) d) d))
+does-start job config r q its hers c d def name environment named in_force same older there acts =
     by_found (found job config c d name (instances_of job c) (instances_of job d) acts.like.twins)
   where
     who : Who
@@ -92,15 +92,15 @@ does-start job config r q its hers c d name environment same older there acts =
         → nat_lt (length (instances_of job c)) max_instances ≡ b
         → nat_lt (length (instances_of job d)) max_instances ≡ a → b ≡ a
         → Does job config r q its hers c d
-        (entries_of r (if b then Done (start_of who environment its None c)
+        (entries_of r (if b then Done (start_of def who environment its None c)
         else Refused (codes "Too many instances: " ++ job)))
-        (entries_of q (if a then Done (start_of who environment hers None d)
+        (entries_of q (if a then Done (start_of def who environment hers None d)
         else Refused (codes "Too many instances: " ++ job)))
     by_room none true true left right equal =
         subst₂ (λ (es fs : List Entry). Does job config r q its hers c d es fs)
-        (ap (λ b. entries_if b (Aimed (length c) Start environment its ∷ Made job name ∷ [])) (sym left))
-        (ap (λ b. entries_if b (Aimed (length d) Start environment hers ∷ Made job name ∷ [])) (sym right))
-        (act-new job config r q its hers c d name environment none same older there acts)
+        (ap (λ b. entries_if b (Aimed (length c) Start environment its ∷ Made def name ∷ [])) (sym left))
+        (ap (λ b. entries_if b (Aimed (length d) Start environment hers ∷ Made def name ∷ [])) (sym right))
+        (act-new job config r q its hers c d def name environment named in_force none same older there acts)
     by_room none false false left right equal = Reply _ refl refl
     by_room none true false left right equal = absurd (cc)
     by_room none false true left right equal = absurd (cc)
@@ -109,9 +109,9 @@ does-start job config r q its hers c d name environment same older there acts =
         → is_start (goal x.place c) ≡ b → is_start (goal y.place d) ≡ a → b ≡ a
         → Does job config r q its hers c d
         (entries_of r (if b then Refused (codes "Job is already running: " ++ who_name who)
-        else Done (start_of who environment its (Some x.place) c)))
+        else Done (start_of def who environment its (Some x.place) c)))
         (entries_of q (if a then Refused (codes "Job is already running: " ++ who_name who)
-        else Done (start_of who environment hers (Some y.place) d)))
+        else Done (start_of def who environment hers (Some y.place) d)))
     by_goal x y at true true left right equal = Reply _ refl refl
     by_goal x y at false false left right equal =
         subst₂ (λ (es fs : List Entry). Does job config r q its hers c d es fs)
@@ -125,18 +125,18 @@ does-start job config r q its hers c d name environment same older there acts =
 
     by_found : Found name (instances_of job c) (instances_of job d)
         → Does job config r q its hers c d
-        (entries_of r (start_at its who environment (instance_named who c) c))
-        (entries_of q (start_at hers who environment (instance_named who d) d))
+        (entries_of r (start_at its def who environment (instance_named who c) c))
+        (entries_of q (start_at hers def who environment (instance_named who d) d))
     by_found (Neither none void) =
-        subst₂ (λ o u. Does job config r q its hers c d (entries_of r (start_at its who environment o c))
-        (entries_of q (start_at hers who environment u d))) (sym none) (sym void)
+        subst₂ (λ o u. Does job config r q its hers c d (entries_of r (start_at its def who environment o c))
+        (entries_of q (start_at hers def who environment u d))) (sym none) (sym void)
         (by_room none (nat_lt (length (instances_of job c)) max_instances)
         (nat_lt (length (instances_of job d)) max_instances) refl refl
         (ap (λ n. nat_lt n max_instances)
         (twins-length (Twin job config c d) (instances_of job c) (instances_of job d) acts.like.twins)))
     by_found (Two x y at left right) =
-        subst₂ (λ o u. Does job config r q its hers c d (entries_of r (start_at its who environment o c))
-        (entries_of q (start_at hers who environment u d))) (sym left) (sym right)
+        subst₂ (λ o u. Does job config r q its hers c d (entries_of r (start_at its def who environment o c))
+        (entries_of q (start_at hers def who environment u d))) (sym left) (sym right)
         (by_goal x y at (is_start (goal x.place c)) (is_start (goal y.place d)) refl refl
         (ap (λ (l : Life). is_start l.goal)
         (at-twins (Twin job config c d) x y (instances_of job c) (instances_of job d) at
@@ -268,8 +268,8 @@ does-reload : (job : Bytes) (config : Configuration) (r q : ℕ) (its hers : Lis
     (instance_named (called job name) d) d))
 does-reload job config r q its hers c d name acts =
     subst₂ (λ one other. Does job config r q its hers c d (entries_of r one) (entries_of q other))
-    (sym (reload_at-named config r who c))
-    (sym (reload_at-named (only job config) q who d
+    (sym (reload_at-named config.jobs r who c (like-files job config c d acts.like)))
+    (sym (reload_at-named (jobs_called job config.jobs) q who d (like-files-there job config c d acts.like)
     ∙ ap (λ file. reload_at q file who (instance_named who d) d) (sym (named-only job config.jobs))))
     (by_file (job_named job config.jobs))
   where
@@ -327,8 +327,9 @@ does-status job config def r q its hers c d name acts =
 
 -- whom it names is the same
 target-same : (job : Bytes) (config : Configuration) (name : Bytes) (vars : Bindings) (c d : Chronicle)
-    → name ≡ job → target_of config name vars c ≡ target_of (only job config) name vars d
-target-same job config name vars c d is =
+    → name ≡ job → AreBy config.jobs job c → AreBy (jobs_called job config.jobs) job d
+    → target_of config name vars c ≡ target_of (only job config) name vars d
+target-same job config name vars c d is by by_there =
     by_job (job_named name config.jobs) refl ∙ ap (λ o. target_in (only job config) name o vars d) defs
   where
     defs : job_named name config.jobs ≡ job_named name (jobs_called job config.jobs)
@@ -344,10 +345,12 @@ target-same job config name vars c d is =
         ap (λ k. env_of_job config k) called ∙ env-only job config ∙ ap (λ k. env_of_job (only job config) k)
         (sym called) in
         target_as-one config def vars (expand def.instance (request_env config def vars)) c
+        (subst (λ k. AreBy config.jobs k c) (sym called) by)
         ∙ ap (λ (environment : Bindings). target_as_one def (set_all environment vars)
         (expand def.instance (set_all environment vars))) same
         ∙ sym (target_as-one (only job config) def vars
-        (expand def.instance (request_env (only job config) def vars)) d)
+        (expand def.instance (request_env (only job config) def vars)) d
+        (subst (λ k. AreBy (jobs_called job config.jobs) k d) (sym called) by_there))
 
 whom : (job : Bytes) (who : Who) → who.job ≡ job → called job who.instance ≡ who
 whom job who is = ap (λ (k : Bytes). called k who.instance) (sym is)
@@ -379,7 +382,8 @@ does-outcome job config r q request c d asks same older there acts = by_command 
     target = target_of config request.name request.vars c
 
     target_there : target ≡ target_of (only job config) request.name request.vars d
-    target_there = target-same job config request.name request.vars c d name
+    target_there = target-same job config request.name request.vars c d name (like-files job config c d acts.like)
+        (like-files-there job config c d acts.like)
 
     whose : (t : Target) → target ≡ t → (def : JobDef) (who : Who) (environment : Bindings)
         → t ≡ Concerns def who environment → who.job ≡ job
@@ -391,11 +395,17 @@ does-outcome job config r q request c d asks same older there acts = by_command 
     starts (Nobody text) is = Reply _ refl refl
     starts (Concerns def who environment) is =
         subst (λ (w : Who). Does job config r q its hers c d
-        (entries_of r (start_at its w (with_instance w environment) (instance_named w c) c))
-        (entries_of q (start_at hers w (with_instance w environment) (instance_named w d) d)))
+        (entries_of r (start_at its def w (with_instance w environment) (instance_named w c) c))
+        (entries_of q (start_at hers def w (with_instance w environment) (instance_named w d) d)))
         (whom job who (whose (Concerns def who environment) is def who environment refl))
-        (does-start job config r q its hers c d who.instance
-        (with_instance (called job who.instance) environment) same older there acts)
+        (does-start job config r q its hers c d def who.instance
+        (with_instance (called job who.instance) environment)
+        (named-name request.name config.jobs def (file is def who environment refl) ∙ name)
+        (ap (λ k. job_named k config.jobs) (sym name) ∙ file is def who environment refl) same older there acts)
+      where
+        file : target ≡ Concerns def who environment → (its : JobDef) (w : Who) (env : Bindings)
+            → Concerns def who environment ≡ Concerns its w env → job_named request.name config.jobs ≡ Some its
+        file is its w env some = target-file config request.name request.vars c its w env (is ∙ some)
 
     stops : (t : Target) → target ≡ t
         → Does job config r q its hers c d (entries_of r (stop its request.vars t c))
@@ -429,8 +439,8 @@ does-outcome job config r q request c d asks same older there acts = by_command 
         (does-status job config def r q its hers c d who.instance acts)
 
     reloads : (t : Target) → target ≡ t
-        → Does job config r q its hers c d (entries_of r (reload config r t c))
-        (entries_of q (reload (only job config) q t d))
+        → Does job config r q its hers c d (entries_of r (reload r t c))
+        (entries_of q (reload q t d))
     reloads (Nobody text) is = Reply _ refl refl
     reloads (Concerns def who environment) is =
         subst (λ (w : Who). Does job config r q its hers c d
@@ -465,8 +475,8 @@ does-outcome job config r q request c d asks same older there acts = by_command 
     by_command command.Emit is = absurd (not-named command.Emit is refl)
     by_command command.Version is = absurd (not-named command.Version is refl)
     by_command command.Reload is = subst
-        (λ t. Does job config r q its hers c d (entries_of r (reload config r target c))
-        (entries_of q (reload (only job config) q t d)))
+        (λ t. Does job config r q its hers c d (entries_of r (reload r target c))
+        (entries_of q (reload q t d)))
         target_there (reloads target refl)
     by_command command.ReloadConfiguration is = absurd (not-named command.ReloadConfiguration is refl)
 

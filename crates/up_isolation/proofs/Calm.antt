@@ -8,7 +8,7 @@ use Rattle.up_expr.specs.Truth.{Sight}
 use Rattle.up_model.specs.declared.who.Who.{Who}
 use Rattle.up_model.specs.Chronicle.{Chronicle, Entry, Offered, Fired, Made, Aimed, Expression, StartOn}
 use Rattle.up_model.specs.Chronicle.{StopOn}
-use Rattle.up_model.specs.Configuration.{Configuration}
+use Rattle.up_model.specs.Configuration.{Configuration, job_named}
 use Rattle.up_model.specs.Instances.{Instance, instances_of}
 use Rattle.up_model.specs.Readings.{event_at}
 use Rattle.up_model.specs.Seen.{seen, sight_of, env_of}
@@ -22,9 +22,9 @@ use Rattle.up_expr.specs.Truth as truth
 use Rattle.up_model.specs.Due.{due}
 use Rattle.up_model.specs.Events.{events_at, stopped_by, events_env}
 use Rattle.up_model.specs.Environments.{env_of_job, instance_name}
-use Rattle.up_model.specs.Files.{file_of, job_names}
-use Rattle.up_model.specs.Moves.{may_leave, move, move_in, move_first, move_by}
-use Rattle.up_model.specs.Offers.{is_open, stop_of, stop_by, stop_offer, start_of, start_who, start_env}
+use Rattle.up_model.specs.Files.{job_names}
+use Rattle.up_model.specs.Moves.{may_leave, move, move_in, move_first, move_of}
+use Rattle.up_model.specs.Offers.{is_open, stop_of, stop_by, stop_offer, stop_offer_in, start_of, start_who, start_env}
 use Rattle.up_model.specs.Offers.{start_by, who_called, start_offer, offering}
 use Rattle.up_model.specs.Offers.{offer_next}
 use Rattle.up_model.specs.Predicates.{entries_if, or_else, is_start}
@@ -34,7 +34,9 @@ use Rattle.up_model.specs.Seen.{holds, taken, was_offered}
 use Rattle.up_model.specs.Work.{settle}
 use Rattle.up_model.proofs.Sparing.{same-append, all-if, all-weaker}
 use Rattle.up_model.proofs.ReplyLaws.{releasing-all}
-use Rattle.up_model.proofs.JobOffers.{stop_offer_in, offer_in, offer_first, first-by-jobs}
+use Rattle.up_model.proofs.FileLaws.{AreMadeBy, are_by}
+use Rattle.up_model.proofs.JobOffers.{offer_in, offer_first, first-by-jobs}
+use Rattle.up_model.proofs.MadeLaws.{due-made}
 use Rattle.up_isolation.proofs.Locals.{IsMoving, move-moving}
 use Rattle.up_isolation.proofs.Resting.{IsCalm}
 
@@ -139,18 +141,18 @@ calm-stop_offer job config def i p d calm =
       stops = calm.stops;
     }
 
-start_who-blind : (o : Option ℕ) (who : Who) (environment : Bindings) (ps : List ℕ) (c : Chronicle)
-    → AllByRecursion IsBlind (start_of who environment ps o c)
-start_who-blind None who environment ps c =
-    all-if IsBlind _ (Aimed (length c) _ environment ps ∷ Made who.job who.instance ∷ []) (tt, (tt, tt))
-start_who-blind (Some i) who environment ps c =
+start_who-blind : (job : JobDef) (o : Option ℕ) (who : Who) (environment : Bindings) (ps : List ℕ) (c : Chronicle)
+    → AllByRecursion IsBlind (start_of job who environment ps o c)
+start_who-blind job None who environment ps c =
+    all-if IsBlind _ (Aimed (length c) _ environment ps ∷ Made job who.instance ∷ []) (tt, (tt, tt))
+start_who-blind job (Some i) who environment ps c =
     all-if IsBlind (not (is_start (goal i c))) (Aimed i _ environment ps ∷ releasing i false c)
     (tt, releasing-all IsBlind (λ request answer. tt) i false tt c)
 
-start_by-blind : (o : Option Who) (environment : Bindings) (ps : List ℕ) (c : Chronicle)
-    → AllByRecursion IsBlind (start_who environment ps o c)
-start_by-blind None environment ps c = tt
-start_by-blind (Some who) environment ps c = start_who-blind _ who _ ps c
+start_by-blind : (job : JobDef) (o : Option Who) (environment : Bindings) (ps : List ℕ) (c : Chronicle)
+    → AllByRecursion IsBlind (start_who job environment ps o c)
+start_by-blind job None environment ps c = tt
+start_by-blind job (Some who) environment ps c = start_who-blind job _ who _ ps c
 
 -- an offer to its `start on`
 calm-start_offer : (config : Configuration) (def : JobDef) (p : ℕ) (d : Chronicle)
@@ -192,7 +194,7 @@ calm-start_offer config def p d calm =
         subst (λ (t : Chronicle). IsCalm job config t def)
         (sym (append_assoc (start_by A def ps fired) (Fired (StartOn job) ps ∷ []) offered))
         (calm-blind job config def (start_by A def ps fired) fired
-        (start_by-blind (who_called job name) environment ps fired)
+        (start_by-blind def (who_called job name) environment ps fired)
         (record {
           start = rw (bytes_refl job) (nothing-holds def.start_on);
           stop = calm.stop;
@@ -220,26 +222,28 @@ calm-moves : (job : Bytes) (config : Configuration) (def : JobDef) (d : Chronicl
     → IsCalm job config d def → Keeps job config def d (move_in xs d)
 calm-moves job config def d [] calm = calm
 calm-moves job config def d (x ∷ xs) calm =
-    keeps-or job config def d (move_by (file_of x.place d) x d)
-    (move_in xs d) (by_file (file_of x.place d))
+    keeps-or job config def d (move_of x.file x d) (move_in xs d)
+    (keeps-if job config def d (may_leave x.file x.place d) (move x.file x d) calm
+    (calm-blind job config def (move x.file x d) d
+    (all-weaker IsMoving IsBlind moving-blind (move x.file x d) (move-moving x.file x d)) calm))
     (calm-moves job config def d xs calm)
-  where
-    by_file : (file : Option JobDef) → Keeps job config def d (move_by file x d)
-    by_file None = calm
-    by_file (Some its) =
-        keeps-if job config def d (may_leave its x.place d) (move its x d) calm
-        (calm-blind job config def (move its x d) d
-        (all-weaker IsMoving IsBlind moving-blind (move its x d) (move-moving its x d)) calm)
 
 calm-stops : (job : Bytes) (config : Configuration) (def : JobDef) (p : ℕ) (d : Chronicle)
-    (xs : List Instance) → IsCalm job config d def
-    → Keeps job config def d (stop_offer_in (only job config) def xs p d)
-calm-stops job config def p d [] calm = calm
-calm-stops job config def p d (x ∷ xs) calm =
-    keeps-or job config def d (entries_if (is_open x.place d) (stop_offer (only job config) def x.place p d))
-    (stop_offer_in (only job config) def xs p d)
-    (keeps-if job config def d (is_open x.place d) (stop_offer (only job config) def x.place p d) calm
-    (calm-stop_offer job config def x.place p d calm)) (calm-stops job config def p d xs calm)
+    (xs : List Instance) → AllByRecursion (λ x. Some def ≡ Some x.file) xs → IsCalm job config d def
+    → Keeps job config def d (stop_offer_in (only job config) xs p d)
+calm-stops job config def p d [] by calm = calm
+calm-stops job config def p d (x ∷ xs) by calm =
+    keeps-or job config def d (entries_if (is_open x.place d) (stop_offer (only job config) x.file x.place p d))
+    (stop_offer_in (only job config) xs p d)
+    (keeps-if job config def d (is_open x.place d) (stop_offer (only job config) x.file x.place p d) calm
+    (subst (λ file. Keeps job config def d (stop_offer (only job config) file x.place p d)) same
+    (calm-stop_offer job config def x.place p d calm))) (calm-stops job config def p d xs by.1 calm)
+  where
+    same : def ≡ x.file
+    same = inner by.0
+      where
+        inner : Some def ≡ Some x.file → def ≡ x.file
+        inner is = cc
 
 calm-last : (job : Bytes) (config : Configuration) (def : JobDef) (d : Chronicle) (o : Option ℕ)
     → IsCalm job config d def → Keeps job config def d (answering_hurried o d)
@@ -249,10 +253,10 @@ calm-last job config def d (Some r) calm =
 
 -- so it stays calm, if there is one job of its name
 pub calm-due : (config : Configuration) (def : JobDef) (d : Chronicle)
-    → jobs_called def.name config.jobs ≡ def ∷ [] → IsCalm def.name config d def
-    → IsCalm def.name config (due (only def.name config) d ++ d) def
+    → jobs_called def.name config.jobs ≡ def ∷ [] → AreMadeBy (jobs_called def.name config.jobs) d
+    → IsCalm def.name config d def → IsCalm def.name config (due (only def.name config) d ++ d) def
 unfolding due
-calm-due config def d one calm =
+calm-due config def d one made calm =
     keeps-or job config def d (move_first (job_names own) d)
     (or_else (offer_next A (offering d) d) (answering_last d))
     (subst (λ js. Keeps job config def d (move_first (job_names js) d)) (sym one)
@@ -270,22 +274,27 @@ calm-due config def d one calm =
     A : Configuration
     A = only job config
 
+    by : AllByRecursion (λ x. Some def ≡ Some x.file) (instances_of job d)
+    by = subst (λ o. AllByRecursion (λ x. o ≡ Some x.file) (instances_of job d))
+        (ap (job_named job) one ∙ ap (λ b. if b then Some def else None) (bytes_refl job)) (are_by own job d made)
+
     by_offer : (o : Option ℕ) → Keeps job config def d (offer_next A o d)
     by_offer None = calm
     by_offer (Some p) =
         subst (Keeps job config def d) (sym (first-by-jobs A p d))
         (subst (λ js. Keeps job config def d (offer_first A js p d)) (sym one)
         (keeps-or job config def d (offer_in A def p d) []
-        (keeps-or job config def d (stop_offer_in A def (instances_of job d) p d)
+        (keeps-or job config def d (stop_offer_in A (instances_of job d) p d)
         (entries_if (not (was_offered (StartOn job) d)) (start_offer A def p d))
-        (calm-stops job config def p d (instances_of job d) calm)
+        (calm-stops job config def p d (instances_of job d) by calm)
         (keeps-if job config def d (not (was_offered (StartOn job) d)) (start_offer A def p d) calm
         (calm-start_offer config def p d calm))) calm))
 
 pub calm-settle : (n : ℕ) (config : Configuration) (def : JobDef) (d : Chronicle)
-    → jobs_called def.name config.jobs ≡ def ∷ [] → IsCalm def.name config d def
-    → IsCalm def.name config (settle n (only def.name config) d) def
+    → jobs_called def.name config.jobs ≡ def ∷ [] → AreMadeBy (jobs_called def.name config.jobs) d
+    → IsCalm def.name config d def → IsCalm def.name config (settle n (only def.name config) d) def
 unfolding settle
-calm-settle zero config def d one calm = calm
-calm-settle (suc n) config def d one calm =
-    calm-settle n config def (due (only def.name config) d ++ d) one (calm-due config def d one calm)
+calm-settle zero config def d one made calm = calm
+calm-settle (suc n) config def d one made calm =
+    calm-settle n config def (due (only def.name config) d ++ d) one (due-made (only def.name config) d made)
+    (calm-due config def d one made calm)

@@ -1,12 +1,13 @@
 -- What a request of the job does in two runs that its job sees alike: what becomes of an instance whose goal it changes.
 use Rattle.std.proofs.Common.{◌≡◌, ℕ, ◌==◌, Bool, true, false, List, [], ◌∷◌, ◌++◌, None, Some}
-use Rattle.std.proofs.Common.{length, if◌then◌else◌, refl, sym, ◌∙◌, subst}
+use Rattle.std.proofs.Common.{length, if◌then◌else◌, bytes_eq, refl, sym, ◌∙◌, ap, subst}
 use Rattle.std.proofs.Common.{eq-eqb}
 use Rattle.std.specs.List.{AllByRecursion}
+use Rattle.up_conf.specs.declared.job.JobDef.{JobDef}
 use Rattle.up_model.specs.declared.request.Answer.{Answer}
 use Rattle.up_model.specs.declared.state.Goal.{Goal}
 use Rattle.up_model.specs.Chronicle.{Chronicle, Entry, Made, Aimed, Restarted, Replied}
-use Rattle.up_model.specs.Configuration.{Configuration}
+use Rattle.up_model.specs.Configuration.{Configuration, job_named}
 use Rattle.up_model.specs.Instances.{Instance, instances_of}
 use Rattle.up_model.specs.Readings.{holders}
 use Rattle.up_model.specs.Values.{Bytes, Bindings}
@@ -180,41 +181,45 @@ act-restarted job config r q its hers c d x y at same older there acts =
         (later-older hers d (releasing y.place false d) there) next)
 
 pub act-new : (job : Bytes) (config : Configuration) (r q : ℕ) (its hers : List ℕ) (c d : Chronicle)
-    (name : Bytes) (environment : Bindings) → instance_named (called job name) c ≡ None
+    (def : JobDef) (name : Bytes) (environment : Bindings) → def.name ≡ job → job_named job config.jobs ≡ Some def
+    → instance_named (called job name) c ≡ None
     → contents its c ≡ contents hers d → AreOlder (length c) its → AreOlder (length d) hers
     → Acts job config r q c d
-    → Does job config r q its hers c d (Aimed (length c) Start environment its ∷ Made job name ∷ [])
-    (Aimed (length d) Start environment hers ∷ Made job name ∷ [])
-act-new job config r q its hers c d name environment none same older there acts =
-    Act (instance-at (length c) name) (instance-at (length d) name)
-    (pair_start_new job config c d name environment its hers same older there none acts.like) refl refl
+    → Does job config r q its hers c d (Aimed (length c) Start environment its ∷ Made def name ∷ [])
+    (Aimed (length d) Start environment hers ∷ Made def name ∷ [])
+act-new job config r q its hers c d def name environment named in_force none same older there acts =
+    Act (instance-at (length c) name def) (instance-at (length d) name def)
+    (pair_start_new job config c d def name environment its hers named in_force same older there none acts.like) refl refl
     acts.unsaid acts.unsaid_there
-    (λ empty. subst (λ (ps : List ℕ). Held job r (Aimed (length c) Start environment ps ∷ Made job name ∷ c)
-    (Aimed (length d) Start environment hers ∷ Made job name ∷ d)) (sym empty)
-    (rw (bytes_refl job) (twins-with (λ u v. below r (holders u.place e) ≡ true) x y (instances_of job c)
+    (λ empty. subst (λ (ps : List ℕ). Held job r (Aimed (length c) Start environment ps ∷ Made def name ∷ c)
+    (Aimed (length d) Start environment hers ∷ Made def name ∷ d)) (sym empty)
+    (rw (own) (twins-with (λ u v. below r (holders u.place e) ≡ true) x y (instances_of job c)
     (instances_of job d) refl (rw (eq-eqb (length c) (length c) refl) refl) names
     (twins-more (λ u. below r (holders u.place c)) (λ u. true) (λ u. below r (holders u.place e)) (λ u. true)
     (instances_of job c) (instances_of job d)
-    (λ u h. aimed-held r (length c) u.place Start environment (Made job name ∷ c) h) acts.held))))
-    (λ empty. subst (λ (ps : List ℕ). HeldThere job q (Aimed (length c) Start environment its ∷ Made job name
-    ∷ c) (Aimed (length d) Start environment ps ∷ Made job name ∷ d)) (sym empty)
-    (rw (bytes_refl job) (twins-with (λ u v. true ≡ below q (holders v.place f)) x y (instances_of job c)
+    (λ u h. aimed-held r (length c) u.place Start environment (Made def name ∷ c) h) acts.held))))
+    (λ empty. subst (λ (ps : List ℕ). HeldThere job q (Aimed (length c) Start environment its ∷ Made def name
+    ∷ c) (Aimed (length d) Start environment ps ∷ Made def name ∷ d)) (sym empty)
+    (rw (own) (twins-with (λ u v. true ≡ below q (holders v.place f)) x y (instances_of job c)
     (instances_of job d) refl (rw (eq-eqb (length d) (length d) refl) refl) names
     (twins-more_there (λ v. below q (holders v.place d)) (λ v. below q (holders v.place f))
     (instances_of job c) (instances_of job d)
-    (λ v h. aimed-held q (length d) v.place Start environment (Made job name ∷ d) h) acts.held_there))))
+    (λ v h. aimed-held q (length d) v.place Start environment (Made def name ∷ d) h) acts.held_there))))
   where
+    own : bytes_eq def.name job ≡ true
+    own = ap (λ k. bytes_eq k job) named ∙ bytes_refl job
+
     x : Instance
-    x = instance-at (length c) name
+    x = instance-at (length c) name def
 
     y : Instance
-    y = instance-at (length d) name
+    y = instance-at (length d) name def
 
     e : Chronicle
-    e = Aimed (length c) Start environment [] ∷ Made job name ∷ c
+    e = Aimed (length c) Start environment [] ∷ Made def name ∷ c
 
     f : Chronicle
-    f = Aimed (length d) Start environment [] ∷ Made job name ∷ d
+    f = Aimed (length d) Start environment [] ∷ Made def name ∷ d
 
     names : Twins (λ u v. u.name ≡ v.name) (instances_of job c) (instances_of job d)
     names = twins-names job config c d (instances_of job c) (instances_of job d) acts.like.twins

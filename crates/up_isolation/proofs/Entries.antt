@@ -14,10 +14,9 @@ use Rattle.up_model.specs.declared.who.Who.{Who}
 use Rattle.up_model.specs.Chronicle.{Chronicle, Entry, Queued, Aimed, Restarted, Released, Entered, Ordered}
 use Rattle.up_model.specs.Chronicle.{Signalled, Entering}
 use Rattle.up_model.specs.Configuration.{Configuration, job_named}
-use Rattle.up_model.specs.Files.{file_by}
 use Rattle.up_model.specs.Instances.{Instance}
 use Rattle.up_model.specs.Outputs.{order_of, order_by, signal_of}
-use Rattle.up_model.specs.Readings.{made_at, has_stop_env, process_env, pid_of}
+use Rattle.up_model.specs.Readings.{file_of, made_at, has_stop_env, process_env, pid_of}
 use Rattle.up_model.specs.Values.{Bytes, Bindings}
 use Rattle.up_model.proofs.NameLaws.{called}
 use Rattle.up_isolation.specs.Views.{jobs_called, owns}
@@ -30,19 +29,6 @@ use Rattle.up_isolation.proofs.Known.{AreOlder, contents-later, older-later}
 use Rattle.up_isolation.proofs.Likes.{only}
 use Rattle.up_isolation.proofs.Pairs.{Pair, Carries, IsPlain, pair_more, bond-life, shows-item, items-own}
 use Rattle.up_isolation.proofs.Pairs.{outputs-own, own-true, made-same, name-same}
-
--- the job has the same file alone
-pub named-only : (job : Bytes) (jobs : List JobDef)
-    → job_named job jobs ≡ job_named job (jobs_called job jobs)
-named-only job [] = refl
-named-only job (its ∷ jobs) = by_case (bytes_eq its.name job) refl (named-only job jobs)
-  where
-    by_case : (b : Bool) → bytes_eq its.name job ≡ b
-        → job_named job jobs ≡ job_named job (jobs_called job jobs)
-        → (if b then Some its else job_named job jobs)
-        ≡ job_named job (if b then its ∷ jobs_called job jobs else jobs_called job jobs)
-    by_case true is ih = rw is refl
-    by_case false is ih = ih
 
 -- an event of its life
 pub pair_queued : (job : Bytes) (config : Configuration) (c d : Chronicle) (x y : Instance) (to : State)
@@ -68,18 +54,10 @@ pair_queued job config c d x y to event other same pair =
     })
 
 -- an order
-pub file-same : (job : Bytes) (config : Configuration) (c d : Chronicle) (who : Who) (o u : Option Who) → who.job ≡ job
-    → o ≡ Some who → u ≡ Some who → file_by config o c ≡ file_by (only job config) u d
-file-same job config c d who o u name one two =
-    rw (one, two) (ap (λ k. job_named k config.jobs) name ∙ named-only job config.jobs
-    ∙ ap (λ k. job_named k (jobs_called job config.jobs)) (sym name))
-
-pub order-same : (job : Bytes) (config : Configuration) (its : Process) (c d : Chronicle) (who : Who) (o u : Option Who)
-    (environment other : Bindings) → who.job ≡ job → o ≡ Some who → u ≡ Some who → environment ≡ other
-    → order_by (file_by config o c) o its environment ≡ order_by (file_by (only job config) u d) u its other
-order-same job config its c d who o u environment other name one two same =
-    ap₂ (λ def w. order_by def w its environment) (file-same job config c d who o u name one two) (one ∙ sym two)
-    ∙ ap (λ env. order_by (file_by (only job config) u d) u its env) same
+pub order-same : (its : Process) (file : JobDef) (f g : Option JobDef) (who : Who) (o u : Option Who) (environment other : Bindings)
+    → f ≡ Some file → g ≡ Some file → o ≡ Some who → u ≡ Some who → environment ≡ other → order_by f o its environment ≡ order_by g u its other
+order-same its file f g who o u environment other here there one two same =
+    ap₂ (λ def w. order_by def w its environment) (here ∙ sym there) (one ∙ sym two) ∙ ap (λ env. order_by g u its env) same
 
 env-same : (its : Process) (i j : ℕ) (c d : Chronicle) → life i c ≡ life j d
     → process_env i its c ≡ process_env j its d
@@ -99,8 +77,8 @@ pair_ordered job config c d x y its pair =
     (outputs-own (owns job x.place c) (owns job y.place d)
     (order_of x.place its c) (order_of y.place its d)
     (own-true job c x pair.left) (own-true job d y pair.right)
-    (order-same job config its c d (called job x.name) (made_at x.place c) (made_at y.place d)
-    (process_env x.place its c) (process_env y.place its d) refl pair.left.1
+    (order-same its x.file (file_of x.place c) (file_of y.place d) (called job x.name) (made_at x.place c) (made_at y.place d)
+    (process_env x.place its c) (process_env y.place its d) pair.left.2 (pair.right.2 ∙ ap Some (sym pair.twin.file.1)) pair.left.1
     (sym (made-same job config c d x y pair) ∙ pair.left.1)
     (env-same its x.place y.place c d pair.twin.bond.alike)))
     refl refl)

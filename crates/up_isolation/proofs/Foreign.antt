@@ -53,8 +53,8 @@ IsStrange job (Offered (StartOn other) event) c = bytes_eq other job ≡ false
 IsStrange job (Offered (StopOn i) event) c = IsOther job i c
 IsStrange job (Fired (StartOn other) taken) c = bytes_eq other job ≡ false
 IsStrange job (Fired (StopOn i) taken) c = owns job i c ≡ false
-IsStrange job (Made other name) c =
-    (bytes_eq other job ≡ false) × (instance_named (called other name) c ≡ None)
+IsStrange job (Made file name) c =
+    (bytes_eq file.name job ≡ false) × (instance_named (called file.name name) c ≡ None)
 IsStrange job (Aimed i aim environment its) c = IsOther job i c × AreForeign job c its
 IsStrange job (Released i failed) c = owns job i c ≡ false
 IsStrange job (Entered i to) c = IsOther job i c
@@ -70,7 +70,7 @@ strange-foreign job config (Offered (StartOn other) event) c is = inl is
 strange-foreign job config (Offered (StopOn i) event) c is = (is.1, inl is.0)
 strange-foreign job config (Fired (StartOn other) taken) c is = is
 strange-foreign job config (Fired (StopOn i) taken) c is = is
-strange-foreign job config (Made other name) c is = is
+strange-foreign job config (Made file name) c is = is
 strange-foreign job config (Aimed i aim environment its) c is = is
 strange-foreign job config (Released i failed) c is = is
 strange-foreign job config (Entered i to) c is = is
@@ -298,20 +298,23 @@ strange-stop_offer job config def i event c fair other =
     here = other-later job i (Offered (StopOn i) event ∷ []) c other
 
 -- a start
-pub strange-start_of : (job : Bytes) (who : Who) (environment : Bindings) (ps : List ℕ) (o : Option ℕ)
-    (c : Chronicle) → Fair job c → bytes_eq who.job job ≡ false → AreForeign job c ps
-    → instance_named who c ≡ o → AreStrange job (start_of who environment ps o c) c
-strange-start_of job who environment ps None c fair other are is =
+pub strange-start_of : (job : Bytes) (def : JobDef) (who : Who) (environment : Bindings) (ps : List ℕ) (o : Option ℕ)
+    (c : Chronicle) → Fair job c → who.job ≡ def.name → bytes_eq who.job job ≡ false → AreForeign job c ps
+    → instance_named who c ≡ o → AreStrange job (start_of def who environment ps o c) c
+strange-start_of job def who environment ps None c fair named other are is =
     strange-if job (nat_lt (length (instances_of who.job c)) max_instances)
-    (Aimed (length c) Start environment ps ∷ Made who.job who.instance ∷ []) c (
+    (Aimed (length c) Start environment ps ∷ Made def who.instance ∷ []) c (
       (
-        (rw (eq-eqb (length c) (length c) refl) other, omega arith),
+        (rw (eq-eqb (length c) (length c) refl) away, omega arith),
         foreign-later job
-            (Made who.job who.instance) c ps are,
+            (Made def who.instance) c ps are,
       ),
-      ((other, is), tt),
+      ((away, ap (λ k. instance_named (called k who.instance) c) (sym named) ∙ is), tt),
     )
-strange-start_of job who environment ps (Some i) c fair other are is =
+  where
+    away : bytes_eq def.name job ≡ false
+    away = ap (λ k. bytes_eq k job) (sym named) ∙ other
+strange-start_of job def who environment ps (Some i) c fair named other are is =
     let made = made-named who i c is in
     let is_other : IsOther job i c = (ap (is_of job) made.1 ∙ other, made.0) in
     strange-if job (not (is_start (goal i c))) (Aimed i Start environment ps ∷ releasing i false c) c (
@@ -323,13 +326,13 @@ strange-start_of job who environment ps (Some i) c fair other are is =
       strange-releasing job i false c fair is_other.0,
     )
 
-strange-start_who : (job name : Bytes) (environment : Bindings) (ps : List ℕ) (o : Option Bytes)
-    (c : Chronicle) → Fair job c → bytes_eq name job ≡ false → AreForeign job c ps
-    → AreStrange job (start_who environment ps (who_called name o) c) c
-strange-start_who job name environment ps None c fair other are = tt
-strange-start_who job name environment ps (Some its) c fair other are =
-    strange-start_of job (called name its) (with_instance (called name its) environment) ps
-    (instance_named (called name its) c) c fair other are refl
+strange-start_who : (job : Bytes) (def : JobDef) (environment : Bindings) (ps : List ℕ) (o : Option Bytes)
+    (c : Chronicle) → Fair job c → bytes_eq def.name job ≡ false → AreForeign job c ps
+    → AreStrange job (start_who def environment ps (who_called def.name o) c) c
+strange-start_who job def environment ps None c fair other are = tt
+strange-start_who job def environment ps (Some its) c fair other are =
+    strange-start_of job def (called def.name its) (with_instance (called def.name its) environment) ps
+    (instance_named (called def.name its) c) c fair refl other are refl
 
 pub strange-start_offer : (job : Bytes) (config : Configuration) (def : JobDef) (event : ℕ) (c : Chronicle)
     → Fair job c → bytes_eq def.name job ≡ false
@@ -341,7 +344,7 @@ strange-start_offer job config def event c fair other =
     (strange-if job (holds def.start_on ss) (start_by config def ps fired ++ Fired (StartOn def.name) ps ∷ [])
     offered
     (strange-append job (start_by config def ps fired) (Fired (StartOn def.name) ps ∷ []) offered
-    (strange-start_who job def.name (start_env config (who_called def.name name) (events_at ps fired) fired) ps
+    (strange-start_who job def (start_env config (who_called def.name name) (events_at ps fired) fired) ps
     name fired
     (fair-strange job config (Fired (StartOn def.name) ps ∷ Offered (StartOn def.name) event ∷ []) c
     (other, (other, tt)) fair) other

@@ -24,8 +24,8 @@ use Rattle.up_isolation.proofs.Likes.{only, Like}
 use Rattle.up_isolation.proofs.Pairs.{Guest, Carries, known-one}
 use Rattle.std.proofs.Common.{zero, suc}
 use Rattle.up_model.specs.Due.{due}
-use Rattle.up_model.specs.Files.{file_of, names_in_order}
-use Rattle.up_model.specs.Moves.{move, move_first, move_by}
+use Rattle.up_model.specs.Files.{names_in_order}
+use Rattle.up_model.specs.Moves.{move, move_first, move_of}
 use Rattle.up_model.specs.Offers.{offering, offer_next}
 use Rattle.up_model.specs.Predicates.{entries_if, or_else}
 use Rattle.up_model.specs.Replies.{releasing, request_in, asked, was_answered, unless_answered, unanswered}
@@ -369,23 +369,17 @@ or-moving : (es fs : List Entry) → AllByRecursion IsMoving es → AllByRecursi
 or-moving [] fs all other = other
 or-moving (e ∷ es) fs all other = all
 
-by-moving : (file : Option JobDef) (x : Instance) (c : Chronicle) → AllByRecursion IsMoving (move_by file x c)
-by-moving None x c = tt
-by-moving (Some def) x c = all-if IsMoving (may_leave def x.place c) (move def x c) (move-moving def x c)
+in-moving : (xs : List Instance) (c : Chronicle) → AllByRecursion IsMoving (move_in xs c)
+in-moving [] c = tt
+in-moving (x ∷ xs) c =
+    or-moving (move_of x.file x c) (move_in xs c)
+    (all-if IsMoving (may_leave x.file x.place c) (move x.file x c) (move-moving x.file x c)) (in-moving xs c)
 
-in-moving : (config : Configuration) (xs : List Instance) (c : Chronicle)
-    → AllByRecursion IsMoving (move_in xs c)
-in-moving config [] c = tt
-in-moving config (x ∷ xs) c =
-    or-moving (move_by (file_of x.place c) x c) (move_in xs c)
-    (by-moving (file_of x.place c) x c) (in-moving config xs c)
-
-first-moving : (config : Configuration) (names : List Bytes) (c : Chronicle)
-    → AllByRecursion IsMoving (move_first names c)
-first-moving config [] c = tt
-first-moving config (name ∷ names) c =
+first-moving : (names : List Bytes) (c : Chronicle) → AllByRecursion IsMoving (move_first names c)
+first-moving [] c = tt
+first-moving (name ∷ names) c =
     or-moving (move_in (instances_of name c) c) (move_first names c)
-    (in-moving config (instances_of name c) c) (first-moving config names c)
+    (in-moving (instances_of name c) c) (first-moving names c)
 
 -- what becomes of it by what is due
 data Went (job : Bytes) (config : Configuration) (c d : Chronicle) (r q : ℕ) (x y : Instance) : Type 0 where
@@ -465,7 +459,7 @@ waits-due job config c d r q x y waits = by_moves (moves-first job config config
         or_else-first (move_first (names_in_order config c) c) rest some in
         Away (λ none. some (sym here ∙ none))
         (subst (λ (t : List Entry). Waits job config (t ++ c) d r q x y) (sym here)
-        (waits-strange job config (move_first (names_in_order config c) c) c d r q x y are (first-moving config (names_in_order config c) c)
+        (waits-strange job config (move_first (names_in_order config c) c) c d r q x y are (first-moving (names_in_order config c) c)
         waits))
     by_moves (movers.Two def u v at left right) =
         let here : due config c ≡ move def u c = or_else-first (move_first (names_in_order config c) c) rest

@@ -8,7 +8,7 @@ use Rattle.up_model.specs.declared.state.State.TheVariants as state
 use Rattle.up_model.specs.Chronicle.{Chronicle, Entry, Offered, Fired, Made, Entered, Expression}
 use Rattle.up_model.specs.Configuration.{Configuration}
 use Rattle.up_model.specs.Instances.{Instance, is_before, with_instance, without_instance, instances_of}
-use Rattle.up_model.specs.Readings.{entry_at, event_at, made_at, event_of}
+use Rattle.up_model.specs.Readings.{entry_at, event_at, made_at, file_of, event_of}
 use Rattle.up_model.specs.Seen.{seen, sight_of, env_of, same_expression}
 use Rattle.up_model.specs.Values.{Bytes, Bindings}
 use Rattle.up_model.proofs.Places.{bytes_same, older-other, all-without}
@@ -17,9 +17,9 @@ use Rattle.up_expr.specs.Truth.{Sight}
 use Rattle.up_isolation.specs.Parts.{contents}
 use Rattle.up_isolation.proofs.Sights.{AreKnown, event_of_sight}
 
--- an instance that was made at its place, under its name
+-- an instance that was made at its place, under its name and by its file
 abbrev pub IsKnown : Bytes → Chronicle → Instance → Type 0
-IsKnown job c x = (x.place < length c) × (made_at x.place c ≡ Some (called job x.name))
+IsKnown job c x = (x.place < length c) × (made_at x.place c ≡ Some (called job x.name)) × (file_of x.place c ≡ Some x.file)
 
 pub known-later : (job : Bytes) (e : Entry) (c : Chronicle) (xs : List Instance)
     → AllByRecursion (IsKnown job c) xs → AllByRecursion (IsKnown job (e ∷ c)) xs
@@ -29,6 +29,8 @@ known-later job e c (x ∷ xs) all = (
     omega (arith, all.0.0),
     rw (older-other (length c) x.place all.0.0)
         all.0.1,
+    rw (older-other (length c) x.place all.0.0)
+        all.0.2,
   ),
   known-later job e c xs all.1,
 )
@@ -46,23 +48,24 @@ all-with P y (z ∷ zs) h all = by_case (is_before z y) (all-with P y zs h all.1
 -- each instance of a job is known
 pub known : (job : Bytes) (c : Chronicle) → AllByRecursion (IsKnown job c) (instances_of job c)
 known job [] = tt
-known job (Made other name ∷ c) =
-    by_case (bytes_eq other job) refl (known-later job (Made other name) c (instances_of job c) (known job c))
+known job (Made file name ∷ c) =
+    by_case (bytes_eq file.name job) refl (known-later job (Made file name) c (instances_of job c) (known job c))
   where
     d : Chronicle
-    d = Made other name ∷ c
+    d = Made file name ∷ c
 
     made : Instance
-    made = record { place = length c; name = name }
+    made = record { place = length c; name = name; file = file }
 
-    by_case : (b : Bool) → bytes_eq other job ≡ b → AllByRecursion (IsKnown job d) (instances_of job c)
+    by_case : (b : Bool) → bytes_eq file.name job ≡ b → AllByRecursion (IsKnown job d) (instances_of job c)
         → AllByRecursion (IsKnown job d) (if b then with_instance made (instances_of job c)
         else instances_of job c)
     by_case true same rest =
         all-with (IsKnown job d) made (instances_of job c) (
           omega arith,
           rw (eq-eqb (length c) (length c) refl)
-              (ap (λ its. Some (called its name)) (bytes_same other job same)),
+              (ap (λ its. Some (called its name)) (bytes_same file.name job same)),
+          rw (eq-eqb (length c) (length c) refl) refl,
         ) rest
     by_case false differs rest = rest
 known job (Entered i state.Waiting ∷ c) = known-later job (Entered i state.Waiting) c

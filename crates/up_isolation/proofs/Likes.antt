@@ -15,12 +15,13 @@ use Rattle.up_model.specs.Chronicle.{Chronicle, Entry, Given, Queued, Handled, O
 use Rattle.up_model.specs.Chronicle.{Aimed, Restarted, Released, Failed, Respawned, Entered, Ordered}
 use Rattle.up_model.specs.Chronicle.{Signalled, Replied, Entering, Outside, Spoilt, StartOn, StopOn}
 use Rattle.up_model.specs.Clock.{now}
-use Rattle.up_model.specs.Configuration.{Configuration}
+use Rattle.up_model.specs.Configuration.{Configuration, job_named}
 use Rattle.up_model.specs.Instances.{Instance, without_instance, instances_of, instance_named}
 use Rattle.up_model.specs.Readings.{entry_at, made_at, event_at, blocker, without, holders, speaks_of}
 use Rattle.up_model.specs.Replies.{request_at}
 use Rattle.up_model.specs.Seen.{seen, sight_of, env_of}
 use Rattle.up_model.specs.Values.{Bytes, Bindings}
+use Rattle.up_model.proofs.FileLaws.{AreBy}
 use Rattle.up_model.proofs.Places.{bytes_refl, older-other}
 use Rattle.up_model.proofs.NameLaws.{called, Singles, entered-singles, made-singles}
 use Rattle.up_isolation.specs.Views.{Unblocked, jobs_called, is_named, concerns, is_blocked_by, unblocked}
@@ -47,9 +48,10 @@ pub record Bond (job : Bytes) (config : Configuration) (c d : Chronicle) (i j : 
   pub sights : told (jobs_called job config.jobs) (seen config (StopOn i) c)
       ≡ told (jobs_called job config.jobs) (seen (only job config) (StopOn j) d)
 
--- and have one name
+-- and have one name, and one file, which is the job's
 pub record Twin (job : Bytes) (config : Configuration) (c d : Chronicle) (x y : Instance) : Type 0 where
   pub name : x.name ≡ y.name
+  pub file : (job_named job config.jobs ≡ Some x.file) × (x.file ≡ y.file)
   pub bond : Bond job config c d x.place y.place
 
 -- nothing is read of what isn't made yet
@@ -88,6 +90,44 @@ pub record Like (job : Bytes) (config : Configuration) (c d : Chronicle) : Type 
   pub part : part job config c ≡ part job (only job config) d
   pub deeds : deeds job config c ≡ deeds job (only job config) d
 
+-- the job has the same file alone
+pub named-only : (job : Bytes) (jobs : List JobDef)
+    → job_named job jobs ≡ job_named job (jobs_called job jobs)
+named-only job [] = refl
+named-only job (its ∷ jobs) = by_case (bytes_eq its.name job) refl (named-only job jobs)
+  where
+    by_case : (b : Bool) → bytes_eq its.name job ≡ b
+        → job_named job jobs ≡ job_named job (jobs_called job jobs)
+        → (if b then Some its else job_named job jobs)
+        ≡ job_named job (if b then its ∷ jobs_called job jobs else jobs_called job jobs)
+    by_case true is ih = rw is refl
+    by_case false is ih = ih
+
+-- so the instances have that file
+pub files-of : (job : Bytes) (config : Configuration) (s t : Chronicle) (xs ys : List Instance) → Twins (Twin job config s t) xs ys
+    → AllByRecursion (λ x. job_named job config.jobs ≡ Some x.file) xs
+files-of job config s t [] [] twins = tt
+files-of job config s t (x ∷ xs) (y ∷ ys) twins = (twins.0.file.0, files-of job config s t xs ys twins.1)
+files-of job config s t [] (y ∷ ys) twins = absurd twins
+files-of job config s t (x ∷ xs) [] twins = absurd twins
+
+pub files-there : (job : Bytes) (config : Configuration) (s t : Chronicle) (xs ys : List Instance) → Twins (Twin job config s t) xs ys
+    → AllByRecursion (λ y. job_named job (jobs_called job config.jobs) ≡ Some y.file) ys
+files-there job config s t [] [] twins = tt
+files-there job config s t (x ∷ xs) (y ∷ ys) twins = (
+  sym (named-only job config.jobs) ∙ twins.0.file.0 ∙ ap Some twins.0.file.1,
+  files-there job config s t xs ys twins.1,
+)
+files-there job config s t [] (y ∷ ys) twins = absurd twins
+files-there job config s t (x ∷ xs) [] twins = absurd twins
+
+pub like-files : (job : Bytes) (config : Configuration) (c d : Chronicle) → Like job config c d → AreBy config.jobs job c
+like-files job config c d like = files-of job config c d (instances_of job c) (instances_of job d) like.twins
+
+pub like-files-there : (job : Bytes) (config : Configuration) (c d : Chronicle) → Like job config c d
+    → AreBy (jobs_called job config.jobs) job d
+like-files-there job config c d like = files-there job config c d (instances_of job c) (instances_of job d) like.twins
+
 -- an instance that isn't the job's
 abbrev pub IsOther : Bytes → ℕ → Chronicle → Type 0
 IsOther job i c = (owns job i c ≡ false) × (i < length c)
@@ -107,8 +147,8 @@ IsForeign job config (Offered (StopOn i) event) c = (i < length c)
     × ((owns job i c ≡ false) ⊎ (is_named_event (jobs_called job config.jobs) (event_at event c) ≡ false))
 IsForeign job config (Fired (StartOn other) taken) c = bytes_eq other job ≡ false
 IsForeign job config (Fired (StopOn i) taken) c = owns job i c ≡ false
-IsForeign job config (Made other name) c =
-    (bytes_eq other job ≡ false) × (instance_named (called other name) c ≡ None)
+IsForeign job config (Made file name) c =
+    (bytes_eq file.name job ≡ false) × (instance_named (called file.name name) c ≡ None)
 IsForeign job config (Aimed i aim environment its) c = IsOther job i c × AreForeign job c its
 IsForeign job config (Restarted i its) c = IsOther job i c × AreForeign job c its
 IsForeign job config (Released i failed) c = owns job i c ≡ false
@@ -217,7 +257,7 @@ spares job config (Fired (StartOn other) taken) c x known is frees =
     record { aside = tt; holders = refl; seen = refl }
 spares job config (Fired (StopOn i) taken) c x known is frees =
     record { aside = tt; holders = refl; seen = rw (apart job i c x known is) refl }
-spares job config (Made other name) c x known is frees =
+spares job config (Made file name) c x known is frees =
     record { aside = older-other (length c) x.place known.0; holders = refl; seen = refl }
 spares job config (Aimed i aim environment its) c x known is frees =
     record {
@@ -285,6 +325,7 @@ pub twin-spared : (job : Bytes) (config : Configuration) (e : Entry) (c d : Chro
     → Twin job config (e ∷ c) d x y
 twin-spared job config e c d x y spares twin = record {
   name = twin.name;
+  file = twin.file;
   bond = record {
     alike = aside x.place e c spares.aside ∙ twin.bond.alike;
     held = ap (λ ps. contents ps (e ∷ c)) spares.holders ∙ contents-later (holders x.place c) e c
@@ -324,7 +365,7 @@ all-apart job i c (x ∷ xs) other known = (
 
 pub instances-same : (job : Bytes) (config : Configuration) (e : Entry) (c : Chronicle)
     → IsForeign job config e c → instances_of job (e ∷ c) ≡ instances_of job c
-instances-same job config (Made other name) c is = rw is.0 refl
+instances-same job config (Made file name) c is = rw is.0 refl
 instances-same job config (Entered i state.Waiting) c is =
     without-other i (instances_of job c) (all-apart job i c (instances_of job c) is.0 (known job c))
 instances-same job config e c is = refl
@@ -404,7 +445,7 @@ part-same job config (Offered (StopOn i) event) c is = by_sum is.1
         by_case false h = refl
 part-same job config (Fired (StartOn other) taken) c is = rw is refl
 part-same job config (Fired (StopOn i) taken) c is = rw is refl
-part-same job config (Made other name) c is = rw is.0 refl
+part-same job config (Made file name) c is = rw is.0 refl
 part-same job config (Aimed i aim environment its) c is = rw is.0.0 refl
 part-same job config (Restarted i its) c is = rw is.0.0 refl
 part-same job config (Released i failed) c is = rw is refl
@@ -580,7 +621,7 @@ fair_more job e c fair holds = record {
 
 foreign-singles : (job : Bytes) (config : Configuration) (e : Entry) (c : Chronicle)
     → IsForeign job config e c → Singles c → Singles (e ∷ c)
-foreign-singles job config (Made other name) c is singles = made-singles other name c is.1 singles
+foreign-singles job config (Made file name) c is singles = made-singles file name c is.1 singles
 foreign-singles job config (Entered i to) c is singles = entered-singles i to c singles
 foreign-singles job config e c is singles = singles
 

@@ -6,6 +6,7 @@ use Rattle.std.proofs.Common.{Option, None, Some, is_some, length, if◌then◌e
 use Rattle.std.proofs.Common.{eq-eqb, ne_eqb}
 use mathlib.Core.Path.{fun_ext}
 use Rattle.up_stanza.specs.declared.process.Process.{Process}
+use Rattle.up_conf.specs.declared.job.JobDef.{JobDef}
 use Rattle.up_model.specs.declared.event.Event.{Event}
 use Rattle.up_model.specs.declared.failure.Failure.{Failure}
 use Rattle.up_model.specs.declared.input.Input.{Input}
@@ -63,7 +64,7 @@ IsAside i (Given (input.Ended who its how)) c =
     (process : Process) → speaks_of (made_at i c) process who its ≡ false
 IsAside i (Queued (Entering other entered) event) c = (other == i) ≡ false
 IsAside i (Finished event) c = is_some (without event (blocker i c)) ≡ is_some (blocker i c)
-IsAside i (Made job name) c = (length c == i) ≡ false
+IsAside i (Made file name) c = (length c == i) ≡ false
 IsAside i (Aimed other aim environment its) c = (other == i) ≡ false
 IsAside i (Restarted other its) c = (other == i) ≡ false
 IsAside i (Failed other its) c = (other == i) ≡ false
@@ -98,7 +99,7 @@ aside i (Given given) c h = refl
 aside i (Queued (Entering other entered) event) c h = rw h refl
 aside i (Queued origin event) c h = refl
 aside i (Finished event) c h = ap (λ (b : Bool). record (life i c) { blocked = b }) h
-aside i (Made job name) c h = rw h refl
+aside i (Made file name) c h = rw h refl
 aside i (Aimed other Start environment its) c h = rw h refl
 aside i (Aimed other Stop environment its) c h = rw h refl
 aside i (Restarted other its) c h = rw h refl
@@ -250,7 +251,7 @@ old-aside p (Queued (Entering other entered) event) c blank old h =
     younger other p (length c) old (omega arith)
 old-aside p (Finished event) c blank old h =
     no-blocker event (blocker p c) (ap (λ (l : Life). l.blocked) (blank p (omega arith)))
-old-aside p (Made job name) c blank old h = ne_eqb (length c) p (λ same. omega arith)
+old-aside p (Made file name) c blank old h = ne_eqb (length c) p (λ same. omega arith)
 old-aside p (Aimed other aim environment its) c blank old h = younger other p (length c) old (omega arith)
 old-aside p (Restarted other its) c blank old h = younger other p (length c) old (omega arith)
 old-aside p (Failed other its) c blank old h = younger other p (length c) old (omega arith)
@@ -265,9 +266,9 @@ blank_more e c blank old =
     λ p h. aside p e c (old-aside p e c blank old (omega arith)) ∙ blank p (omega arith)
 
 -- a new instance begins alike everywhere
-pub made : (job name : Bytes) (c d : Chronicle) → Blank c → Blank d
-    → life (length c) (Made job name ∷ c) ≡ life (length d) (Made job name ∷ d)
-made job name c d blank other =
+pub made : (file : JobDef) (name : Bytes) (c d : Chronicle) → Blank c → Blank d
+    → life (length c) (Made file name ∷ c) ≡ life (length d) (Made file name ∷ d)
+made file name c d blank other =
     rw (eq-eqb (length c) (length c) refl, eq-eqb (length d) (length d) refl)
     (ap (λ (l : Life). record l { awaited = λ its. false; pid = λ its. None }) (blank (length c) (omega arith)
     ∙ sym (other (length d) (omega arith))))

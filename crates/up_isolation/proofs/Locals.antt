@@ -119,17 +119,17 @@ all-with P y (z ∷ zs) h all = by_case (is_before z y) (all-with P y zs h all.1
 shut-list : (job : Bytes) (e : Entry) (c : Chronicle) → NotGiven e
     → AllByRecursion (λ x. is_open x.place c ≡ false) (instances_of job c)
     → AllByRecursion (λ x. is_open x.place (e ∷ c) ≡ false) (instances_of job (e ∷ c))
-shut-list job (Made other name) c is shut = by_case (bytes_eq other job)
+shut-list job (Made file name) c is shut = by_case (bytes_eq file.name job)
   where
-    old : AllByRecursion (λ x. is_open x.place (Made other name ∷ c) ≡ false) (instances_of job c)
-    old = still-shut (Made other name) c (instances_of job c) is shut
+    old : AllByRecursion (λ x. is_open x.place (Made file name ∷ c) ≡ false) (instances_of job c)
+    old = still-shut (Made file name) c (instances_of job c) is shut
 
     by_case : (b : Bool)
-        → AllByRecursion (λ x. is_open x.place (Made other name ∷ c) ≡ false)
-        (if b then with_instance (record { place = length c; name = name }) (instances_of job c)
+        → AllByRecursion (λ x. is_open x.place (Made file name ∷ c) ≡ false)
+        (if b then with_instance (record { place = length c; name = name; file = file }) (instances_of job c)
         else instances_of job c)
-    by_case true = all-with (λ x. is_open x.place (Made other name ∷ c) ≡ false)
-        (record { place = length c; name = name }) (instances_of job c)
+    by_case true = all-with (λ x. is_open x.place (Made file name ∷ c) ≡ false)
+        (record { place = length c; name = name; file = file }) (instances_of job c)
         (rw (eq-eqb (length c) (length c) refl) refl) old
     by_case false = old
 shut-list job (Entered i state.Waiting) c is shut =

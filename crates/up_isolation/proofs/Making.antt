@@ -1,9 +1,10 @@
 -- A new instance.
-use Rattle.std.proofs.Common.{◌≡◌, ℕ, Bool, true, false, List, [], ◌∷◌, None, length, if◌then◌else◌, refl}
+use Rattle.std.proofs.Common.{◌≡◌, ℕ, Bool, true, false, List, [], ◌∷◌, None, Some, length, if◌then◌else◌, bytes_eq, refl}
 use Rattle.std.proofs.Common.{sym, ◌∙◌, ap, subst, arith, eq-eqb, ne_eqb}
 use Rattle.std.specs.List.{AllByRecursion}
+use Rattle.up_conf.specs.declared.job.JobDef.{JobDef}
 use Rattle.up_model.specs.Chronicle.{Chronicle, Entry, Made}
-use Rattle.up_model.specs.Configuration.{Configuration}
+use Rattle.up_model.specs.Configuration.{Configuration, job_named}
 use Rattle.up_model.specs.Instances.{Instance, instances_of}
 use Rattle.up_model.specs.Values.{Bytes}
 use Rattle.up_model.proofs.Places.{bytes_refl, older-other}
@@ -49,23 +50,24 @@ twins-names job config c d (x ∷ xs) (y ∷ ys) twins = (twins.0.name, twins-na
 twins-names job config c d [] (y ∷ ys) twins = twins
 twins-names job config c d (x ∷ xs) [] twins = twins
 
-twins-made : (job : Bytes) (config : Configuration) (name : Bytes) (c d : Chronicle) (xs ys : List Instance)
+twins-made : (job : Bytes) (config : Configuration) (file : JobDef) (name : Bytes) (c d : Chronicle) (xs ys : List Instance)
     → AllByRecursion (IsKnown job c) xs → AllByRecursion (IsKnown job d) ys
     → Twins (Twin job config c d) xs ys
-    → Twins (Twin job config (Made job name ∷ c) (Made job name ∷ d)) xs ys
-twins-made job config name c d [] [] known knowns twins = tt
-twins-made job config name c d (x ∷ xs) (y ∷ ys) known knowns twins = (
+    → Twins (Twin job config (Made file name ∷ c) (Made file name ∷ d)) xs ys
+twins-made job config file name c d [] [] known knowns twins = tt
+twins-made job config file name c d (x ∷ xs) (y ∷ ys) known knowns twins = (
   record {
     name = twins.0.name;
-    bond = bond-missed job config (Made job name) (Made job name) c d x.place y.place
+    file = twins.0.file;
+    bond = bond-missed job config (Made file name) (Made file name) c d x.place y.place
         (record { aside = older-other (length c) x.place known.0.0; holders = refl; seen = refl })
         (record { aside = older-other (length d) y.place knowns.0.0; holders = refl; seen = refl })
         twins.0.bond;
   },
-  twins-made job config name c d xs ys known.1 knowns.1 twins.1,
+  twins-made job config file name c d xs ys known.1 knowns.1 twins.1,
 )
-twins-made job config name c d [] (y ∷ ys) known knowns twins = twins
-twins-made job config name c d (x ∷ xs) [] known knowns twins = twins
+twins-made job config file name c d [] (y ∷ ys) known knowns twins = twins
+twins-made job config file name c d (x ∷ xs) [] known knowns twins = twins
 
 -- the others were made elsewhere
 old-match : (job : Bytes) (config : Configuration) (c d : Chronicle) (xs ys : List Instance)
@@ -80,33 +82,41 @@ old-match job config c d (x ∷ xs) (y ∷ ys) known knowns twins = (
 old-match job config c d [] (y ∷ ys) known knowns twins = twins
 old-match job config c d (x ∷ xs) [] known knowns twins = twins
 
-abbrev pub instance-at : ℕ → Bytes → Instance
-instance-at place name = record { place = place; name = name }
+abbrev pub instance-at : ℕ → Bytes → JobDef → Instance
+instance-at place name file = record { place = place; name = name; file = file }
 
-pub pair_made : (job : Bytes) (config : Configuration) (name : Bytes) (c d : Chronicle)
-    → instance_named (called job name) c ≡ None → Like job config c d
-    → Pair job config (Made job name ∷ c) (Made job name ∷ d) (instance-at (length c) name)
-    (instance-at (length d) name)
-pair_made job config name c d none like = record {
+pub pair_made : (job : Bytes) (config : Configuration) (file : JobDef) (name : Bytes) (c d : Chronicle) → file.name ≡ job
+    → job_named job config.jobs ≡ Some file → instance_named (called job name) c ≡ None → Like job config c d
+    → Pair job config (Made file name ∷ c) (Made file name ∷ d) (instance-at (length c) name file)
+    (instance-at (length d) name file)
+pair_made job config file name c d its in_force none like = record {
   like = record {
-    twins = rw (bytes_refl job)
+    twins = rw (own)
         (twins-with (Twin job config (e ∷ c) (e ∷ d)) x y (instances_of job c) (instances_of job d) refl twin
         (twins-names job config c d (instances_of job c) (instances_of job d) like.twins)
-        (twins-made job config name c d (instances_of job c) (instances_of job d) (known job c) (known job d)
+        (twins-made job config file name c d (instances_of job c) (instances_of job d) (known job c) (known job d)
         like.twins));
     starts = like.starts;
     today = like.today;
     blank = blank_more config e c like.blank tt;
     empty = blank_more (only job config) e d like.empty tt;
     fair = fair_more job e c like.fair tt;
-    singles = made-singles job name c none like.singles;
+    singles = made-singles file name c (ap (λ k. instance_named (called k name) c) its ∙ none) like.singles;
     part = part_more job config e e c d shows like.part;
     deeds = deeds_more job config e e c d shows like.deeds;
   };
   twin = twin;
-  left = (omega arith, rw (eq-eqb (length c) (length c) refl) refl);
-  right = (omega arith, rw (eq-eqb (length d) (length d) refl) refl);
-  match = rw (bytes_refl job)
+  left = (
+    omega arith,
+    rw (eq-eqb (length c) (length c) refl) (ap (λ k. Some (called k name)) its),
+    rw (eq-eqb (length c) (length c) refl) refl,
+  );
+  right = (
+    omega arith,
+    rw (eq-eqb (length d) (length d) refl) (ap (λ k. Some (called k name)) its),
+    rw (eq-eqb (length d) (length d) refl) refl,
+  );
+  match = rw (own)
       (twins-with (Match (length c) (length d)) x y (instances_of job c) (instances_of job d) refl
       (eq-eqb (length c) (length c) refl ∙ sym (eq-eqb (length d) (length d) refl))
       (twins-names job config c d (instances_of job c) (instances_of job d) like.twins)
@@ -114,14 +124,17 @@ pair_made job config name c d none like = record {
       like.twins));
 }
   where
+    own : bytes_eq file.name job ≡ true
+    own = ap (λ k. bytes_eq k job) its ∙ bytes_refl job
+
     e : Entry
-    e = Made job name
+    e = Made file name
 
     x : Instance
-    x = instance-at (length c) name
+    x = instance-at (length c) name file
 
     y : Instance
-    y = instance-at (length d) name
+    y = instance-at (length d) name file
 
     blank : BlankAt config (length c) c
     blank = like.blank (length c) (omega arith)
@@ -132,8 +145,9 @@ pair_made job config name c d none like = record {
     twin : Twin job config (e ∷ c) (e ∷ d) x y
     twin = record {
       name = refl;
+      file = (in_force, refl);
       bond = record {
-        alike = lives.made job name c d (λ p h. (like.blank p h).alike) (λ p h. (like.empty p h).alike);
+        alike = lives.made file name c d (λ p h. (like.blank p h).alike) (λ p h. (like.empty p h).alike);
         held =
             ap (λ ps. contents ps (e ∷ c)) blank.holders ∙ sym (ap (λ ps. contents ps (e ∷ d)) empty.holders);
         older = subst (λ ps. AreOlder (length (e ∷ c)) ps) (sym blank.holders) tt;

@@ -6,21 +6,19 @@ use Rattle.up_conf.specs.declared.job.JobDef.{JobDef}
 use Rattle.up_stanza.specs.declared.process.Process.TheVariants.{Main}
 use Rattle.up_model.specs.declared.state.State.{State}
 use Rattle.up_model.specs.Chronicle.{Chronicle, Entry, Entered, Signalled}
-use Rattle.up_model.specs.Configuration.{Configuration, job_named}
-use Rattle.up_model.specs.Files.{file_of, job_names}
+use Rattle.up_model.specs.Configuration.{Configuration}
+use Rattle.up_model.specs.Files.{job_names}
 use Rattle.up_model.specs.Instances.{Instance, instances_of}
 use Rattle.up_model.specs.Values.{Bytes}
-use Rattle.up_model.proofs.FileLaws.{moves_by, move_in-job}
 use Rattle.up_model.proofs.Places.{bytes_same}
 use Rattle.up_isolation.specs.Views.{jobs_called, is_of}
-use Rattle.up_isolation.proofs.Entries.{named-only}
 use Rattle.up_isolation.proofs.Twins.{Twins}
 use Rattle.up_isolation.proofs.Known.{IsKnown}
 use Rattle.up_isolation.proofs.Likes.{Twin, Like, Fair, only}
 use Rattle.std.proofs.Common.{append_assoc}
 use Rattle.up_model.specs.declared.life.Entry as table
 use Rattle.up_model.specs.Life.{entering}
-use Rattle.up_model.specs.Moves.{who_of, emitting, ordering, enter, may_leave, next_of, move, move_of, move_by}
+use Rattle.up_model.specs.Moves.{who_of, emitting, ordering, enter, may_leave, next_of, move, move_of}
 use Rattle.up_model.specs.Moves.{move_in, move_first}
 use Rattle.up_model.specs.Predicates.{entries_if, or_else}
 use Rattle.up_model.specs.Readings.{state_of, lives}
@@ -101,42 +99,30 @@ moves-or job c d es others fs rest (Two def x y at left right) other =
     (or_else-some fs rest (λ none. move-some def y d (sym right ∙ none)) ∙ right)
 
 -- among instances of the job
-moves-in : (job : Bytes) (config : Configuration) (def : JobDef) (c d : Chronicle) (xs ys : List Instance)
+moves-in : (job : Bytes) (config : Configuration) (c d : Chronicle) (xs ys : List Instance)
     → ((x y : Instance) → At x y xs ys → At x y (instances_of job c) (instances_of job d))
-    → Twins (Twin job config c d) xs ys → Moves job c d (moves_by (Some def) xs c) (moves_by (Some def) ys d)
-moves-in job config def c d [] [] at twins = Idle refl refl
-moves-in job config def c d (x ∷ xs) (y ∷ ys) at twins =
-    moves-or job c d (move_of def x c) (moves_by (Some def) xs c) (move_of def y d) (moves_by (Some def) ys d)
-    (by_case (may_leave def x.place c) (may_leave def y.place d)
-    (leave-same def x.place y.place c d twins.0.bond.alike))
-    (moves-in job config def c d xs ys (λ u v there. at u v (inr there)) twins.1)
+    → Twins (Twin job config c d) xs ys → Moves job c d (move_in xs c) (move_in ys d)
+moves-in job config c d [] [] at twins = Idle refl refl
+moves-in job config c d (x ∷ xs) (y ∷ ys) at twins =
+    moves-or job c d (move_of x.file x c) (move_in xs c) (move_of y.file y d) (move_in ys d)
+    (subst (λ file. Moves job c d (move_of x.file x c) (move_of file y d)) twins.0.file.1
+    (by_case (may_leave x.file x.place c) (may_leave x.file y.place d)
+    (leave-same x.file x.place y.place c d twins.0.bond.alike)))
+    (moves-in job config c d xs ys (λ u v there. at u v (inr there)) twins.1)
   where
-    by_case : (b a : Bool) → b ≡ a → Moves job c d (entries_if b (move def x c)) (entries_if a (move def y d))
-    by_case true true same = Two def x y (at x y (inl (refl, refl))) refl refl
+    by_case : (b a : Bool) → b ≡ a
+        → Moves job c d (entries_if b (move x.file x c)) (entries_if a (move x.file y d))
+    by_case true true same = Two x.file x y (at x y (inl (refl, refl))) refl refl
     by_case false false same = Idle refl refl
     by_case true false same = absurd (cc)
     by_case false true same = absurd (cc)
-moves-in job config def c d [] (y ∷ ys) at twins = absurd twins
-moves-in job config def c d (x ∷ xs) [] at twins = absurd twins
-
--- by the file that they have
-no-moves : (xs : List Instance) (c : Chronicle) → moves_by None xs c ≡ []
-no-moves [] c = refl
-no-moves (x ∷ xs) c = no-moves xs c
+moves-in job config c d [] (y ∷ ys) at twins = absurd twins
+moves-in job config c d (x ∷ xs) [] at twins = absurd twins
 
 moves-own : (job : Bytes) (config : Configuration) (c d : Chronicle) → Like job config c d
     → Moves job c d (move_in (instances_of job c) c) (move_in (instances_of job d) d)
 moves-own job config c d like =
-    subst₂ (λ es fs. Moves job c d es fs) (sym (move_in-job config job c))
-    (sym (move_in-job (only job config) job d
-    ∙ ap (λ file. moves_by file (instances_of job d) d) (sym (named-only job config.jobs))))
-    (by_file (job_named job config.jobs))
-  where
-    by_file : (file : Option JobDef)
-        → Moves job c d (moves_by file (instances_of job c) c) (moves_by file (instances_of job d) d)
-    by_file None = Idle (no-moves (instances_of job c) c) (no-moves (instances_of job d) d)
-    by_file (Some def) =
-        moves-in job config def c d (instances_of job c) (instances_of job d) (λ x y at. at) like.twins
+    moves-in job config c d (instances_of job c) (instances_of job d) (λ x y at. at) like.twins
 
 -- among those of another job
 away-in : (job : Bytes) (config : Configuration) (name : Bytes) (c d : Chronicle) (xs : List Instance)
@@ -144,17 +130,13 @@ away-in : (job : Bytes) (config : Configuration) (name : Bytes) (c d : Chronicle
     → Moves job c d (move_in xs c) []
 away-in job config name c d [] fair other known = Idle refl refl
 away-in job config name c d (x ∷ xs) fair other known =
-    moves-or job c d (move_by (file_of x.place c) x c) (move_in xs c) [] []
-    (by_file (file_of x.place c)) (away-in job config name c d xs fair other known.1)
+    moves-or job c d (move_of x.file x c) (move_in xs c) [] []
+    (by_case (may_leave x.file x.place c)) (away-in job config name c d xs fair other known.1)
   where
-    by_case : (def : JobDef) (b : Bool) → Moves job c d (entries_if b (move def x c)) []
-    by_case def true = Away (move-some def x c)
-        (strange-move job config def x c fair (ap (is_of job) known.0.1 ∙ other, known.0.0))
-    by_case def false = Idle refl refl
-
-    by_file : (file : Option JobDef) → Moves job c d (move_by file x c) []
-    by_file None = Idle refl refl
-    by_file (Some def) = by_case def (may_leave def x.place c)
+    by_case : (b : Bool) → Moves job c d (entries_if b (move x.file x c)) []
+    by_case true = Away (move-some x.file x c)
+        (strange-move job config x.file x c fair (ap (is_of job) known.0.1 ∙ other, known.0.0))
+    by_case false = Idle refl refl
 
 -- job by job
 pub moves-first : (job : Bytes) (config : Configuration) (js : List JobDef) (c d : Chronicle)

@@ -8,7 +8,7 @@ use Rattle.up_expr.specs.Truth.{Sight}
 use Rattle.up_model.specs.declared.event.Event.{Event}
 use Rattle.up_model.specs.declared.who.Who.{Who}
 use Rattle.up_model.specs.Chronicle.{Chronicle, Entry, Queued, Offered, Fired, Made, Aimed, StartOn, StopOn}
-use Rattle.up_model.specs.Configuration.{Configuration}
+use Rattle.up_model.specs.Configuration.{Configuration, job_named}
 use Rattle.up_model.specs.Instances.{Instance, instances_of}
 use Rattle.up_model.specs.Readings.{entry_at, event_at}
 use Rattle.up_model.specs.Seen.{seen}
@@ -21,7 +21,7 @@ use Rattle.up_isolation.proofs.Lives.{Life}
 use Rattle.up_isolation.proofs.Sights.{told}
 use Rattle.up_isolation.proofs.Twins.{Twins}
 use Rattle.up_isolation.proofs.Known.{IsKnown, AreOlder, contents-later, older-later}
-use Rattle.up_isolation.proofs.Likes.{only, Twin, Like}
+use Rattle.up_isolation.proofs.Likes.{only, Twin, Like, like-files, like-files-there}
 use Rattle.up_isolation.proofs.Pairs.{Pair, Carries, carries-none}
 use Rattle.std.proofs.Common.{append_assoc, not, nat_lt, option_to_list}
 use Rattle.up_expr.specs.declared.expr.Leaf.{Leaf}
@@ -370,20 +370,21 @@ twins-length R [] (y ∷ ys) twins = absurd twins
 twins-length R (x ∷ xs) [] twins = absurd twins
 
 -- a new instance is started
-pub pair_start_new : (job : Bytes) (config : Configuration) (c d : Chronicle) (name : Bytes)
-    (environment : Bindings) (ps qs : List ℕ) → contents ps c ≡ contents qs d
+pub pair_start_new : (job : Bytes) (config : Configuration) (c d : Chronicle) (def : JobDef) (name : Bytes)
+    (environment : Bindings) (ps qs : List ℕ) → def.name ≡ job → job_named job config.jobs ≡ Some def
+    → contents ps c ≡ contents qs d
     → AreOlder (length c) ps → AreOlder (length d) qs → instance_named (called job name) c ≡ None
     → Like job config c d
-    → Pair job config (Aimed (length c) Start environment ps ∷ Made job name ∷ c)
-    (Aimed (length d) Start environment qs ∷ Made job name ∷ d) (instance-at (length c) name)
-    (instance-at (length d) name)
-pair_start_new job config c d name environment ps qs same older there none like =
-    (pair_aimed job config (Made job name ∷ c) (Made job name ∷ d) (instance-at (length c) name)
-    (instance-at (length d) name) Start environment ps qs
-    (contents-later ps (Made job name) c older ∙ same ∙ sym (contents-later qs (Made job name) d there))
-    (older-later (length c) (length (Made job name ∷ c)) ps (omega arith) older)
-    (older-later (length d) (length (Made job name ∷ d)) qs (omega arith) there)
-    (pair_made job config name c d none like)).pair
+    → Pair job config (Aimed (length c) Start environment ps ∷ Made def name ∷ c)
+    (Aimed (length d) Start environment qs ∷ Made def name ∷ d) (instance-at (length c) name def)
+    (instance-at (length d) name def)
+pair_start_new job config c d def name environment ps qs named in_force same older there none like =
+    (pair_aimed job config (Made def name ∷ c) (Made def name ∷ d) (instance-at (length c) name def)
+    (instance-at (length d) name def) Start environment ps qs
+    (contents-later ps (Made def name) c older ∙ same ∙ sym (contents-later qs (Made def name) d there))
+    (older-later (length c) (length (Made def name ∷ c)) ps (omega arith) older)
+    (older-later (length d) (length (Made def name ∷ d)) qs (omega arith) there)
+    (pair_made job config def name c d named in_force none like)).pair
 
 -- one that is there is started
 pub pair_start_old : (job : Bytes) (config : Configuration) (c d : Chronicle) (x y : Instance)
@@ -402,22 +403,22 @@ pair_start_old job config c d x y environment ps qs same older there pair =
     (later-older ps c (releasing x.place false c) older) (later-older qs d (releasing y.place false d) there)
     next)
 
-like_start_of : (job : Bytes) (config : Configuration) (c d : Chronicle) (name : Bytes)
-    (environment : Bindings) (ps qs : List ℕ) → contents ps c ≡ contents qs d
+like_start_of : (job : Bytes) (config : Configuration) (c d : Chronicle) (def : JobDef) (name : Bytes)
+    (environment : Bindings) (ps qs : List ℕ) → def.name ≡ job → job_named job config.jobs ≡ Some def → contents ps c ≡ contents qs d
     → AreOlder (length c) ps → AreOlder (length d) qs → Like job config c d
-    → Like job config (start_of (called job name) environment ps (instance_named (called job name) c) c ++ c)
-    (start_of (called job name) environment qs (instance_named (called job name) d) d ++ d)
-like_start_of job config c d name environment ps qs same older there like =
+    → Like job config (start_of def (called job name) environment ps (instance_named (called job name) c) c ++ c)
+    (start_of def (called job name) environment qs (instance_named (called job name) d) d ++ d)
+like_start_of job config c d def name environment ps qs named in_force same older there like =
     by_found (found job config c d name (instances_of job c) (instances_of job d) like.twins)
   where
     who : Who
     who = called job name
 
     by_room : instance_named who c ≡ None → (b a : Bool) → b ≡ a
-        → Like job config (entries_if b (Aimed (length c) Start environment ps ∷ Made job name ∷ []) ++ c)
-        (entries_if a (Aimed (length d) Start environment qs ∷ Made job name ∷ []) ++ d)
+        → Like job config (entries_if b (Aimed (length c) Start environment ps ∷ Made def name ∷ []) ++ c)
+        (entries_if a (Aimed (length d) Start environment qs ∷ Made def name ∷ []) ++ d)
     by_room none true true equal =
-        (pair_start_new job config c d name environment ps qs same older there none like).like
+        (pair_start_new job config c d def name environment ps qs named in_force same older there none like).like
     by_room none false false equal = like
     by_room none true false equal = absurd (cc)
     by_room none false true equal = absurd (cc)
@@ -432,41 +433,41 @@ like_start_of job config c d name environment ps qs same older there like =
     by_goal x y at false true equal = absurd (cc)
 
     by_found : Found name (instances_of job c) (instances_of job d)
-        → Like job config (start_of who environment ps (instance_named who c) c ++ c)
-        (start_of who environment qs (instance_named who d) d ++ d)
+        → Like job config (start_of def who environment ps (instance_named who c) c ++ c)
+        (start_of def who environment qs (instance_named who d) d ++ d)
     by_found (Neither none void) =
-        subst₂ (λ o u. Like job config (start_of who environment ps o c ++ c)
-        (start_of who environment qs u d ++ d)) (sym none) (sym void)
+        subst₂ (λ o u. Like job config (start_of def who environment ps o c ++ c)
+        (start_of def who environment qs u d ++ d)) (sym none) (sym void)
         (by_room none (nat_lt (length (instances_of job c)) max_instances)
         (nat_lt (length (instances_of job d)) max_instances)
         (ap (λ n. nat_lt n max_instances)
         (twins-length (Twin job config c d) (instances_of job c) (instances_of job d) like.twins)))
     by_found (Two x y at left right) =
-        subst₂ (λ o u. Like job config (start_of who environment ps o c ++ c)
-        (start_of who environment qs u d ++ d)) (sym left) (sym right)
+        subst₂ (λ o u. Like job config (start_of def who environment ps o c ++ c)
+        (start_of def who environment qs u d ++ d)) (sym left) (sym right)
         (by_goal x y at (not (is_start (goal x.place c))) (not (is_start (goal y.place d)))
         (ap (λ (l : Life). not (is_start l.goal))
         (at-twins (Twin job config c d) x y (instances_of job c) (instances_of job d) at
         like.twins).bond.alike))
 
-like_start_who : (job : Bytes) (config : Configuration) (c d : Chronicle) (o : Option Bytes)
-    (environment : Bindings) (ps qs : List ℕ) → contents ps c ≡ contents qs d
+like_start_who : (job : Bytes) (config : Configuration) (c d : Chronicle) (def : JobDef) (o : Option Bytes)
+    (environment : Bindings) (ps qs : List ℕ) → def.name ≡ job → job_named job config.jobs ≡ Some def → contents ps c ≡ contents qs d
     → AreOlder (length c) ps → AreOlder (length d) qs → Like job config c d
-    → Like job config (start_who environment ps (who_called job o) c ++ c)
-    (start_who environment qs (who_called job o) d ++ d)
-like_start_who job config c d None environment ps qs same older there like = like
-like_start_who job config c d (Some name) environment ps qs same older there like =
-    like_start_of job config c d name (with_instance (called job name) environment) ps qs same older there
-    like
+    → Like job config (start_who def environment ps (who_called job o) c ++ c)
+    (start_who def environment qs (who_called job o) d ++ d)
+like_start_who job config c d def None environment ps qs named in_force same older there like = like
+like_start_who job config c d def (Some name) environment ps qs named in_force same older there like =
+    like_start_of job config c d def name (with_instance (called job name) environment) ps qs named in_force same
+    older there like
 
 -- the job's `start on` is offered an event that it names
 pub like_start_offer : (config : Configuration) (def : JobDef) (c d : Chronicle) (p q : ℕ)
-    → AreCovered (jobs_called def.name config.jobs) def.start_on
+    → job_named def.name config.jobs ≡ Some def → AreCovered (jobs_called def.name config.jobs) def.start_on
     → event_at p c ≡ event_at q d → content p c ≡ content q d
     → jobs_called def.name (jobs_called def.name config.jobs) ≡ jobs_called def.name config.jobs
     → Like def.name config c d
     → Like def.name config (start_offer config def p c ++ c) (start_offer (only def.name config) def q d ++ d)
-like_start_offer config def c d p q covered same stands twice like =
+like_start_offer config def c d p q in_force covered same stands twice like =
     subst₂ (λ a b. Like def.name config a b)
     (sym (append_assoc (entries_if (holds def.start_on ss) front) (Offered (StartOn def.name) p ∷ []) c))
     (sym (append_assoc (entries_if (holds def.start_on rs) front_there) (Offered (StartOn def.name) q ∷ [])
@@ -534,20 +535,23 @@ like_start_offer config def c d p q covered same stands twice like =
         ≡ events_env (env_of_job (only job config) job) (events_at qs fired_there)
     environments = ap₂ events_env (env-only job config) later.events
 
+    after : Like job config fired fired_there
+    after = like_fired job config offered offered_there ps qs takes.contents next
+
     started : Like job config (start_by config def ps fired ++ fired)
         (start_by (only job config) def qs fired_there ++ fired_there)
     started =
         subst₂ (λ es fs. Like job config (es ++ fired) (fs ++ fired_there))
-        (sym (start_by-one config def ps fired)) (sym (start_by-one (only job config) def qs fired_there))
+        (sym (start_by-one config def ps fired (like-files job config fired fired_there after)))
+        (sym (start_by-one (only job config) def qs fired_there (like-files-there job config fired fired_there after)))
         (subst (λ environment. Like job config
-        (start_who environment ps (who_called job (instance_name def environment)) fired ++ fired)
-        (start_who there qs (who_called job (instance_name def there)) fired_there ++ fired_there))
+        (start_who def environment ps (who_called job (instance_name def environment)) fired ++ fired)
+        (start_who def there qs (who_called job (instance_name def there)) fired_there ++ fired_there))
         (sym environments)
-        (like_start_who job config fired fired_there
+        (like_start_who job config fired fired_there def
         (instance_name def (events_env (env_of_job (only job config) job) (events_at qs fired_there)))
-        (events_env (env_of_job (only job config) job) (events_at qs fired_there)) ps qs later.contents
-        later.older later.older_there
-        (like_fired job config offered offered_there ps qs takes.contents next)))
+        (events_env (env_of_job (only job config) job) (events_at qs fired_there)) ps qs refl in_force later.contents
+        later.older later.older_there after))
 
     by_case : (b a : Bool) → b ≡ a
         → Like job config (entries_if b front ++ offered) (entries_if a front_there ++ offered_there)

@@ -15,10 +15,9 @@ use Rattle.up_model.specs.Answers.{after, answers, is_expected, next}
 use Rattle.up_model.specs.Chronicle.{Chronicle, Given, Queued, Ordered, Signalled, Replied}
 use Rattle.up_model.specs.Chronicle.{Entering, Spoilt}
 use Rattle.up_model.specs.Configuration.{Configuration}
-use Rattle.up_model.specs.Files.{file_of}
 use Rattle.up_model.specs.Moves.{action_of}
 use Rattle.up_model.specs.Outputs.{outputs_of, order_for, order_by, order_of, signal_of, reply_of}
-use Rattle.up_model.specs.Readings.{made_at, id_at, process_env, pid_of}
+use Rattle.up_model.specs.Readings.{file_of, made_at, id_at, process_env, pid_of}
 use Rattle.up_model.specs.Replies.{request_at}
 use Rattle.up_model.specs.Values.{Bytes, Bindings}
 use Rattle.up_isolation.specs.Steps.{deeds_by_step, is_order_of, joined, orders_of, outputs_in}

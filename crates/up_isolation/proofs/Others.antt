@@ -30,7 +30,7 @@ use Rattle.up_isolation.proofs.Pairs.{twins-own}
 use Rattle.up_model.specs.Environments.{env_of_job, env_by_job}
 use Rattle.up_isolation.specs.Parts.{part}
 use Rattle.up_isolation.proofs.Pairs.{LeavesAlone, bond-missed}
-use Rattle.up_isolation.proofs.Entries.{named-only}
+use Rattle.up_isolation.proofs.Likes.{named-only}
 
 -- those but one, side by side
 pub twins-without : (R : Instance → Instance → Type 0) (i j : ℕ) (xs ys : List Instance)
@@ -69,7 +69,7 @@ pair_waiting job config c d x y pair = record {
       part = part_more job config e f c d shows pair.like.part;
       deeds = deeds_more job config e f c d shows pair.like.deeds;
     };
-    twin = record { name = pair.twin.name; bond = bond };
+    twin = record { name = pair.twin.name; file = pair.twin.file; bond = bond };
     left = known-one job e c x pair.left;
     right = known-one job f d y pair.right;
     match = twins-without (Match x.place y.place) x.place y.place (instances_of job c) (instances_of job d)
@@ -109,6 +109,7 @@ twins-left job config e f c d [] [] one other twins = tt
 twins-left job config e f c d (x ∷ xs) (y ∷ ys) one other twins = (
   record {
     name = twins.0.name;
+    file = twins.0.file;
     bond = bond-missed job config e f c d x.place y.place (one x.place)
         (other y.place) twins.0.bond;
   },

@@ -72,7 +72,7 @@ IsAboutOne i (Queued (Entering other to) event) = other ≡ i
 IsAboutOne i (Finished event) = ⊥
 IsAboutOne i (Offered (StopOn other) event) = other ≡ i
 IsAboutOne i (Fired (StopOn other) taken) = other ≡ i
-IsAboutOne i (Made job name) = ⊥
+IsAboutOne i (Made file name) = ⊥
 IsAboutOne i (Aimed other aim environment its) = other ≡ i
 IsAboutOne i (Restarted other its) = other ≡ i
 IsAboutOne i (Released other failed) = other ≡ i
@@ -103,7 +103,7 @@ leaves config i p (Offered (StopOn other) event) c is h =
 leaves config i p (Fired (StartOn other) taken) c is h = record { aside = tt; holders = refl; seen = refl }
 leaves config i p (Fired (StopOn other) taken) c is h =
     record { aside = tt; holders = refl; seen = rw is (rw h refl) }
-leaves config i p (Made job name) c is h = absurd is
+leaves config i p (Made file name) c is h = absurd is
 leaves config i p (Aimed other aim environment its) c is h =
     record { aside = rw is h; holders = rw is (rw h refl); seen = refl }
 leaves config i p (Restarted other its) c is h =
@@ -154,11 +154,13 @@ twin-carried job config e f c d i j x y is are bond same twin =
         → Twin job config (e ∷ c) (f ∷ d) x y
     by_case true true here there same = record {
       name = twin.name;
+      file = twin.file;
       bond = subst₂ (λ p q. Bond job config (e ∷ c) (f ∷ d) p q) (eqb-true i x.place here)
           (eqb-true j y.place there) bond;
     }
     by_case false false here there same = record {
       name = twin.name;
+      file = twin.file;
       bond = bond-missed job config e f c d x.place y.place (leaves config i x.place e c is here)
           (leaves (only job config) j y.place f d are there) twin.bond;
     }
@@ -199,7 +201,7 @@ abbrev pub IsPlain : Entry → Type 0
 IsPlain (Given given) = ⊥
 IsPlain (Offered (StartOn other) event) = ⊥
 IsPlain (Fired (StartOn other) taken) = ⊥
-IsPlain (Made job name) = ⊥
+IsPlain (Made file name) = ⊥
 IsPlain (Entered i state.Waiting) = ⊥
 IsPlain e = Unit {0}
 
@@ -210,7 +212,7 @@ quiet job config (Offered (StartOn other) event) c is = absurd is
 quiet job config (Offered (StopOn i) event) c is = record { instances = refl; starts = refl; today = refl }
 quiet job config (Fired (StartOn other) taken) c is = absurd is
 quiet job config (Fired (StopOn i) taken) c is = record { instances = refl; starts = refl; today = refl }
-quiet job config (Made other name) c is = absurd is
+quiet job config (Made file name) c is = absurd is
 quiet job config (Entered i state.Waiting) c is = absurd is
 quiet job config e c is = record { instances = refl; starts = refl; today = refl }
 
@@ -235,11 +237,15 @@ deeds_more job config e f c d shows same = ap₂ (λ (xs ys : List Output). xs +
 
 pub known-one : (job : Bytes) (e : Entry) (c : Chronicle) (x : Instance) → IsKnown job c x
     → IsKnown job (e ∷ c) x
-known-one job e c x known = (omega (arith, known.0), rw (older-other (length c) x.place known.0) known.1)
+known-one job e c x known = (
+  omega (arith, known.0),
+  rw (older-other (length c) x.place known.0) known.1,
+  rw (older-other (length c) x.place known.0) known.2,
+)
 
 plain-singles : (e : Entry) (c : Chronicle) → IsPlain e → Singles c → Singles (e ∷ c)
 plain-singles (Given given) c is singles = absurd is
-plain-singles (Made job name) c is singles = absurd is
+plain-singles (Made file name) c is singles = absurd is
 plain-singles (Entered i state.Waiting) c is singles = absurd is
 plain-singles (Entered i to) c is singles = entered-singles i to c singles
 plain-singles e c is singles = singles
@@ -268,7 +274,7 @@ pair_more job config e f c d x y pair is are plain flat past gone fair bond show
       part = part_more job config e f c d shows pair.like.part;
       deeds = deeds_more job config e f c d shows pair.like.deeds;
     };
-    twin = record { name = pair.twin.name; bond = bond };
+    twin = record { name = pair.twin.name; file = pair.twin.file; bond = bond };
     left = known-one job e c x pair.left;
     right = known-one job f d y pair.right;
     match = subst₂ (λ xs ys. Twins (Match x.place y.place) xs ys) (sym one.instances) (sym other.instances)

@@ -10,7 +10,7 @@ use Rattle.up_model.specs.Configuration.{Configuration, job_named}
 use Rattle.up_model.specs.Instances.{instances_of}
 use Rattle.up_model.specs.Replies.{request_at}
 use Rattle.up_model.specs.Values.{Bytes, Bindings}
-use Rattle.up_model.proofs.FileLaws.{named-name}
+use Rattle.up_model.proofs.FileLaws.{named-name, IsCalled, target-called}
 use Rattle.up_isolation.specs.Views.{is_of, was_asked}
 use Rattle.up_isolation.proofs.Likes.{Fair, fair_more}
 use Rattle.std.proofs.Common.{append_assoc}
@@ -70,6 +70,23 @@ target-name config name vars c def who environment is = by_job (job_named name c
     by_job (Some its) some is = by_text its
         (expand its.instance (request_env config its vars)) (named-name name config.jobs its some) is
 
+-- and its file is the one of that name
+pub target-file : (config : Configuration) (name : Bytes) (vars : Bindings) (c : Chronicle) (def : JobDef)
+    (who : Who) (environment : Bindings) → target_of config name vars c ≡ Concerns def who environment
+    → job_named name config.jobs ≡ Some def
+target-file config name vars c def who environment is = by_job (job_named name config.jobs) refl is
+  where
+    by_text : (its : JobDef) (x : Expansion)
+        → target_as config its vars x c ≡ Concerns def who environment → its ≡ def
+    by_text its (Expands text) is = cc
+    by_text its (Lacks key) is = absurd (cc)
+    by_text its Malformed is = absurd (cc)
+
+    by_job : (o : Option JobDef) → job_named name config.jobs ≡ o
+        → target_in config name o vars c ≡ Concerns def who environment → o ≡ Some def
+    by_job None some is = absurd (cc)
+    by_job (Some its) some is = ap Some (by_text its (expand its.instance (request_env config its vars)) is)
+
 -- a request that doesn't name the job
 other-reply : (job : Bytes) (config : Configuration) (given : ℕ) (answer : Answer) (c : Chronicle)
     → was_asked job (request_at given c) ≡ false → AreApart job config (Replied given answer ∷ []) c
@@ -84,25 +101,25 @@ other-if job config given false one two c are other = other
 other-start : (job : Bytes) (config : Configuration) (given : ℕ) (its : List ℕ) (target : Target)
     (c : Chronicle) → Fair job c → was_asked job (request_at given c) ≡ false → AreForeign job c its
     → ((def : JobDef) (who : Who) (environment : Bindings) → target ≡ Concerns def who environment
-    → bytes_eq who.job job ≡ false)
+    → bytes_eq who.job job ≡ false) → IsCalled target
     → AreApart job config (entries_of given (start its target c)) c
-other-start job config given its (Nobody text) c fair reply are other = (reply, tt)
-other-start job config given its (Concerns def who environment) c fair reply are other =
+other-start job config given its (Nobody text) c fair reply are other named = (reply, tt)
+other-start job config given its (Concerns def who environment) c fair reply are other named =
     by_case (instance_named who c) refl
   where
     by_case : (o : Option ℕ) → instance_named who c ≡ o
-        → AreApart job config (entries_of given (start_at its who (with_instance who environment) o c)) c
+        → AreApart job config (entries_of given (start_at its def who (with_instance who environment) o c)) c
     by_case None is =
         other-if job config given (nat_lt (length (instances_of who.job c)) max_instances)
-        (Done (start_of who (with_instance who environment) its None c)) _ c
-        (strange-apart job config (start_of who (with_instance who environment) its None c) c
-        (strange-start_of job who (with_instance who environment) its None c fair
+        (Done (start_of def who (with_instance who environment) its None c)) _ c
+        (strange-apart job config (start_of def who (with_instance who environment) its None c) c
+        (strange-start_of job def who (with_instance who environment) its None c fair named
         (other def who environment refl) are is)) (reply, tt)
     by_case (Some i) is =
         other-if job config given (is_start (goal i c)) _
-        (Done (start_of who (with_instance who environment) its (Some i) c)) c (reply, tt)
-        (strange-apart job config (start_of who (with_instance who environment) its (Some i) c) c
-        (strange-start_of job who (with_instance who environment) its (Some i) c fair
+        (Done (start_of def who (with_instance who environment) its (Some i) c)) c (reply, tt)
+        (strange-apart job config (start_of def who (with_instance who environment) its (Some i) c) c
+        (strange-start_of job def who (with_instance who environment) its (Some i) c fair named
         (other def who environment refl) are is))
 
 other-of : (job : Bytes) (who : Who) (c : Chronicle) (i : ℕ) → bytes_eq who.job job ≡ false
@@ -162,7 +179,7 @@ other-reload : (job : Bytes) (config : Configuration) (given : ℕ) (target : Ta
     → given < length c → was_asked job (request_at given c) ≡ false
     → ((def : JobDef) (who : Who) (environment : Bindings) → target ≡ Concerns def who environment
     → bytes_eq who.job job ≡ false)
-    → AreApart job config (entries_of given (reload config given target c)) c
+    → AreApart job config (entries_of given (reload given target c)) c
 other-reload job config given (Nobody text) c older reply other = (reply, tt)
 other-reload job config given (Concerns def who environment) c older reply other =
     by_case (own_file who c) (instance_named who c) refl
@@ -227,7 +244,7 @@ other-outcome job config given request c fair older is other = by_command reques
         → AreApart job config (entries_of given (outcome_by asked config given request c)) c
     by_command command.Start same = other-start job config given (holders_of given request.wait)
         (target_of config request.name request.vars c) c fair reply (are request.wait)
-        (whose command.Start same refl)
+        (whose command.Start same refl) (target-called config request.name request.vars c)
     by_command command.Stop same = other-stop job config given (holders_of given request.wait) request.vars
         (target_of config request.name request.vars c) c fair reply (are request.wait)
         (whose command.Stop same refl)

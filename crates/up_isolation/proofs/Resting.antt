@@ -5,13 +5,13 @@ use Rattle.std.specs.List.{AllByRecursion}
 use Rattle.up_conf.specs.declared.job.JobDef.{JobDef}
 use Rattle.up_expr.specs.Truth.{Sight}
 use Rattle.up_model.specs.Chronicle.{Chronicle, Entry, Given, Offered, Fired, StartOn, StopOn}
-use Rattle.up_model.specs.Configuration.{Configuration}
+use Rattle.up_model.specs.Configuration.{Configuration, job_named}
 use Rattle.up_model.specs.Instances.{Instance, instances_of}
 use Rattle.up_model.specs.Readings.{event_at}
 use Rattle.up_model.specs.Replies.{request_at}
 use Rattle.up_model.specs.Seen.{seen, sight_of, env_of}
 use Rattle.up_model.specs.Values.{Bytes}
-use Rattle.up_model.proofs.JobOffers.{stop_offer_in, offer_in, offer_first, first-by-jobs}
+use Rattle.up_model.proofs.JobOffers.{offer_in, offer_first, first-by-jobs}
 use Rattle.up_model.proofs.Places.{bytes_same}
 use Rattle.up_isolation.specs.Views.{jobs_called, is_of, was_asked}
 use Rattle.up_isolation.specs.Parts.{is_named_event}
@@ -23,7 +23,7 @@ use Rattle.std.proofs.Common.{not, zero, suc}
 use Rattle.up_model.specs.Due.{due}
 use Rattle.up_model.specs.Files.{names_in_order}
 use Rattle.up_model.specs.Moves.{move_first}
-use Rattle.up_model.specs.Offers.{is_open, stop_by, stop_offer, start_by, start_offer}
+use Rattle.up_model.specs.Offers.{is_open, stop_by, stop_offer, stop_offer_in, start_by, start_offer}
 use Rattle.up_model.specs.Offers.{offering, offer_next}
 use Rattle.up_model.specs.Predicates.{entries_if, or_else}
 use Rattle.up_model.specs.Readings.{event_of}
@@ -153,36 +153,51 @@ quiet-start job config def c d p name calm unnamed like =
         (sym name)
         (by_test (bytes_eq job job) ∙ like.starts)
 
--- the offers to a job
-quiet-in : (job : Bytes) (config : Configuration) (def : JobDef) (c d : Chronicle) (p : ℕ)
-    (xs ys : List Instance) → IsCalm job config d def → AllByRecursion (IsKnown job c) xs
-    → is_named_event (jobs_called job config.jobs) (event_at p c) ≡ false → Twins (Twin job config c d) xs ys
-    → AreApart job config (stop_offer_in config def xs p c) c
-quiet-in job config def c d p [] [] calm known unnamed twins = tt
-quiet-in job config def c d p (x ∷ xs) (y ∷ ys) calm known unnamed twins =
-    apart-or job config (entries_if (is_open x.place c) (stop_offer config def x.place p c))
-    (stop_offer_in config def xs p c) c
-    (by_case (is_open x.place c)) (quiet-in job config def c d p xs ys calm known.1 unnamed twins.1)
+-- what holds of the jobs of a name holds of the one that it finds
+pub of-called : (P : JobDef → Type 0) (job : Bytes) (js : List JobDef) (def : JobDef) → AllByRecursion P (jobs_called job js)
+    → job_named job js ≡ Some def → P def
+of-called P job [] def all named = absurd (cc)
+of-called P job (its ∷ js) def all named = by_case (bytes_eq its.name job) all named (of-called P job js def)
   where
-    by_case : (b : Bool) → AreApart job config (entries_if b (stop_offer config def x.place p c)) c
-    by_case true = quiet-stop job config def c d x y p calm known.0 unnamed twins.0
-    by_case false = tt
-quiet-in job config def c d p [] (y ∷ ys) calm known unnamed twins = tt
-quiet-in job config def c d p (x ∷ xs) [] calm known unnamed twins = absurd twins
+    by_case : (b : Bool) → AllByRecursion P (if b then its ∷ jobs_called job js else jobs_called job js)
+        → (if b then Some its else job_named job js) ≡ Some def
+        → (AllByRecursion P (jobs_called job js) → job_named job js ≡ Some def → P def) → P def
+    by_case true all named ih =
+        let same : its ≡ def = cc in
+        subst P same all.0
+    by_case false all named ih = ih all named
 
-away-stops : (job : Bytes) (config : Configuration) (def : JobDef) (c : Chronicle) (p : ℕ)
-    (xs : List Instance) → Fair job c → bytes_eq def.name job ≡ false
-    → AllByRecursion (IsKnown def.name c) xs → AreApart job config (stop_offer_in config def xs p c) c
-away-stops job config def c p [] fair other known = tt
-away-stops job config def c p (x ∷ xs) fair other known =
-    apart-or job config (entries_if (is_open x.place c) (stop_offer config def x.place p c))
-    (stop_offer_in config def xs p c) c
-    (by_case (is_open x.place c)) (away-stops job config def c p xs fair other known.1)
+-- the offers to a job
+quiet-in : (job : Bytes) (config : Configuration) (c d : Chronicle) (p : ℕ)
+    (xs ys : List Instance) → ((def : JobDef) → job_named job config.jobs ≡ Some def → IsCalm job config d def)
+    → AllByRecursion (IsKnown job c) xs
+    → is_named_event (jobs_called job config.jobs) (event_at p c) ≡ false → Twins (Twin job config c d) xs ys
+    → AreApart job config (stop_offer_in config xs p c) c
+quiet-in job config c d p [] [] calm known unnamed twins = tt
+quiet-in job config c d p (x ∷ xs) (y ∷ ys) calm known unnamed twins =
+    apart-or job config (entries_if (is_open x.place c) (stop_offer config x.file x.place p c))
+    (stop_offer_in config xs p c) c
+    (by_case (is_open x.place c)) (quiet-in job config c d p xs ys calm known.1 unnamed twins.1)
   where
-    by_case : (b : Bool) → AreApart job config (entries_if b (stop_offer config def x.place p c)) c
+    by_case : (b : Bool) → AreApart job config (entries_if b (stop_offer config x.file x.place p c)) c
+    by_case true = quiet-stop job config x.file c d x y p (calm x.file twins.0.file.0) known.0 unnamed twins.0
+    by_case false = tt
+quiet-in job config c d p [] (y ∷ ys) calm known unnamed twins = tt
+quiet-in job config c d p (x ∷ xs) [] calm known unnamed twins = absurd twins
+
+away-stops : (job : Bytes) (config : Configuration) (name : Bytes) (c : Chronicle) (p : ℕ)
+    (xs : List Instance) → Fair job c → bytes_eq name job ≡ false
+    → AllByRecursion (IsKnown name c) xs → AreApart job config (stop_offer_in config xs p c) c
+away-stops job config name c p [] fair other known = tt
+away-stops job config name c p (x ∷ xs) fair other known =
+    apart-or job config (entries_if (is_open x.place c) (stop_offer config x.file x.place p c))
+    (stop_offer_in config xs p c) c
+    (by_case (is_open x.place c)) (away-stops job config name c p xs fair other known.1)
+  where
+    by_case : (b : Bool) → AreApart job config (entries_if b (stop_offer config x.file x.place p c)) c
     by_case true =
-        strange-apart job config (stop_offer config def x.place p c) c
-        (strange-stop_offer job config def x.place p c fair (ap (is_of job) known.0.1 ∙ other, known.0.0))
+        strange-apart job config (stop_offer config x.file x.place p c) c
+        (strange-stop_offer job config x.file x.place p c fair (ap (is_of job) known.0.1 ∙ other, known.0.0))
     by_case false = tt
 
 apart-if : (job : Bytes) (config : Configuration) (b : Bool) (es : List Entry) (c : Chronicle)
@@ -191,12 +206,13 @@ apart-if job config true es c are = are
 apart-if job config false es c are = tt
 
 quiet-first : (job : Bytes) (config : Configuration) (js : List JobDef) (c d : Chronicle) (p : ℕ)
+    → ((def : JobDef) → job_named job config.jobs ≡ Some def → IsCalm job config d def)
     → AllByRecursion (IsCalm job config d) (jobs_called job js)
     → is_named_event (jobs_called job config.jobs) (event_at p c) ≡ false → Like job config c d
     → AreApart job config (offer_first config js p c) c
-quiet-first job config [] c d p calm unnamed like = tt
-quiet-first job config (def ∷ js) c d p calm unnamed like =
-    by_case (bytes_eq def.name job) refl calm (λ rest. quiet-first job config js c d p rest unnamed like)
+quiet-first job config [] c d p all calm unnamed like = tt
+quiet-first job config (def ∷ js) c d p all calm unnamed like =
+    by_case (bytes_eq def.name job) refl calm (λ rest. quiet-first job config js c d p all rest unnamed like)
   where
     by_case : (b : Bool) → bytes_eq def.name job ≡ b
         → AllByRecursion (IsCalm job config d) (if b then def ∷ jobs_called job js else jobs_called job js)
@@ -205,20 +221,20 @@ quiet-first job config (def ∷ js) c d p calm unnamed like =
         → AreApart job config (or_else (offer_in config def p c) (offer_first config js p c)) c
     by_case true is calm ih =
         apart-or job config (offer_in config def p c) (offer_first config js p c) c
-        (apart-or job config (stop_offer_in config def (instances_of def.name c) p c)
+        (apart-or job config (stop_offer_in config (instances_of def.name c) p c)
         (entries_if (not (was_offered (StartOn def.name) c)) (start_offer config def p c)) c
-        (subst (λ name. AreApart job config (stop_offer_in config def (instances_of name c) p c) c)
+        (subst (λ name. AreApart job config (stop_offer_in config (instances_of name c) p c) c)
         (sym (bytes_same def.name job is))
-        (quiet-in job config def c d p (instances_of job c) (instances_of job d) calm.0 (known job c) unnamed
+        (quiet-in job config c d p (instances_of job c) (instances_of job d) all (known job c) unnamed
         like.twins))
         (apart-if job config (not (was_offered (StartOn def.name) c)) (start_offer config def p c) c
         (quiet-start job config def c d p (bytes_same def.name job is) calm.0 unnamed like)))
         (ih calm.1)
     by_case false is calm ih =
         apart-or job config (offer_in config def p c) (offer_first config js p c) c
-        (apart-or job config (stop_offer_in config def (instances_of def.name c) p c)
+        (apart-or job config (stop_offer_in config (instances_of def.name c) p c)
         (entries_if (not (was_offered (StartOn def.name) c)) (start_offer config def p c)) c
-        (away-stops job config def c p (instances_of def.name c) like.fair is (known def.name c))
+        (away-stops job config def.name c p (instances_of def.name c) like.fair is (known def.name c))
         (apart-if job config (not (was_offered (StartOn def.name) c)) (start_offer config def p c) c
         (strange-apart job config (start_offer config def p c) c
         (strange-start_offer job config def p c like.fair is))))
@@ -245,7 +261,9 @@ resting-due job config c d resting =
     by_offer None is = tt
     by_offer (Some p) is =
         subst (λ es. AreApart job config es c) (sym (first-by-jobs config p c))
-        (quiet-first job config config.jobs c d p resting.calm (resting.offers p is).1 resting.like)
+        (quiet-first job config config.jobs c d p
+        (λ def named. of-called (IsCalm job config d) job config.jobs def resting.calm named) resting.calm
+        (resting.offers p is).1 resting.like)
 
     by_answered : (r : ℕ) (b : Bool) → was_asked job (request_at r c) ≡ false
         → AreApart job config (answering_hurried (if b then None else Some r) c) c

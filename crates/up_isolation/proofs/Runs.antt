@@ -56,6 +56,8 @@ use Rattle.up_isolation.specs.Isolation.{MeanTheSame, IsUnique, GrowsByAtMostOne
 use Rattle.up_isolation.proofs.Sights.{Covers}
 use Rattle.up_isolation.proofs.Likes.{blank_nil}
 use Rattle.up_isolation.proofs.Offering.{AreCovered}
+use Rattle.up_model.proofs.FileLaws.{AreMadeBy}
+use Rattle.up_model.proofs.MadeLaws.{effect-made, settle-made}
 use Rattle.up_isolation.proofs.Calm.{nothing-holds, calm-blind, calm-settle}
 use Rattle.up_isolation.proofs.Resting.{resting-settle}
 use Rattle.up_isolation.proofs.Acting.{IsCovered, plain-settle}
@@ -243,9 +245,9 @@ calm-begin job config def (Unblocked name) d calm =
 
 -- it stays calm, if it is one
 calm-next : (job : Bytes) (config : Configuration) (n : ℕ) (d : Chronicle) → IsUnique job config
-    → AllByRecursion (IsCalm job config d) (jobs_called job config.jobs)
+    → AreMadeBy (jobs_called job config.jobs) d → AllByRecursion (IsCalm job config d) (jobs_called job config.jobs)
     → AllByRecursion (IsCalm job config (settle n (only job config) d)) (jobs_called job config.jobs)
-calm-next job config n d one calm = by_list (jobs_called job config.jobs) refl one calm
+calm-next job config n d one made calm = by_list (jobs_called job config.jobs) refl one calm
   where
     named : (js : List JobDef) (def : JobDef) → jobs_called job js ≡ def ∷ [] → def.name ≡ job
     named [] def is = absurd (cc)
@@ -260,10 +262,10 @@ calm-next job config n d one calm = by_list (jobs_called job config.jobs) refl o
 
     settled : (def : JobDef) → def.name ≡ job → jobs_called job config.jobs ≡ def ∷ []
         → IsCalm job config d def → IsCalm job config (settle n (only job config) d) def
-    settled def name =
-        subst (λ k. jobs_called k config.jobs ≡ def ∷ [] → IsCalm k config d def
+    settled def name is calm =
+        subst (λ k. jobs_called k config.jobs ≡ def ∷ [] → AreMadeBy (jobs_called k config.jobs) d → IsCalm k config d def
         → IsCalm k config (settle n (only k config) d) def) name
-        (λ is calm. calm-settle n config def d is calm)
+        (λ is made calm. calm-settle n config def d is made calm) is made calm
 
     by_list : (js : List JobDef) → jobs_called job config.jobs ≡ js → length js ≤ 1
         → AllByRecursion (IsCalm job config d) js
@@ -298,6 +300,25 @@ effected job config (input.Ended who its how) c d base = effect-ended job config
 effected job config (input.Clock reading) c d base = effect-clock job config reading c d base
 effected job config input.Turn c d base = effect-turn job config c d base
 
+-- each instance of the job alone is made by its file
+begin-made : (job : Bytes) (config : Configuration) (notice : Notice) (d : Chronicle) → AreMadeBy (jobs_called job config.jobs) d
+    → AreMadeBy (jobs_called job config.jobs) (begin job config notice d)
+begin-made job config (Received given) d made = effect-made (only job config) given d made
+begin-made job config (Arrived event) d made = made
+begin-made job config (Unblocked name) d made = by_event (blocker_of (instance_named (called job name) d) d)
+  where
+    by_event : (o : Option ℕ) → AreMadeBy (jobs_called job config.jobs) (freeing o d)
+    by_event None = made
+    by_event (Some event) = made
+
+alone-made : (job : Bytes) (config : Configuration) (ns : List Notice) → AreMadeBy (jobs_called job config.jobs) (alone job config ns)
+unfolding alone
+alone-made job config [] = tt
+alone-made job config (notice ∷ ns) =
+    let A = only job config in
+    let d = begin job config notice (alone job config ns) in
+    settle-made (work A d) A d (begin-made job config notice (alone job config ns) (alone-made job config ns))
+
 -- what an input leaves: all as it was, or one notice more
 pub data Left (job : Bytes) (config : Configuration) (c e : Chronicle) : Type 0 where
   Same : view job config e ≡ view job config c → Tracks job config e → Left job config c e
@@ -324,6 +345,9 @@ tracks-after job config given c one base = by_effect (effected job config given 
     rest : due config (settle n config e) ≡ []
     rest = settle_rests config e
 
+    made : AreMadeBy (jobs_called job config.jobs) d
+    made = alone-made job config (view job config c)
+
     more : (notice : Notice) → view job config e ≡ notice ∷ view job config c
         → Like job config (settle n config e)
         (settle (work A (begin job config notice d)) A (begin job config notice d))
@@ -336,7 +360,7 @@ tracks-after job config given c one base = by_effect (effected job config given 
         (record {
           like = like;
           rest = settle_rests A f;
-          calm = calm-next job config (work A f) f one
+          calm = calm-next job config (work A f) f one (begin-made job config notice d made)
               (calm-begun job config notice d (jobs_called job config.jobs) base.calm);
           facts = base.facts;
         }))
@@ -393,9 +417,9 @@ calm-nil job config (def ∷ js) covered = (
   calm-nil job config js covered.1,
 )
 
-first-none : (config : Configuration) (names : List Bytes) → move_first names [] ≡ []
-first-none config [] = refl
-first-none config (name ∷ names) = first-none config names
+first-none : (names : List Bytes) → move_first names [] ≡ []
+first-none [] = refl
+first-none (name ∷ names) = first-none names
 
 pub tracks-nil : (job : Bytes) (config : Configuration) → Tracks job config []
 unfolding view alone part deeds due
@@ -411,7 +435,7 @@ tracks-nil job config = record {
     part = refl;
     deeds = refl;
   };
-  rest = ap (λ (es : List Entry). or_else es []) (first-none (only job config) (names_in_order (only job config) []));
+  rest = ap (λ (es : List Entry). or_else es []) (first-none (names_in_order (only job config) []));
   calm = calm-nil job config (jobs_called job config.jobs) (facts-of job config).covered;
   facts = facts-of job config;
 }
@@ -494,7 +518,7 @@ items-beside job config (Offered expression event) c =
     (beside-if (is_named_event (jobs_called job config.jobs) (event_at event c)) _ (λ rest. refl))
 items-beside job config (Fired expression taken) c =
     beside-if (owns_expression job expression c) _ (λ rest. refl)
-items-beside job config (Made its name) c = beside-if (bytes_eq its job) _ (λ rest. refl)
+items-beside job config (Made file name) c = beside-if (bytes_eq file.name job) _ (λ rest. refl)
 items-beside job config (Aimed i aim environment its) c = beside-if (owns job i c) _ (λ rest. refl)
 items-beside job config (Restarted i its) c = beside-if (owns job i c) _ (λ rest. refl)
 items-beside job config (Released i failed) c = beside-if (owns job i c) _ (λ rest. refl)

@@ -37,6 +37,7 @@ twins-given job config given c d [] [] known knowns twins = tt
 twins-given job config given c d (x ∷ xs) (y ∷ ys) known knowns twins = (
   record {
     name = twins.0.name;
+    file = twins.0.file;
     bond = bond-life job config (Given given) (Given given) c d x.place y.place twins.0.bond
         (lives.given x.place y.place c d given (known.0.1 ∙ ap (λ name. Some (called job name)) twins.0.name
         ∙ sym knowns.0.1) twins.0.bond.alike) refl refl refl refl;
@@ -86,6 +87,7 @@ twins-right job config f c d [] [] other twins = tt
 twins-right job config f c d (x ∷ xs) (y ∷ ys) other twins = (
   record {
     name = twins.0.name;
+    file = twins.0.file;
     bond = bond-right job config f c d x.place y.place (other y.place)
         twins.0.bond;
   },
@@ -237,6 +239,7 @@ twins-freed job config p q c d i j [] [] one other match twins = tt
 twins-freed job config p q c d i j (x ∷ xs) (y ∷ ys) one other match twins = (
   record {
     name = twins.0.name;
+    file = twins.0.file;
     bond = bond-life job config (Finished p) (Finished q) c d x.place y.place twins.0.bond
         (by_case (is_blocked_by p (blocker x.place c)) (is_blocked_by q (blocker y.place d)) refl refl
         (one x.place ∙ match.0 ∙ sym (other y.place))) refl refl refl refl;

@@ -8,13 +8,12 @@ use Rattle.up_stanza.specs.declared.process.Process.TheVariants.{Main}
 use Rattle.up_model.specs.declared.event.Event.{Event}
 use Rattle.up_model.specs.Chronicle.{Chronicle, Entry, Given, Queued, Handled, Finished, Signalled, Entering}
 use Rattle.up_model.specs.Chronicle.{Outside}
-use Rattle.up_model.specs.Clock.{now, kill_due_by}
+use Rattle.up_model.specs.Clock.{now, kill_due}
 use Rattle.up_model.specs.Configuration.{Configuration, job_named}
 use Rattle.up_model.specs.Instances.{Instance, instances_of}
 use Rattle.up_model.specs.Readings.{entry_at, made_at, event_at}
 use Rattle.up_model.specs.Replies.{request_at}
 use Rattle.up_model.specs.Values.{Bytes}
-use Rattle.up_model.proofs.FileLaws.{overdue_by, overdue-job}
 use Rattle.up_model.proofs.Places.{bytes_same}
 use Rattle.up_model.proofs.NameLaws.{called}
 use Rattle.up_isolation.specs.Views.{jobs_called, is_named, is_of, was_asked}
@@ -47,7 +46,7 @@ use Rattle.up_isolation.proofs.Ends.{IsMute}
 use Rattle.up_isolation.proofs.Resting.{AreApart, like-apart}
 use Rattle.up_isolation.proofs.Acting.{Plain, None', Open}
 use Rattle.up_model.specs.Due.{telling, failed_event_of, finishing, turn_event, turn_of}
-use Rattle.up_model.specs.Files.{file_of, job_names, names_in_order}
+use Rattle.up_model.specs.Files.{job_names, names_in_order}
 use Rattle.up_model.specs.Held.{is_spoilt}
 use Rattle.up_model.specs.Offers.{is_open}
 use Rattle.up_model.specs.Queue.{Live, queue}
@@ -61,7 +60,7 @@ use Rattle.up_isolation.proofs.Known.{known, entry-later}
 use Rattle.up_isolation.proofs.Releases.{entry-append}
 use Rattle.up_model.proofs.Sparing.{same-append}
 use Rattle.up_isolation.proofs.Likes.{IsOuter}
-use Rattle.up_isolation.proofs.Entries.{pair_signalled, named-only}
+use Rattle.up_isolation.proofs.Entries.{pair_signalled}
 use Rattle.up_isolation.proofs.Steps.{like_turn, like_queued, like_handled, like_finished, waits-own}
 use Rattle.up_isolation.proofs.Steps.{blocker-own, emitter}
 use Rattle.up_isolation.proofs.Twins.{at-twins, twins_map}
@@ -78,10 +77,9 @@ use Rattle.up_isolation.proofs.Alone.{mutes-asked, unnoticed, mute-given}
 use Rattle.up_isolation.proofs.Acting.{same-later}
 
 -- KILL by the timer
-due-same : (def : Option JobDef) (i j : ℕ) (c d : Chronicle) → life i c ≡ life j d → now c ≡ now d
-    → kill_due_by def i c ≡ kill_due_by def j d
-due-same None i j c d same today = refl
-due-same (Some def) i j c d same today =
+due-same : (def : JobDef) (i j : ℕ) (c d : Chronicle) → life i c ≡ life j d → now c ≡ now d
+    → kill_due def i c ≡ kill_due def j d
+due-same def i j c d same today =
     ap₂ (λ (l : Life) n. (is_killed l.state && is_some (l.pid Main)) && has_passed l.kill n
     (milliseconds def.kill_timeout)) same today
 
@@ -97,28 +95,28 @@ kill-one i is true c = append_assoc (killing is) (Signalled i kill true ∷ []) 
 kill-one i is false c = refl
 
 -- of the job's instances, after what was done to those before
-kill-own : (job : Bytes) (config : Configuration) (def : Option JobDef) (c d later after : Chronicle)
+kill-own : (job : Bytes) (config : Configuration) (c d later after : Chronicle)
     (xs ys : List Instance) → now c ≡ now d → Twins (Twin job config c d) xs ys
     → ((x y : Instance) → At x y xs ys → At x y (instances_of job later) (instances_of job after))
     → Like job config later after
-    → Like job config (killing (overdue_by def xs c) ++ later) (killing (overdue_by def ys d) ++ after)
-kill-own job config def c d later after [] [] today twins at like = like
-kill-own job config def c d later after (x ∷ xs) (y ∷ ys) today twins at like =
+    → Like job config (killing (overdue xs c) ++ later) (killing (overdue ys d) ++ after)
+kill-own job config c d later after [] [] today twins at like = like
+kill-own job config c d later after (x ∷ xs) (y ∷ ys) today twins at like =
     subst₂ (λ (s t : Chronicle). Like job config s t)
-    (sym (kill-one x.place (overdue_by def xs c) (kill_due_by def x.place c) later))
-    (sym (kill-one y.place (overdue_by def ys d) (kill_due_by def y.place d) after))
-    (by_case (kill_due_by def x.place c) (kill_due_by def y.place d)
-    (due-same def x.place y.place c d twins.0.bond.alike today)
-    (λ s t more grown. kill-own job config def c d s t xs ys today twins.1
+    (sym (kill-one x.place (overdue xs c) (kill_due x.file x.place c) later))
+    (sym (kill-one y.place (overdue ys d) (kill_due y.file y.place d) after))
+    (by_case (kill_due x.file x.place c) (kill_due y.file y.place d)
+    (due-same x.file x.place y.place c d twins.0.bond.alike today ∙ ap (λ file. kill_due file y.place d) twins.0.file.1)
+    (λ s t more grown. kill-own job config c d s t xs ys today twins.1
     (λ u v there. more u v (at u v (inr there))) grown))
   where
     by_case : (b a : Bool) → b ≡ a
         → ((s t : Chronicle) → ((u v : Instance) → At u v (instances_of job later) (instances_of job after)
         → At u v (instances_of job s) (instances_of job t)) → Like job config s t
-        → Like job config (killing (overdue_by def xs c) ++ s) (killing (overdue_by def ys d) ++ t))
-        → Like job config (killing (overdue_by def xs c)
+        → Like job config (killing (overdue xs c) ++ s) (killing (overdue ys d) ++ t))
+        → Like job config (killing (overdue xs c)
         ++ (entries_if b (Signalled x.place kill true ∷ []) ++ later))
-        (killing (overdue_by def ys d) ++ (entries_if a (Signalled y.place kill true ∷ []) ++ after))
+        (killing (overdue ys d) ++ (entries_if a (Signalled y.place kill true ∷ []) ++ after))
     by_case true true same next =
         next (Signalled x.place kill true ∷ later) (Signalled y.place kill true ∷ after) (λ u v there. there)
         (pair_signalled job config later after x y kill true
@@ -126,8 +124,8 @@ kill-own job config def c d later after (x ∷ xs) (y ∷ ys) today twins at lik
     by_case false false same next = next later after (λ u v there. there) like
     by_case true false same next = absurd (cc)
     by_case false true same next = absurd (cc)
-kill-own job config def c d later after [] (y ∷ ys) today twins at like = absurd twins
-kill-own job config def c d later after (x ∷ xs) [] today twins at like = absurd twins
+kill-own job config c d later after [] (y ∷ ys) today twins at like = absurd twins
+kill-own job config c d later after (x ∷ xs) [] today twins at like = absurd twins
 
 -- of another job's
 kill-other : (job : Bytes) (config : Configuration) (c later d : Chronicle)
@@ -136,8 +134,8 @@ kill-other : (job : Bytes) (config : Configuration) (c later d : Chronicle)
 kill-other job config c later d [] other like = like
 kill-other job config c later d (x ∷ xs) other like =
     subst (λ (s : Chronicle). Like job config s d)
-    (sym (kill-one x.place (overdue xs c) (kill_due_by (file_of x.place c) x.place c) later))
-    (by_case (kill_due_by (file_of x.place c) x.place c) (λ s all grown. kill-other job config c s d xs all grown))
+    (sym (kill-one x.place (overdue xs c) (kill_due x.file x.place c) later))
+    (by_case (kill_due x.file x.place c) (λ s all grown. kill-other job config c s d xs all grown))
   where
     more : (ys : List Instance) → AllByRecursion (λ y. IsOther job y.place later) ys
         → AllByRecursion (λ y. IsOther job y.place (Signalled x.place kill true ∷ later)) ys
@@ -222,14 +220,9 @@ kill-all job config (def ∷ js) c d later after base l m like =
     own name =
         subst (λ k. Like job config (killing (overdue (instances_of k c) c) ++ later)
         (killing (overdue (instances_of k d) d) ++ after)) (sym name)
-        (subst₂ (λ is js. Like job config (killing is ++ later) (killing js ++ after))
-        (sym (overdue-job config job c))
-        (sym (overdue-job (only job config) job d
-        ∙ ap (λ file. overdue_by file (instances_of job d) d) (sym (named-only job config.jobs))))
-        (kill-own job config (job_named job config.jobs) c d later after (instances_of job c) (instances_of job d) base.today
-        base.twins
+        (kill-own job config c d later after (instances_of job c) (instances_of job d) base.today base.twins
         (λ x y at. subst₂ (λ (xs ys : List Instance). At x y xs ys) (sym (l.instances job))
-        (sym (m.instances job)) at) like))
+        (sym (m.instances job)) at) like)
 
     joined : (is js : List ℕ) (t : Chronicle) → killing (is ++ js) ++ t ≡ killing js ++ (killing is ++ t)
     joined is js t =

@@ -99,7 +99,7 @@ items job config (entry.Offered expression event) c =
     (Offered (own_expression expression c) (content event c)) else []
 items job config (entry.Fired expression taken) c =
     items_if (owns_expression job expression c) (Fired (own_expression expression c) (contents taken c))
-items job config (entry.Made its name) c = items_if (bytes_eq its job) (Made name)
+items job config (entry.Made file name) c = items_if (bytes_eq file.name job) (Made name)
 items job config (entry.Aimed instance goal environment holders) c =
     items_if (owns job instance c) (Aimed (name_at instance c) goal environment (contents holders c))
 items job config (entry.Restarted instance holders) c =

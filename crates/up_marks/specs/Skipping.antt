@@ -15,7 +15,7 @@ use Rattle.up_model.specs.Readings.{event_at}
 use Rattle.up_model.specs.Seen.{seen, holds, was_offered}
 use Rattle.up_marks.specs.Naming.{names_in}
 
--- an expression in force: of a job, what stops the instance made at a place, or what starts the job
+-- an expression in force: what stops the instance made at a place, by its file, or what starts a job
 pub data Next : Type 0 where
   Stops : (job : JobDef) → (instance : ℕ) → Next
   Starts : (job : JobDef) → Next
@@ -37,16 +37,16 @@ next_if true next = Some next
 next_if false next = None
 
 -- of a job's instances, the first whose `stop on` is still to be offered the event of this step
-abbrev pub next_stop : JobDef → List Instance → Chronicle → Option Next
-next_stop job [] c = None
-next_stop job (instance ∷ instances) c =
-    or_next (next_if (is_open instance.place c) (Stops job instance.place)) (next_stop job instances c)
+abbrev pub next_stop : List Instance → Chronicle → Option Next
+next_stop [] c = None
+next_stop (instance ∷ instances) c =
+    or_next (next_if (is_open instance.place c) (Stops instance.file instance.place)) (next_stop instances c)
 
 -- the first expression, job by job, that is still to be offered the event of this step
 abbrev pub next_offer : List JobDef → Chronicle → Option Next
 next_offer [] c = None
 next_offer (job ∷ jobs) c =
-    or_next (or_next (next_stop job (instances_of job.name c) c)
+    or_next (or_next (next_stop (instances_of job.name c) c)
     (next_if (not (was_offered (StartOn job.name) c)) (Starts job))) (next_offer jobs c)
 
 -- what an offer to it does

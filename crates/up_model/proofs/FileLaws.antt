@@ -15,11 +15,11 @@ use Rattle.up_model.specs.Due.{end_of, end_by}
 use Rattle.up_model.specs.Environments.{env_by_job, env_of_job, start_base, instance_name}
 use Rattle.up_model.specs.Events.{events_at, events_env}
 use Rattle.up_model.specs.Files.{file_at, own_file, start_file_at, start_file}
-use Rattle.up_model.specs.Instances.{Instance, with_instance, without_instance, instances_of, instance_named}
+use Rattle.up_model.specs.Instances.{Instance, with_instance, without_instance, instances_of, place_named, instance_named}
 use Rattle.up_model.specs.Offers.{start_env, start_by, start_who, who_called}
-use Rattle.up_model.specs.Readings.{entry_at, file_in, file_of, made_at, made_of}
+use Rattle.up_model.specs.Readings.{file_of}
 use Rattle.up_model.specs.Values.{Bytes, Bindings}
-use Rattle.up_model.proofs.NameLaws.{IsKnown, called, known, made-named, all-with}
+use Rattle.up_model.proofs.NameLaws.{called, all-with}
 use Rattle.up_model.proofs.Places.{bytes_same, older-other, all-without}
 
 -- a file that a name finds has that name
@@ -77,44 +77,49 @@ all-weaker P Q weaker (x ∷ xs) all = (weaker x all.0, all-weaker P Q weaker xs
 pub files-named : (job : Bytes) (c : Chronicle) → AllByRecursion (λ x. x.file.name ≡ job) (instances_of job c)
 files-named job c = all-weaker (HasFile job c) (λ x. x.file.name ≡ job) (λ x has. has.2) (instances_of job c) (files job c)
 
--- each instance was made by the file that has its name among these
+-- the instances of a job have the file that has its name among these
+abbrev pub AreBy : List JobDef → Bytes → Chronicle → Type 0
+AreBy jobs job c = AllByRecursion (λ x. job_named job jobs ≡ Some x.file) (instances_of job c)
+
+pub file_of-named : (jobs : List JobDef) (who : Who) (p : ℕ) (c : Chronicle) → AreBy jobs who.job c → instance_named who c ≡ Some p → file_of p c ≡ job_named who.job jobs
+file_of-named jobs who p c by found = found-in (instances_of who.job c) by (files who.job c) found
+  where
+    found-in : (xs : List Instance) → AllByRecursion (λ x. job_named who.job jobs ≡ Some x.file) xs → AllByRecursion (HasFile who.job c) xs
+        → place_named who.instance xs ≡ Some p → file_of p c ≡ job_named who.job jobs
+    found-in [] by has found = absurd cc
+    found-in (x ∷ xs) by has found = by_case (bytes_eq x.name who.instance) found (found-in xs by.1 has.1)
+      where
+        by_case : (b : Bool) → (if b then Some x.place else place_named who.instance xs) ≡ Some p → (place_named who.instance xs ≡ Some p → file_of p c ≡ job_named who.job jobs)
+            → file_of p c ≡ job_named who.job jobs
+        by_case true found ih =
+            let place : x.place ≡ p = cc in
+            ap (λ q. file_of q c) (sym place) ∙ has.0.1 ∙ sym by.0
+        by_case false found ih = ih found
+
+-- each instance that was ever made was made by it
 abbrev pub AreMadeBy : List JobDef → Chronicle → Type 0
 AreMadeBy jobs [] = Unit {0}
 AreMadeBy jobs (Made file name ∷ c) = (job_named file.name jobs ≡ Some file) × AreMadeBy jobs c
 AreMadeBy jobs (entry ∷ c) = AreMadeBy jobs c
 
--- so its file is the one of its job's name
-made-in : (jobs : List JobDef) (e : Entry) (c : Chronicle) (who : Who) → AreMadeBy jobs (e ∷ c) → made_of (Some e) ≡ Some who → file_in (Some e) ≡ job_named who.job jobs
-made-in jobs (Made file name) c who by made =
-    let here : file.name ≡ who.job = cc in
-    sym by.0 ∙ ap (λ job. job_named job jobs) here
-made-in jobs e c who by made = absurd cc
-
-before : (jobs : List JobDef) (e : Entry) (c : Chronicle) → AreMadeBy jobs (e ∷ c) → AreMadeBy jobs c
-before jobs (Made file name) c by = by.1
-before jobs e c by = by
-
-pub file_of-made : (jobs : List JobDef) (who : Who) (p : ℕ) (c : Chronicle) → AreMadeBy jobs c → made_at p c ≡ Some who → file_of p c ≡ job_named who.job jobs
-file_of-made jobs who p [] by made = absurd cc
-file_of-made jobs who p (e ∷ c) by made = by_case (length c == p) made (file_of-made jobs who p c (before jobs e c by))
+-- so those that exist have it
+pub are_by : (jobs : List JobDef) (job : Bytes) (c : Chronicle) → AreMadeBy jobs c → AreBy jobs job c
+are_by jobs job [] made = tt
+are_by jobs job (Made file name ∷ c) made = by_case (bytes_eq file.name job) refl (are_by jobs job c made.1)
   where
-    by_case : (b : Bool) → made_of (if b then Some e else entry_at p c) ≡ Some who → (made_at p c ≡ Some who → file_of p c ≡ job_named who.job jobs)
-        → file_in (if b then Some e else entry_at p c) ≡ job_named who.job jobs
-    by_case true made ih = made-in jobs e c who by made
-    by_case false made ih = ih made
+    its : Instance
+    its = record { place = length c; name = name; file = file }
 
-pub file_of-named : (jobs : List JobDef) (who : Who) (p : ℕ) (c : Chronicle) → AreMadeBy jobs c → instance_named who c ≡ Some p → file_of p c ≡ job_named who.job jobs
-file_of-named jobs who p c by found = file_of-made jobs who p c by (made-named who p c found).1
-
-pub files-in-force : (jobs : List JobDef) (job : Bytes) (c : Chronicle) → AreMadeBy jobs c → AllByRecursion (λ x. job_named job jobs ≡ Some x.file) (instances_of job c)
-files-in-force jobs job c by = both (instances_of job c) (known job c) (files job c)
-  where
-    both : (xs : List Instance) → AllByRecursion (IsKnown job c) xs → AllByRecursion (HasFile job c) xs → AllByRecursion (λ x. job_named job jobs ≡ Some x.file) xs
-    both [] all has = tt
-    both (x ∷ xs) all has = (sym (file_of-made jobs (called job x.name) x.place c by all.0.1) ∙ has.0.1, both xs all.1 has.1)
+    by_case : (b : Bool) → bytes_eq file.name job ≡ b → AreBy jobs job c
+        → AllByRecursion (λ x. job_named job jobs ≡ Some x.file) (if b then with_instance its (instances_of job c) else instances_of job c)
+    by_case true same rest =
+        all-with (λ x. job_named job jobs ≡ Some x.file) its (instances_of job c) (ap (λ name. job_named name jobs) (sym (bytes_same file.name job same)) ∙ made.0) rest
+    by_case false differs rest = rest
+are_by jobs job (Entered i state.Waiting ∷ c) made = all-without (λ x. job_named job jobs ≡ Some x.file) i (instances_of job c) (are_by jobs job c made)
+are_by jobs job (entry ∷ c) made = are_by jobs job c made
 
 -- that of an instance that starts is the one in force too
-pub start_file-named : (config : Configuration) (who : Who) (c : Chronicle) → AreMadeBy config.jobs c → start_file config who c ≡ job_named who.job config.jobs
+pub start_file-named : (config : Configuration) (who : Who) (c : Chronicle) → AreBy config.jobs who.job c → start_file config who c ≡ job_named who.job config.jobs
 start_file-named config who c by = by_case (instance_named who c) refl
   where
     by_case : (o : Option ℕ) → instance_named who c ≡ o → start_file_at config who o c ≡ job_named who.job config.jobs
@@ -126,7 +131,7 @@ end_of-nobody : (file : Option JobDef) (process : Process) (its : End) (c : Chro
 end_of-nobody None process its c = refl
 end_of-nobody (Some job) process its c = refl
 
-pub end_of-named : (jobs : List JobDef) (who : Who) (process : Process) (its : End) (c : Chronicle) → AreMadeBy jobs c
+pub end_of-named : (jobs : List JobDef) (who : Who) (process : Process) (its : End) (c : Chronicle) → AreBy jobs who.job c
     → end_by who process its c ≡ end_of (job_named who.job jobs) (instance_named who c) process its c
 end_of-named jobs who process its c by = by_case (instance_named who c) refl
   where
@@ -135,14 +140,14 @@ end_of-named jobs who process its c by = by_case (instance_named who c) refl
     by_case (Some p) found = ap (λ file. end_of file (Some p) process its c) (file_of-named jobs who p c by found)
 
 -- so the environment by which an instance starts is that of its job
-pub start_base-named : (config : Configuration) (who : Who) (c : Chronicle) → AreMadeBy config.jobs c → start_base config who c ≡ env_of_job config who.job
+pub start_base-named : (config : Configuration) (who : Who) (c : Chronicle) → AreBy config.jobs who.job c → start_base config who c ≡ env_of_job config who.job
 start_base-named config who c by = ap (env_by_job config.base) (start_file-named config who c by)
 
 -- a start by events has one environment, by which the name expands too
 abbrev pub one_env : Configuration → JobDef → List ℕ → Chronicle → Bindings
 one_env config job events c = events_env (env_of_job config job.name) (events_at events c)
 
-pub start_by-one : (config : Configuration) (job : JobDef) (events : List ℕ) (c : Chronicle) → AreMadeBy config.jobs c
+pub start_by-one : (config : Configuration) (job : JobDef) (events : List ℕ) (c : Chronicle) → AreBy config.jobs job.name c
     → start_by config job events c ≡ start_who job (one_env config job events c) events (who_called job.name (instance_name job (one_env config job events c))) c
 start_by-one config job events c by = by_name (instance_name job (one_env config job events c))
   where
@@ -158,7 +163,7 @@ target_as_one job environment (Expands name) = Concerns job (called job.name nam
 target_as_one job environment (Lacks key) = Nobody (codes "Unknown parameter: " ++ key)
 target_as_one job environment Malformed = Nobody (codes "Unknown parameter: " ++ job.instance)
 
-pub target_as-one : (config : Configuration) (job : JobDef) (vars : Bindings) (x : Expansion) (c : Chronicle) → AreMadeBy config.jobs c
+pub target_as-one : (config : Configuration) (job : JobDef) (vars : Bindings) (x : Expansion) (c : Chronicle) → AreBy config.jobs job.name c
     → target_as config job vars x c ≡ target_as_one job (request_env config job vars) x
 target_as-one config job vars (Expands name) c by =
     ap (λ base. Concerns job (called job.name name) (set_all base vars)) (start_base-named config (called job.name name) c by)
@@ -189,7 +194,7 @@ reload_at-nobody given None (Some job) who c = refl
 reload_at-nobody given (Some job) None who c = refl
 reload_at-nobody given (Some job) (Some other) who c = refl
 
-pub reload_at-named : (jobs : List JobDef) (given : ℕ) (who : Who) (c : Chronicle) → AreMadeBy jobs c
+pub reload_at-named : (jobs : List JobDef) (given : ℕ) (who : Who) (c : Chronicle) → AreBy jobs who.job c
     → reload_at given (own_file who c) who (instance_named who c) c ≡ reload_at given (job_named who.job jobs) who (instance_named who c) c
 reload_at-named jobs given who c by = by_case (instance_named who c) refl
   where

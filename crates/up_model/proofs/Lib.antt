@@ -12,6 +12,7 @@ pub mod TurnLaws
 pub mod BlockLaws
 pub mod NameLaws
 pub mod FileLaws
+pub mod MadeLaws
 pub mod JobOffers
 pub mod MainLaws
 pub mod LeftSums
