@@ -35,7 +35,7 @@ concerns i (Handled event) = false
 concerns i (Offered expression event) = false
 concerns i (Fired expression taken) = false
 concerns i (Finished event) = true
-concerns i (Made job name) = true
+concerns i (Made file name) = true
 concerns i (Aimed other goal env its) = other == i
 concerns i (Restarted other its) = other == i
 concerns i (Released other failed) = other == i
@@ -62,7 +62,7 @@ spared config job (Handled event) c x apart older = rw (holding-later (Handled e
 spared config job (Offered expression event) c x apart older = rw (holding-later (Offered expression event) c (holders x.place c) older) refl
 spared config job (Fired expression taken) c x apart older = rw (holding-later (Fired expression taken) c (holders x.place c) older) refl
 spared config job (Finished event) c x apart older = absurd cc
-spared config job (Made other name) c x apart older = absurd cc
+spared config job (Made file name) c x apart older = absurd cc
 spared config job (Aimed other Start env its) c x apart older = rw (apart, holding-later (Aimed other Start env its) c (holders x.place c) older) refl
 spared config job (Aimed other Stop env its) c x apart older = rw (apart, holding-later (Aimed other Stop env its) c (holders x.place c) older) refl
 spared config job (Restarted other its) c x apart older = rw (apart, holding-later (Restarted other its) c (holders x.place c) older) refl

@@ -1,5 +1,6 @@
 -- What a ledger stands for, one entry or one run of entries later.
 use Rattle.std.proofs.Common.{◌≡◌, ℕ, ◌+◌, ◌<◌, ◌==◌, ◌&&◌, Bool, true, false, List, [], ◌∷◌, ◌++◌, length, map, Option, None, Some, is_some, option_map, bytes_eq, if◌then◌else◌, refl, sym, ◌∙◌, ap, subst, arith, eqb-true, append_assoc}
+use Rattle.std.specs.List.{AllByRecursion}
 use Rattle.up_conf.specs.declared.job.JobDef.{JobDef}
 use Rattle.up_stanza.specs.declared.process.Process.{Process}
 use Rattle.up_model.specs.declared.event.Event.{Event}
@@ -12,7 +13,7 @@ use Rattle.up_model.specs.declared.state.State.{State}
 use Rattle.up_model.specs.declared.state.State.TheVariants as state
 use Rattle.up_model.specs.Chronicle.{Chronicle, Entry, Given, Queued, Made, Released, Failed, Entered, Ordered, Signalled, Replied, Outside, Entering}
 use Rattle.up_model.specs.Configuration.{Configuration, job_named}
-use Rattle.up_model.specs.Instances.{instances_of, all_instances, with_instance, without_instance}
+use Rattle.up_model.specs.Instances.{Instance, instances_of, all_instances, with_instance, without_instance}
 use Rattle.up_model.specs.Outputs.{outputs_of}
 use Rattle.up_model.specs.Queue.{queue}
 use Rattle.up_model.specs.Readings.{entry_at, holders, id_of, id_at}
@@ -25,6 +26,7 @@ use Rattle.up_job.specs.Lists.{nth}
 use Rattle.up_job.specs.declared.instance.Instance.{Instance as Kept}
 use Rattle.up_job.specs.declared.instance_key.InstanceKey.{InstanceKey}
 use Rattle.up_job.specs.declared.instances.JobInstances.{JobInstances}
+use Rattle.up_model.proofs.FileLaws.{AreMadeBy, are_by}
 use Rattle.up_book.specs.declared.ledger.Ledger.{Ledger}
 use Rattle.up_book.specs.declared.past.Past.{Past}
 use Rattle.up_book.specs.declared.step.ActedOn.{ActedOn}
@@ -43,7 +45,6 @@ use Rattle.up_model.specs.Queue.{Live}
 use Rattle.up_model.proofs.ReplyLaws.{releasing-all}
 use Rattle.up_model.proofs.Sparing.{same-append}
 use Rattle.up_book.specs.Ledgers.{HasIndex, IsStepIn, Stands}
-use Rattle.up_book.specs.Regular.{AreNamed}
 use Rattle.up_book.specs.Replying.{replies_to}
 use Rattle.up_book.specs.Requesting.{OnMeans, IsGone, same_key, on_left, moved_on, after_made, after_left}
 use Rattle.up_book.specs.Sending.{listed, order_by, signal_by, status_by, IsOrder, IsSignal}
@@ -68,22 +69,17 @@ use Rattle.up_book.proofs.Shifting.{kept-name, key-made, key-left}
 use Rattle.up_book.proofs.StepFrames.{Spares, IsUnasked, asks-same, step-silent, step-more, there-exists}
 
 -- no job but those of the table has instances
-pub unknown-none : (jobs : List JobDef) (job : Bytes) (c : Chronicle) → AreNamed jobs c → job_named job jobs ≡ None → instances_of job c ≡ []
-unknown-none jobs job [] named none = refl
-unknown-none jobs job (Made other name ∷ c) named none = by_name (bytes_eq other job) refl (unknown-none jobs job c named.1 none)
+pub unknown-none : (jobs : List JobDef) (job : Bytes) (c : Chronicle) → AreMadeBy jobs c → job_named job jobs ≡ None → instances_of job c ≡ []
+unknown-none jobs job c made none = by_list (instances_of job c) (are_by jobs job c made)
   where
-    by_name : (b : Bool) → bytes_eq other job ≡ b → instances_of job c ≡ [] → (if b then with_instance (record { place = length c; name = name }) (instances_of job c) else instances_of job c) ≡ []
-    by_name true same rest =
-        let there : is_some (job_named job jobs) ≡ true = ap (λ n. is_some (job_named n jobs)) (sym (bytes_same other job same)) ∙ named.0 in
-        let absent : is_some (job_named job jobs) ≡ false = ap (λ o. is_some o) none in
-        let both : true ≡ false = sym there ∙ absent in
+    by_list : (xs : List Instance) → AllByRecursion (λ x. job_named job jobs ≡ Some x.file) xs → xs ≡ []
+    by_list [] by = refl
+    by_list (x ∷ xs) by =
+        let both : None ≡ Some x.file = sym none ∙ by.0 in
         absurd cc
-    by_name false differs rest = rest
-unknown-none jobs job (Entered i state.Waiting ∷ c) named none = ap (without_instance i) (unknown-none jobs job c named none)
-unknown-none jobs job (e ∷ c) named none = unknown-none jobs job c named none
 
 pub stood : (ledger : Ledger) (mode : Mode) (config : Configuration) (c : Chronicle) → Forgets ledger.past config c → HasIndex ledger.index config.jobs → IsStepIn mode ledger.step config c → Stands ledger mode config c
-stood ledger mode config c f index step = record { past = f; index = index; step = step; known = λ job none. unknown-none config.jobs job c f.regular.named none }
+stood ledger mode config c f index step = record { past = f; index = index; step = step; known = λ job none. unknown-none config.jobs job c f.regular.made none }
 
 -- a key of the table is one of what is kept
 pub keyed : (past : Past) (config : Configuration) (c : Chronicle) (key : InstanceKey) (i : ℕ) → Forgets past config c → instance_place config c key ≡ Some i → standing.instance_place past c key ≡ Some i
@@ -133,7 +129,7 @@ ordered past config c key i job its out f found in_table is =
     let t = there-so past config c key i f found in
     let order : (places : Places) → listed out ≡ order_by job (view places t.kept) its = subst (λ (k : Option Kept). IsOrder job k its out) t.found is in
     let one : t.job ≡ job = same-job (sym t.in_jobs ∙ job-there config key.job job in_table) in
-    ap (λ p. outputs_of (Ordered p its ∷ c)) (sym t.place) ∙ ordered-out config c key.job key.at t.job t.its its f.lives.distinct t.in_jobs t.in_instances
+    ap (λ p. outputs_of (Ordered p its ∷ c)) (sym t.place) ∙ ordered-out config c key.job key.at t.job t.its its f.lives.distinct f.regular.made t.in_jobs t.in_instances
     ∙ ap (λ os. outputs_of c ++ os) (ap (λ s. order_by t.job s its) (sym t.same) ∙ ap (λ (j : JobDef). order_by j (view (place_of past.events (queue c)) t.kept) its) one ∙ sym (order (place_of past.events (queue c))))
 
 -- a signal
@@ -287,11 +283,11 @@ step-leaves outputs asked on past config c key i told event f found text s =
 
 -- an instance was made
 pub step-made : (outputs : List Output) (asked : Option Asked) (on : Option ActedOn) (past : Past) (config : Configuration) (c : Chronicle) (place : ℕ) (job : JobDef) (name : Bytes) → Forgets past config c → nth place config.jobs ≡ Some job
-    → Asks outputs asked on config c → Asks outputs asked (moved_on (after_made place (position_at name place past.instances)) on) config (Made job.name name ∷ c)
+    → Asks outputs asked on config c → Asks outputs asked (moved_on (after_made place (position_at name place past.instances)) on) config (Made job name ∷ c)
 step-made outputs asked on past config c place job name f there s = record {
-  outputs = s.outputs ∙ sym (silent-out config c (Made job.name name) tt);
+  outputs = s.outputs ∙ sym (silent-out config c (Made job name) tt);
   asked = s.asked;
-  on = on-later config (Made job.name name) c on (after_made place (position_at name place past.instances)) tt moved (λ i gone. refl) s.on;
+  on = on-later config (Made job name) c on (after_made place (position_at name place past.instances)) tt moved (λ i gone. refl) s.on;
   unheld = s.unheld;
 }
   where
@@ -299,7 +295,7 @@ step-made outputs asked on past config c place job name f there s = record {
     places = place_of past.events (queue c)
 
     d : Chronicle
-    d = Made job.name name ∷ c
+    d = Made job name ∷ c
 
     new : Kept
     new = new_instance name (limits_of job) None
@@ -307,7 +303,7 @@ step-made outputs asked on past config c place job name f there s = record {
     moved : (key : InstanceKey) (i : ℕ) → on ≡ Some (Exists key) → request_instance c ≡ Some i → instance_place config c key ≡ Some i → instance_place config d (after_made place (position_at name place past.instances) key) ≡ Some i
     moved key i is acted found =
         let keeps = keeps-made places new past.instances config c place job name f.lives.jobs f.lives.distinct there f.lives.older
-        (f.lives.later job (record { place = length c; name = name }) (omega arith)) (new-blank places job name None) in
+        (f.lives.later job (record { place = length c; name = name; file = job }) (omega arith)) (new-blank places job name None) in
         let stands = key-made places past.instances config c place job new name key i f.lives.jobs f.lives.distinct there (keyed past config c key i f found) in
         ap (λ p. instance_place config d (after_made place p key)) (position-so past config c place job name f there)
         ∙ sym (place-keyed places _ config d _ keeps) ∙ stands

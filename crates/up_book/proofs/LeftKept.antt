@@ -9,6 +9,7 @@ use Rattle.up_model.specs.Instances.{Instance, is_before, with_instance, without
 use Rattle.up_model.specs.Left.{left_in, left_at, left_among, left}
 use Rattle.up_model.specs.Readings.{blocker}
 use Rattle.up_model.specs.Values.{Bytes}
+use Rattle.up_model.proofs.FileLaws.{AreMadeBy}
 use Rattle.up_model.proofs.Places.{bytes_same, bytes_refl}
 use Rattle.up_job.specs.declared.instances.JobInstances.{JobInstances}
 use Rattle.up_job.specs.declared.instance.Instance.{Instance as Kept}
@@ -16,7 +17,6 @@ use Rattle.up_book.specs.Keeps.{AreDistinct, KeepsJobs}
 use Rattle.up_book.specs.Summaries.{Summary, JobSummary, summary, job_summary}
 use Rattle.up_book.specs.Views.{Places, view, job_view}
 use Rattle.up_book.specs.Lefts.{left_of_all, left_of_jobs}
-use Rattle.up_book.specs.Regular.{AreNamed}
 
 -- a sum over instances
 abbrev pub sum : (ℕ → ℕ) → List Instance → ℕ
@@ -70,35 +70,35 @@ back x y apart = by_case (bytes_eq y x) refl
         absurd cc
     by_case false differs = refl
 
-sums-past : (f : ℕ → ℕ) (jobs : List JobDef) (made name : Bytes) (c : Chronicle) → AllByRecursion (λ other. bytes_eq other.name made ≡ false) jobs → job_sums f jobs (Made made name ∷ c) ≡ job_sums f jobs c
-sums-past f [] made name c apart = refl
-sums-past f (job ∷ jobs) made name c apart = rw (back job.name made apart.0, sums-past f jobs made name c apart.1) refl
+sums-past : (f : ℕ → ℕ) (jobs : List JobDef) (file : JobDef) (name : Bytes) (c : Chronicle) → AllByRecursion (λ other. bytes_eq other.name file.name ≡ false) jobs → job_sums f jobs (Made file name ∷ c) ≡ job_sums f jobs c
+sums-past f [] file name c apart = refl
+sums-past f (job ∷ jobs) file name c apart = rw (back job.name file.name apart.0, sums-past f jobs file name c apart.1) refl
 
-sums-made : (f : ℕ → ℕ) (jobs : List JobDef) (made name : Bytes) (c : Chronicle) → AreDistinct jobs → is_some (job_named made jobs) ≡ true
-    → job_sums f jobs (Made made name ∷ c) ≡ f (length c) + job_sums f jobs c
-sums-made f [] made name c distinct some = absurd cc
-sums-made f (job ∷ jobs) made name c distinct some = by_case (bytes_eq job.name made) refl some (sums-made f jobs made name c distinct.1)
+sums-made : (f : ℕ → ℕ) (jobs : List JobDef) (file : JobDef) (name : Bytes) (c : Chronicle) → AreDistinct jobs → is_some (job_named file.name jobs) ≡ true
+    → job_sums f jobs (Made file name ∷ c) ≡ f (length c) + job_sums f jobs c
+sums-made f [] file name c distinct some = absurd cc
+sums-made f (job ∷ jobs) file name c distinct some = by_case (bytes_eq job.name file.name) refl some (sums-made f jobs file name c distinct.1)
   where
     new : Instance
-    new = record { place = length c; name = name }
+    new = record { place = length c; name = name; file = file }
 
-    by_case : (b : Bool) → bytes_eq job.name made ≡ b → is_some (if b then Some job else job_named made jobs) ≡ true
-        → (is_some (job_named made jobs) ≡ true → job_sums f jobs (Made made name ∷ c) ≡ f (length c) + job_sums f jobs c)
-        → job_sums f (job ∷ jobs) (Made made name ∷ c) ≡ f (length c) + job_sums f (job ∷ jobs) c
+    by_case : (b : Bool) → bytes_eq job.name file.name ≡ b → is_some (if b then Some job else job_named file.name jobs) ≡ true
+        → (is_some (job_named file.name jobs) ≡ true → job_sums f jobs (Made file name ∷ c) ≡ f (length c) + job_sums f jobs c)
+        → job_sums f (job ∷ jobs) (Made file name ∷ c) ≡ f (length c) + job_sums f (job ∷ jobs) c
     by_case true same some ih =
-        let names : job.name ≡ made = bytes_same job.name made same in
-        let here : bytes_eq made job.name ≡ true = ap (λ n. bytes_eq made n) names ∙ bytes_refl made in
-        let past = sums-past f jobs made name c (subst (λ n. AllByRecursion (λ (other : JobDef). bytes_eq other.name n ≡ false) jobs) names distinct.0) in
+        let names : job.name ≡ file.name = bytes_same job.name file.name same in
+        let here : bytes_eq file.name job.name ≡ true = ap (λ n. bytes_eq file.name n) names ∙ bytes_refl file.name in
+        let past = sums-past f jobs file name c (subst (λ n. AllByRecursion (λ (other : JobDef). bytes_eq other.name n ≡ false) jobs) names distinct.0) in
         rw (here, past) (omega (arith, sum-with f new (instances_of job.name c)))
     by_case false differs some ih =
         let rest = ih some in
-        rw (back job.name made differs) (omega (arith, rest))
+        rw (back job.name file.name differs) (omega (arith, rest))
 
 -- a sum over all instances is one over the jobs
-pub sum-all : (f : ℕ → ℕ) (jobs : List JobDef) (c : Chronicle) → AreDistinct jobs → AreNamed jobs c → sum f (all_instances c) ≡ job_sums f jobs c
+pub sum-all : (f : ℕ → ℕ) (jobs : List JobDef) (c : Chronicle) → AreDistinct jobs → AreMadeBy jobs c → sum f (all_instances c) ≡ job_sums f jobs c
 sum-all f jobs [] distinct named = sym (sums-none f jobs)
-sum-all f jobs (Made made name ∷ c) distinct named =
-    omega (arith, sum-all f jobs c distinct named.1, sums-made f jobs made name c distinct named.0)
+sum-all f jobs (Made file name ∷ c) distinct made =
+    omega (arith, sum-all f jobs c distinct made.1, sums-made f jobs file name c distinct (ap is_some made.0))
 sum-all f jobs (Entered i state.Waiting ∷ c) distinct named =
     sum-without f i (all_instances c) ∙ sum-all (but i f) jobs c distinct named ∙ sym (sums-left f i jobs c)
 sum-all f jobs (entry ∷ c) distinct named = sum-all f jobs c distinct named ∙ sym (sums-same f jobs c (entry ∷ c) (λ name. refl))
@@ -140,7 +140,7 @@ among [] c = refl
 among (x ∷ xs) c = rw (among xs c) refl
 
 -- what is kept counts what may still be ordered
-pub left-kept : (places : Places) (jobs : List JobInstances) (config : Configuration) (c : Chronicle) → KeepsJobs places jobs config c → AreDistinct config.jobs → AreNamed config.jobs c → left_of_jobs jobs ≡ left c
+pub left-kept : (places : Places) (jobs : List JobInstances) (config : Configuration) (c : Chronicle) → KeepsJobs places jobs config c → AreDistinct config.jobs → AreMadeBy config.jobs c → left_of_jobs jobs ≡ left c
 unfolding left
 left-kept places jobs config c keeps distinct named =
     sym (jobs-by places jobs) ∙ ap left_by_jobs keeps ∙ summed-by config c config.jobs ∙ sym (sum-all (λ p. left_at p c) config.jobs c distinct named) ∙ sym (among (all_instances c) c)

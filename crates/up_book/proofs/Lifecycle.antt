@@ -35,26 +35,26 @@ one-job places f g jobs config c d place job same keeps distinct there here othe
     (jobs-elsewhere (job_summary config c) (job_summary config d) place config.jobs job there distinct others))
 
 -- what is made leaves what is known of others
-pub spared-made : (config : Configuration) (job : JobDef) (other name : Bytes) (c : Chronicle) (x : Instance) → (length c == x.place) ≡ false → HoldsOlder x.place c
-    → summary config job (Made other name ∷ c) x ≡ summary config job c x
-spared-made config job other name c x apart older = rw (apart, holding-later (Made other name) c (holders x.place c) older) refl
+pub spared-made : (config : Configuration) (job : JobDef) (file : JobDef) (name : Bytes) (c : Chronicle) (x : Instance) → (length c == x.place) ≡ false → HoldsOlder x.place c
+    → summary config job (Made file name ∷ c) x ≡ summary config job c x
+spared-made config job file name c x apart older = rw (apart, holding-later (Made file name) c (holders x.place c) older) refl
 
 pub map-all : (P : Instance → Type 0) (f g : Instance → Summary) (xs : List Instance) → ((x : Instance) → P x → f x ≡ g x) → AllByRecursion P xs → map f xs ≡ map g xs
 map-all P f g [] same all = refl
 map-all P f g (x ∷ xs) same all = cons_same (same x all.0) (map-all P f g xs same all.1)
 
-spared-made-all : (config : Configuration) (job : JobDef) (other name : Bytes) (c : Chronicle) (its : Bytes) → ((i : ℕ) → HoldsOlder i c)
-    → map (summary config job (Made other name ∷ c)) (instances_of its c) ≡ map (summary config job c) (instances_of its c)
-spared-made-all config job other name c its older =
-    map-all (IsKnown its c) (summary config job (Made other name ∷ c)) (summary config job c) (instances_of its c)
-    (λ x known. spared-made config job other name c x (older-other (length c) x.place known.0) (older x.place)) (known-all its c)
+spared-made-all : (config : Configuration) (job : JobDef) (file : JobDef) (name : Bytes) (c : Chronicle) (its : Bytes) → ((i : ℕ) → HoldsOlder i c)
+    → map (summary config job (Made file name ∷ c)) (instances_of its c) ≡ map (summary config job c) (instances_of its c)
+spared-made-all config job file name c its older =
+    map-all (IsKnown its c) (summary config job (Made file name ∷ c)) (summary config job c) (instances_of its c)
+    (λ x known. spared-made config job file name c x (older-other (length c) x.place known.0) (older x.place)) (known-all its c)
 
 -- of what was just made nothing is known
-pub made-blank : (config : Configuration) (job : JobDef) (other name : Bytes) (c : Chronicle) → ((i : ℕ) → HoldsOlder i c) → summary config job c (record { place = length c; name = name }) ≡ blank job name
-    → summary config job (Made other name ∷ c) (record { place = length c; name = name }) ≡ blank job name
-made-blank config job other name c older none =
-    let fresh : record (summary config job c (record { place = length c; name = name })) { children = idle } ≡ blank job name = ap (λ (s : Summary). record s { children = idle }) none in
-    rw (eq-eqb (length c) (length c) refl, holding-later (Made other name) c (holders (length c) c) (older (length c))) fresh
+pub made-blank : (config : Configuration) (job : JobDef) (file : JobDef) (name : Bytes) (c : Chronicle) → ((i : ℕ) → HoldsOlder i c) → summary config job c (record { place = length c; name = name; file = job }) ≡ blank job name
+    → summary config job (Made file name ∷ c) (record { place = length c; name = name; file = job }) ≡ blank job name
+made-blank config job file name c older none =
+    let fresh : record (summary config job c (record { place = length c; name = name; file = job })) { children = idle } ≡ blank job name = ap (λ (s : Summary). record s { children = idle }) none in
+    rw (eq-eqb (length c) (length c) refl, holding-later (Made file name) c (holders (length c) c) (older (length c))) fresh
 
 abbrev pub with_summary : Summary → JobSummary → JobSummary
 with_summary s job = record job { instances = with_named (λ t. t.name) s job.instances }
@@ -62,15 +62,15 @@ with_summary s job = record job { instances = with_named (λ t. t.name) s job.in
 same-instances : (job : JobSummary) (xs ys : List Summary) → xs ≡ ys → record job { instances = xs } ≡ record job { instances = ys }
 same-instances job xs ys same = ap (λ (zs : List Summary). record job { instances = zs }) same
 
-made-here : (config : Configuration) (job : JobDef) (name : Bytes) (c : Chronicle) → ((i : ℕ) → HoldsOlder i c) → summary config job c (record { place = length c; name = name }) ≡ blank job name
-    → job_summary config (Made job.name name ∷ c) job ≡ with_summary (blank job name) (job_summary config c job)
+made-here : (config : Configuration) (job : JobDef) (name : Bytes) (c : Chronicle) → ((i : ℕ) → HoldsOlder i c) → summary config job c (record { place = length c; name = name; file = job }) ≡ blank job name
+    → job_summary config (Made job name ∷ c) job ≡ with_summary (blank job name) (job_summary config c job)
 made-here config job name c older none =
-    let d : Chronicle = Made job.name name ∷ c in
-    let made : Instance = record { place = length c; name = name } in
+    let d : Chronicle = Made job name ∷ c in
+    let made : Instance = record { place = length c; name = name; file = job } in
     let order : map (summary config job d) (with_named (λ (x : Instance). x.name) made (instances_of job.name c)) ≡ with_named (λ (s : Summary). s.name) (summary config job d made) (map (summary config job d) (instances_of job.name c)) =
     with_named-map (summary config job d) (λ (x : Instance). x.name) (λ (s : Summary). s.name) (λ x. refl) made (instances_of job.name c) in
-    let rest = spared-made-all config job job.name name c job.name older in
-    let new = made-blank config job job.name name c older none in
+    let rest = spared-made-all config job job name c job.name older in
+    let new = made-blank config job job name c older none in
     rw (bytes_refl job.name) (same-instances (job_summary config c job) _ _ (order ∙ ap (λ (xs : List Summary). with_named (λ (s : Summary). s.name) (summary config job d made) xs) rest ∙ ap (λ (s : Summary). with_named (λ (t : Summary). t.name) s (map (summary config job c) (instances_of job.name c))) new))
 
 back : (x y : Bytes) → bytes_eq x y ≡ false → bytes_eq y x ≡ false
@@ -82,22 +82,22 @@ back x y apart = by_case (bytes_eq y x) refl
         absurd cc
     by_case false differs = refl
 
-made-elsewhere : (config : Configuration) (job : Bytes) (name : Bytes) (c : Chronicle) (other : JobDef) → ((i : ℕ) → HoldsOlder i c) → bytes_eq other.name job ≡ false
+made-elsewhere : (config : Configuration) (job : JobDef) (name : Bytes) (c : Chronicle) (other : JobDef) → ((i : ℕ) → HoldsOlder i c) → bytes_eq other.name job.name ≡ false
     → job_summary config (Made job name ∷ c) other ≡ job_summary config c other
 made-elsewhere config job name c other older apart =
-    rw (back other.name job apart) (same-instances (job_summary config c other) _ _ (spared-made-all config other job name c other.name older))
+    rw (back other.name job.name apart) (same-instances (job_summary config c other) _ _ (spared-made-all config other job name c other.name older))
 
 -- a job has one instance more
 pub keeps-made : (places : Places) (kept : Kept) (jobs : List JobInstances) (config : Configuration) (c : Chronicle) (place : ℕ) (job : JobDef) (name : Bytes)
     → KeepsJobs places jobs config c → AreDistinct config.jobs → nth place config.jobs ≡ Some job → ((i : ℕ) → HoldsOlder i c)
-    → summary config job c (record { place = length c; name = name }) ≡ blank job name → view places kept ≡ blank job name
-    → KeepsJobs places (with_at place (with_made kept) jobs) config (Made job.name name ∷ c)
+    → summary config job c (record { place = length c; name = name; file = job }) ≡ blank job name → view places kept ≡ blank job name
+    → KeepsJobs places (with_at place (with_made kept) jobs) config (Made job name ∷ c)
 keeps-made places kept jobs config c place job name keeps distinct there older none new =
-    one-job places (with_made kept) (with_summary (view places kept)) jobs config c (Made job.name name ∷ c) place job
+    one-job places (with_made kept) (with_summary (view places kept)) jobs config c (Made job name ∷ c) place job
     (λ j. ap (λ (xs : List Summary). record (job_view places j) { instances = xs }) (with_named-map (view places) (λ (k : Kept). k.name) (λ (s : Summary). s.name) (λ k. refl) kept j.instances))
     keeps distinct there
     (made-here config job name c older none ∙ ap (λ (s : Summary). with_summary s (job_summary config c job)) (sym new))
-    (λ other apart. made-elsewhere config job.name name c other older apart)
+    (λ other apart. made-elsewhere config job name c other older apart)
 
 -- the instance at a place of a list, and the list without it
 pub without-nth : (at : ℕ) (xs : List Instance) (x : Instance) → nth at xs ≡ Some x → count x.place xs ≤ 1 → without_instance x.place xs ≡ without_at at xs

@@ -57,47 +57,47 @@ instances-more places config job c kept x (k ∷ its) (y ∷ xs) name names new 
     by_case false false same ih = (new, r)
 
 -- jobs that have another name
-others-made : (places : Places) (config : Configuration) (c : Chronicle) (job name : Bytes) (its : List JobInstances) (jobs : List JobDef) → AllByRecursion (λ other. bytes_eq other.name job ≡ false) jobs
+others-made : (places : Places) (config : Configuration) (c : Chronicle) (job : JobDef) (name : Bytes) (its : List JobInstances) (jobs : List JobDef) → AllByRecursion (λ other. bytes_eq other.name job.name ≡ false) jobs
     → StopsRemember places config c its jobs → StopsRemember places config (Made job name ∷ c) its jobs
 others-made places config c job name [] [] apart r = tt
 others-made places config c job name [] (d ∷ jobs) apart r = absurd r
 others-made places config c job name (j ∷ its) [] apart r = absurd r
 others-made places config c job name (j ∷ its) (d ∷ jobs) apart r = (
-  rw (apart-back d.name job apart.0) (instances-later places config d (Made job name) c j.instances (instances_of d.name c) (λ x. refl) r.0),
+  rw (apart-back d.name job.name apart.0) (instances-later places config d (Made job name) c j.instances (instances_of d.name c) (λ x. refl) r.0),
   others-made places config c job name its jobs apart.1 r.1,
 )
 
 stops-made : (places : Places) (config : Configuration) (c : Chronicle) (kept : Kept) (name : Bytes) (place : ℕ) (job : JobDef) (its : List JobInstances) (jobs : List JobDef) → map (job_view places) its ≡ map (job_summary config c) jobs
     → AreDistinct jobs → nth place jobs ≡ Some job → kept.name ≡ name → Remembers places kept.stop_on job.stop_on (seen config (StopOn (length c)) c) → StopsRemember places config c its jobs
-    → StopsRemember places config (Made job.name name ∷ c) (with_at place (with_made kept) its) jobs
+    → StopsRemember places config (Made job name ∷ c) (with_at place (with_made kept) its) jobs
 stops-made places config c kept name place job [] [] same distinct there named new r = tt
 stops-made places config c kept name place job [] (d ∷ jobs) same distinct there named new r = absurd r
 stops-made places config c kept name place job (j ∷ its) [] same distinct there named new r = absurd r
 stops-made places config c kept name zero job (j ∷ its) (d ∷ jobs) same distinct there named new r =
     let is : d ≡ job = cc in
     let first : job_view places j ≡ job_summary config c d = cc in
-    let made : Instance = record { place = length c; name = name } in
+    let made : Instance = record { place = length c; name = name; file = job } in
     let names = names-same places config job c j.instances (instances_of job.name c) (ap (λ (s : JobSummary). s.instances) (first ∙ ap (job_summary config c) is)) in
     let mine : InstancesRemember places config job c j.instances (instances_of job.name c) = subst (λ (x : JobDef). InstancesRemember places config x c j.instances (instances_of x.name c)) is r.0 in
     let more = instances-more places config job c kept made j.instances (instances_of job.name c) named names new mine in
-    let later = instances-later places config job (Made job.name name) c (with_named (λ k. k.name) kept j.instances) (with_instance made (instances_of job.name c)) (λ x. refl) more in
-    let here : InstancesRemember places config job (Made job.name name ∷ c) (with_named (λ k. k.name) kept j.instances) (instances_of job.name (Made job.name name ∷ c)) = rw (bytes_refl job.name) later in (
-      subst (λ (x : JobDef). InstancesRemember places config x (Made job.name name ∷ c) (with_named (λ k. k.name) kept j.instances) (instances_of x.name (Made job.name name ∷ c))) (sym is) here,
-      others-made places config c job.name name its jobs (subst (λ (x : JobDef). AllByRecursion (λ other. bytes_eq other.name x.name ≡ false) jobs) is distinct.0) r.1,
+    let later = instances-later places config job (Made job name) c (with_named (λ k. k.name) kept j.instances) (with_instance made (instances_of job.name c)) (λ x. refl) more in
+    let here : InstancesRemember places config job (Made job name ∷ c) (with_named (λ k. k.name) kept j.instances) (instances_of job.name (Made job name ∷ c)) = rw (bytes_refl job.name) later in (
+      subst (λ (x : JobDef). InstancesRemember places config x (Made job name ∷ c) (with_named (λ k. k.name) kept j.instances) (instances_of x.name (Made job name ∷ c))) (sym is) here,
+      others-made places config c job name its jobs (subst (λ (x : JobDef). AllByRecursion (λ other. bytes_eq other.name x.name ≡ false) jobs) is distinct.0) r.1,
     )
 stops-made places config c kept name (suc place) job (j ∷ its) (d ∷ jobs) same distinct there named new r =
     let rest : map (job_view places) its ≡ map (job_summary config c) jobs = cc in
     let apart : bytes_eq job.name d.name ≡ false = nth-apart place jobs job d there distinct.0 in (
-      rw apart (instances-later places config d (Made job.name name) c j.instances (instances_of d.name c) (λ x. refl) r.0),
+      rw apart (instances-later places config d (Made job name) c j.instances (instances_of d.name c) (λ x. refl) r.0),
       stops-made places config c kept name place job its jobs rest distinct.1 there named new r.1,
     )
 
 pub remembered-made : (places : Places) (kept : Kept) (jobs : List JobInstances) (starts : List (Option (List Mark))) (config : Configuration) (c : Chronicle) (place : ℕ) (job : JobDef) (name : Bytes) → KeepsJobs places jobs config c
     → AreDistinct config.jobs → nth place config.jobs ≡ Some job → kept.name ≡ name → Remembers places kept.stop_on job.stop_on [] → Remembered places jobs starts config c
-    → Remembered places (with_at place (with_made kept) jobs) starts config (Made job.name name ∷ c)
+    → Remembered places (with_at place (with_made kept) jobs) starts config (Made job name ∷ c)
 remembered-made places kept jobs starts config c place job name keeps distinct there named new r = record {
   stops = stops-made places config c kept name place job jobs config.jobs keeps distinct there named (subst (Remembers places kept.stop_on job.stop_on) (sym (r.unborn (length c) (omega arith))) new) r.stops;
-  starts = starts-later places config (Made job.name name) c starts config.jobs (λ x. refl) r.starts;
+  starts = starts-later places config (Made job name) c starts config.jobs (λ x. refl) r.starts;
   unborn = λ i past. r.unborn i (omega (arith, past));
 }
 

@@ -9,7 +9,6 @@ use Rattle.up_model.specs.Chronicle.{Chronicle, Made}
 use Rattle.up_model.specs.Configuration.{Configuration}
 use Rattle.up_model.specs.Instances.{Instance, with_instance, instances_of, instance_named}
 use Rattle.up_book.specs.Regular.{called, MayFollow}
-use Rattle.up_book.proofs.Releasing.{found}
 use Rattle.up_model.specs.Queue.{queue}
 use Rattle.up_model.specs.Values.{Bytes}
 use Rattle.up_model.proofs.Places.{bytes_refl}
@@ -36,6 +35,7 @@ use Rattle.up_book.proofs.Entering.{older-after}
 use Rattle.up_book.proofs.Lifecycle.{keeps-made, spared-made}
 use Rattle.up_book.proofs.Lists.{map-nth, nth-map, nth-with}
 use Rattle.up_book.proofs.Named.{nth-with_named}
+use Rattle.up_book.proofs.Outgoing.{named-there}
 use Rattle.up_book.proofs.Whole.{forgets-lives}
 
 -- what uses nothing adds nothing
@@ -54,21 +54,21 @@ uses-more id kept (suc place) (j ∷ jobs) none = omega (arith, uses-more id kep
 
 pub forgets-made : (book after : Past) (config : Configuration) (c : Chronicle) (place : ℕ) (job : JobDef) (name : Bytes) (trigger : Option (List Mark)) → Forgets book config c → nth place config.jobs ≡ Some job
     → instance_named (called job.name name) c ≡ None → ((places : Places) → Remembers places trigger job.stop_on []) → ((id : EventId) → uses_by id trigger ≡ 0)
-    → after.instances ≡ with_at place (with_made (new_instance name (limits_of job) trigger)) book.instances → after.starts ≡ book.starts → after.events ≡ book.events → after.reading ≡ book.reading → Forgets after config (Made job.name name ∷ c)
+    → after.instances ≡ with_at place (with_made (new_instance name (limits_of job) trigger)) book.instances → after.starts ≡ book.starts → after.events ≡ book.events → after.reading ≡ book.reading → Forgets after config (Made job name ∷ c)
 forgets-made book after config c place job name trigger f there none blank unused does starts events reading =
-    let follow : MayFollow config c (Made job.name name) = (none, found place config.jobs job there) in
+    let follow : MayFollow config c (Made job name) = (none, named-there place config.jobs job there f.lives.distinct) in
     let kept = new_instance name (limits_of job) trigger in
     let places = place_of book.events (queue c) in
-    let lives : Keeps places after.instances config (Made job.name name ∷ c) = record {
+    let lives : Keeps places after.instances config (Made job name ∷ c) = record {
       jobs = rw does (keeps-made places kept book.instances config c place job name f.lives.jobs f.lives.distinct there f.lives.older
-          (f.lives.later job (record { place = length c; name = name }) (omega arith)) (new-blank places job name trigger));
-      older = older-after (Made job.name name) c tt f.lives.older;
-      later = λ other x past. spared-made config other job.name name c x (ne_eqb (length c) x.place (λ e. omega (arith, past))) (f.lives.older x.place) ∙ f.lives.later other x (omega (arith, past));
+          (f.lives.later job (record { place = length c; name = name; file = job }) (omega arith)) (new-blank places job name trigger));
+      older = older-after (Made job name) c tt f.lives.older;
+      later = λ other x past. spared-made config other job name c x (ne_eqb (length c) x.place (λ e. omega (arith, past))) (f.lives.older x.place) ∙ f.lives.later other x (omega (arith, past));
       distinct = f.lives.distinct;
     } in
-    let remembered : Remembered places after.instances book.starts.items config (Made job.name name ∷ c) =
+    let remembered : Remembered places after.instances book.starts.items config (Made job name ∷ c) =
     rw does (remembered-made places kept book.instances book.starts.items config c place job name f.lives.jobs f.lives.distinct there refl (blank places) f.remembered) in
-    forgets-lives book after config c (Made job.name name) f lives remembered refl follow (λ p. refl) refl
+    forgets-lives book after config c (Made job name) f lives remembered refl follow (λ p. refl) refl
     (λ id. ap (uses id) does ∙ uses-more id kept place book.instances (omega (arith, unused id))) starts events reading
 
 -- where its name belongs
@@ -86,17 +86,17 @@ position-so book config c place job name f there =
 -- the key of the new one
 pub made-key : (book : Past) (after : List JobInstances) (config : Configuration) (c : Chronicle) (place position : ℕ) (job : JobDef) (kept : Kept) (name : Bytes) → Forgets book config c → nth place config.jobs ≡ Some job
     → after ≡ with_at place (with_made kept) book.instances → position ≡ position_at kept.name place book.instances → kept.name ≡ name
-    → place_at after (Made job.name name ∷ c) (record { job = place; at = position }) ≡ Some (length c)
+    → place_at after (Made job name ∷ c) (record { job = place; at = position }) ≡ Some (length c)
 made-key book after config c place position job kept name f there does stands named =
     let places = place_of book.events (queue c) in
-    let d : Chronicle = Made job.name name ∷ c in
+    let d : Chronicle = Made job name ∷ c in
     let summed = map-nth (job_summary config c) place config.jobs job there in
     let viewed : nth place (map (job_view places) book.instances) ≡ Some (job_summary config c job) = ap (nth place) f.lives.jobs ∙ summed in
     let its = nth-map (job_view places) place book.instances (job_summary config c job) viewed in
     let same_job : its.0.name ≡ job.name = ap (λ (s : JobSummary). s.name) its.2 in
     let names : map (λ (k : Kept). k.name) its.0.instances ≡ map (λ (x : Instance). x.name) (instances_of job.name c) =
     names-same places config job c its.0.instances (instances_of job.name c) (ap (λ (s : JobSummary). s.instances) its.2) in
-    let made : Instance = record { place = length c; name = name } in
+    let made : Instance = record { place = length c; name = name; file = job } in
     let at : position ≡ position_in name (map (λ (x : Instance). x.name) (instances_of job.name c)) = stands ∙ ap (λ o. position_in kept.name (map (λ (k : Kept). k.name) (list_of o))) its.1 ∙ ap (position_in kept.name) names ∙ ap (λ n. position_in n (map (λ (x : Instance). x.name) (instances_of job.name c))) named in
     let here : nth place after ≡ Some (with_made kept its.0) = ap (nth place) does ∙ nth-with (with_made kept) place book.instances its.0 its.1 in
     let found : nth (position_in name (map (λ (x : Instance). x.name) (instances_of job.name c))) (with_instance made (instances_of job.name c)) ≡ Some made = nth-with_named (λ (x : Instance). x.name) made (instances_of job.name c) in

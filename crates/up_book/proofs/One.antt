@@ -42,18 +42,18 @@ all-with P y (z ∷ zs) h all = by_case (is_before z y) (all-with P y zs h all.1
 
 pub known-all : (job : Bytes) (c : Chronicle) → AllByRecursion (IsKnown job c) (instances_of job c)
 known-all job [] = tt
-known-all job (Made other name ∷ c) = by_case (bytes_eq other job) refl (known-later job (Made other name) c (instances_of job c) (known-all job c))
+known-all job (Made file name ∷ c) = by_case (bytes_eq file.name job) refl (known-later job (Made file name) c (instances_of job c) (known-all job c))
   where
     d : Chronicle
-    d = Made other name ∷ c
+    d = Made file name ∷ c
 
     made : Instance
-    made = record { place = length c; name = name }
+    made = record { place = length c; name = name; file = file }
 
-    by_case : (b : Bool) → bytes_eq other job ≡ b → AllByRecursion (IsKnown job d) (instances_of job c)
+    by_case : (b : Bool) → bytes_eq file.name job ≡ b → AllByRecursion (IsKnown job d) (instances_of job c)
         → AllByRecursion (IsKnown job d) (if b then with_instance made (instances_of job c) else instances_of job c)
     by_case true same rest =
-        all-with (IsKnown job d) made (instances_of job c) (omega arith, rw (eq-eqb (length c) (length c) refl) (ap (λ its. Some (called its name)) (bytes_same other job same))) rest
+        all-with (IsKnown job d) made (instances_of job c) (omega arith, rw (eq-eqb (length c) (length c) refl) (ap (λ its. Some (called its name)) (bytes_same file.name job same))) rest
     by_case false differs rest = rest
 known-all job (Entered i state.Waiting ∷ c) = known-later job (Entered i state.Waiting) c (without_instance i (instances_of job c)) (all-without (IsKnown job c) i (instances_of job c) (known-all job c))
 known-all job (entry ∷ c) = known-later job entry c (instances_of job c) (known-all job c)

@@ -12,7 +12,7 @@ use Rattle.up_model.specs.Chronicle.{Chronicle, Entry, Given, Queued, Ordered, S
 use Rattle.up_model.specs.Configuration.{Configuration, job_named}
 use Rattle.up_model.specs.Instances.{Instance, instances_of}
 use Rattle.up_model.specs.Outputs.{outputs_of}
-use Rattle.up_model.specs.Readings.{made_at}
+use Rattle.up_model.specs.Readings.{made_at, file_of}
 use Rattle.up_model.specs.Replies.{status_of, own_process, pid_if}
 use Rattle.up_model.specs.Values.{Bytes}
 use Rattle.up_model.proofs.Places.{bytes_same, bytes_refl}
@@ -23,6 +23,7 @@ use Rattle.up_job.specs.declared.instance.Instance.{Instance as Kept}
 use Rattle.up_model.specs.declared.who.Who.{Who}
 use Rattle.up_book.specs.Views.{Places, view}
 use Rattle.up_book.proofs.Knowing.{work-known}
+use Rattle.up_model.proofs.FileLaws.{AreMadeBy, are_by, HasFile, files}
 use Rattle.up_book.proofs.One.{IsKnown, known-all, called, nth-all}
 use Rattle.up_book.specs.Sending.{order_by, signal_by, own_pid, status_by}
 
@@ -68,10 +69,14 @@ made-there at job x c here =
     its.1
 
 -- an order
-pub ordered-out : (config : Configuration) (c : Chronicle) (place at : ℕ) (job : JobDef) (x : Instance) (its : Process) → AreDistinct config.jobs → nth place config.jobs ≡ Some job
+pub ordered-out : (config : Configuration) (c : Chronicle) (place at : ℕ) (job : JobDef) (x : Instance) (its : Process) → AreDistinct config.jobs → AreMadeBy config.jobs c → nth place config.jobs ≡ Some job
     → nth at (instances_of job.name c) ≡ Some x → outputs_of (Ordered x.place its ∷ c) ≡ outputs_of c ++ order_by job (summary config job c x) its
 unfolding outputs_of
-ordered-out config c place at job x its distinct there here = rw (made-there at job x c here, named-there place config.jobs job there distinct) refl
+ordered-out config c place at job x its distinct made there here =
+    let has = nth-all (HasFile job.name c) at (instances_of job.name c) x here (files job.name c) in
+    let by = nth-all (λ y. job_named job.name config.jobs ≡ Some y.file) at (instances_of job.name c) x here (are_by config.jobs job.name c made) in
+    let file : file_of x.place c ≡ Some job = has.1 ∙ sym by ∙ named-there place config.jobs job there distinct in
+    rw (made-there at job x c here, file) refl
 
 -- a signal
 pub signalled-out : (config : Configuration) (c : Chronicle) (at : ℕ) (job : JobDef) (x : Instance) (signal : ℕ) (by_timer : Bool)

@@ -8,8 +8,9 @@ use Rattle.up_model.specs.Clock.{now}
 use Rattle.up_model.specs.Configuration.{Configuration}
 use Rattle.up_model.specs.Held.{has, is_spoilt}
 use Rattle.up_model.specs.Readings.{holders}
+use Rattle.up_model.proofs.FileLaws.{AreMadeBy}
 use Rattle.up_model.proofs.NameLaws.{Singles, entered-singles, made-singles}
-use Rattle.up_book.specs.Regular.{AreOlderOrigins, AreNamed, IsRegular, MayFollow}
+use Rattle.up_book.specs.Regular.{AreOlderOrigins, IsRegular, MayFollow}
 use Rattle.up_job.specs.Moments.{moments_of, Falls}
 use Rattle.up_job.proofs.MomentLemmas.{falls-later}
 
@@ -32,7 +33,7 @@ none-older event n (place ∷ places) past all =
     rw (apart, none-older event n places past all.1) refl
 
 singles-next : (config : Configuration) (c : Chronicle) (e : Entry) → Singles c → MayFollow config c e → Singles (e ∷ c)
-singles-next config c (Made job name) single follow = made-singles job name c follow.0 single
+singles-next config c (Made file name) single follow = made-singles file name c follow.0 single
 singles-next config c (Entered i to) single follow = entered-singles i to c single
 singles-next config c e single follow = single
 
@@ -40,9 +41,9 @@ origins-next : (config : Configuration) (c : Chronicle) (e : Entry) → AreOlder
 origins-next config c (Queued (Outside given) event) origins follow = (follow, origins)
 origins-next config c e origins follow = origins
 
-named-next : (config : Configuration) (c : Chronicle) (e : Entry) → AreNamed config.jobs c → MayFollow config c e → AreNamed config.jobs (e ∷ c)
-named-next config c (Made job name) named follow = (follow.1, named)
-named-next config c e named follow = named
+made-next : (config : Configuration) (c : Chronicle) (e : Entry) → AreMadeBy config.jobs c → MayFollow config c e → AreMadeBy config.jobs (e ∷ c)
+made-next config c (Made file name) made follow = (follow.1, made)
+made-next config c e made follow = made
 
 unspoilt-next : (config : Configuration) (c : Chronicle) (e : Entry) → ((event : ℕ) → length c ≤ event → is_spoilt event c ≡ false) → MayFollow config c e → (event : ℕ) → length (e ∷ c) ≤ event → is_spoilt event (e ∷ c) ≡ false
 unspoilt-next config c (Released i true) unspoilt follow event past =
@@ -62,6 +63,6 @@ regular-next config c e r follow = record {
   origins = origins-next config c e r.origins follow;
   unspoilt = unspoilt-next config c e r.unspoilt follow;
   singles = singles-next config c e r.singles follow;
-  named = named-next config c e r.named follow;
+  made = made-next config c e r.made follow;
   falling = falling-next config c e r.falling follow;
 }

@@ -32,14 +32,3 @@ released-out places config c i failed its told older same text =
       same = λ p before. rw (older-other (length c) p before) refl;
     }
 
-pub found : (place : ℕ) (jobs : List JobDef) (job : JobDef) → nth place jobs ≡ Some job → is_some (job_named job.name jobs) ≡ true
-found place [] job there = absurd cc
-found zero (first ∷ jobs) job there =
-    let same : first ≡ job = cc in
-    let here : bytes_eq first.name job.name ≡ true = ap (λ (j : JobDef). bytes_eq j.name job.name) same ∙ bytes_refl job.name in
-    rw here refl
-found (suc place) (first ∷ jobs) job there = by_case (bytes_eq first.name job.name) (found place jobs job there)
-  where
-    by_case : (b : Bool) → is_some (job_named job.name jobs) ≡ true → is_some (if b then Some first else job_named job.name jobs) ≡ true
-    by_case true ih = refl
-    by_case false ih = ih

@@ -43,7 +43,7 @@ state-apart i e c apart = refl
 
 pid-apart : (i : ℕ) (its : Process) (e : Entry) (c : Chronicle) → Mentions i e ≡ false → i < length c → pid_of i its (e ∷ c) ≡ pid_of i its c
 pid-apart i its (Given input) c apart older = absurd cc
-pid-apart i its (Made job name) c apart older = rw (older-other (length c) i older) refl
+pid-apart i its (Made file name) c apart older = rw (older-other (length c) i older) refl
 pid-apart i its e c apart older = refl
 
 own-apart : (i : ℕ) (o : Option Process) (e : Entry) (c : Chronicle) → Mentions i e ≡ false → i < length c → pid_if i o (e ∷ c) ≡ pid_if i o c
@@ -90,7 +90,7 @@ pub left-gone : (i : ℕ) (c : Chronicle) → i < length c → IsGone i (Entered
 left-gone i c older = (omega (arith, older), count-gone i (all_instances c))
 
 pub gone-later : (i : ℕ) (e : Entry) (c : Chronicle) → IsGone i c → IsGone i (e ∷ c)
-gone-later i (Made job name) c gone =
+gone-later i (Made file name) c gone =
     let apart : one_if (length c == i) ≡ 0 = ap one_if (older-other (length c) i gone.0) in
     (omega (arith, gone.0), omega (arith, apart, gone.1))
 gone-later i (Entered j state.Waiting) c gone = (omega (arith, gone.0), none-without i j (all_instances c) gone.1)

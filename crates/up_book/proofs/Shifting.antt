@@ -77,14 +77,14 @@ place_of_one o = option_map {T = Instance} (λ x. x.place) o
 -- an instance came
 pub key-made : (places : Places) (old : List JobInstances) (config : Configuration) (c : Chronicle) (place : ℕ) (job : JobDef) (kept : Kept) (name : Bytes) (key : InstanceKey) (i : ℕ)
     → KeepsJobs places old config c → AreDistinct config.jobs → nth place config.jobs ≡ Some job → place_at old c key ≡ Some i
-    → place_at (with_at place (with_made kept) old) (Made job.name name ∷ c) (after_made place (position_in name (map (λ (x : Instance). x.name) (instances_of job.name c))) key) ≡ Some i
+    → place_at (with_at place (with_made kept) old) (Made job name ∷ c) (after_made place (position_in name (map (λ (x : Instance). x.name) (instances_of job.name c))) key) ≡ Some i
 key-made places old config c place job kept name key i keeps distinct there stands = by_job (nth key.job old) refl stands
   where
     d : Chronicle
-    d = Made job.name name ∷ c
+    d = Made job name ∷ c
 
     made : Instance
-    made = record { place = length c; name = name }
+    made = record { place = length c; name = name; file = job }
 
     position : ℕ
     position = position_in name (map (λ (x : Instance). x.name) (instances_of job.name c))

@@ -1,7 +1,6 @@
 -- What holds of a chronicle that a run brings about.
-use Rattle.std.specs.Prelude.{◌≡◌, ◌<◌, ◌≤◌, ℕ, true, false, List, [], ◌∷◌, None, is_some, length}
+use Rattle.std.specs.Prelude.{◌≡◌, ◌<◌, ◌≤◌, ℕ, true, false, List, [], ◌∷◌, None, Some, length}
 use Rattle.std.specs.List.{AllByRecursion}
-use Rattle.up_conf.specs.declared.job.JobDef.{JobDef}
 use Rattle.up_model.specs.declared.who.Who.{Who}
 use Rattle.up_model.specs.Chronicle.{Chronicle, Entry, Queued, Outside, Made, Released, Respawned}
 use Rattle.up_model.specs.Clock.{now}
@@ -10,6 +9,7 @@ use Rattle.up_model.specs.Held.{is_spoilt}
 use Rattle.up_model.specs.Instances.{instance_named}
 use Rattle.up_model.specs.Readings.{holders}
 use Rattle.up_model.specs.Values.{Bytes}
+use Rattle.up_model.proofs.FileLaws.{AreMadeBy}
 use Rattle.up_model.proofs.NameLaws.{Singles}
 use Rattle.up_job.specs.Moments.{moments_of, Falls}
 
@@ -19,12 +19,6 @@ AreOlderOrigins [] = Unit {0}
 AreOlderOrigins (Queued (Outside given) event ∷ c) = (given < length c) × AreOlderOrigins c
 AreOlderOrigins (entry ∷ c) = AreOlderOrigins c
 
--- each instance was made of one of these jobs
-abbrev pub AreNamed : List JobDef → Chronicle → Type 0
-AreNamed jobs [] = Unit {0}
-AreNamed jobs (Made job name ∷ c) = (is_some (job_named job jobs) ≡ true) × AreNamed jobs c
-AreNamed jobs (entry ∷ c) = AreNamed jobs c
-
 abbrev pub called : Bytes → Bytes → Who
 called job name = record { job = job; instance = name }
 
@@ -32,13 +26,14 @@ pub record IsRegular (config : Configuration) (c : Chronicle) : Type 0 where
   pub origins : AreOlderOrigins c
   pub unspoilt : (event : ℕ) → length c ≤ event → is_spoilt event c ≡ false
   pub singles : Singles c
-  pub named : AreNamed config.jobs c
+  -- each instance was made by the file of one of the jobs
+  pub made : AreMadeBy config.jobs c
   pub falling : (instance : ℕ) → Falls (now c) (moments_of instance c)
 
 -- what may be the next entry of one
 abbrev pub MayFollow : Configuration → Chronicle → Entry → Type 0
 MayFollow config c (Queued (Outside given) event) = given < length c
-MayFollow config c (Made job name) = (instance_named (called job name) c ≡ None) × (is_some (job_named job config.jobs) ≡ true)
+MayFollow config c (Made file name) = (instance_named (called file.name name) c ≡ None) × (job_named file.name config.jobs ≡ Some file)
 MayFollow config c (Released instance true) = AllByRecursion (λ place. place < length c) (holders instance c)
 MayFollow config c (Respawned instance moment) = moment ≡ now c
 MayFollow config c entry = Unit {0}

@@ -31,6 +31,7 @@ ghost use Rattle.up_model.specs.Readings as read;
 ghost use Rattle.up_model.specs.Replies as replies;
 ghost use Rattle.up_model.specs.Seen as seen;
 ghost use Rattle.up_model.specs.Values.{Bytes};
+ghost use Rattle.up_model.proofs.FileLaws.{AreMadeBy};
 ghost use Rattle.up_model.proofs.NameLaws.{Singles};
 ghost use Rattle.up_text.specs.Scripts.{is_filled};
 
@@ -369,22 +370,22 @@ pub trait Book: Drop {
         ensures after { OnOk result ((config : Configuration) (c : Chronicle)
             → stands self.old Stepping config c → job_at config index ≡ Some job.now
             → instance_named (called job.now.name name.now) c ≡ None
-            → stands self.new Stepping config (entry.Made job.now.name name.now ∷ c)) }
+            → stands self.new Stepping config (entry.Made job.now name.now ∷ c)) }
         ensures made { IfOk result (λ key. (config : Configuration) (c : Chronicle)
             → stands self.old Stepping config c → job_at config index ≡ Some job.now
             → instance_named (called job.now.name name.now) c ≡ None
-            → instance_place config (entry.Made job.now.name name.now ∷ c) key ≡ Some (length c)) }
+            → instance_place config (entry.Made job.now name.now ∷ c) key ≡ Some (length c)) }
         ensures holders { OnOk result ((config : Configuration) (c : Chronicle)
             (who : HoldersValue) (places : List ℕ)
             → stands self.old Stepping config c → job_at config index ≡ Some job.now
             → instance_named (called job.now.name name.now) c ≡ None
             → held_as (event_place self.old c) (request_place c) who ≡ map Some places
-            → held_as (event_place self.new (entry.Made job.now.name name.now ∷ c)) (request_place c) who
+            → held_as (event_place self.new (entry.Made job.now name.now ∷ c)) (request_place c) who
             ≡ map Some places) }
         ensures events { OnOk result ((config : Configuration) (c : Chronicle) (k : EventIdValue) (j : ℕ)
             → stands self.old Stepping config c
             → job_at config index ≡ Some job.now → instance_named (called job.now.name name.now) c ≡ None
-            → event_place self.old c k ≡ Some j → event_place self.new (entry.Made job.now.name name.now ∷ c) k ≡ Some j) };
+            → event_place self.old c k ≡ Some j → event_place self.new (entry.Made job.now name.now ∷ c) k ≡ Some j) };
 
     /// The first job of the table, from an index on, with an expression that names an event, by a leaf without a literal value that rules
     /// the event out. Takes no memory.
@@ -521,4 +522,8 @@ pub trait Book: Drop {
     // no two jobs of the table have one name
     ghost distinct: { (book : Self) (mode : Mode) (config : Configuration) (c : Chronicle)
         → stands book mode config c → AreDistinct config.jobs };
+
+    // each instance was made by the file that the table has of its job
+    ghost made: { (book : Self) (mode : Mode) (config : Configuration) (c : Chronicle)
+        → stands book mode config c → AreMadeBy config.jobs c };
 }

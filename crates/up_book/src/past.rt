@@ -596,10 +596,10 @@ impl Past {
         ensures after { OnOk result ((config : Configuration) (c : Chronicle)
             → Forgets self.old config c → nth place config.jobs ≡ Some job.now
             → instance_named (called job.now.name name.now) c ≡ None
-            → Forgets self.new config (entry.Made job.now.name name.now ∷ c)) }
+            → Forgets self.new config (entry.Made job.now name.now ∷ c)) }
         ensures made { IfOk result (λ key. (config : Configuration) (c : Chronicle)
             → Forgets self.old config c → nth place config.jobs ≡ Some job.now
-            → instance_place self.new (entry.Made job.now.name name.now ∷ c) key ≡ Some (length c)) }
+            → instance_place self.new (entry.Made job.now name.now ∷ c) key ≡ Some (length c)) }
         ensures key { IfOk result (λ key. key
             ≡ record { job = place; at = position_at name.now place self.old.instances }) }
         ensures places { OnOk result (SamePlaces self.new.events self.old.events) }

@@ -58,25 +58,25 @@ stop-of P of config job i e c =
     f = Fired (StopOn i) events ∷ d
 
 -- what a `start on` does that fires
-start-of : (P : Entry → Type 0) → Acts P → (who : Who) → P (Made who.job who.instance) → (environment : Bindings) (its : List ℕ) (o : Option ℕ) (c : Chronicle) → AllByRecursion P (start_of who environment its o c)
-start-of P of who made environment its None c =
-    all-if P (nat_lt (length (instances_of who.job c)) max_instances) (Aimed (length c) Start environment its ∷ Made who.job who.instance ∷ []) (of.aimed (length c) Start environment its, (made, tt))
-start-of P of who made environment its (Some p) c =
+start-of : (P : Entry → Type 0) → Acts P → (job : JobDef) (who : Who) → P (Made job who.instance) → (environment : Bindings) (its : List ℕ) (o : Option ℕ) (c : Chronicle) → AllByRecursion P (start_of job who environment its o c)
+start-of P of job who made environment its None c =
+    all-if P (nat_lt (length (instances_of who.job c)) max_instances) (Aimed (length c) Start environment its ∷ Made job who.instance ∷ []) (of.aimed (length c) Start environment its, (made, tt))
+start-of P of job who made environment its (Some p) c =
     all-if P (not (is_start (goal p c))) (Aimed p Start environment its ∷ releasing p false c) (of.aimed p Start environment its, releases P of p c)
 
-pub start-who : (P : Entry → Type 0) → Acts P → (job : Bytes) → ((name : Bytes) → P (Made job name)) → (name : Option Bytes) (environment : Bindings) (its : List ℕ) (c : Chronicle)
-    → AllByRecursion P (start_who environment its (who_called job name) c)
+pub start-who : (P : Entry → Type 0) → Acts P → (job : JobDef) → ((name : Bytes) → P (Made job name)) → (name : Option Bytes) (environment : Bindings) (its : List ℕ) (c : Chronicle)
+    → AllByRecursion P (start_who job environment its (who_called job.name name) c)
 start-who P of job made None environment its c = tt
 start-who P of job made (Some name) environment its c =
-    let who : Who = record { job = job; instance = name } in
-    start-of P of who (made name) (events_of.with_instance who environment) its (instance_named who c) c
+    let who : Who = record { job = job.name; instance = name } in
+    start-of P of job who (made name) (events_of.with_instance who environment) its (instance_named who c) c
 
-pub start-by : (P : Entry → Type 0) → Acts P → (config : Configuration) (job : JobDef) → ((name : Bytes) → P (Made job.name name)) → (events : List ℕ) (c : Chronicle) → AllByRecursion P (start_by config job events c)
+pub start-by : (P : Entry → Type 0) → Acts P → (config : Configuration) (job : JobDef) → ((name : Bytes) → P (Made job name)) → (events : List ℕ) (c : Chronicle) → AllByRecursion P (start_by config job events c)
 start-by P of config job made events c =
     let name : Option Bytes = instance_name job (events_env (env_of_job config job.name) (events_at events c)) in
-    start-who P of job.name made name (start_env config (who_called job.name name) (events_at events c) c) events c
+    start-who P of job made name (start_env config (who_called job.name name) (events_at events c) c) events c
 
-pub start-all : (P : Entry → Type 0) → Fires P → (config : Configuration) (job : JobDef) → ((name : Bytes) → P (Made job.name name)) → (e : ℕ) (c : Chronicle) → AllByRecursion P (start_offer config job e c)
+pub start-all : (P : Entry → Type 0) → Fires P → (config : Configuration) (job : JobDef) → ((name : Bytes) → P (Made job name)) → (e : ℕ) (c : Chronicle) → AllByRecursion P (start_offer config job e c)
 start-all P of config job made e c =
     all-append P (entries_if (holds job.start_on (seen config x d)) (start_by config job events f ++ Fired x events ∷ [])) (Offered x e ∷ [])
     (all-if P (holds job.start_on (seen config x d)) (start_by config job events f ++ Fired x events ∷ [])

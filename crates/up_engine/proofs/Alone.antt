@@ -37,6 +37,7 @@ use Rattle.up_book.specs.Keys.{job_at, instance_at, instance_place}
 use Rattle.up_book.proofs.Answering.{Names, speaks-not}
 use Rattle.up_book.proofs.Keyed.{nth-get, job-there}
 use Rattle.up_book.proofs.One.{IsKnown, known-all, called, none-of-others, nth-all, nth-apart, apart-back}
+use Rattle.up_model.proofs.FileLaws.{AreMadeBy}
 use Rattle.up_engine.specs.Effects.{IsAlone, Concerns, concern_of}
 use Rattle.up_engine.specs.Settling.{settle_one, settle_each, settle_all}
 use Rattle.up_engine.proofs.Effects.{stay-entries}
@@ -242,20 +243,20 @@ alone-after config c key i es distinct found stay unasked own =
     }
 
 -- so after the answer for a process, or its end, the instance alone may move that it speaks of
-pub given-alone : (config : Configuration) (given : Input) (who : Who) (c : Chronicle) (key : InstanceKey) (i : ℕ) (es : List Entry) → AreDistinct config.jobs → Singles c → due config c ≡ [] → Names given who → instance_named who c ≡ Some i
+pub given-alone : (config : Configuration) (given : Input) (who : Who) (c : Chronicle) (key : InstanceKey) (i : ℕ) (es : List Entry) → AreDistinct config.jobs → AreMadeBy config.jobs c → Singles c → due config c ≡ [] → Names given who → instance_named who c ≡ Some i
     → instance_place config c key ≡ Some i → AllByRecursion (Own i) es → IsAlone key config (es ++ Given given ∷ c)
-given-alone config given who c key i es distinct singles none is named found own =
-    alone-after config (Given given ∷ c) key i es distinct found (stay-given config.jobs given who i c is named singles (stay-still i config.jobs c (none-moves config c distinct none))) refl own
+given-alone config given who c key i es distinct made singles none is named found own =
+    alone-after config (Given given ∷ c) key i es distinct found (stay-given config.jobs given who i c is named singles (stay-still i config.jobs c (none-moves config c distinct made none))) refl own
 
 -- what a key says that was found for a process
 spoken : (place o : Option ℕ) → Some place ≡ option_map (λ (i : ℕ). Some i) o → (i : ℕ) × (o ≡ Some i) × (place ≡ Some i)
 spoken place None same = absurd cc
 spoken place (Some i) same = (i, refl, cc)
 
-pub concerns-alone : (places : Chronicle → EventId → Option ℕ) (config : Configuration) (given : Input) (who : Who) (c : Chronicle) (on : Option InstanceKey) (es : List Entry) → AreDistinct config.jobs → Singles c → Names given who
+pub concerns-alone : (places : Chronicle → EventId → Option ℕ) (config : Configuration) (given : Input) (who : Who) (c : Chronicle) (on : Option InstanceKey) (es : List Entry) → AreDistinct config.jobs → AreMadeBy config.jobs c → Singles c → Names given who
     → option_map (instance_place config c) on ≡ option_map (λ (i : ℕ). Some i) (instance_named who c) → ((i : ℕ) → instance_named who c ≡ Some i → AllByRecursion (Own i) es) → effect config given c ++ c ≡ es ++ Given given ∷ c
     → offering (effect config given c ++ c) ≡ None → Concerns places (concern_of on) config given c
-concerns-alone places config given who c None es distinct singles names found own whole unasked = unasked
-concerns-alone places config given who c (Some key) es distinct singles names found own whole unasked =
+concerns-alone places config given who c None es distinct made singles names found own whole unasked = unasked
+concerns-alone places config given who c (Some key) es distinct made singles names found own whole unasked =
     let its = spoken (instance_place config c key) (instance_named who c) found in
-    λ none. subst (IsAlone key config) (sym whole) (given-alone config given who c key its.0 es distinct singles none names its.1 its.2 (own its.0 its.1))
+    λ none. subst (IsAlone key config) (sym whole) (given-alone config given who c key its.0 es distinct made singles none names its.1 its.2 (own its.0 its.1))

@@ -6,12 +6,14 @@ use Rattle.up_book.specs.Keys.{instance_place}
 use Rattle.up_book.proofs.Keyed.{job-there}
 use Rattle.up_book.proofs.One.{IsKnown, known-all}
 use Rattle.up_conf.specs.declared.job.JobDef.{JobDef}
+use Rattle.up_model.proofs.FileLaws.{AreMadeBy}
 use Rattle.up_engine.specs.declared.due.Concern.{Concern}
 use Rattle.up_engine.specs.declared.due.Concern.TheVariants as on
 use Rattle.up_engine.specs.Effects.{ActsOn, Concerns as ConcernsOf, IsAlone, IsCalled}
+use Rattle.up_engine.specs.Requests.{answer_of}
 use Rattle.up_engine.proofs.Alone.{Own, here, one-settles}
 use Rattle.up_engine.proofs.Effects.{effect-offers, none-due, stay-entries}
-use Rattle.up_engine.proofs.Firing.{stay-still, still-stay}
+use Rattle.up_engine.proofs.Firing.{abouts-made, stay-still, still-stay}
 use Rattle.up_engine.proofs.Hearing.{none-moves}
 use Rattle.up_engine.proofs.JobMoves.{move_first}
 use Rattle.up_engine.proofs.Moving.{StayIn, Stay}
@@ -65,28 +67,28 @@ stay-asked : (i : ℕ) (jobs : List JobDef) (id : ℕ) (request : RequestValue) 
 stay-asked i [] id request c stay = tt
 stay-asked i (job ∷ jobs) id request c stay = (stayin-asked i job (instances_of job.name c) id request c stay.0, stay-asked i jobs id request c stay.1)
 
-pub asked-stays : (config : Configuration) (id : ℕ) (request : RequestValue) (c : Chronicle) → AreDistinct config.jobs → due config c ≡ [] → (i : ℕ) → Stay i config.jobs (Given (input.Request id request) ∷ c)
-asked-stays config id request c distinct none i = stay-asked i config.jobs id request c (stay-still i config.jobs c (none-moves config c distinct none))
+pub asked-stays : (config : Configuration) (id : ℕ) (request : RequestValue) (c : Chronicle) → AreDistinct config.jobs → AreMadeBy config.jobs c → due config c ≡ [] → (i : ℕ) → Stay i config.jobs (Given (input.Request id request) ∷ c)
+asked-stays config id request c distinct made none i = stay-asked i config.jobs id request c (stay-still i config.jobs c (none-moves config c distinct made none))
 
 -- nor does an instance that is made of what an older one waits for
-awaited-made : (q : ℕ) (its : Process) (job name : Bytes) (c : Chronicle) → (length c == q) ≡ false → is_awaited q its (Made job name ∷ c) ≡ is_awaited q its c
-awaited-made q its job name c other = rw other refl
+awaited-made : (q : ℕ) (its : Process) (file : JobDef) (name : Bytes) (c : Chronicle) → (length c == q) ≡ false → is_awaited q its (Made file name ∷ c) ≡ is_awaited q its c
+awaited-made q its file name c other = rw other refl
 
-pid-made : (q : ℕ) (its : Process) (job name : Bytes) (c : Chronicle) → (length c == q) ≡ false → pid_of q its (Made job name ∷ c) ≡ pid_of q its c
-pid-made q its job name c other = rw other refl
+pid-made : (q : ℕ) (its : Process) (file : JobDef) (name : Bytes) (c : Chronicle) → (length c == q) ≡ false → pid_of q its (Made file name ∷ c) ≡ pid_of q its c
+pid-made q its file name c other = rw other refl
 
-over-made : (def : JobDef) (q : ℕ) (wait : Wait) (job name : Bytes) (c : Chronicle) → (length c == q) ≡ false → is_over def q wait (Made job name ∷ c) ≡ is_over def q wait c
-over-made def q ForStart job name c other = refl
-over-made def q ForEvent job name c other = refl
-over-made def q (ForAnswer its) job name c other = rw (awaited-made q its job name c other) refl
-over-made def q (ForProcess its) job name c other = rw (awaited-made q its job name c other, pid-made q its job name c other) refl
-over-made def q ForChange job name c other = rw (pid-made q process.Main job name c other) refl
-over-made def q ForMain job name c other = rw (pid-made q process.Main job name c other) refl
+over-made : (def : JobDef) (q : ℕ) (wait : Wait) (file : JobDef) (name : Bytes) (c : Chronicle) → (length c == q) ≡ false → is_over def q wait (Made file name ∷ c) ≡ is_over def q wait c
+over-made def q ForStart file name c other = refl
+over-made def q ForEvent file name c other = refl
+over-made def q (ForAnswer its) file name c other = rw (awaited-made q its file name c other) refl
+over-made def q (ForProcess its) file name c other = rw (awaited-made q its file name c other, pid-made q its file name c other) refl
+over-made def q ForChange file name c other = rw (pid-made q process.Main file name c other) refl
+over-made def q ForMain file name c other = rw (pid-made q process.Main file name c other) refl
 
-stayin-old : (def : JobDef) (its : List Instance) (job name : Bytes) (c : Chronicle) → AllByRecursion (IsKnown def.name c) its → StayIn (length c) def its c → StayIn (length c) def its (Made job name ∷ c)
-stayin-old def [] job name c known all = tt
-stayin-old def (x ∷ its) job name c known all =
-    ((λ apart. over-made def x.place (wait_in (state_of x.place c)) job name c (older-other (length c) x.place known.0.0) ∙ all.0 apart), stayin-old def its job name c known.1 all.1)
+stayin-old : (def : JobDef) (its : List Instance) (file : JobDef) (name : Bytes) (c : Chronicle) → AllByRecursion (IsKnown def.name c) its → StayIn (length c) def its c → StayIn (length c) def its (Made file name ∷ c)
+stayin-old def [] file name c known all = tt
+stayin-old def (x ∷ its) file name c known all =
+    ((λ apart. over-made def x.place (wait_in (state_of x.place c)) file name c (older-other (length c) x.place known.0.0) ∙ all.0 apart), stayin-old def its file name c known.1 all.1)
 
 stayin-with : (def : JobDef) (y : Instance) (its : List Instance) (d : Chronicle) → StayIn y.place def its d → StayIn y.place def (with_instance y its) d
 stayin-with def y [] d all = ((λ apart. not-itself y apart), tt)
@@ -108,18 +110,18 @@ stayin-with def y (x ∷ its) d all = by_case (is_before x y) (stayin-with def y
     by_case true rest = (all.0, rest)
     by_case false rest = (not-itself, all)
 
-stay-made : (jobs : List JobDef) (job name : Bytes) (c : Chronicle) → Stay (length c) jobs c → Stay (length c) jobs (Made job name ∷ c)
-stay-made [] job name c stay = tt
-stay-made (def ∷ jobs) job name c stay = (by_case (bytes_eq job def.name), stay-made jobs job name c stay.1)
+stay-made : (jobs : List JobDef) (file : JobDef) (name : Bytes) (c : Chronicle) → Stay (length c) jobs c → Stay (length c) jobs (Made file name ∷ c)
+stay-made [] file name c stay = tt
+stay-made (def ∷ jobs) file name c stay = (by_case (bytes_eq file.name def.name), stay-made jobs file name c stay.1)
   where
     made : Instance
-    made = record { place = length c; name = name }
+    made = record { place = length c; name = name; file = file }
 
-    old : StayIn (length c) def (instances_of def.name c) (Made job name ∷ c)
-    old = stayin-old def (instances_of def.name c) job name c (known-all def.name c) stay.0
+    old : StayIn (length c) def (instances_of def.name c) (Made file name ∷ c)
+    old = stayin-old def (instances_of def.name c) file name c (known-all def.name c) stay.0
 
-    by_case : (b : Bool) → StayIn (length c) def (if b then with_instance made (instances_of def.name c) else instances_of def.name c) (Made job name ∷ c)
-    by_case true = stayin-with def made (instances_of def.name c) (Made job name ∷ c) old
+    by_case : (b : Bool) → StayIn (length c) def (if b then with_instance made (instances_of def.name c) else instances_of def.name c) (Made file name ∷ c)
+    by_case true = stayin-with def made (instances_of def.name c) (Made file name ∷ c) old
     by_case false = old
 
 -- entries of an instance of this name leave the others where they are
@@ -149,26 +151,26 @@ release-own j c = releasing-all (Own j) (λ request answer. (tt, tt)) j false (t
 abbrev Leaves : List JobDef → Who → (es c : List Entry) → Type 0
 Leaves jobs who es c = (i : ℕ) → instance_named who (es ++ c) ≡ Some i → Stay i jobs (es ++ c)
 
-start-leaves : (jobs : List JobDef) (g : ℕ) (holders : List ℕ) (who : Who) (environment : Bindings) (c : Chronicle) → ((p : ℕ) → Stay p jobs c) → (o : Option ℕ) → instance_named who c ≡ o
-    → Leaves jobs who (entries_of g (start_at holders who environment o c)) c
-start-leaves jobs g holders who environment c stays None none = by_room (nat_lt (length (instances_of who.job c)) max_instances)
+start-leaves : (jobs : List JobDef) (g : ℕ) (holders : List ℕ) (job : JobDef) (who : Who) (environment : Bindings) (c : Chronicle) → ((p : ℕ) → Stay p jobs c) → (o : Option ℕ) → instance_named who c ≡ o
+    → Leaves jobs who (entries_of g (start_at holders job who environment o c)) c
+start-leaves jobs g holders job who environment c stays None none = by_room (nat_lt (length (instances_of who.job c)) max_instances)
   where
     new : List Entry
-    new = Aimed (length c) Start environment holders ∷ Made who.job who.instance ∷ []
+    new = Aimed (length c) Start environment holders ∷ Made job who.instance ∷ []
 
     by_place : (i : ℕ) (b : Bool) → (length c == i) ≡ b → instance_named who (new ++ c) ≡ Some i → Stay i jobs (new ++ c)
     by_place i true same found =
         subst (λ p. Stay p jobs (new ++ c)) (eqb-true (length c) i same)
-        (stay-entries (length c) jobs (Aimed (length c) Start environment holders ∷ []) (Made who.job who.instance ∷ c) (refl, tt) (stay-made jobs who.job who.instance c (stays (length c))))
+        (stay-entries (length c) jobs (Aimed (length c) Start environment holders ∷ []) (Made job who.instance ∷ c) (refl, tt) (stay-made jobs job who.instance c (stays (length c))))
     by_place i false apart found =
-        let before : instance_named who c ≡ Some i = made-found who who.job who.instance i c apart found in
+        let before : instance_named who c ≡ Some i = made-found who job who.instance i c apart found in
         let both : None ≡ Some i = sym none ∙ before in
         absurd cc
 
     by_room : (b : Bool) → Leaves jobs who (entries_of g (if b then Done (entries_if b new) else Refused (codes "Too many instances: " ++ who.job))) c
     by_room true i found = by_place i (length c == i) refl found
     by_room false i found = told-stays jobs g _ c stays i
-start-leaves jobs g holders who environment c stays (Some j) there = by_goal (is_start (goal j c))
+start-leaves jobs g holders job who environment c stays (Some j) there = by_goal (is_start (goal j c))
   where
     its : List Entry
     its = Aimed j Start environment holders ∷ releasing j false c
@@ -209,7 +211,7 @@ NamedBy (Concerns job its environment) who = its ≡ who
 pub start-named : (jobs : List JobDef) (g : ℕ) (holders : List ℕ) (target : Target) (who : Who) (c : Chronicle) → ((p : ℕ) → Stay p jobs c) → NamedBy target who → Leaves jobs who (entries_of g (start holders target c)) c
 start-named jobs g holders (Nobody text) who c stays named = absurd named
 start-named jobs g holders (Concerns job its environment) who c stays named =
-    subst (λ w. Leaves jobs w (entries_of g (start_at holders its (with_variables its environment) (instance_named its c) c)) c) named (start-leaves jobs g holders its (with_variables its environment) c stays (instance_named its c) refl)
+    subst (λ w. Leaves jobs w (entries_of g (start_at holders job its (with_variables its environment) (instance_named its c) c)) c) named (start-leaves jobs g holders job its (with_variables its environment) c stays (instance_named its c) refl)
 
 pub stop-named : (jobs : List JobDef) (g : ℕ) (holders : List ℕ) (vars : Bindings) (target : Target) (who : Who) (c : Chronicle) → ((p : ℕ) → Stay p jobs c) → NamedBy target who
     → Leaves jobs who (entries_of g (stop holders vars target c)) c
@@ -236,17 +238,17 @@ acted-alone config d key i distinct found stay unasked =
     }
 
 -- nothing is due after a request that is answered at once
-pub told-due : (config : Configuration) (id : ℕ) (request : RequestValue) (answer : Answer) (es c : List Entry) → AreDistinct config.jobs → due config c ≡ [] → ((i : ℕ) → AllByRecursion (About i) es)
+pub told-due : (config : Configuration) (id : ℕ) (request : RequestValue) (answer : Answer) (es c : List Entry) → AreDistinct config.jobs → AreMadeBy config.jobs c → due config c ≡ [] → ((i : ℕ) → AllByRecursion (About i) es)
     → asked (es ++ Given (input.Request id request) ∷ c) ≡ (if request.wait then None else Some (length c)) → offering (es ++ Given (input.Request id request) ∷ c) ≡ None
     → due config (Replied (length c) answer ∷ es ++ Given (input.Request id request) ∷ c) ≡ []
-told-due config id request answer es c distinct none about asks unasked =
-    none-due config d distinct still unasked ∙ ap (λ o. answering_hurried (unless_answered o d) d) asks ∙ by_wait request.wait
+told-due config id request answer es c distinct made none about asks unasked =
+    none-due config d distinct (abouts-made config.jobs (length d) (Replied (length c) answer ∷ es) (Given (input.Request id request) ∷ c) (tt, about (length d)) made) still unasked ∙ ap (λ o. answering_hurried (unless_answered o d) d) asks ∙ by_wait request.wait
   where
     d : Chronicle
     d = Replied (length c) answer ∷ es ++ Given (input.Request id request) ∷ c
 
     still : move_first config.jobs d ≡ []
-    still = still-stay config.jobs d (stay-entries (length d) config.jobs (Replied (length c) answer ∷ es) (Given (input.Request id request) ∷ c) (tt, about (length d)) (asked-stays config id request c distinct none (length d)))
+    still = still-stay config.jobs d (stay-entries (length d) config.jobs (Replied (length c) answer ∷ es) (Given (input.Request id request) ∷ c) (tt, about (length d)) (asked-stays config id request c distinct made none (length d)))
 
     by_wait : (w : Bool) → answering_hurried (unless_answered (if w then None else Some (length c)) d) d ≡ []
     by_wait true = refl
@@ -258,11 +260,16 @@ IsTold (Refused text) = Unit {0}
 IsTold (Told text) = Unit {0}
 IsTold (Done entries) = ⊥
 
-pub outcome-due : (config : Configuration) (id : ℕ) (request : RequestValue) (outcome : Outcome) (c : Chronicle) → IsTold outcome → AreDistinct config.jobs → due config c ≡ []
+pub told-entries : (given : ℕ) (outcome : Outcome) → IsTold outcome → entries_of given outcome ≡ Replied given (answer_of outcome) ∷ []
+told-entries given (Refused text) told = refl
+told-entries given (Told text) told = refl
+told-entries given (Done entries) told = absurd told
+
+pub outcome-due : (config : Configuration) (id : ℕ) (request : RequestValue) (outcome : Outcome) (c : Chronicle) → IsTold outcome → AreDistinct config.jobs → AreMadeBy config.jobs c → due config c ≡ []
     → due config (entries_of (length c) outcome ++ Given (input.Request id request) ∷ c) ≡ []
-outcome-due config id request (Refused text) c told distinct none = told-due config id request (record { ok = false; text = text }) [] c distinct none (λ i. tt) refl refl
-outcome-due config id request (Told text) c told distinct none = told-due config id request (record { ok = true; text = text }) [] c distinct none (λ i. tt) refl refl
-outcome-due config id request (Done entries) c told distinct none = absurd told
+outcome-due config id request (Refused text) c told distinct made none = told-due config id request (record { ok = false; text = text }) [] c distinct made none (λ i. tt) refl refl
+outcome-due config id request (Told text) c told distinct made none = told-due config id request (record { ok = true; text = text }) [] c distinct made none (λ i. tt) refl refl
+outcome-due config id request (Done entries) c told distinct made none = absurd told
 
 pub status-told : (target : Target) (c : Chronicle) → IsTold (status target c)
 status-told (Nobody text) c = tt
@@ -277,23 +284,23 @@ status-told (Concerns job who environment) c = by_place (instance_named who c)
     by_place (Some i) = tt
 
 -- and one that reloads
-pub reload-due : (config : Configuration) (id : ℕ) (request : RequestValue) (target : Target) (c : Chronicle) → AreDistinct config.jobs → due config c ≡ []
-    → due config (entries_of (length c) (reload config (length c) target (Given (input.Request id request) ∷ c)) ++ Given (input.Request id request) ∷ c) ≡ []
-reload-due config id request (Nobody text) c distinct none = outcome-due config id request (Refused text) c tt distinct none
-reload-due config id request (Concerns job who environment) c distinct none = by_place (own_file who d) (instance_named who d)
+pub reload-due : (config : Configuration) (id : ℕ) (request : RequestValue) (target : Target) (c : Chronicle) → AreDistinct config.jobs → AreMadeBy config.jobs c → due config c ≡ []
+    → due config (entries_of (length c) (reload (length c) target (Given (input.Request id request) ∷ c)) ++ Given (input.Request id request) ∷ c) ≡ []
+reload-due config id request (Nobody text) c distinct made none = outcome-due config id request (Refused text) c tt distinct made none
+reload-due config id request (Concerns job who environment) c distinct made none = by_place (own_file who d) (instance_named who d)
   where
     d : Chronicle
     d = Given (input.Request id request) ∷ c
 
     by_state : (its : JobDef) (i : ℕ) (b : Bool)
         → due config (entries_of (length c) (if b then Done (reloading (length c) i its.reload_signal) else refusal (codes "Job is not running: ") who) ++ d) ≡ []
-    by_state its i true = told-due config id request (record { ok = true; text = [] }) (Signalled i its.reload_signal false ∷ []) c distinct none (λ q. (tt, tt)) refl refl
-    by_state its i false = outcome-due config id request (refusal (codes "Job is not running: ") who) c tt distinct none
+    by_state its i true = told-due config id request (record { ok = true; text = [] }) (Signalled i its.reload_signal false ∷ []) c distinct made none (λ q. (tt, tt)) refl refl
+    by_state its i false = outcome-due config id request (refusal (codes "Job is not running: ") who) c tt distinct made none
 
     by_place : (file : Option JobDef) (o : Option ℕ) → due config (entries_of (length c) (reload_at (length c) file who o d) ++ d) ≡ []
-    by_place None None = outcome-due config id request (refusal (codes "Unknown instance: ") who) c tt distinct none
-    by_place (Some its) None = outcome-due config id request (refusal (codes "Unknown instance: ") who) c tt distinct none
-    by_place None (Some i) = outcome-due config id request (refusal (codes "Unknown instance: ") who) c tt distinct none
+    by_place None None = outcome-due config id request (refusal (codes "Unknown instance: ") who) c tt distinct made none
+    by_place (Some its) None = outcome-due config id request (refusal (codes "Unknown instance: ") who) c tt distinct made none
+    by_place None (Some i) = outcome-due config id request (refusal (codes "Unknown instance: ") who) c tt distinct made none
     by_place (Some its) (Some i) = by_state its i (is_running (state_of i d) && lives i process.Main d)
 
 -- no event is taken up by a request
@@ -340,9 +347,9 @@ IsAnswered command.Reload = Unit {0}
 IsAnswered command.ReloadConfiguration = Unit {0}
 IsAnswered other = ⊥
 
-pub answered-due : (its : Command) (config : Configuration) (id : ℕ) (request : RequestValue) (c : Chronicle) → request.command ≡ its → IsAnswered its → AreDistinct config.jobs → due config c ≡ []
+pub answered-due : (its : Command) (config : Configuration) (id : ℕ) (request : RequestValue) (c : Chronicle) → request.command ≡ its → IsAnswered its → AreDistinct config.jobs → AreMadeBy config.jobs c → due config c ≡ []
     → due config (entries_of (length c) (outcome_of config (length c) request (Given (input.Request id request) ∷ c)) ++ Given (input.Request id request) ∷ c) ≡ []
-answered-due its config id request c is answered distinct none =
+answered-due its config id request c is answered distinct made none =
     subst (λ its. due config (entries_of (length c) (outcome_by its config (length c) request d) ++ d) ≡ []) (sym is) (by_command its answered)
   where
     d : Chronicle
@@ -352,11 +359,11 @@ answered-due its config id request c is answered distinct none =
     target = target_of config request.name request.vars d
 
     by_command : (its : Command) → IsAnswered its → due config (entries_of (length c) (outcome_by its config (length c) request d) ++ d) ≡ []
-    by_command command.Status answered = outcome-due config id request (status target d) c (status-told target d) distinct none
-    by_command command.List answered = outcome-due config id request (Told (listing config d)) c tt distinct none
-    by_command command.Version answered = outcome-due config id request (Told version_text) c tt distinct none
-    by_command command.Reload answered = reload-due config id request target c distinct none
-    by_command command.ReloadConfiguration answered = outcome-due config id request (Refused (not_supported command.ReloadConfiguration)) c tt distinct none
+    by_command command.Status answered = outcome-due config id request (status target d) c (status-told target d) distinct made none
+    by_command command.List answered = outcome-due config id request (Told (listing config d)) c tt distinct made none
+    by_command command.Version answered = outcome-due config id request (Told version_text) c tt distinct made none
+    by_command command.Reload answered = reload-due config id request target c distinct made none
+    by_command command.ReloadConfiguration answered = outcome-due config id request (Refused (not_supported command.ReloadConfiguration)) c tt distinct made none
     by_command command.Start answered = absurd answered
     by_command command.Stop answered = absurd answered
     by_command command.Restart answered = absurd answered

@@ -3,9 +3,9 @@ use Rattle.std.proofs.Common.{◌≡◌, ℕ, zero, suc, ◌<◌, Bool, true, fa
 use Rattle.up_conf.specs.declared.job.JobDef.{JobDef}
 use Rattle.up_job.specs.declared.instance_key.InstanceKey.{InstanceKey}
 use Rattle.up_model.specs.Chronicle.{Chronicle, Signalled}
-use Rattle.up_model.specs.Clock.{kill, kill_due_by, overdue, all_overdue, killing}
+use Rattle.up_model.specs.Clock.{kill, kill_due, overdue, all_overdue, killing}
 use Rattle.up_model.specs.Configuration.{Configuration}
-use Rattle.up_model.specs.Files.{job_names, file_of}
+use Rattle.up_model.specs.Files.{job_names}
 use Rattle.up_model.specs.Instances.{Instance, instances_of}
 use Rattle.up_model.specs.Predicates.{entries_if}
 
@@ -37,10 +37,10 @@ instances_length places (key ∷ keys) (first ∷ found) h = ap suc (instances_l
 
 -- if none of these is overdue, no instance among them is
 pub none_due : (config : Configuration) (its : List Instance) (n : ℕ) (x : Instance) (rest : List Instance) (c : Chronicle) → overdue its c ≡ [] → drop n its ≡ x ∷ rest
-    → kill_due_by (file_of x.place c) x.place c ≡ false
+    → kill_due x.file x.place c ≡ false
 none_due config [] zero x rest c none found = absurd cc
 none_due config [] (suc n) x rest c none found = absurd cc
-none_due config (y ∷ its) zero x rest c none found = rw (← same) (by_case (kill_due_by (file_of y.place c) y.place c) none)
+none_due config (y ∷ its) zero x rest c none found = rw (← same) (by_case (kill_due y.file y.place c) none)
   where
     same : y ≡ x
     same = cc
@@ -48,7 +48,7 @@ none_due config (y ∷ its) zero x rest c none found = rw (← same) (by_case (k
     by_case : (b : Bool) → entries_if b (y.place ∷ []) ++ overdue its c ≡ [] → b ≡ false
     by_case true none = absurd cc
     by_case false none = refl
-none_due config (y ∷ its) (suc n) x rest c none found = none_due config its n x rest c (by_case (kill_due_by (file_of y.place c) y.place c) none) found
+none_due config (y ∷ its) (suc n) x rest c none found = none_due config its n x rest c (by_case (kill_due y.file y.place c) none) found
   where
     by_case : (b : Bool) → entries_if b (y.place ∷ []) ++ overdue its c ≡ [] → overdue its c ≡ []
     by_case true none = absurd cc

@@ -14,6 +14,7 @@ use Rattle.up_model.specs.Moves.{is_over, may_leave, move_of}
 use Rattle.up_model.specs.Offers.{is_open, offering}
 use Rattle.up_model.specs.Readings.{goal, state_of, was_restarted, blocker, is_awaited, pid_of}
 use Rattle.up_model.specs.Values.{Bytes}
+use Rattle.up_model.proofs.FileLaws.{AreMadeBy}
 use Rattle.up_model.proofs.Places.{older-other, all-without}
 use Rattle.up_engine.specs.Offering.{Asked, open_all}
 use Rattle.up_engine.proofs.JobMoves.{move_in, move_first}
@@ -47,12 +48,12 @@ blocker-same q i e c is apart = refl
 awaited-same : (q i : ℕ) (its : Process) (e : Entry) (c : Chronicle) → About i e → (q == i) ≡ false → is_awaited q its (e ∷ c) ≡ is_awaited q its c
 awaited-same q i its (Ordered j other) c is apart = rw is (rw (other_way i q apart) refl)
 awaited-same q i its (Given input) c is apart = absurd is
-awaited-same q i its (Made job name) c is apart = absurd is
+awaited-same q i its (Made file name) c is apart = absurd is
 awaited-same q i its e c is apart = refl
 
 pid-same : (q i : ℕ) (its : Process) (e : Entry) (c : Chronicle) → About i e → pid_of q its (e ∷ c) ≡ pid_of q its c
 pid-same q i its (Given input) c is = absurd is
-pid-same q i its (Made job name) c is = absurd is
+pid-same q i its (Made file name) c is = absurd is
 pid-same q i its e c is = refl
 
 over-same : (job : JobDef) (q i : ℕ) (wait : Wait) (e : Entry) (c : Chronicle) → About i e → (q == i) ≡ false → is_over job q wait (e ∷ c) ≡ is_over job q wait c
@@ -72,7 +73,7 @@ stayin-same i job [] e c is all = tt
 stayin-same i job (x ∷ its) e c is all = ((λ apart. leave-same job x.place i e c is apart ∙ all.0 apart), stayin-same i job its e c is all.1)
 
 stayin-entry : (i : ℕ) (job : JobDef) (e : Entry) (c : Chronicle) → About i e → StayIn i job (instances_of job.name c) c → StayIn i job (instances_of job.name (e ∷ c)) (e ∷ c)
-stayin-entry i job (Made other name) c is all = absurd is
+stayin-entry i job (Made file name) c is all = absurd is
 stayin-entry i job (Entered j state.Waiting) c is all =
     all-without (λ x. (x.place == i) ≡ false → may_leave job x.place (Entered j state.Waiting ∷ c) ≡ false) j (instances_of job.name c) (stayin-same i job (instances_of job.name c) (Entered j state.Waiting) c is all)
 stayin-entry i job e c is all = stayin-same i job (instances_of job.name c) e c is all
@@ -82,18 +83,18 @@ stay-entry i [] e c is stay = tt
 stay-entry i (job ∷ jobs) e c is stay = (stayin-entry i job e c is stay.0, stay-entry i jobs e c is stay.1)
 
 -- an instance that was just made is the only one that may move
-over-made : (job : JobDef) (q : ℕ) (wait : Wait) (other name : Bytes) (c : Chronicle) → q < length c → is_over job q wait (Made other name ∷ c) ≡ is_over job q wait c
-over-made job q ForStart other name c older = refl
-over-made job q ForEvent other name c older = refl
-over-made job q (ForAnswer its) other name c older = rw (older-other (length c) q older) refl
-over-made job q (ForProcess its) other name c older = rw (older-other (length c) q older) refl
-over-made job q ForChange other name c older = rw (older-other (length c) q older) refl
-over-made job q ForMain other name c older = rw (older-other (length c) q older) refl
+over-made : (job : JobDef) (q : ℕ) (wait : Wait) (file : JobDef) (name : Bytes) (c : Chronicle) → q < length c → is_over job q wait (Made file name ∷ c) ≡ is_over job q wait c
+over-made job q ForStart file name c older = refl
+over-made job q ForEvent file name c older = refl
+over-made job q (ForAnswer its) file name c older = rw (older-other (length c) q older) refl
+over-made job q (ForProcess its) file name c older = rw (older-other (length c) q older) refl
+over-made job q ForChange file name c older = rw (older-other (length c) q older) refl
+over-made job q ForMain file name c older = rw (older-other (length c) q older) refl
 
-stayin-made : (job : JobDef) (its : List Instance) (other name : Bytes) (c : Chronicle) → AllByRecursion (IsKnown job.name c) its → StayIn (length c) job its c → StayIn (length c) job its (Made other name ∷ c)
-stayin-made job [] other name c known all = tt
-stayin-made job (x ∷ its) other name c known all =
-    ((λ apart. over-made job x.place (wait_in (state_of x.place c)) other name c known.0.0 ∙ all.0 apart), stayin-made job its other name c known.1 all.1)
+stayin-made : (job : JobDef) (its : List Instance) (file : JobDef) (name : Bytes) (c : Chronicle) → AllByRecursion (IsKnown job.name c) its → StayIn (length c) job its c → StayIn (length c) job its (Made file name ∷ c)
+stayin-made job [] file name c known all = tt
+stayin-made job (x ∷ its) file name c known all =
+    ((λ apart. over-made job x.place (wait_in (state_of x.place c)) file name c known.0.0 ∙ all.0 apart), stayin-made job its file name c known.1 all.1)
 
 stayin-with : (job : JobDef) (n : ℕ) (x : Instance) (its : List Instance) (d : Chronicle) → x.place ≡ n → StayIn n job its d → StayIn n job (instances.with_instance x its) d
 stayin-with job n x [] d new all = ((λ apart. absurd (no apart)), tt)
@@ -113,30 +114,41 @@ stayin-with job n x (y ∷ its) d new all = by_case (is_before y x) (stayin-with
     by_case true ih = (all.0, ih)
     by_case false ih = ((λ apart. absurd (no apart)), all)
 
-pub stay-made : (jobs : List JobDef) (other name : Bytes) (c : Chronicle) → Stay (length c) jobs c → Stay (length c) jobs (Made other name ∷ c)
-stay-made [] other name c stay = tt
-stay-made (job ∷ jobs) other name c stay = (by_case (bytes_eq other job.name), stay-made jobs other name c stay.1)
+pub stay-made : (jobs : List JobDef) (file : JobDef) (name : Bytes) (c : Chronicle) → Stay (length c) jobs c → Stay (length c) jobs (Made file name ∷ c)
+stay-made [] file name c stay = tt
+stay-made (job ∷ jobs) file name c stay = (by_case (bytes_eq file.name job.name), stay-made jobs file name c stay.1)
   where
     d : Chronicle
-    d = Made other name ∷ c
+    d = Made file name ∷ c
 
     same : StayIn (length c) job (instances_of job.name c) d
-    same = stayin-made job (instances_of job.name c) other name c (known-all job.name c) stay.0
+    same = stayin-made job (instances_of job.name c) file name c (known-all job.name c) stay.0
 
-    by_case : (b : Bool) → StayIn (length c) job (if b then instances.with_instance (record { place = length c; name = name }) (instances_of job.name c) else instances_of job.name c) d
-    by_case true = stayin-with job (length c) (record { place = length c; name = name }) (instances_of job.name c) d refl same
+    by_case : (b : Bool) → StayIn (length c) job (if b then instances.with_instance (record { place = length c; name = name; file = file }) (instances_of job.name c) else instances_of job.name c) d
+    by_case true = stayin-with job (length c) (record { place = length c; name = name; file = file }) (instances_of job.name c) d refl same
     by_case false = same
+
+-- an entry about an instance that is there makes none
+about-made : (jobs : List JobDef) (i : ℕ) (e : Entry) (c : Chronicle) → About i e → AreMadeBy jobs c → AreMadeBy jobs (e ∷ c)
+about-made jobs i (Made file name) c is made = absurd is
+about-made jobs i e c is made = made
+
+pub abouts-made : (jobs : List JobDef) (i : ℕ) (es c : List Entry) → AllByRecursion (About i) es → AreMadeBy jobs c → AreMadeBy jobs (es ++ c)
+abouts-made jobs i [] c all made = made
+abouts-made jobs i (e ∷ es) c all made = about-made jobs i e (es ++ c) all.0 (abouts-made jobs i es c all.1 made)
 
 -- nobody may move, and these are still to be offered the event
 pub record IsHandling (jobs : List JobDef) (e : ℕ) (left : List Asked) (c : Chronicle) : Type 0 where
   pub open_left : open_all jobs c ≡ left
   pub handles : offering c ≡ Some e
+  pub made : AreMadeBy jobs c
   pub still : (i : ℕ) → Stay i jobs c
 
 -- nobody but this instance may move, which isn't one of these
 pub record IsAt (i : ℕ) (jobs : List JobDef) (e : ℕ) (left : List Asked) (c : Chronicle) : Type 0 where
   pub open_left : open_all jobs c ≡ left
   pub handles : offering c ≡ Some e
+  pub made : AreMadeBy jobs c
   pub closed : is_open i c ≡ false
   pub stay : Stay i jobs c
 
@@ -147,6 +159,7 @@ at-entries i jobs e left (x ∷ es) c all at =
     record {
       open_left = open-entry i jobs x (es ++ c) all.0 rest.closed ∙ rest.open_left;
       handles = offering-same i x (es ++ c) all.0 ∙ rest.handles;
+      made = about-made jobs i x (es ++ c) all.0 rest.made;
       closed = closed-entry i x (es ++ c) all.0 rest.closed;
       stay = stay-entry i jobs x (es ++ c) all.0 rest.stay;
     }

@@ -22,7 +22,8 @@ use Rattle.up_model.proofs.Places.{bytes_same, bytes_refl, count, one_if, all_in
 use Rattle.up_book.specs.Keeps.{AreDistinct}
 use Rattle.up_engine.specs.Offering.{Asked, OfStop, OfStart, open_stops, open_all}
 use Rattle.up_book.proofs.Lists.{cons_same}
-use Rattle.up_engine.proofs.JobMoves.{move_first, due-by}
+use Rattle.up_model.proofs.FileLaws.{AreMadeBy}
+use Rattle.up_engine.proofs.JobMoves.{move_first, due-by, have-files}
 use Rattle.up_engine.proofs.Moving.{StayIn, Stay}
 use Rattle.up_engine.proofs.Offering.{rested}
 use Rattle.up_book.proofs.One.{IsKnown, known-all, called, none-of-others}
@@ -120,10 +121,11 @@ stay-taken : (i : ℕ) (jobs : List JobDef) (e : ℕ) (c : Chronicle) → Stay i
 stay-taken i [] e c stay = tt
 stay-taken i (job ∷ jobs) e c stay = (stayin-taken i job (instances_of job.name c) e c stay.0, stay-taken i jobs e c stay.1)
 
-pub taken-up : (jobs : List JobDef) (e : ℕ) (c : Chronicle) → move_first jobs c ≡ [] → IsHandling jobs e (all_asked jobs c) (Handled e ∷ Given input.Turn ∷ c)
-taken-up jobs e c none = record {
+pub taken-up : (jobs : List JobDef) (e : ℕ) (c : Chronicle) → AreMadeBy jobs c → move_first jobs c ≡ [] → IsHandling jobs e (all_asked jobs c) (Handled e ∷ Given input.Turn ∷ c)
+taken-up jobs e c made none = record {
   open_left = all-first jobs e input.Turn c;
   handles = refl;
+  made = made;
   still = λ i. stay-taken i jobs e c (stay-still i jobs c none);
 }
 
@@ -142,12 +144,12 @@ stay-gone i j (job ∷ jobs) c none stay =
     (stayin-gone i j job (instances_of job.name c) c (omega (arith, none, instances-exist i job.name c)) stay.0, stay-gone i j jobs c none stay.1)
 
 pub moves-gone : (i : ℕ) (jobs : List JobDef) (e : ℕ) (left : List Asked) (c : Chronicle) → IsAt i jobs e left c → count i (all_instances c) ≡ 0 → IsHandling jobs e left c
-moves-gone i jobs e left c h gone = record { open_left = h.open_left; handles = h.handles; still = λ j. stay-gone i j jobs c gone h.stay }
+moves-gone i jobs e left c h gone = record { open_left = h.open_left; handles = h.handles; made = h.made; still = λ j. stay-gone i j jobs c gone h.stay }
 
 -- when none is left, the step is done but for an answer
 pub handled-all : (config : Configuration) (e : ℕ) (c : Chronicle) → AreDistinct config.jobs → IsHandling config.jobs e [] c → answering_last c ≡ [] → (due config c ≡ []) × (rested config c ≡ c)
 handled-all config e c distinct h quiet =
     let parts : or_else (move_first config.jobs c) (or_else (offer_next config (offering c) c) (answering_last c)) ≡ [] =
-    rw (still-stay config.jobs c (h.still (length c)), h.handles, Rattle.up_engine.proofs.Offering.first-offer config config.jobs e c, h.open_left) quiet in
-    let none : due config c ≡ [] = due-by config c distinct ∙ parts in
+    rw (still-stay config.jobs c (h.still (length c)), h.handles, Rattle.up_engine.proofs.Offering.first-offer config config.jobs e c (have-files config c distinct h.made), h.open_left) quiet in
+    let none : due config c ≡ [] = due-by config c distinct h.made ∙ parts in
     (none, settle_still (work config c) config c none)

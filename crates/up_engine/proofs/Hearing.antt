@@ -8,7 +8,7 @@ use Rattle.up_model.specs.declared.state.Goal.TheVariants.{Start}
 use Rattle.up_model.specs.declared.state.State.TheVariants.{Waiting}
 use Rattle.up_model.specs.declared.who.Who.{Who}
 use Rattle.up_model.specs.Chronicle.{Chronicle, Entry, Given, Handled, Offered, Fired, Made, Aimed, Entered, StartOn}
-use Rattle.up_model.specs.Configuration.{Configuration}
+use Rattle.up_model.specs.Configuration.{Configuration, job_named}
 use Rattle.up_model.specs.Answers.{after}
 use Rattle.up_model.specs.Due.{due, effect}
 use Rattle.up_model.specs.Events as events_of
@@ -33,6 +33,9 @@ use Rattle.up_engine.specs.Offering.{Asked, OfStop, OfStart}
 use Rattle.up_engine.specs.Settling.{settle_one, settle_each, settle_all, hear_stops, hear_start, hear, hear_all, ListsAfter}
 use Rattle.up_book.proofs.Keyed.{nth-get}
 use Rattle.up_engine.specs.Unfired.{NoneHolds}
+use Rattle.up_book.proofs.Outgoing.{found-all}
+use Rattle.up_model.proofs.FileLaws.{AreMadeBy}
+use Rattle.up_model.proofs.MadeLaws.{effect-made}
 use Rattle.up_engine.proofs.JobMoves.{move_first, due-by}
 use Rattle.up_engine.proofs.Unfired.{none-stop, none-start, none-one}
 use Rattle.up_engine.proofs.Acts.{Fires, releases, stop-of, start-all}
@@ -180,13 +183,13 @@ stops-heard config e done job todo front (x ∷ its) left c distinct split h apa
 
 -- an offer to a `start on` leaves the lists of other jobs
 abbrev MakesOf : Bytes → Entry → Type 0
-MakesOf job (Made other name) = other ≡ job
+MakesOf job (Made file name) = file.name ≡ job
 MakesOf job (Entered i Waiting) = ⊥
 MakesOf job entry = Unit {0}
 
 makes-others : (job k : Bytes) → bytes_eq job k ≡ false → (e : Entry) (c : Chronicle) → MakesOf job e → instances_of k (e ∷ c) ≡ instances_of k c
-makes-others job k apart (Made other name) c is =
-    ap (λ (b : Bool). if b then with_instance (record { place = length c; name = name }) (instances_of k c) else instances_of k c) (ap (λ its. bytes_eq its k) is ∙ apart)
+makes-others job k apart (Made file name) c is =
+    ap (λ (b : Bool). if b then with_instance (record { place = length c; name = name; file = file }) (instances_of k c) else instances_of k c) (ap (λ its. bytes_eq its k) is ∙ apart)
 makes-others job k apart (Entered i Waiting) c is = absurd is
 makes-others job k apart e c is = refl
 
@@ -222,21 +225,21 @@ named-stands name p (y ∷ its) found = by_case (bytes_eq y.name name) found (na
     by_case true found rest = record { front = []; here = y; back = its; list = refl; place = cc }
     by_case false found rest = stands-next p y its (rest found)
 
-started-of : (who : Who) (environment : Bindings) (its : List ℕ) (o : Option ℕ) (c : Chronicle) (p : ℕ) → place_named who.instance (instances_of who.job c) ≡ o → started_at who o c ≡ Some p
-    → StandsIn p (instances_of who.job (start_of who environment its o c ++ c))
-started-of who environment its None c p is some = by_case (nat_lt (length (instances_of who.job c)) max_instances) some
+started-of : (job : JobDef) (who : Who) (environment : Bindings) (its : List ℕ) (o : Option ℕ) (c : Chronicle) (p : ℕ) → who.job ≡ job.name → place_named who.instance (instances_of who.job c) ≡ o → started_at who o c ≡ Some p
+    → StandsIn p (instances_of who.job (start_of job who environment its o c ++ c))
+started-of job who environment its None c p named is some = by_case (nat_lt (length (instances_of who.job c)) max_instances) some
   where
     made : Instance
-    made = record { place = length c; name = who.instance }
+    made = record { place = length c; name = who.instance; file = job }
 
-    by_case : (b : Bool) → (if b then Some (length c) else None) ≡ Some p → StandsIn p (instances_of who.job (entries_if b (Aimed (length c) Start environment its ∷ Made who.job who.instance ∷ []) ++ c))
+    by_case : (b : Bool) → (if b then Some (length c) else None) ≡ Some p → StandsIn p (instances_of who.job (entries_if b (Aimed (length c) Start environment its ∷ Made job who.instance ∷ []) ++ c))
     by_case true some =
         let here : length c ≡ p = cc in
-        let list : with_instance made (instances_of who.job c) ≡ (if bytes_eq who.job who.job then with_instance made (instances_of who.job c) else instances_of who.job c) =
-        ap (λ (b : Bool). if b then with_instance made (instances_of who.job c) else instances_of who.job c) (sym (bytes_refl who.job)) in
+        let list : with_instance made (instances_of who.job c) ≡ (if bytes_eq job.name who.job then with_instance made (instances_of who.job c) else instances_of who.job c) =
+        ap (λ (b : Bool). if b then with_instance made (instances_of who.job c) else instances_of who.job c) (sym (ap (λ name. bytes_eq name who.job) (sym named) ∙ bytes_refl who.job)) in
         subst (λ xs. StandsIn p xs) list (subst (λ q. StandsIn q (with_instance made (instances_of who.job c))) here (with-stands made (instances_of who.job c)))
     by_case false some = absurd cc
-started-of who environment its (Some q) c p is some = by_case (not (is_start (goal q c))) some
+started-of job who environment its (Some q) c p named is some = by_case (not (is_start (goal q c))) some
   where
     es : List Entry
     es = Aimed q Start environment its ∷ releasing q false c
@@ -250,12 +253,12 @@ started-of who environment its (Some q) c p is some = by_case (not (is_start (go
         subst (λ xs. StandsIn p xs) (sym same) (named-stands who.instance p (instances_of who.job c) (is ∙ ap Some here))
     by_case false some = absurd cc
 
-started-called : (job : Bytes) (name : Option Bytes) (environment : Bindings) (its : List ℕ) (c : Chronicle) (p : ℕ) → started_who (who_called job name) c ≡ Some p
-    → StandsIn p (instances_of job (start_who environment its (who_called job name) c ++ c))
+started-called : (job : JobDef) (name : Option Bytes) (environment : Bindings) (its : List ℕ) (c : Chronicle) (p : ℕ) → started_who (who_called job.name name) c ≡ Some p
+    → StandsIn p (instances_of job.name (start_who job environment its (who_called job.name name) c ++ c))
 started-called job None environment its c p some = absurd cc
 started-called job (Some name) environment its c p some =
-    let who : Who = record { job = job; instance = name } in
-    started-of who (events_of.with_instance who environment) its (instance_named who c) c p refl some
+    let who : Who = record { job = job.name; instance = name } in
+    started-of job who (events_of.with_instance who environment) its (instance_named who c) c p refl refl some
 
 started-stands : (config : Configuration) (job : JobDef) (e : ℕ) (c : Chronicle) (p : ℕ) → started config job e c ≡ Some p → StandsIn p (instances_of job.name (start_offer config job e c ++ c))
 started-stands config job e c p some = by_case (holds job.start_on (seen config (StartOn job.name) d)) some
@@ -283,7 +286,7 @@ started-stands config job e c p some = by_case (holds job.start_on (seen config 
 
     by_case : (b : Bool) → (if b then started_who (who_called job.name name) f else None) ≡ Some p
         → StandsIn p (instances_of job.name ((entries_if b (effect ++ Fired (StartOn job.name) events ∷ []) ++ Offered (StartOn job.name) e ∷ []) ++ c))
-    by_case true some = subst (λ g. StandsIn p (instances_of job.name g)) (sym order) (started-called job.name name env events f p some)
+    by_case true some = subst (λ g. StandsIn p (instances_of job.name g)) (sym order) (started-called job name env events f p some)
     by_case false some = absurd cc
 
 -- instances that rest settle at once
@@ -325,8 +328,12 @@ all-back P (x ∷ xs) ys all = all-back P xs ys all.1
 -- a job's `start on` hears of the event
 start-heard : (config : Configuration) (e : ℕ) (done : List JobDef) (job : JobDef) (todo : List JobDef) (left : List Asked) (c : Chronicle) → AreDistinct config.jobs → config.jobs ≡ done ++ job ∷ todo
     → IsHandling config.jobs e (OfStart job ∷ left) c → IsApart (OfStart job) left → Heard config e job left c (hear_start config job e c)
-start-heard config e done job todo left c distinct split h apart = by_case (started config job e c) refl (after-start config job left e c h apart)
+start-heard config e done job todo left c distinct split h apart = by_case (started config job e c) refl (after-start config job left e c found h apart)
   where
+    found : job_named job.name config.jobs ≡ Some job
+    found = all-middle (λ its. job_named its.name config.jobs ≡ Some its) done job todo
+        (subst (λ js. AllByRecursion (λ its. job_named its.name config.jobs ≡ Some its) js) split (found-all config.jobs distinct))
+
     d : Chronicle
     d = start_offer config job e c ++ c
 
@@ -443,33 +450,33 @@ asked-taken : (jobs : List JobDef) (e : ℕ) (c : Chronicle) → all_asked jobs 
 asked-taken [] e c = refl
 asked-taken (job ∷ jobs) e c = ap (λ rest. all_stops job (instances_of job.name c) ++ (OfStart job ∷ rest)) (asked-taken jobs e c)
 
-pub none-moves : (config : Configuration) (c : Chronicle) → AreDistinct config.jobs → due config c ≡ [] → move_first config.jobs c ≡ []
-none-moves config c distinct none = or-nil-first (move_first config.jobs c) (or_else (offer_next config (offering c) c) (answering_last c)) (sym (due-by config c distinct) ∙ none)
+pub none-moves : (config : Configuration) (c : Chronicle) → AreDistinct config.jobs → AreMadeBy config.jobs c → due config c ≡ [] → move_first config.jobs c ≡ []
+none-moves config c distinct made none = or-nil-first (move_first config.jobs c) (or_else (offer_next config (offering c) c) (answering_last c)) (sym (due-by config c distinct made) ∙ none)
 
 -- what is left to hear of an event that was just taken up: all
-pub all-left : (config : Configuration) (e : ℕ) (c : Chronicle) → AreDistinct config.jobs → due config c ≡ [] → IsHandling config.jobs e (all_asked config.jobs (Handled e ∷ Given Turn ∷ c)) (Handled e ∷ Given Turn ∷ c)
-all-left config e c distinct none =
-    subst (λ left. IsHandling config.jobs e left (Handled e ∷ Given Turn ∷ c)) (sym (asked-taken config.jobs e c)) (taken-up config.jobs e c (none-moves config c distinct none))
+pub all-left : (config : Configuration) (e : ℕ) (c : Chronicle) → AreDistinct config.jobs → AreMadeBy config.jobs c → due config c ≡ [] → IsHandling config.jobs e (all_asked config.jobs (Handled e ∷ Given Turn ∷ c)) (Handled e ∷ Given Turn ∷ c)
+all-left config e c distinct made none =
+    subst (λ left. IsHandling config.jobs e left (Handled e ∷ Given Turn ∷ c)) (sym (asked-taken config.jobs e c)) (taken-up config.jobs e c made (none-moves config c distinct made none))
 
 -- so the step is done when all have heard of it
-pub heard-rested : (config : Configuration) (e : ℕ) (c : Chronicle) → AreDistinct config.jobs → due config c ≡ []
+pub heard-rested : (config : Configuration) (e : ℕ) (c : Chronicle) → AreDistinct config.jobs → AreMadeBy config.jobs c → due config c ≡ []
     → (hear_all config config.jobs e (Handled e ∷ Given Turn ∷ c) ≡ rested config (Handled e ∷ Given Turn ∷ c))
     × (NoneHolds config (Handled e ∷ Given Turn ∷ c) → NoneHolds config (hear_all config config.jobs e (Handled e ∷ Given Turn ∷ c)))
-heard-rested config e c distinct none =
+heard-rested config e c distinct made none =
     let d : Chronicle = Handled e ∷ Given Turn ∷ c in
     let f = hear_all config config.jobs e d in
-    let all = jobs-heard config e [] config.jobs d distinct refl (all-left config e c distinct none) in
+    let all = jobs-heard config e [] config.jobs d distinct refl (all-left config e c distinct made none) in
     let unasked : asked f ≡ None = asked-heard config config.jobs e d in
     let quiet : answering_last f ≡ [] = ap (λ o. answering_hurried (unless_answered o f) f) unasked in
     (sym (handled-all config e f distinct all.0 quiet).1 ∙ all.1, all.2)
 
 -- what is after an input that takes an event up, and after any other
-pub after-taken : (config : Configuration) (given : Input) (c : Chronicle) (e : ℕ) → AreDistinct config.jobs → due config c ≡ [] → effect config given c ++ c ≡ Handled e ∷ Given Turn ∷ c
+pub after-taken : (config : Configuration) (given : Input) (c : Chronicle) (e : ℕ) → AreDistinct config.jobs → AreMadeBy config.jobs c → due config c ≡ [] → effect config given c ++ c ≡ Handled e ∷ Given Turn ∷ c
     → hear_all config config.jobs e (Handled e ∷ Given Turn ∷ c) ≡ after config c given
 unfolding after
-after-taken config given c e distinct none same = (heard-rested config e c distinct none).0 ∙ ap (rested config) (sym same)
+after-taken config given c e distinct made none same = (heard-rested config e c distinct made none).0 ∙ ap (rested config) (sym same)
 
-pub after-other : (config : Configuration) (given : Input) (c : Chronicle) → AreDistinct config.jobs → offering (effect config given c ++ c) ≡ None
+pub after-other : (config : Configuration) (given : Input) (c : Chronicle) → AreDistinct config.jobs → AreMadeBy config.jobs c → offering (effect config given c ++ c) ≡ None
     → answering_last (settle_all config.jobs (effect config given c ++ c)) ++ settle_all config.jobs (effect config given c ++ c) ≡ after config c given
 unfolding after
-after-other config given c distinct none = settled-rested config (effect config given c ++ c) distinct none
+after-other config given c distinct made none = settled-rested config (effect config given c ++ c) distinct (effect-made config given c made) none

@@ -12,14 +12,13 @@ use Rattle.up_model.specs.declared.state.State.TheVariants as state
 use Rattle.up_model.specs.Chronicle.{Chronicle, Entered, Signalled}
 use Rattle.up_model.specs.Clock.{kill, killing}
 use Rattle.up_model.specs.Configuration.{Configuration, job_named}
-use Rattle.up_model.specs.Files.{file_of}
 use Rattle.up_model.specs.Instances.{Instance, instances_of}
 use Rattle.up_model.specs.Replies.{releasing}
 use Rattle.up_model.specs.Values.{Bytes}
-use Rattle.up_model.proofs.FileLaws.{file_of-made}
-use Rattle.up_model.proofs.NameLaws.{called}
+use Rattle.up_model.proofs.FileLaws.{AreMadeBy, are_by}
 use Rattle.up_book.proofs.Keyed.{nth-get}
-use Rattle.up_book.proofs.Outgoing.{made-there, named-there}
+use Rattle.up_book.proofs.One.{nth-all}
+use Rattle.up_book.proofs.Outgoing.{named-there}
 
 -- the name of a job of the table
 pub named_there : (config : Configuration) (jobs : List JobDef) (n : ℕ) (job : JobDef) → jobs ≡ config.jobs → n < length jobs → job ≡ get_or jobs n job
@@ -73,13 +72,13 @@ there config c key job named within =
     record { instance = found.0; is = is; place = placed config c key found.0 is; rest = found.1.1 }
 
 -- the file of the instance of a key is its job's
-pub filed : (config : Configuration) (c : Chronicle) (key : InstanceKey) (job : JobDef) (x : Instance) → AreDistinct config.jobs → job_at config key.job ≡ Some job
-    → instance_at config c key ≡ Some x → file_of x.place c ≡ Some job
-filed config c key job x distinct in_table there =
+pub filed : (config : Configuration) (c : Chronicle) (key : InstanceKey) (job : JobDef) (x : Instance) → AreDistinct config.jobs → AreMadeBy config.jobs c → job_at config key.job ≡ Some job
+    → instance_at config c key ≡ Some x → x.file ≡ job
+filed config c key job x distinct made in_table there =
     let at : slice_get (instances_of job.name c) key.at ≡ Some x =
     sym (ap (option_and_then (λ (name : Bytes). slice_get (instances_of name c) key.at)) (job_name config key.job job in_table)) ∙ there in
-    file_of-made config (called job.name x.name) x.place c (made-there key.at job x c (nth-get key.at (instances_of job.name c) ∙ at))
-    ∙ named-there key.job config.jobs job (nth-get key.job config.jobs ∙ in_table) distinct
+    let by = nth-all (λ y. job_named job.name config.jobs ≡ Some y.file) key.at (instances_of job.name c) x (nth-get key.at (instances_of job.name c) ∙ at) (are_by config.jobs job.name c made) in
+    one-some x.file job (sym by ∙ named-there key.job config.jobs job (nth-get key.job config.jobs ∙ in_table) distinct)
 
 -- so is that of the job of an index
 pub found-at : (config : Configuration) (n : ℕ) (job : JobDef) → AreDistinct config.jobs → job_at config n ≡ Some job → job_named job.name config.jobs ≡ Some job

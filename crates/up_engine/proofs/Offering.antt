@@ -1,18 +1,20 @@
 -- The offers that are left in a step, and that doing what is due leaves what comes of it.
 use Rattle.std.proofs.Common.{◌≡◌, ℕ, suc, ◌+◌, ◌||◌, Bool, true, false, not, List, [], ◌∷◌, ◌++◌, filter, if◌then◌else◌, refl, ◌∙◌, ap, arith, append_assoc}
+use Rattle.std.specs.List.{AllByRecursion}
 use Rattle.up_conf.specs.declared.job.JobDef.{JobDef}
 use Rattle.up_model.specs.Chronicle.{Chronicle, Entry, Expression, Offered, StartOn, StopOn}
 use Rattle.up_model.specs.Configuration.{Configuration}
 use Rattle.up_model.specs.Due.{due}
 use Rattle.up_model.specs.Instances.{Instance, instances_of}
-use Rattle.up_model.specs.Offers.{is_newborn, is_open, stop_offer, start_offer}
+use Rattle.up_model.specs.Offers.{is_newborn, is_open, stop_offer, stop_offer_in, start_offer}
 use Rattle.up_model.specs.Predicates.{entries_if, or_else}
 use Rattle.up_model.specs.Seen.{same_expression, was_offered}
 use Rattle.up_model.specs.Work.{work, settle}
-use Rattle.up_model.proofs.JobOffers.{stop_offer_in, offer_first}
+use Rattle.up_model.proofs.JobOffers.{offer_first}
 use Rattle.up_model.proofs.Settling.{settle_enough}
 use Rattle.up_engine.specs.Offering.{Asked, OfStop, OfStart, expression_of, open_stops, open_start, open_all, offer_at, offer_one}
 use Rattle.up_book.proofs.Lists.{cons_same}
+use Rattle.up_engine.proofs.JobMoves.{HaveFiles}
 
 -- what comes of a chronicle once nothing is due
 abbrev pub rested : Configuration → Chronicle → Chronicle
@@ -39,13 +41,15 @@ one-append : (config : Configuration) (xs ys : List Asked) (event : ℕ) (c : Ch
 one-append config [] ys event c = refl
 one-append config (a ∷ xs) ys event c = offer-filled config a event c (offer_one config ys event c)
 
-stops-one : (config : Configuration) (job : JobDef) (its : List Instance) (event : ℕ) (c : Chronicle) → stop_offer_in config job its event c ≡ offer_one config (open_stops job its c) event c
-stops-one config job [] event c = refl
-stops-one config job (x ∷ its) event c = by_case (is_open x.place c) (stops-one config job its event c)
+stops-one : (config : Configuration) (job : JobDef) (its : List Instance) (event : ℕ) (c : Chronicle) → AllByRecursion (λ x. x.file ≡ job) its → stop_offer_in config its event c ≡ offer_one config (open_stops job its c) event c
+stops-one config job [] event c files = refl
+stops-one config job (x ∷ its) event c files =
+    ap (λ file. or_else (entries_if (is_open x.place c) (stop_offer config file x.place event c)) (stop_offer_in config its event c)) files.0
+    ∙ by_case (is_open x.place c) (stops-one config job its event c files.1)
   where
-    by_case : (b : Bool) → stop_offer_in config job its event c ≡ offer_one config (open_stops job its c) event c
-        → or_else (entries_if b (stop_offer config job x.place event c)) (stop_offer_in config job its event c) ≡ offer_one config (if b then OfStop job x.place ∷ open_stops job its c else open_stops job its c) event c
-    by_case true ih = offer-filled config (OfStop job x.place) event c (stop_offer_in config job its event c)
+    by_case : (b : Bool) → stop_offer_in config its event c ≡ offer_one config (open_stops job its c) event c
+        → or_else (entries_if b (stop_offer config job x.place event c)) (stop_offer_in config its event c) ≡ offer_one config (if b then OfStop job x.place ∷ open_stops job its c else open_stops job its c) event c
+    by_case true ih = offer-filled config (OfStop job x.place) event c (stop_offer_in config its event c)
     by_case false ih = ih
 
 start-one : (config : Configuration) (job : JobDef) (event : ℕ) (c : Chronicle) → entries_if (not (was_offered (StartOn job.name) c)) (start_offer config job event c) ≡ offer_one config (open_start job c) event c
@@ -55,11 +59,11 @@ start-one config job event c = by_case (was_offered (StartOn job.name) c)
     by_case true = refl
     by_case false = refl
 
-pub first-offer : (config : Configuration) (jobs : List JobDef) (event : ℕ) (c : Chronicle) → offer_first config jobs event c ≡ offer_one config (open_all jobs c) event c
-first-offer config [] event c = refl
-first-offer config (job ∷ jobs) event c =
+pub first-offer : (config : Configuration) (jobs : List JobDef) (event : ℕ) (c : Chronicle) → HaveFiles jobs c → offer_first config jobs event c ≡ offer_one config (open_all jobs c) event c
+first-offer config [] event c files = refl
+first-offer config (job ∷ jobs) event c files =
     let stops = open_stops job (instances_of job.name c) c in
-    rw (stops-one config job (instances_of job.name c) event c, start-one config job event c, first-offer config jobs event c, one-append config stops (open_start job c) event c)
+    rw (stops-one config job (instances_of job.name c) event c files.0, start-one config job event c, first-offer config jobs event c files.1, one-append config stops (open_start job c) event c)
     (one-append config (stops ++ open_start job c) (open_all jobs c) event c ∙ ap (λ xs. offer_one config xs event c) (append_assoc stops (open_start job c) (open_all jobs c)))
 
 -- an offer takes its expression off those that are left, and no other

@@ -34,7 +34,7 @@ was-same x i e c is = refl
 
 newborn-same : (q i : ℕ) (e : Entry) (c : Chronicle) → About i e → q < length c → is_newborn q (e ∷ c) ≡ is_newborn q c
 newborn-same q i (Given input) c is older = absurd is
-newborn-same q i (Made job name) c is older = absurd is
+newborn-same q i (Made file name) c is older = absurd is
 newborn-same q i e c is older = refl
 
 pub offering-same : (i : ℕ) (e : Entry) (c : Chronicle) → About i e → offering (e ∷ c) ≡ offering c
@@ -71,17 +71,17 @@ stops-without job i (y ∷ its) d closed = by_case (y.place == i) refl (stops-wi
     by_case false differs ih = rw ih refl
 
 -- an instance that was just made isn't open
-pub made-closed : (job name : Bytes) (c : Chronicle) → is_open (length c) (Made job name ∷ c) ≡ false
-made-closed job name c = rw (eq-eqb (length c) (length c) refl) refl
+pub made-closed : (file : JobDef) (name : Bytes) (c : Chronicle) → is_open (length c) (Made file name ∷ c) ≡ false
+made-closed file name c = rw (eq-eqb (length c) (length c) refl) refl
 
-stops-made : (job : JobDef) (other name : Bytes) (c : Chronicle) → open_stops job (instances_of job.name (Made other name ∷ c)) (Made other name ∷ c) ≡ open_stops job (instances_of job.name c) c
-stops-made job other name c = by_case (bytes_eq other job.name)
+stops-made : (job file : JobDef) (name : Bytes) (c : Chronicle) → open_stops job (instances_of job.name (Made file name ∷ c)) (Made file name ∷ c) ≡ open_stops job (instances_of job.name c) c
+stops-made job file name c = by_case (bytes_eq file.name job.name)
   where
     d : Chronicle
-    d = Made other name ∷ c
+    d = Made file name ∷ c
 
     made : Instance
-    made = record { place = length c; name = name }
+    made = record { place = length c; name = name; file = file }
 
     older-same : (its : List Instance) → AllByRecursion (IsKnown job.name c) its → open_stops job its d ≡ open_stops job its c
     older-same [] known = refl
@@ -91,11 +91,11 @@ stops-made job other name c = by_case (bytes_eq other job.name)
     same = older-same (instances_of job.name c) (known-all job.name c)
 
     by_case : (b : Bool) → open_stops job (if b then with_instance made (instances_of job.name c) else instances_of job.name c) d ≡ open_stops job (instances_of job.name c) c
-    by_case true = stops-with job made (instances_of job.name c) d (made-closed other name c) ∙ same
+    by_case true = stops-with job made (instances_of job.name c) d (made-closed file name c) ∙ same
     by_case false = same
 
 stops-entry : (i : ℕ) (job : JobDef) (e : Entry) (c : Chronicle) → About i e → is_open i c ≡ false → open_stops job (instances_of job.name (e ∷ c)) (e ∷ c) ≡ open_stops job (instances_of job.name c) c
-stops-entry i job (Made other name) c is closed = absurd is
+stops-entry i job (Made file name) c is closed = absurd is
 stops-entry i job (Entered j state.Waiting) c is closed =
     let gone : is_open j c ≡ false = ap (λ p. is_open p c) is ∙ closed in
     stops-without job j (instances_of job.name c) (Entered j state.Waiting ∷ c) gone ∙ stops-same i job (instances_of job.name c) (Entered j state.Waiting) c is (known-all job.name c)
@@ -104,16 +104,16 @@ stops-entry i job e c is closed = stops-same i job (instances_of job.name c) e c
 start-entry : (i : ℕ) (job : JobDef) (e : Entry) (c : Chronicle) → About i e → open_start job (e ∷ c) ≡ open_start job c
 start-entry i job e c is = rw (was-same (StartOn job.name) i e c is) refl
 
-pub open-made : (jobs : List JobDef) (other name : Bytes) (c : Chronicle) → open_all jobs (Made other name ∷ c) ≡ open_all jobs c
-open-made [] other name c = refl
-open-made (job ∷ jobs) other name c = rw (stops-made job other name c, open-made jobs other name c) refl
+pub open-made : (jobs : List JobDef) (file : JobDef) (name : Bytes) (c : Chronicle) → open_all jobs (Made file name ∷ c) ≡ open_all jobs c
+open-made [] file name c = refl
+open-made (job ∷ jobs) file name c = rw (stops-made job file name c, open-made jobs file name c) refl
 
 pub open-entry : (i : ℕ) (jobs : List JobDef) (e : Entry) (c : Chronicle) → About i e → is_open i c ≡ false → open_all jobs (e ∷ c) ≡ open_all jobs c
 open-entry i [] e c is closed = refl
 open-entry i (job ∷ jobs) e c is closed = rw (stops-entry i job e c is closed, start-entry i job e c is, open-entry i jobs e c is closed) refl
 
 pub closed-entry : (i : ℕ) (e : Entry) (c : Chronicle) → About i e → is_open i c ≡ false → is_open i (e ∷ c) ≡ false
-closed-entry i (Made job name) c is closed = absurd is
+closed-entry i (Made file name) c is closed = absurd is
 closed-entry i (Given input) c is closed = absurd is
 closed-entry i (Offered x place) c is closed = absurd is
 closed-entry i e c is closed = closed

@@ -24,6 +24,7 @@ use Rattle.up_model.specs.Values.{Bytes}
 use Rattle.up_model.specs.Work.{work}
 use Rattle.up_model.proofs.Settling.{settle_still}
 use Rattle.up_model.proofs.Sparing.{same-append, all-append}
+use Rattle.up_model.proofs.FileLaws.{AreMadeBy}
 use Rattle.up_engine.proofs.JobMoves.{move_first}
 use Rattle.up_engine.proofs.Effects.{none-due}
 use Rattle.up_engine.proofs.Firing.{stay-still, still-stay}
@@ -40,7 +41,7 @@ IsQuiet (Given (input.Ended who its how)) = ⊥
 IsQuiet (Queued (Entering i entered) event) = ⊥
 IsQuiet (Handled event) = ⊥
 IsQuiet (Finished event) = ⊥
-IsQuiet (Made job name) = ⊥
+IsQuiet (Made file name) = ⊥
 IsQuiet (Aimed i aim environment its) = ⊥
 IsQuiet (Restarted i its) = ⊥
 IsQuiet (Entered i entered) = ⊥
@@ -69,14 +70,14 @@ blocker-same q e c is = refl
 awaited-same : (q : ℕ) (its : Process) (e : Entry) (c : Chronicle) → IsQuiet e → is_awaited q its (e ∷ c) ≡ is_awaited q its c
 awaited-same q its (Given (input.Spawned who other pid)) c is = absurd is
 awaited-same q its (Given (input.Refused who other)) c is = absurd is
-awaited-same q its (Made job name) c is = absurd is
+awaited-same q its (Made file name) c is = absurd is
 awaited-same q its (Ordered j other) c is = absurd is
 awaited-same q its e c is = refl
 
 pid-same : (q : ℕ) (its : Process) (e : Entry) (c : Chronicle) → IsQuiet e → pid_of q its (e ∷ c) ≡ pid_of q its c
 pid-same q its (Given (input.Spawned who other pid)) c is = absurd is
 pid-same q its (Given (input.Ended who other how)) c is = absurd is
-pid-same q its (Made job name) c is = absurd is
+pid-same q its (Made file name) c is = absurd is
 pid-same q its e c is = refl
 
 over-same : (job : JobDef) (q : ℕ) (wait : Wait) (e : Entry) (c : Chronicle) → IsQuiet e → is_over job q wait (e ∷ c) ≡ is_over job q wait c
@@ -92,7 +93,7 @@ leave-same job q e c is = ap (λ s. is_over job q (wait_in s) (e ∷ c)) (state-
 
 -- and all stay where they are
 pub lists-same : (job : Bytes) (e : Entry) (c : Chronicle) → IsQuiet e → instances_of job (e ∷ c) ≡ instances_of job c
-lists-same job (Made other name) c is = absurd is
+lists-same job (Made file name) c is = absurd is
 lists-same job (Entered j entered) c is = absurd is
 lists-same job e c is = refl
 
@@ -112,17 +113,26 @@ stays-quiet i jobs (e ∷ es) c all stay = stay-quiet i jobs e (es ++ c) all.0 (
 still-quiet : (jobs : List JobDef) (es c : List Entry) → AllByRecursion IsQuiet es → move_first jobs c ≡ [] → move_first jobs (es ++ c) ≡ []
 still-quiet jobs es c all none = still-stay jobs (es ++ c) (stays-quiet (length (es ++ c)) jobs es c all (stay-still (length (es ++ c)) jobs c none))
 
+-- and make none
+quiet-made : (jobs : List JobDef) (e : Entry) (c : Chronicle) → IsQuiet e → AreMadeBy jobs c → AreMadeBy jobs (e ∷ c)
+quiet-made jobs (Made file name) c is made = absurd is
+quiet-made jobs e c is made = made
+
+pub quiets-made : (jobs : List JobDef) (es c : List Entry) → AllByRecursion IsQuiet es → AreMadeBy jobs c → AreMadeBy jobs (es ++ c)
+quiets-made jobs [] c all made = made
+quiets-made jobs (e ∷ es) c all made = quiet-made jobs e (es ++ c) all.0 (quiets-made jobs es c all.1 made)
+
 -- so nothing is due, if no event is taken up and no client asks
 pub none-asked : (c : Chronicle) → asked c ≡ None → answering_last c ≡ []
 none-asked c none = ap (λ o. answering_hurried (unless_answered o c) c) none
 
-quiet-due : (config : Configuration) (es c : List Entry) → AreDistinct config.jobs → AllByRecursion IsQuiet es → offering (es ++ c) ≡ None → asked (es ++ c) ≡ None → due config c ≡ [] → due config (es ++ c) ≡ []
-quiet-due config es c distinct all offers none rests =
-    none-due config (es ++ c) distinct (still-quiet config.jobs es c all (none-moves config c distinct rests)) offers ∙ none-asked (es ++ c) none
+quiet-due : (config : Configuration) (es c : List Entry) → AreDistinct config.jobs → AreMadeBy config.jobs c → AllByRecursion IsQuiet es → offering (es ++ c) ≡ None → asked (es ++ c) ≡ None → due config c ≡ [] → due config (es ++ c) ≡ []
+quiet-due config es c distinct made all offers none rests =
+    none-due config (es ++ c) distinct (quiets-made config.jobs es c all made) (still-quiet config.jobs es c all (none-moves config c distinct made rests)) offers ∙ none-asked (es ++ c) none
 
-pub event-due : (config : Configuration) (event : Event) (c : Chronicle) → AreDistinct config.jobs → due config c ≡ [] → due config (effect config (input.Emit event) c ++ c) ≡ []
+pub event-due : (config : Configuration) (event : Event) (c : Chronicle) → AreDistinct config.jobs → AreMadeBy config.jobs c → due config c ≡ [] → due config (effect config (input.Emit event) c ++ c) ≡ []
 unfolding effect
-event-due config event c distinct rests = quiet-due config (Queued (Outside (length c)) event ∷ Given (input.Emit event) ∷ []) c distinct (tt, (tt, tt)) refl refl rests
+event-due config event c distinct made rests = quiet-due config (Queued (Outside (length c)) event ∷ Given (input.Emit event) ∷ []) c distinct made (tt, (tt, tt)) refl refl rests
 
 killing-quiet : (places : List ℕ) → AllByRecursion IsQuiet (killing places)
 killing-quiet [] = tt
@@ -132,18 +142,18 @@ killing-gives : (places : List ℕ) → AllByRecursion GivesNone (killing places
 killing-gives [] = tt
 killing-gives (place ∷ places) = all-append GivesNone (killing places) (Signalled place kill true ∷ []) (killing-gives places) (tt, tt)
 
-pub reading-due : (config : Configuration) (reading : ℕ) (c : Chronicle) → AreDistinct config.jobs → offering (effect config (input.Clock reading) c ++ c) ≡ None → due config c ≡ [] → due config (effect config (input.Clock reading) c ++ c) ≡ []
+pub reading-due : (config : Configuration) (reading : ℕ) (c : Chronicle) → AreDistinct config.jobs → AreMadeBy config.jobs c → offering (effect config (input.Clock reading) c ++ c) ≡ None → due config c ≡ [] → due config (effect config (input.Clock reading) c ++ c) ≡ []
 unfolding effect
-reading-due config reading c distinct offers rests =
+reading-due config reading c distinct made offers rests =
     let given : Entry = Given (input.Clock reading) in
     let kills = killing (all_overdue (names_in_order config c) (given ∷ c)) in
     let unasked : asked (kills ++ given ∷ c) ≡ None = same-append asked GivesNone asked-same kills (given ∷ c) (killing-gives (all_overdue (names_in_order config c) (given ∷ c))) in
-    quiet-due config (kills ++ given ∷ []) c distinct (all-append IsQuiet kills (given ∷ []) (killing-quiet (all_overdue (names_in_order config c) (given ∷ c))) (tt, tt)) offers (ap asked (append_assoc kills (given ∷ []) c) ∙ unasked) rests
+    quiet-due config (kills ++ given ∷ []) c distinct made (all-append IsQuiet kills (given ∷ []) (killing-quiet (all_overdue (names_in_order config c) (given ∷ c))) (tt, tt)) offers (ap asked (append_assoc kills (given ∷ []) c) ∙ unasked) rests
 
 -- nor is it after a turn that finds no event
-pub idle-due : (config : Configuration) (c : Chronicle) → AreDistinct config.jobs → turn_event config (queue c) c ≡ None → due config c ≡ [] → due config (effect config input.Turn c ++ c) ≡ []
+pub idle-due : (config : Configuration) (c : Chronicle) → AreDistinct config.jobs → AreMadeBy config.jobs c → turn_event config (queue c) c ≡ None → due config c ≡ [] → due config (effect config input.Turn c ++ c) ≡ []
 unfolding effect
-idle-due config c distinct none rests = rw none (quiet-due config (Given input.Turn ∷ []) c distinct (tt, tt) refl refl rests)
+idle-due config c distinct made none rests = rw none (quiet-due config (Given input.Turn ∷ []) c distinct made (tt, tt) refl refl rests)
 
 -- so the step is done
 pub after-quiet : (config : Configuration) (given : Input) (c : Chronicle) → due config (effect config given c ++ c) ≡ [] → effect config given c ++ c ≡ after config c given

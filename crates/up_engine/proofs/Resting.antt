@@ -23,12 +23,13 @@ use Rattle.up_model.proofs.Sparing.{same-append}
 use Rattle.up_book.specs.Keeps.{AreDistinct}
 use Rattle.up_book.proofs.One.{IsKnown, known-all, called, none-of-others, apart-back}
 use Rattle.up_engine.specs.Settling.{settle_one, settle_each, settle_all, ListsAfter}
+use Rattle.up_model.proofs.FileLaws.{AreMadeBy}
 use Rattle.up_engine.proofs.JobMoves.{move_in, move_first, due-by}
 use Rattle.up_engine.proofs.Entries.{or_else-some}
 use Rattle.up_engine.proofs.MoveLemmas.{filled_move}
 use Rattle.up_engine.proofs.Offering.{rested, rested-next}
 use Rattle.up_engine.proofs.Opening.{About}
-use Rattle.up_engine.proofs.Firing.{leave-same}
+use Rattle.up_engine.proofs.Firing.{abouts-made, leave-same}
 use Rattle.up_engine.proofs.Shapes.{enter-about}
 use Rattle.up_engine.proofs.Measure.{move-fewer, move-gone, count-gone}
 use Rattle.up_engine.proofs.Settled.{StandsStill, still-instances, enter-still, gone-stays, one-stays}
@@ -81,7 +82,7 @@ without-one job c xs ys x list =
 
 -- what an instance's own entries make of the lists
 lists-entry : (job : Bytes) (i : ℕ) (e : Entry) (c : Chronicle) → About i e → without_instance i (instances_of job (e ∷ c)) ≡ without_instance i (instances_of job c)
-lists-entry job i (Made other name) c is = absurd is
+lists-entry job i (Made file name) c is = absurd is
 lists-entry job i (Entered j Waiting) c is =
     ap (λ k. without_instance i (without_instance k (instances_of job c))) is
     ∙ without-none i (without_instance i (instances_of job c)) (count-gone i (instances_of job c))
@@ -144,6 +145,7 @@ first-none (job ∷ jobs) c rest = ap (λ es. or_else es (move_first jobs c)) (i
 -- a place in the order: all before it rest
 pub record Reached (config : Configuration) (done : List JobDef) (job : JobDef) (todo : List JobDef) (passed left : List Instance) (c : Chronicle) : Type 0 where
   pub jobs : config.jobs ≡ done ++ job ∷ todo
+  pub made : AreMadeBy config.jobs c
   pub before : RestAll done c
   pub list : instances_of job.name c ≡ passed ++ left
   pub rest : Rest job passed c
@@ -162,7 +164,7 @@ reached-rested : (config : Configuration) (done : List JobDef) (job : JobDef) (t
 reached-rested config done job todo passed left x c distinct h may =
     let first = reached-first config done job todo passed left x c h may in
     let other = or_else (offer_next config (offering c) c) (answering_last c) in
-    let one : due config c ≡ move job x c = due-by config c distinct ∙ ap (λ es. or_else es other) first ∙ or_else-some (move job x c) other (filled_move job x c) in
+    let one : due config c ≡ move job x c = due-by config c distinct h.made ∙ ap (λ es. or_else es other) first ∙ or_else-some (move job x c) other (filled_move job x c) in
     ap (λ es. rested config (es ++ c)) (sym one) ∙ rested-next config c
 
 -- the entries of one instance leave the others where they are
@@ -214,6 +216,7 @@ reached-after : (config : Configuration) (done : List JobDef) (job : JobDef) (to
     → Reached config done job todo passed rest (es ++ c)
 reached-after config done job todo passed left rest x es c distinct h all lists list = record {
   jobs = h.jobs;
+  made = abouts-made config.jobs x.place es c all h.made;
   before = rest-jobs done job x es c (distinct-before done job todo (subst AreDistinct h.jobs distinct)) (reached-known config done job todo passed left x c h) all lists h.before;
   list = list;
   rest = rest-others job passed x.place es c all (once job.name c passed left x h.list).before h.rest;
@@ -223,6 +226,7 @@ reached-more : (config : Configuration) (done : List JobDef) (job : JobDef) (tod
     → Reached config done job todo passed (x ∷ left) c → may_leave job x.place c ≡ false → Reached config done job todo (passed ++ x ∷ []) left c
 reached-more config done job todo passed left x c h stays = record {
   jobs = h.jobs;
+  made = h.made;
   before = h.before;
   list = h.list ∙ sym (append_assoc passed (x ∷ []) left);
   rest = more passed h.rest;
@@ -288,20 +292,20 @@ rest-append : (xs ys : List JobDef) (c : Chronicle) → RestAll xs c → RestAll
 rest-append [] ys c rest others = others
 rest-append (x ∷ xs) ys c rest others = (rest.0, rest-append xs ys c rest.1 others)
 
-jobs-further : (config : Configuration) (done jobs : List JobDef) (c : Chronicle) → AreDistinct config.jobs → config.jobs ≡ done ++ jobs → RestAll done c
-    → RestAll config.jobs (settle_all jobs c) × (rested config (settle_all jobs c) ≡ rested config c)
-jobs-further config done [] c distinct split rest = (subst (λ js. RestAll js c) (sym (split ∙ append-nil done)) rest, refl)
-jobs-further config done (job ∷ jobs) c distinct split rest =
+jobs-further : (config : Configuration) (done jobs : List JobDef) (c : Chronicle) → AreDistinct config.jobs → AreMadeBy config.jobs c → config.jobs ≡ done ++ jobs → RestAll done c
+    → RestAll config.jobs (settle_all jobs c) × (rested config (settle_all jobs c) ≡ rested config c) × AreMadeBy config.jobs (settle_all jobs c)
+jobs-further config done [] c distinct made split rest = (subst (λ js. RestAll js c) (sym (split ∙ append-nil done)) rest, refl, made)
+jobs-further config done (job ∷ jobs) c distinct made split rest =
     let d = settle_each job (instances_of job.name c) c in
-    let mine = each-further config done job jobs [] (instances_of job.name c) c distinct (record { jobs = split; before = rest; list = refl; rest = tt }) in
+    let mine = each-further config done job jobs [] (instances_of job.name c) c distinct (record { jobs = split; made = made; before = rest; list = refl; rest = tt }) in
     let list : mine.passed ≡ instances_of job.name d = sym (mine.reached.list ∙ append-nil mine.passed) in
     let here : Rest job (instances_of job.name d) d = subst (λ (xs : List Instance). Rest job xs d) list mine.reached.rest in
-    let others = jobs-further config (done ++ job ∷ []) jobs d distinct (split ∙ sym (append_assoc done (job ∷ []) jobs)) (rest-append done (job ∷ []) d mine.reached.before (here, tt)) in
-    (others.0, others.1 ∙ mine.same)
+    let others = jobs-further config (done ++ job ∷ []) jobs d distinct mine.reached.made (split ∙ sym (append_assoc done (job ∷ []) jobs)) (rest-append done (job ∷ []) d mine.reached.before (here, tt)) in
+    (others.0, others.1 ∙ mine.same, others.2)
 
 -- when all have settled nobody may move, and what comes of the chronicle is the same
-pub all-settled : (config : Configuration) (c : Chronicle) → AreDistinct config.jobs
-    → (move_first config.jobs (settle_all config.jobs c) ≡ []) × (rested config (settle_all config.jobs c) ≡ rested config c)
-all-settled config c distinct =
-    let all = jobs-further config [] config.jobs c distinct refl tt in
-    (first-none config.jobs (settle_all config.jobs c) all.0, all.1)
+pub all-settled : (config : Configuration) (c : Chronicle) → AreDistinct config.jobs → AreMadeBy config.jobs c
+    → (move_first config.jobs (settle_all config.jobs c) ≡ []) × (rested config (settle_all config.jobs c) ≡ rested config c) × AreMadeBy config.jobs (settle_all config.jobs c)
+all-settled config c distinct made =
+    let all = jobs-further config [] config.jobs c distinct made refl tt in
+    (first-none config.jobs (settle_all config.jobs c) all.0, all.1, all.2)

@@ -36,12 +36,12 @@ use Rattle.up_engine.proofs.Handling.{moves-gone}
 
 -- a move that doesn't end in waiting leaves all instances
 abbrev pub StandsStill : Entry → Type 0
-StandsStill (Made job name) = ⊥
+StandsStill (Made file name) = ⊥
 StandsStill (Entered i Waiting) = ⊥
 StandsStill entry = Unit {0}
 
 pub still-instances : (name : Bytes) (e : Entry) (c : Chronicle) → StandsStill e → instances_of name (e ∷ c) ≡ instances_of name c
-still-instances name (Made job other) c is = absurd is
+still-instances name (Made file other) c is = absurd is
 still-instances name (Entered i Waiting) c is = absurd is
 still-instances name e c is = refl
 

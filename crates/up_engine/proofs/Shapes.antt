@@ -10,7 +10,7 @@ use Rattle.up_model.specs.declared.state.Goal.TheVariants.{Start}
 use Rattle.up_model.specs.declared.state.State.{State}
 use Rattle.up_model.specs.declared.who.Who.{Who}
 use Rattle.up_model.specs.Chronicle.{Chronicle, Entry, Expression, Offered, Fired, Made, Aimed, Entered, Ordered, Signalled, StartOn, StopOn}
-use Rattle.up_model.specs.Configuration.{Configuration}
+use Rattle.up_model.specs.Configuration.{Configuration, job_named}
 use Rattle.up_model.specs.Due.{due}
 use Rattle.up_model.specs.Environments.{env_of_job, instance_name}
 use Rattle.up_model.specs.Events.{events_at, events_env, with_instance, stopped_by}
@@ -31,7 +31,7 @@ use Rattle.up_job.specs.Lists.{nth}
 use Rattle.up_book.specs.Keeps.{AreDistinct}
 use Rattle.up_engine.specs.Offering.{Asked, OfStop, OfStart, expression_of, open_stops, open_start, open_all, offer_at}
 use Rattle.up_book.proofs.Lists.{cons_same}
-use Rattle.up_engine.proofs.JobMoves.{move_first, due-by}
+use Rattle.up_engine.proofs.JobMoves.{move_first, due-by, have-files}
 use Rattle.up_engine.proofs.Moving.{first-moves}
 use Rattle.up_engine.proofs.Offering.{rested, rested-next, first-offer, offer-filled, all-left, is_left}
 use Rattle.up_engine.proofs.Entries.{or_else-some}
@@ -63,6 +63,7 @@ pub after-offer : (jobs : List JobDef) (a : Asked) (left : List Asked) (e : ℕ)
 after-offer jobs a left e c h apart = record {
   open_left = next-open jobs a left e c h.open_left apart;
   handles = h.handles;
+  made = h.made;
   still = λ i. stay-still i jobs (Offered (expression_of a) e ∷ c) (still-offered jobs c (expression_of a) e (still-stay jobs c (h.still (length c))));
 }
 
@@ -84,7 +85,7 @@ pub after-stop : (config : Configuration) (job : JobDef) (i : ℕ) (left : List 
 after-stop config job i left e c h apart =
     let d : Chronicle = Offered (StopOn i) e ∷ c in
     let offered = after-offer config.jobs (OfStop job i) left e c h apart in
-    let at_d : IsAt i config.jobs e left d = record { open_left = offered.open_left; handles = offered.handles; closed = closed-offered i e c; stay = offered.still i } in
+    let at_d : IsAt i config.jobs e left d = record { open_left = offered.open_left; handles = offered.handles; made = offered.made; closed = closed-offered i e c; stay = offered.still i } in
     subst (IsAt i config.jobs e left) (sym (append_assoc es (Offered (StopOn i) e ∷ []) c)) (at-entries i config.jobs e left es d all at_d)
   where
     events : List ℕ
@@ -152,39 +153,41 @@ abbrev pub AfterStart : Option ℕ → List JobDef → (e : ℕ) → List Asked 
 AfterStart None jobs e left c = IsHandling jobs e left c
 AfterStart (Some i) jobs e left c = IsAt i jobs e left c
 
-started-of : (jobs : List JobDef) (e : ℕ) (left : List Asked) (who : Who) (environment : Bindings) (its : List ℕ) (o : Option ℕ) (f : Chronicle) → IsHandling jobs e left f
-    → ((p : ℕ) → o ≡ Some p → is_open p f ≡ false) → AfterStart (started_at who o f) jobs e left (start_of who environment its o f ++ f)
-started-of jobs e left who environment its None f h closed = by_case (nat_lt (length (instances_of who.job f)) max_instances)
+started-of : (jobs : List JobDef) (e : ℕ) (left : List Asked) (job : JobDef) (who : Who) (environment : Bindings) (its : List ℕ) (o : Option ℕ) (f : Chronicle) → job_named job.name jobs ≡ Some job → IsHandling jobs e left f
+    → ((p : ℕ) → o ≡ Some p → is_open p f ≡ false) → AfterStart (started_at who o f) jobs e left (start_of job who environment its o f ++ f)
+started-of jobs e left job who environment its None f found h closed = by_case (nat_lt (length (instances_of who.job f)) max_instances)
   where
     made : Chronicle
-    made = Made who.job who.instance ∷ f
+    made = Made job who.instance ∷ f
 
     at_made : IsAt (length f) jobs e left made
     at_made = record {
-      open_left = open-made jobs who.job who.instance f ∙ h.open_left;
+      open_left = open-made jobs job who.instance f ∙ h.open_left;
       handles = h.handles;
-      closed = made-closed who.job who.instance f;
-      stay = stay-made jobs who.job who.instance f (h.still (length f));
+      made = (found, h.made);
+      closed = made-closed job who.instance f;
+      stay = stay-made jobs job who.instance f (h.still (length f));
     }
 
-    by_case : (b : Bool) → AfterStart (if b then Some (length f) else None) jobs e left (entries_if b (Aimed (length f) Start environment its ∷ Made who.job who.instance ∷ []) ++ f)
+    by_case : (b : Bool) → AfterStart (if b then Some (length f) else None) jobs e left (entries_if b (Aimed (length f) Start environment its ∷ Made job who.instance ∷ []) ++ f)
     by_case true = at-entries (length f) jobs e left (Aimed (length f) Start environment its ∷ []) made (refl, tt) at_made
     by_case false = h
-started-of jobs e left who environment its (Some p) f h closed = by_case (not (is_start (goal p f)))
+started-of jobs e left job who environment its (Some p) f found h closed = by_case (not (is_start (goal p f)))
   where
     at_f : IsAt p jobs e left f
-    at_f = record { open_left = h.open_left; handles = h.handles; closed = closed p refl; stay = h.still p }
+    at_f = record { open_left = h.open_left; handles = h.handles; made = h.made; closed = closed p refl; stay = h.still p }
 
     by_case : (b : Bool) → AfterStart (if b then Some p else None) jobs e left (entries_if b (Aimed p Start environment its ∷ releasing p false f) ++ f)
     by_case true = at-entries p jobs e left (Aimed p Start environment its ∷ releasing p false f) f (refl, releasing-all (About p) (λ request answer. tt) p false tt f) at_f
     by_case false = h
 
-started-who : (jobs : List JobDef) (e : ℕ) (left : List Asked) (job : Bytes) (name : Option Bytes) (environment : Bindings) (its : List ℕ) (f : Chronicle) → IsHandling jobs e left f
-    → AreClosed (instances_of job f) f → AfterStart (started_who (who_called job name) f) jobs e left (start_who environment its (who_called job name) f ++ f)
-started-who jobs e left job None environment its f h closed = h
-started-who jobs e left job (Some name) environment its f h closed =
-    started-of jobs e left (record { job = job; instance = name }) (with_instance (record { job = job; instance = name }) environment) its (place_named name (instances_of job f)) f h
-    (λ p found. named-closed name p (instances_of job f) f closed found)
+started-who : (jobs : List JobDef) (e : ℕ) (left : List Asked) (job : JobDef) (name : Option Bytes) (environment : Bindings) (its : List ℕ) (f : Chronicle) → job_named job.name jobs ≡ Some job → IsHandling jobs e left f
+    → AreClosed (instances_of job.name f) f → AfterStart (started_who (who_called job.name name) f) jobs e left (start_who job environment its (who_called job.name name) f ++ f)
+started-who jobs e left job None environment its f in_table h closed = h
+started-who jobs e left job (Some name) environment its f in_table h closed =
+    let who : Who = record { job = job.name; instance = name } in
+    started-of jobs e left job who (with_instance who environment) its (place_named name (instances_of job.name f)) f in_table h
+    (λ p found. named-closed name p (instances_of job.name f) f closed found)
 
 -- the name of the instance that a start by events concerns
 abbrev pub start_name : Configuration → JobDef → List ℕ → Chronicle → Option Bytes
@@ -202,13 +205,14 @@ still-fired : (jobs : List JobDef) (e : ℕ) (left : List Asked) (x : Expression
 still-fired jobs e left x events c h = record {
   open_left = Rattle.up_engine.proofs.Opening.open-unmoved jobs x events c ∙ h.open_left;
   handles = h.handles;
+  made = h.made;
   still = λ i. stay-entry i jobs (Fired x events) c tt (h.still i);
 }
 
 -- one of a `start on` that fires leaves the rest, and the instance that it concerns alone may move
-pub after-start : (config : Configuration) (job : JobDef) (left : List Asked) (e : ℕ) (c : Chronicle) → IsHandling config.jobs e (OfStart job ∷ left) c → IsApart (OfStart job) left
+pub after-start : (config : Configuration) (job : JobDef) (left : List Asked) (e : ℕ) (c : Chronicle) → job_named job.name config.jobs ≡ Some job → IsHandling config.jobs e (OfStart job ∷ left) c → IsApart (OfStart job) left
     → AfterStart (started config job e c) config.jobs e left (start_offer config job e c ++ c)
-after-start config job left e c h apart = by_case (holds job.start_on (seen config (StartOn job.name) d))
+after-start config job left e c found h apart = by_case (holds job.start_on (seen config (StartOn job.name) d))
   where
     d : Chronicle
     d = Offered (StartOn job.name) e ∷ c
@@ -233,7 +237,7 @@ after-start config job left e c h apart = by_case (holds job.start_on (seen conf
     effect = start_by config job events f
 
     fired : AfterStart (started_who (who_called job.name (start_name config job events f)) f) config.jobs e left (effect ++ f)
-    fired = started-who config.jobs e left job.name (start_name config job events f) (start_env config (who_called job.name (start_name config job events f)) (events_at events f) f) events f (still-fired config.jobs e left (StartOn job.name) events d offered) (same-closed (instances_of job.name c) closed)
+    fired = started-who config.jobs e left job (start_name config job events f) (start_env config (who_called job.name (start_name config job events f)) (events_at events f) f) events f found (still-fired config.jobs e left (StartOn job.name) events d offered) (same-closed (instances_of job.name c) closed)
 
     order : ((effect ++ Fired (StartOn job.name) events ∷ []) ++ Offered (StartOn job.name) e ∷ []) ++ c ≡ effect ++ f
     order = append_assoc (effect ++ Fired (StartOn job.name) events ∷ []) (Offered (StartOn job.name) e ∷ []) c ∙ append_assoc effect (Fired (StartOn job.name) events ∷ []) d
@@ -248,8 +252,8 @@ pub due-offer : (config : Configuration) (a : Asked) (left : List Asked) (e : �
     → (due config c ≡ offer_at config a e c) × (rested config (offer_at config a e c ++ c) ≡ rested config c)
 due-offer config a left e c distinct h =
     let parts : or_else (move_first config.jobs c) (or_else (offer_next config (offering c) c) (answering_last c)) ≡ offer_at config a e c =
-    rw (still-stay config.jobs c (h.still (length c)), h.handles, first-offer config config.jobs e c, h.open_left) (offer-filled config a e c (answering_last c)) in
-    let one : due config c ≡ offer_at config a e c = due-by config c distinct ∙ parts in
+    rw (still-stay config.jobs c (h.still (length c)), h.handles, first-offer config config.jobs e c (have-files config c distinct h.made), h.open_left) (offer-filled config a e c (answering_last c)) in
+    let one : due config c ≡ offer_at config a e c = due-by config c distinct h.made ∙ parts in
     (one, ap (λ es. rested config (es ++ c)) (sym one) ∙ rested-next config c)
 
 -- a move of the instance leaves the rest to be offered, and the others where they are
@@ -285,7 +289,7 @@ pub due-move : (config : Configuration) (e : ℕ) (left : List Asked) (place at 
 due-move config e left place at job x c h distinct there here may =
     let first : move_first config.jobs c ≡ move job x c = first-moves config.jobs place at job x c there here distinct h.stay ∙ ap (λ b. entries_if b (move job x c)) may in
     let other = or_else (offer_next config (offering c) c) (answering_last c) in
-    let one : due config c ≡ move job x c = due-by config c distinct ∙ ap (λ es. or_else es other) first ∙ or_else-some (move job x c) other (filled_move job x c) in
+    let one : due config c ≡ move job x c = due-by config c distinct h.made ∙ ap (λ es. or_else es other) first ∙ or_else-some (move job x c) other (filled_move job x c) in
     (one, ap (λ es. rested config (es ++ c)) (sym one) ∙ rested-next config c)
 
 -- when it may move no more, the next expression is offered the event
@@ -293,4 +297,4 @@ pub moves-done : (config : Configuration) (e : ℕ) (left : List Asked) (place a
     → nth place config.jobs ≡ Some job → nth at (instances_of job.name c) ≡ Some x → may_leave job x.place c ≡ false → IsHandling config.jobs e left c
 moves-done config e left place at job x c h distinct there here stays =
     let none : move_first config.jobs c ≡ [] = first-moves config.jobs place at job x c there here distinct h.stay ∙ ap (λ b. entries_if b (move job x c)) stays in
-    record { open_left = h.open_left; handles = h.handles; still = λ i. stay-still i config.jobs c none }
+    record { open_left = h.open_left; handles = h.handles; made = h.made; still = λ i. stay-still i config.jobs c none }

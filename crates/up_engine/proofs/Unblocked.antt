@@ -27,6 +27,7 @@ use Rattle.up_book.specs.Keeps.{AreDistinct}
 use Rattle.up_book.specs.Keys.{instance_place}
 use Rattle.up_book.specs.Unblocking.{IsBlockedBy}
 use Rattle.up_book.proofs.Keyed.{nth-get, job-there}
+use Rattle.up_model.proofs.FileLaws.{AreMadeBy}
 use Rattle.up_engine.specs.Effects.{IsAlone, Concerns, unblocked_concern}
 use Rattle.up_engine.proofs.Alone.{here, one-settles}
 use Rattle.up_engine.proofs.Effects.{none-due, turn-finishes}
@@ -35,7 +36,7 @@ use Rattle.up_engine.proofs.Firing.{stay-still, still-stay}
 use Rattle.up_engine.proofs.Hearing.{GivesNone, asked-same, none-moves}
 use Rattle.up_engine.proofs.Moving.{StayIn, Stay}
 use Rattle.up_engine.proofs.Positions.{same-instance}
-use Rattle.up_engine.proofs.Quiet.{IsQuiet, lists-same, stays-quiet, none-asked}
+use Rattle.up_engine.proofs.Quiet.{quiets-made, IsQuiet, lists-same, stays-quiet, none-asked}
 
 -- what waits for an event once another has finished waited for it before
 waited : (event : ℕ) (o : Option ℕ) (e : ℕ) → without event o ≡ Some e → o ≡ Some e
@@ -143,27 +144,27 @@ finishes config c e found =
     ap (λ o. (turn_of o d ++ Given Turn ∷ []) ++ c) found ∙ append_assoc (finishing e d) (Given Turn ∷ []) c ∙ finishing_last tells answers (Finished e) d ∙ sym (append_assoc tells answers (Finished e ∷ d))
 
 -- nobody may move, if nobody waited for it
-finished-nobody : (config : Configuration) (c : Chronicle) (e : ℕ) → AreDistinct config.jobs → IsBlockedBy config e (Given Turn ∷ c) None → due config c ≡ [] → offering (told e (Given Turn ∷ c) ++ Finished e ∷ Given Turn ∷ c) ≡ None
+finished-nobody : (config : Configuration) (c : Chronicle) (e : ℕ) → AreDistinct config.jobs → AreMadeBy config.jobs c → IsBlockedBy config e (Given Turn ∷ c) None → due config c ≡ [] → offering (told e (Given Turn ∷ c) ++ Finished e ∷ Given Turn ∷ c) ≡ None
     → due config (told e (Given Turn ∷ c) ++ Finished e ∷ Given Turn ∷ c) ≡ []
-finished-nobody config c e distinct none rests offers =
+finished-nobody config c e distinct made none rests offers =
     let d : Chronicle = Given Turn ∷ c in
     let f : Chronicle = Finished e ∷ d in
     let w : Chronicle = told e d ++ f in
     let i = length w in
-    let before : Stay i config.jobs d = stays-quiet i config.jobs (Given Turn ∷ []) c (tt, tt) (stay-still i config.jobs c (none-moves config c distinct rests)) in
+    let before : Stay i config.jobs d = stays-quiet i config.jobs (Given Turn ∷ []) c (tt, tt) (stay-still i config.jobs c (none-moves config c distinct made rests)) in
     let after = stay-finished i e d config.jobs (λ n at job y listed there apart waits. none (record { job = n; at = at }) y.place (key-there config d n at job y listed there) waits) before in
     let unasked : asked w ≡ None = same-append asked GivesNone asked-same (told e d) f (told-gives e d) in
-    none-due config w distinct (still-stay config.jobs w (stays-quiet i config.jobs (told e d) f (told-quiet e d) after)) offers ∙ none-asked w unasked
+    none-due config w distinct (quiets-made config.jobs (told e d) f (told-quiet e d) made) (still-stay config.jobs w (stays-quiet i config.jobs (told e d) f (told-quiet e d) after)) offers ∙ none-asked w unasked
 
 -- or the one that did
-finished-alone : (config : Configuration) (c : Chronicle) (e i : ℕ) (key : InstanceKey) → AreDistinct config.jobs → instance_place config (Given Turn ∷ c) key ≡ Some i → blocker i (Given Turn ∷ c) ≡ Some e → due config c ≡ []
+finished-alone : (config : Configuration) (c : Chronicle) (e i : ℕ) (key : InstanceKey) → AreDistinct config.jobs → AreMadeBy config.jobs c → instance_place config (Given Turn ∷ c) key ≡ Some i → blocker i (Given Turn ∷ c) ≡ Some e → due config c ≡ []
     → offering (told e (Given Turn ∷ c) ++ Finished e ∷ Given Turn ∷ c) ≡ None → IsAlone key config (told e (Given Turn ∷ c) ++ Finished e ∷ Given Turn ∷ c)
-finished-alone config c e i key distinct found waits rests offers =
+finished-alone config c e i key distinct made found waits rests offers =
     let d : Chronicle = Given Turn ∷ c in
     let f : Chronicle = Finished e ∷ d in
     let w : Chronicle = told e d ++ f in
     let it = here config f key i found in
-    let before : Stay i config.jobs d = stays-quiet i config.jobs (Given Turn ∷ []) c (tt, tt) (stay-still i config.jobs c (none-moves config c distinct rests)) in
+    let before : Stay i config.jobs d = stays-quiet i config.jobs (Given Turn ∷ []) c (tt, tt) (stay-still i config.jobs c (none-moves config c distinct made rests)) in
     let after = stay-finished i e d config.jobs (λ n at job y listed there apart its. eqb-false y.place i apart (waits-once y.place i d e its waits)) before in
     let still : (name : Bytes) → instances_of name w ≡ instances_of name f = λ name. same-append (instances_of name) IsQuiet (lists-same name) (told e d) f (told-quiet e d) in
     let stays : Stay it.its.place config.jobs w = subst (λ p. Stay p config.jobs w) (sym it.place) (stays-quiet i config.jobs (told e d) f (told-quiet e d) after) in
@@ -176,11 +177,11 @@ finished-alone config c e i key distinct found waits rests offers =
       unasked = offers;
     }
 
-pub finished-concerns : (places : Chronicle → EventId → Option ℕ) (config : Configuration) (c : Chronicle) (e : ℕ) (on : Option InstanceKey) → AreDistinct config.jobs → IsBlockedBy config e (Given Turn ∷ c) on
+pub finished-concerns : (places : Chronicle → EventId → Option ℕ) (config : Configuration) (c : Chronicle) (e : ℕ) (on : Option InstanceKey) → AreDistinct config.jobs → AreMadeBy config.jobs c → IsBlockedBy config e (Given Turn ∷ c) on
     → turn_event config (queue.queue c) c ≡ Some (queue.live_at e true) → Concerns places (unblocked_concern on) config Turn c
-finished-concerns places config c e None distinct none found = λ rests.
+finished-concerns places config c e None distinct made none found = λ rests.
     let whole = finishes config c e found in
-    ap (due config) whole ∙ finished-nobody config c e distinct none rests (ap offering (sym whole) ∙ turn-finishes config c e true found refl)
-finished-concerns places config c e (Some key) distinct on found = λ rests.
+    ap (due config) whole ∙ finished-nobody config c e distinct made none rests (ap offering (sym whole) ∙ turn-finishes config c e true found refl)
+finished-concerns places config c e (Some key) distinct made on found = λ rests.
     let whole = finishes config c e found in
-    subst (IsAlone key config) (sym whole) (finished-alone config c e on.0 key distinct on.1 on.2 rests (ap offering (sym whole) ∙ turn-finishes config c e true found refl))
+    subst (IsAlone key config) (sym whole) (finished-alone config c e on.0 key distinct made on.1 on.2 rests (ap offering (sym whole) ∙ turn-finishes config c e true found refl))

@@ -22,6 +22,7 @@ use Rattle.up_book.specs.Keeps.{AreDistinct}
 use Rattle.up_book.specs.Keys.{job_at, instance_at, instance_place}
 use Rattle.up_book.proofs.Keyed.{nth-get, job-there}
 use Rattle.up_book.proofs.One.{IsKnown, known-all}
+use Rattle.up_model.proofs.FileLaws.{AreMadeBy}
 use Rattle.up_engine.specs.Settling.{settle_one, settle_each, hear_stops, hear, hear_all}
 use Rattle.up_engine.specs.Unfired.{NoneHolds}
 use Rattle.up_engine.specs.Unheard.{AreUnheard}
@@ -157,9 +158,9 @@ pub record HeardTo (stands : Chronicle → Type 0) (places : Chronicle → Event
   pub untrue : NoneHolds config d
 
 -- at first that is none of them
-pub heard-none : (stands : Chronicle → Type 0) (places : Chronicle → EventId → Option ℕ) (config : Configuration) (e : ℕ) (event : EventId) (c : Chronicle) → AreDistinct config.jobs → due config c ≡ [] → NoneHolds config c → stands (Handled e ∷ Given Turn ∷ c)
+pub heard-none : (stands : Chronicle → Type 0) (places : Chronicle → EventId → Option ℕ) (config : Configuration) (e : ℕ) (event : EventId) (c : Chronicle) → AreDistinct config.jobs → AreMadeBy config.jobs c → due config c ≡ [] → NoneHolds config c → stands (Handled e ∷ Given Turn ∷ c)
     → places (Handled e ∷ Given Turn ∷ c) event ≡ Some e → HeardTo stands places config e event 0 (Handled e ∷ Given Turn ∷ c)
-heard-none stands places config e event c distinct none untrue stood known = record {
+heard-none stands places config e event c distinct made none untrue stood known = record {
   d = Handled e ∷ Given Turn ∷ c;
   done = [];
   todo = config.jobs;
@@ -168,7 +169,7 @@ heard-none stands places config e event c distinct none untrue stood known = rec
   stood = stood;
   known = known;
   same = refl;
-  handling = all-left config e c distinct none;
+  handling = all-left config e c distinct made none;
   untrue = none-entry config (Handled e) (Given Turn ∷ c) tt (none-entry config (Given Turn) c tt untrue);
 }
 

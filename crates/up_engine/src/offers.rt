@@ -5,6 +5,7 @@ ghost use Rattle.up_book.specs.Keys.{job_at, Mode, Stepping, held_as, request_pl
 ghost use Rattle.up_model.specs.Chronicle.{Chronicle};
 ghost use Rattle.up_model.specs.Chronicle as entry;
 ghost use Rattle.up_model.specs.Configuration.{Configuration};
+ghost use Rattle.up_conf.specs.declared.job.JobDef.{JobDef as JobValue};
 ghost use Rattle.up_model.specs.declared.who.Who.{Who as WhoValue};
 ghost use Rattle.up_model.specs.Environments as environments;
 ghost use Rattle.up_model.specs.Instances as model_instances;
@@ -131,17 +132,17 @@ fn start_old<B: Book>(
     environment: Env,
     holders: Holders,
 ) -> Result<(), AllocError>
-    ensures after { OnOk result ((config : Configuration) (c : Chronicle) (who : WhoValue) (i : ℕ) (places : List ℕ)
-        → B.stands book.old Stepping config c
+    ensures after { OnOk result ((config : Configuration) (c : Chronicle) (job : JobValue) (who : WhoValue) (i : ℕ)
+        (places : List ℕ) → B.stands book.old Stepping config c
         → instance_place config c key ≡ Some i
         → held_as (B.event_place book.old c) (request_place c) holders ≡ map Some places
-        → B.stands book.new Stepping config (model.start_of who environment places (Some i) c ++ c)) }
-    ensures events { OnOk result ((config : Configuration) (c : Chronicle) (who : WhoValue) (i : ℕ) (places :
-        List ℕ) (k : EventIdValue) (j : ℕ)
+        → B.stands book.new Stepping config (model.start_of job who environment places (Some i) c ++ c)) }
+    ensures events { OnOk result ((config : Configuration) (c : Chronicle) (job : JobValue) (who : WhoValue) (i : ℕ)
+        (places : List ℕ) (k : EventIdValue) (j : ℕ)
         → B.stands book.old Stepping config c → instance_place config c key ≡ Some i
         → held_as (B.event_place book.old c) (request_place c) holders ≡ map Some places
         → B.event_place book.old c k ≡ Some j
-        → B.event_place book.new (model.start_of who environment places (Some i) c ++ c) k ≡ Some j) }
+        → B.event_place book.new (model.start_of job who environment places (Some i) c ++ c) k ≡ Some j) }
 {
     if !is_start(book.goal(key)) {
         book.release(key)?;
@@ -172,7 +173,7 @@ fn start_new<B: Book>(
         → B.stands book.old Stepping config c → job_at config index ≡ Some job.now
         → model_instances.instance_named (record { job = job.now.name; instance = name.now }) c ≡ None
         → held_as (B.event_place book.old c) (request_place c) holders ≡ map Some places
-        → B.stands book.new Stepping config (model.start_of
+        → B.stands book.new Stepping config (model.start_of job.now
         (record { job = job.now.name; instance = name.now }) environment places None c ++ c)) }
     ensures events { OnOk result ((config : Configuration) (c : Chronicle) (places : List ℕ)
         (k : EventIdValue) (j : ℕ)
@@ -180,7 +181,7 @@ fn start_new<B: Book>(
         → model_instances.instance_named (record { job = job.now.name; instance = name.now }) c ≡ None
         → held_as (B.event_place book.old c) (request_place c) holders ≡ map Some places
         → B.event_place book.old c k ≡ Some j
-        → B.event_place book.new (model.start_of (record { job = job.now.name; instance = name.now }) environment places
+        → B.event_place book.new (model.start_of job.now (record { job = job.now.name; instance = name.now }) environment places
         None c ++ c) k ≡ Some j) }
 {
     if has_room(book, index) {
@@ -203,14 +204,14 @@ fn start_of<B: Book>(
         → B.stands book.old Stepping config c → job_at config index ≡ Some job.now
         → held_as (B.event_place book.old c) (request_place c) holders ≡ map Some places
         → B.stands book.new Stepping config
-        (model.start_of (record { job = job.now.name; instance = name.now }) environment places
+        (model.start_of job.now (record { job = job.now.name; instance = name.now }) environment places
         (model_instances.instance_named (record { job = job.now.name; instance = name.now }) c) c ++ c)) }
     ensures events { OnOk result ((config : Configuration) (c : Chronicle) (places : List ℕ)
         (k : EventIdValue) (j : ℕ)
         → B.stands book.old Stepping config c → job_at config index ≡ Some job.now
         → held_as (B.event_place book.old c) (request_place c) holders ≡ map Some places
         → B.event_place book.old c k ≡ Some j
-        → B.event_place book.new (model.start_of (record { job = job.now.name; instance = name.now }) environment places
+        → B.event_place book.new (model.start_of job.now (record { job = job.now.name; instance = name.now }) environment places
         (model_instances.instance_named (record { job = job.now.name; instance = name.now }) c) c ++ c) k ≡ Some j) }
 {
     match book.find(index, name) {
@@ -232,14 +233,14 @@ pub(crate) fn start_called<B: Book>(
     ensures after { OnOk result ((config : Configuration) (c : Chronicle) (places : List ℕ)
         → B.stands book.old Stepping config c → job_at config index ≡ Some job.now
         → held_as (B.event_place book.old c) (request_place c) holders ≡ map Some places
-        → B.stands book.new Stepping config (model.start_who environment places
+        → B.stands book.new Stepping config (model.start_who job.now environment places
         (model.who_called job.now.name (Some name.now)) c ++ c)) }
     ensures events { OnOk result ((config : Configuration) (c : Chronicle) (places : List ℕ)
         (k : EventIdValue) (j : ℕ)
         → B.stands book.old Stepping config c → job_at config index ≡ Some job.now
         → held_as (B.event_place book.old c) (request_place c) holders ≡ map Some places
         → B.event_place book.old c k ≡ Some j
-        → B.event_place book.new (model.start_who environment places (model.who_called job.now.name (Some name.now))
+        → B.event_place book.new (model.start_who job.now environment places (model.who_called job.now.name (Some name.now))
         c ++ c) k ≡ Some j) }
 {
     add_instance(&mut environment, &job.name, name)?;

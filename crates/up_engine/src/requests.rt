@@ -1,5 +1,6 @@
 //! What the requests of clients do (initctl(8)).
 ghost use Rattle.std.specs.Prelude.{◌≡◌, ◌&&◌, ℕ, true, false, List, length, ◌∷◌, [], ◌++◌, map, Option, None, Some, if◌then◌else◌, IfOk, OnOk};
+ghost use Rattle.up_conf.specs.declared.job.JobDef.{JobDef as JobValue};
 ghost use Rattle.up_model.specs.declared.event_id.EventId.{EventId as EventIdValue};
 ghost use Rattle.up_book.specs.Asking.{given_place};
 ghost use Rattle.up_book.specs.Keys.{job_at, Mode, Resting, Stepping, held_as, request_place, name_at, instance_place};
@@ -78,10 +79,10 @@ fn running_refusal<B: Book>(
     key: InstanceKey,
 ) -> Result<Option<Text>, AllocError>
     ensures { IfOk result (λ text. (mode : Mode) (config : Configuration) (c : Chronicle) (i : ℕ)
-        (places : List ℕ) (environment : Bindings)
+        (places : List ℕ) (job : JobValue) (environment : Bindings)
         → B.stands book.now mode config c → instance_place config c key ≡ Some i
-        → model.start_at places who.now environment (Some i) c
-        ≡ unless text (model.Done (offer.start_of who.now environment places (Some i) c))) }
+        → model.start_at places job who.now environment (Some i) c
+        ≡ unless text (model.Done (offer.start_of job who.now environment places (Some i) c))) }
 {
     if is_start(book.goal(key)) {
         let text = already_running(alloc, who)?;
@@ -98,10 +99,10 @@ fn room_refusal<B: Book>(
     who: &Who,
 ) -> Result<Option<Text>, AllocError>
     ensures { IfOk result (λ text. (mode : Mode) (config : Configuration) (c : Chronicle) (places : List ℕ)
-        (environment : Bindings)
+        (job : JobValue) (environment : Bindings)
         → B.stands book.now mode config c → name_at config index ≡ Some who.now.job
-        → model.start_at places who.now environment None c
-        ≡ unless text (model.Done (offer.start_of who.now environment places None c))) }
+        → model.start_at places job who.now environment None c
+        ≡ unless text (model.Done (offer.start_of job who.now environment places None c))) }
 {
     if !has_room(book, index) {
         let text = too_many_instances(alloc, who.job.as_str())?;
@@ -118,10 +119,10 @@ fn start_refusal<B: Book>(
     who: &Who,
 ) -> Result<Option<Text>, AllocError>
     ensures { IfOk result (λ text. (mode : Mode) (config : Configuration) (c : Chronicle) (places : List ℕ)
-        (environment : Bindings)
+        (job : JobValue) (environment : Bindings)
         → B.stands book.now mode config c → name_at config index ≡ Some who.now.job
-        → model.start_at places who.now environment (model_instances.instance_named who.now c) c
-        ≡ unless text (model.Done (offer.start_of who.now environment places
+        → model.start_at places job who.now environment (model_instances.instance_named who.now c) c
+        ≡ unless text (model.Done (offer.start_of job who.now environment places
         (model_instances.instance_named who.now c) c))) }
 {
     match book.find(index, who.instance.as_str()) {
@@ -151,7 +152,7 @@ fn start_who<B: Book>(
         → held_as (B.event_place book.old (entry.Given input ∷ c)) (request_place (entry.Given input ∷ c)) holders
         ≡ map Some places
         → B.stands book.new Stepping config
-        (model.entries_of (length c) (model.start_at places who.now (with_instance who.now environment)
+        (model.entries_of (length c) (model.start_at places job.now who.now (with_instance who.now environment)
         (model_instances.instance_named who.now (entry.Given input ∷ c)) (entry.Given input ∷ c))
         ++ entry.Given input ∷ c)) }
 {
@@ -407,7 +408,7 @@ fn reload<B: Book>(alloc: Global, book: &mut B, target: Target) -> Result<(), Al
     ensures { OnOk result ((config : Configuration) (c : Chronicle) (input : InputValue)
         → B.stands book.old Stepping config (entry.Given input ∷ c) → IsIndexed config target.entry
         → B.stands book.new Stepping config
-        (model.entries_of (length c) (model.reload config (length c) (said_of target.entry) (entry.Given input ∷ c))
+        (model.entries_of (length c) (model.reload (length c) (said_of target.entry) (entry.Given input ∷ c))
         ++ entry.Given input ∷ c)) }
 {
     match target {

@@ -6,6 +6,7 @@ ghost use Rattle.up_model.specs.Chronicle.{Chronicle};
 ghost use Rattle.up_model.specs.Commands as model;
 ghost use Rattle.up_model.specs.Configuration.{Configuration};
 ghost use Rattle.up_model.specs.Values.{Bindings};
+ghost use Rattle.up_model.proofs.FileLaws.{AreMadeBy};
 ghost use Rattle.up_text.specs.Expansion.{expand as expansion};
 
 use crate::setup::Setup;
@@ -51,7 +52,7 @@ fn target_in<'a>(
     environment: Env,
 ) -> Result<Target<'a>, AllocError>
     ensures target { IfOk result (λ target. (config : Configuration) (vars : Bindings) (c : Chronicle)
-        → environment ≡ model.request_env config job.now vars
+        → environment ≡ model.request_env config job.now vars → AreMadeBy config.jobs c
         → said_of target ≡ model.target_as config job.now vars (expansion job.now.instance environment) c) }
     ensures index { IfOk result (λ target. (config : Configuration)
         → job_at config index ≡ Some job.now → IsIndexed config target) }
@@ -81,7 +82,7 @@ pub(crate) fn target_of<'a>(
     name: &str,
     vars: &Env,
 ) -> Result<Target<'a>, AllocError>
-    ensures target { IfOk result (λ target. (c : Chronicle)
+    ensures target { IfOk result (λ target. (c : Chronicle) → AreMadeBy setup.now.jobs c
         → said_of target ≡ model.target_of setup.now name.now vars.now c) }
     ensures index { IfOk result (λ target. IsIndexed setup.now target) }
 {

@@ -10,7 +10,8 @@ use Rattle.up_engine.proofs.hear.hear_all.Goals as goal
 pub hearers-init : goal.hearers-init
 hearers-init g c = record {
   within = omega arith;
-  heard = λ c' e none untrue stood known. heard-none (g.B.Book.stands c.args.book.now Stepping c.args.setup.now) (g.B.Book.event_place c.args.book.now) c.args.setup.now e c.args.event c' c.names_differ.ensures none untrue stood known;
+  heard = λ c' e none untrue stood known. heard-none (g.B.Book.stands c.args.book.now Stepping c.args.setup.now) (g.B.Book.event_place c.args.book.now) c.args.setup.now e c.args.event c' c.names_differ.ensures
+      (g.met.B.Book.made c.args.book.now Stepping c.args.setup.now (Handled e ∷ Given Turn ∷ c') stood) none untrue stood known;
   unheard = λ c' e stood known deaf. refl;
 }
 
