@@ -93,7 +93,10 @@ pub(crate) fn next_row(time: u64, row: Row, sign: &Sign) -> Row
             told: row.told && !is_waiting(*state),
             begun: begun_after(*state, time, row.begun),
         },
-        Sign::StartedBy(_) => Row {
+        Sign::StartedBy {
+            events: _,
+            source: _,
+        } => Row {
             place: row.place,
             state: row.state,
             since: row.since,
@@ -102,5 +105,6 @@ pub(crate) fn next_row(time: u64, row: Row, sign: &Sign) -> Row
         },
         Sign::Fails => row,
         Sign::Signal(_) => row,
+        Sign::Comes => row,
     }
 }
