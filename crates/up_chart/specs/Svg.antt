@@ -134,18 +134,20 @@ abbrev pub tip_y : (from : Option ℕ) → (place : ℕ) → ℕ
 tip_y None place = y_at place + 3
 tip_y (Some from) place = if nat_lt place from then y_at place + 17 else y_at place + 3
 
--- a straight line to its end
-unfoldable pub line_to : (x y : ℕ) → Bytes
-line_to x y = codes "L" ++ decimal x ++ codes " " ++ decimal y ++ codes "\"/>\n"
+-- it goes straight to a life that begins where the event came; to one that begins later it goes on along its row
+unfoldable pub way_text : (from : Option ℕ) → (place x to_x : ℕ) → Bytes
+way_text from place x to_x =
+    if nat_lt x to_x then codes "V" ++ decimal (y_at place + 10) ++ codes "H" ++ decimal to_x
+    else codes "V" ++ decimal (tip_y from place)
 
-unfoldable pub arrow_path : (from : Option ℕ) → (x to_x to_y : ℕ) → Bytes
-arrow_path from x to_x to_y =
-    codes "<path class=\"arrow\" d=\"M" ++ decimal x ++ codes " " ++ tail_text from ++ line_to to_x to_y
+unfoldable pub arrow_path : (from : Option ℕ) → (place x to_x : ℕ) → Bytes
+arrow_path from place x to_x =
+    codes "<path class=\"arrow\" d=\"M" ++ decimal x ++ codes " " ++ tail_text from ++ way_text from place x to_x
+    ++ codes "\"/>\n"
 
 -- from where and when the event came, to where and when the life begins
 abbrev pub arrow_text : (end : ℕ) → Arrow → Bytes
-arrow_text end arrow =
-    arrow_path arrow.from (x_at end arrow.came) (x_at end arrow.begun) (tip_y arrow.from arrow.place)
+arrow_text end arrow = arrow_path arrow.from arrow.place (x_at end arrow.came) (x_at end arrow.begun)
 
 -- the events that started an instance
 unfoldable pub started_text : (x y : ℕ) → Bytes → Bytes

@@ -2,7 +2,7 @@
 ghost use Rattle.std.specs.Prelude.{◌≡◌, ◌++◌, ◌≤◌, ◌<◌, ◌^◌, ◌*◌, IfOk, OnOk, max, length};
 ghost use Rattle.std.specs.List.{flat_map};
 ghost use Rattle.up_model.specs.Signals.{signal_text};
-ghost use Rattle.up_chart.specs.Svg.{arrow_path, arrow_text, axis, bar, bar_title, column, corner, crash_text, head, interval, label_text, legend, line_to, longest, mark_text, name_text, opening, place_text, row_line, signal_mark, span_text, started_text, svg_of, tail_text, tick_at, tick_line, tick_text, tick_time, tip_y};
+ghost use Rattle.up_chart.specs.Svg.{arrow_path, arrow_text, axis, bar, bar_title, column, corner, crash_text, head, interval, label_text, legend, longest, mark_text, name_text, opening, place_text, row_line, signal_mark, span_text, started_text, svg_of, tail_text, tick_at, tick_line, tick_text, tick_time, tip_y, way_text};
 
 use crate::chart::Chart;
 use crate::label::{Arrow, Label, Mark, Span};
@@ -102,8 +102,8 @@ const LOOKS: &'static str = "<style>\
     <text x=\"698\" y=\"23\">main failed</text>\n\
     <path class=\"signal\" d=\"M776 11v16\"/>\
     <text x=\"782\" y=\"23\">signal</text>\n\
-    <path class=\"arrow\" d=\"M832 19L852 19\"/>\
-    <text x=\"858\" y=\"23\">started by</text>\n";
+    <path class=\"arrow\" d=\"M832 19H854\"/>\
+    <text x=\"860\" y=\"23\">started by</text>\n";
 
 /// How a picture begins, before its size and after it.
 const BEGINNING: &'static str = "<svg xmlns=\"http://www.w3.org/2000/svg\"";
@@ -374,42 +374,56 @@ fn tip_y(from: Option<u64>, place: u64) -> u64
     }
 }
 
-// A straight line to its end.
-#[tactic(auto, unfolding(crate::specs::Svg::line_to))]
-fn push_line_to(text: &mut Vec<u8>, x: u64, y: u64) -> Result<(), AllocError>
-    ensures { OnOk result (text.new.items ≡ text.old.items ++ line_to x y) }
+// Straight to a life that begins where the event came, or on along its row to one that begins later.
+#[tactic(auto, unfolding(crate::specs::Svg::way_text))]
+fn push_way(
+    text: &mut Vec<u8>,
+    from: Option<u64>,
+    place: u64,
+    x: u64,
+    to_x: u64,
+) -> Result<(), AllocError>
+    ensures { OnOk result (text.new.items ≡ text.old.items ++ way_text from place x to_x) }
 {
-    push(text, "L")?;
-    push_decimal(text, x)?;
-    push(text, " ")?;
-    push_decimal(text, y)?;
-    push(text, "\"/>\n")
+    push(text, "V")?;
+    if x < to_x {
+        push_decimal(text, y_at(place) + 10)?;
+        push(text, "H")?;
+        push_decimal(text, to_x)
+    } else {
+        push_decimal(text, tip_y(from, place))
+    }
 }
 
 #[tactic(auto, unfolding(crate::specs::Svg::arrow_path))]
 fn push_arrow_path(
     text: &mut Vec<u8>,
     from: Option<u64>,
+    place: u64,
     x: u64,
     to_x: u64,
-    to_y: u64,
 ) -> Result<(), AllocError>
-    ensures { OnOk result (text.new.items ≡ text.old.items ++ arrow_path from x to_x to_y) }
+    ensures { OnOk result (text.new.items ≡ text.old.items ++ arrow_path from place x to_x) }
 {
     push(text, "<path class=\"arrow\" d=\"M")?;
     push_decimal(text, x)?;
     push(text, " ")?;
     push_tail(text, from)?;
-    push_line_to(text, to_x, to_y)
+    push_way(text, from, place, x, to_x)?;
+    push(text, "\"/>\n")
 }
 
 // From where and when an event came, to where and when the life begins that it brought.
 fn push_arrow(text: &mut Vec<u8>, end: u64, arrow: &Arrow) -> Result<(), AllocError>
     ensures { OnOk result (text.new.items ≡ text.old.items ++ arrow_text end arrow.now) }
 {
-    let x = x_at(end, arrow.came);
-    let to_y = tip_y(arrow.from, arrow.place);
-    push_arrow_path(text, arrow.from, x, x_at(end, arrow.begun), to_y)
+    push_arrow_path(
+        text,
+        arrow.from,
+        arrow.place,
+        x_at(end, arrow.came),
+        x_at(end, arrow.begun),
+    )
 }
 
 fn push_arrows(text: &mut Vec<u8>, end: u64, arrows: &[Arrow]) -> Result<(), AllocError>
