@@ -1,20 +1,35 @@
 -- The arrows of a picture: from where an event came that started an instance, to where the instance's life begins.
-use Rattle.std.specs.Prelude.{ℕ, Bool, nat_le, ◌==◌, List, [], ◌∷◌, ◌++◌, Option, None, Some, is_some, option_map, if◌then◌else◌, codes}
+use Rattle.std.specs.Prelude.{ℕ, Bool, true, false, ◌&&◌, ◌||◌, nat_le, ◌==◌, List, [], ◌∷◌, ◌++◌, length, Option, None, Some, is_some, option_map, if◌then◌else◌}
 use Rattle.std.specs.List.{flat_map, slice_split}
 use Rattle.up_value.specs.Values.{Bytes}
 use Rattle.up_chart.specs.declared.label.Arrow.{Arrow}
 use Rattle.up_chart.specs.declared.moment.Moment.{Moment}
 use Rattle.up_chart.specs.declared.moment.Sign.{Sign}
 use Rattle.up_chart.specs.declared.moment.Sign.TheVariants.{Enters, StartedBy, Fails, Signal, Comes}
+use Rattle.up_chart.specs.declared.row.Came.{Came}
 use Rattle.up_chart.specs.declared.row.Row.{Row}
 use Rattle.up_chart.specs.Moments.{life_event, state_told}
 use Rattle.up_chart.specs.Rows.{Named, Times, entry_of, row_for, rows_after, times_after}
 
--- an arrow from a row, or from outside, at the time at which the event came; what came after a life had begun didn't start it
-abbrev pub arrow : (from came : Option ℕ) → (place begun : ℕ) → List Arrow
-arrow from None place begun = []
-arrow from (Some came) place begun =
-    if nat_le came begun then (record { from = from; came = came; place = place; begun = begun }) ∷ [] else []
+-- whether no other event of the name came since the last life that events started
+abbrev pub is_only : (brought before : Option ℕ) → Bool
+is_only brought None = true
+is_only None (Some before) = false
+is_only (Some brought) (Some before) = nat_le before brought
+
+-- An event is known to have started a life that began then, if it is the only one of its name since the last such life, or if it
+-- came as the life began, and the start had no other event. Else an earlier one may have, as a condition keeps the first event that it
+-- takes (init(5), "start on").
+abbrev pub is_known : (alone : Bool) → Row → (begun : ℕ) → Came → Bool
+is_known alone row begun came =
+    nat_le came.last begun && (is_only row.brought came.before || (alone && came.last == begun))
+
+-- an arrow from a row, or from outside, to the life of an instance that began then
+abbrev pub arrow : (from : Option ℕ) → (alone : Bool) → Row → (begun : ℕ) → Option Came → List Arrow
+arrow from alone row begun None = []
+arrow from alone row begun (Some came) =
+    if is_known alone row begun came
+    then (record { from = from; came = came.last; place = row.place; begun = begun }) ∷ [] else []
 
 abbrev pub place_of : Named → (who : Bytes) → Option ℕ
 place_of rows who = option_map (λ row. row.place) (entry_of who rows)
@@ -33,39 +48,39 @@ last_life last [] = last
 last_life last (event ∷ events) = last_life (if is_life event then Some event else last) events
 
 -- an event of an instance's life comes from the instance's row
-abbrev pub from_life : Named → Times → (place begun : ℕ) → (event source : Option Bytes) → List Arrow
-from_life rows times place begun None source = []
-from_life rows times place begun (Some event) None = []
-from_life rows times place begun (Some event) (Some who) =
-    arrow (place_of rows who) (entry_of (life_event event who) times) place begun
+abbrev pub from_life : Named → Times → (alone : Bool) → Row → (begun : ℕ) → (event source : Option Bytes) → List Arrow
+from_life rows times alone row begun None source = []
+from_life rows times alone row begun (Some event) None = []
+from_life rows times alone row begun (Some event) (Some who) =
+    arrow (place_of rows who) alone row begun (entry_of (life_event event who) times)
 
 -- any other comes from outside
-abbrev pub from_outside : Times → (place begun : ℕ) → (event : Bytes) → List Arrow
-from_outside times place begun event =
-    if is_life event then [] else arrow None (entry_of event times) place begun
+abbrev pub from_outside : Times → (alone : Bool) → Row → (begun : ℕ) → (event : Bytes) → List Arrow
+from_outside times alone row begun event =
+    if is_life event then [] else arrow None alone row begun (entry_of event times)
 
--- the arrows to a life that began then. Of its events that are of instances' lives it is known of the last alone which instance it
--- is, since each sets JOB and INSTANCE
-abbrev pub arrows_to : Named → Times → (place : ℕ) → (begun : Option ℕ) → (events : List Bytes) → (source : Option Bytes)
-    → List Arrow
-arrows_to rows times place None events source = []
-arrows_to rows times place (Some begun) events source =
-    from_life rows times place begun (last_life None events) source
-    ++ flat_map (from_outside times place begun) events
+abbrev pub is_one : List Bytes → Bool
+is_one events = length events == 1
 
--- a life begins when the instance emits `starting`; its arrows are told once, as its events are
-abbrev pub arrows_by : Named → Times → Row → (name : Bytes) → Sign → List Arrow
-arrows_by rows times row name (Enters to) = []
-arrows_by rows times row name (StartedBy events source) =
-    if row.told then []
-    else arrows_to rows times row.place (entry_of (life_event (codes "starting") name) times) (words_of events) source
-arrows_by rows times row name Fails = []
-arrows_by rows times row name (Signal signal) = []
-arrows_by rows times row name Comes = []
+-- the arrows to a life that these events started. Of those that are of instances' lives it is known of the last alone which instance
+-- it is about, since each sets JOB and INSTANCE
+abbrev pub arrows_to : Named → Times → Row → (begun : Option ℕ) → (events : List Bytes) → (source : Option Bytes) → List Arrow
+arrows_to rows times row None events source = []
+arrows_to rows times row (Some begun) events source =
+    from_life rows times (is_one events) row begun (last_life None events) source
+    ++ flat_map (from_outside times (is_one events) row begun) events
+
+-- the arrows to a life are told once, as its events are: not if it was stopped before it had a process
+abbrev pub arrows_by : Named → Times → Row → Sign → List Arrow
+arrows_by rows times row (Enters to) = []
+arrows_by rows times row (StartedBy events source) =
+    if row.told then [] else arrows_to rows times row row.begun (words_of events) source
+arrows_by rows times row Fails = []
+arrows_by rows times row (Signal signal) = []
+arrows_by rows times row Comes = []
 
 -- the arrows in moments, if these instances are known before them, and these events came
 abbrev pub arrows_in : Named → Times → List Moment → List Arrow
 arrows_in rows times [] = []
 arrows_in rows times (seen ∷ moments) =
-    arrows_by rows times (row_for rows seen) seen.name seen.sign
-    ++ arrows_in (rows_after rows seen) (times_after times seen) moments
+    arrows_by rows times (row_for rows seen) seen.sign ++ arrows_in (rows_after rows seen) (times_after times seen) moments

@@ -7,11 +7,12 @@ use Rattle.up_model.specs.declared.state.State.TheVariants as state
 use Rattle.up_chart.specs.declared.moment.Moment.{Moment}
 use Rattle.up_chart.specs.declared.moment.Sign.{Sign}
 use Rattle.up_chart.specs.declared.moment.Sign.TheVariants.{Enters, StartedBy, Fails, Signal, Comes}
+use Rattle.up_chart.specs.declared.row.Came.{Came}
 use Rattle.up_chart.specs.declared.row.Row.{Row}
 
 -- an instance of which nothing was seen yet
 abbrev pub new_row : (place time : ℕ) → Row
-new_row place time = record { place = place; state = state.Waiting; since = time; told = false; begun = None }
+new_row place time = record { place = place; state = state.Waiting; since = time; told = false; begun = None; brought = None }
 
 abbrev pub is_waiting : State → Bool
 is_waiting state.Waiting = true
@@ -32,6 +33,11 @@ begun_after state.Spawned time begun = begun
 begun_after state.PostStart time begun = begun
 begun_after other time begun = None
 
+-- an instance that is told which events started it, in a life that began then
+abbrev pub brought_row : Row → (begun : Option ℕ) → Row
+brought_row row None = record row { told = true }
+brought_row row (Some begun) = record row { told = true; brought = Some begun }
+
 -- what is known of an instance after a sign of it; which events started it is told once for each life
 abbrev pub next_row : ℕ → Row → Sign → Row
 next_row time row (Enters to) = record {
@@ -40,8 +46,9 @@ next_row time row (Enters to) = record {
   since = time;
   told = row.told && not (is_waiting to);
   begun = begun_after to time row.begun;
+  brought = row.brought;
 }
-next_row time row (StartedBy events source) = record row { told = true }
+next_row time row (StartedBy events source) = if row.told then row else brought_row row row.begun
 next_row time row Fails = row
 next_row time row (Signal signal) = row
 next_row time row Comes = row
@@ -85,12 +92,17 @@ abbrev pub all_rows : Named → List Moment → Named
 all_rows rows [] = rows
 all_rows rows (seen ∷ moments) = all_rows (rows_after rows seen) moments
 
--- when each event came last
+-- when each event came
 abbrev pub Times : Type 0
-Times = List (Bytes × ℕ)
+Times = List (Bytes × Came)
+
+-- an event comes once more
+abbrev pub came_again : ℕ → Option Came → Came
+came_again time None = record { last = time; before = None }
+came_again time (Some came) = record { last = time; before = Some came.last }
 
 abbrev pub times_by : Times → Moment → Sign → Times
-times_by times seen Comes = set_entry seen.name seen.time times
+times_by times seen Comes = set_entry seen.name (came_again seen.time (entry_of seen.name times)) times
 times_by times seen other = times
 
 -- the times after a moment

@@ -1,38 +1,54 @@
 //! The arrows from where an event came that started an instance, to where the instance's life begins.
-ghost use Rattle.std.specs.Prelude.{◌≡◌, ◌++◌, OnOk, IfOk, None, codes, map, option_map};
+ghost use Rattle.std.specs.Prelude.{◌≡◌, ◌++◌, OnOk, IfOk, None, map, option_map};
 ghost use Rattle.std.specs.List.{flat_map};
-ghost use Rattle.up_chart.specs.Moments.{life_event};
-ghost use Rattle.up_chart.specs.Rows.{entry_of};
-ghost use Rattle.up_chart.specs.Arrows.{arrow, arrows_by, arrows_to, from_life, from_outside, is_life, last_life, place_of, words_of};
+ghost use Rattle.up_chart.specs.Arrows.{arrow, arrows_by, arrows_to, from_life, from_outside, is_known, is_life, is_only, last_life, place_of, words_of};
 
 use crate::label::Arrow;
 use crate::moment::{Sign, life_event, state_told};
-use crate::row::Row;
+use crate::row::{Came, Row};
 use crate::rows::Rows;
 use crate::times::Times;
 use std::alloc::{AllocError, Global};
 use up_text::Text;
 
-// What came after a life had begun didn't start it.
+// Whether no other event of the name came since the last life that events started.
+fn is_only(brought: Option<u64>, before: Option<u64>) -> bool
+    ensures { result ≡ is_only brought before }
+{
+    match (brought, before) {
+        (_, None) => true,
+        (None, Some(_)) => false,
+        (Some(brought), Some(before)) => before <= brought,
+    }
+}
+
+// Whether an event is known to have started a life that began then.
+fn is_known(alone: bool, row: &Row, begun: u64, came: Came) -> bool
+    ensures { result ≡ is_known alone row.now begun came }
+{
+    came.last <= begun && (is_only(row.brought, came.before) || (alone && came.last == begun))
+}
+
 fn push_arrow(
     arrows: &mut Vec<Arrow>,
     from: Option<u64>,
-    came: Option<u64>,
-    place: u64,
+    alone: bool,
+    row: &Row,
     begun: u64,
+    came: Option<Came>,
 ) -> Result<(), AllocError>
-    ensures { OnOk result (arrows.new.items ≡ arrows.old.items ++ arrow from came place begun) }
+    ensures { OnOk result (arrows.new.items ≡ arrows.old.items ++ arrow from alone row.now begun came) }
 {
     let Some(came) = came else {
         return Ok(());
     };
-    if begun < came {
+    if !is_known(alone, row, begun, came) {
         return Ok(());
     }
     arrows.push(Arrow {
         from,
-        came,
-        place,
+        came: came.last,
+        place: row.place,
         begun,
     })?;
     Ok(())
@@ -78,12 +94,13 @@ fn push_from_life(
     arrows: &mut Vec<Arrow>,
     rows: &Rows,
     times: &Times,
-    place: u64,
+    alone: bool,
+    row: &Row,
     begun: u64,
     event: Option<&str>,
     source: &Option<Text>,
 ) -> Result<(), AllocError>
-    ensures { OnOk result (arrows.new.items ≡ arrows.old.items ++ from_life rows.now times.now place begun
+    ensures { OnOk result (arrows.new.items ≡ arrows.old.items ++ from_life rows.now times.now alone row.now begun
         (option_map (λ event. event.now) event.entry) source.now) }
 {
     let Some(event) = event else {
@@ -96,69 +113,71 @@ fn push_from_life(
     let event = life_event(*arrows.allocator(), event, who)?;
     let came = times.get(event.as_str());
     drop(event);
-    push_arrow(arrows, place_of(rows, who), came, place, begun)
+    push_arrow(arrows, place_of(rows, who), alone, row, begun, came)
 }
 
 // Any other comes from outside.
 fn push_from_outside(
     arrows: &mut Vec<Arrow>,
     times: &Times,
-    place: u64,
+    alone: bool,
+    row: &Row,
     begun: u64,
     event: &str,
 ) -> Result<(), AllocError>
-    ensures { OnOk result (arrows.new.items ≡ arrows.old.items ++ from_outside times.now place begun event.now) }
+    ensures { OnOk result (arrows.new.items
+        ≡ arrows.old.items ++ from_outside times.now alone row.now begun event.now) }
 {
     if is_life(event) {
         return Ok(());
     }
-    push_arrow(arrows, None, times.get(event), place, begun)
+    push_arrow(arrows, None, alone, row, begun, times.get(event))
 }
 
 fn push_all_from_outside(
     arrows: &mut Vec<Arrow>,
     times: &Times,
-    place: u64,
+    alone: bool,
+    row: &Row,
     begun: u64,
     events: &[&str],
 ) -> Result<(), AllocError>
-    ensures { OnOk result (arrows.new.items
-        ≡ arrows.old.items ++ flat_map (from_outside times.now place begun) (map (λ event. event.now) events.now)) }
+    ensures { OnOk result (arrows.new.items ≡ arrows.old.items
+        ++ flat_map (from_outside times.now alone row.now begun) (map (λ event. event.now) events.now)) }
 {
     for event in events {
-        push_from_outside(arrows, times, place, begun, event)?;
+        push_from_outside(arrows, times, alone, row, begun, event)?;
     }
     Ok(())
 }
 
-// The arrows to a life that began then.
+// The arrows to a life that these events started.
 fn push_arrows_to(
     arrows: &mut Vec<Arrow>,
     rows: &Rows,
     times: &Times,
-    place: u64,
-    begun: Option<u64>,
+    row: &Row,
     events: &[&str],
     source: &Option<Text>,
 ) -> Result<(), AllocError>
     ensures { OnOk result (arrows.new.items ≡ arrows.old.items
-        ++ arrows_to rows.now times.now place begun (map (λ event. event.now) events.now) source.now) }
+        ++ arrows_to rows.now times.now row.now row.now.begun (map (λ event. event.now) events.now) source.now) }
 {
-    let Some(begun) = begun else {
+    let Some(begun) = row.begun else {
         return Ok(());
     };
-    push_from_life(arrows, rows, times, place, begun, last_life(events), source)?;
-    push_all_from_outside(arrows, times, place, begun, events)
-}
-
-// When an instance began its life.
-fn begun_of(alloc: Global, times: &Times, name: &str) -> Result<Option<u64>, AllocError>
-    ensures { IfOk result (λ begun. begun ≡ entry_of (life_event (codes "starting") name.now) times.now) }
-{
-    let event = life_event(alloc, "starting", name)?;
-    let begun = times.get(event.as_str());
-    drop(event);
-    Ok(begun)
+    let alone = events.len() == 1;
+    push_from_life(
+        arrows,
+        rows,
+        times,
+        alone,
+        row,
+        begun,
+        last_life(events),
+        source,
+    )?;
+    push_all_from_outside(arrows, times, alone, row, begun, events)
 }
 
 /// The arrows to an instance of which this is known, if a sign tells which events started it.
@@ -167,29 +186,17 @@ pub(crate) fn push_arrows(
     rows: &Rows,
     times: &Times,
     row: &Row,
-    name: &str,
     sign: &Sign,
 ) -> Result<(), AllocError>
-    ensures { OnOk result (arrows.new.items
-        ≡ arrows.old.items ++ arrows_by rows.now times.now row.now name.now sign.now) }
+    ensures { OnOk result (arrows.new.items ≡ arrows.old.items ++ arrows_by rows.now times.now row.now sign.now) }
 {
     match sign {
         Sign::StartedBy { events, source } => {
             if row.told {
                 return Ok(());
             }
-            let alloc = *arrows.allocator();
-            let begun = begun_of(alloc, times, name)?;
-            let words = words_of(alloc, events.as_str())?;
-            push_arrows_to(
-                arrows,
-                rows,
-                times,
-                row.place,
-                begun,
-                words.as_slice(),
-                source,
-            )
+            let words = words_of(*arrows.allocator(), events.as_str())?;
+            push_arrows_to(arrows, rows, times, row, words.as_slice(), source)
         }
         Sign::Enters(_) => Ok(()),
         Sign::Fails => Ok(()),

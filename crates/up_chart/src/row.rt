@@ -1,6 +1,6 @@
 //! What is known of an instance, and what a moment makes of it.
 ghost use Rattle.std.specs.Prelude.{◌≡◌};
-ghost use Rattle.up_chart.specs.Rows.{begun_after, is_up, is_waiting, new_row, next_row};
+ghost use Rattle.up_chart.specs.Rows.{begun_after, brought_row, came_again, is_up, is_waiting, new_row, next_row};
 
 use crate::moment::Sign;
 use up_model::State;
@@ -18,6 +18,31 @@ pub struct Row {
     pub told: bool,
     /// When it began to start, while it does.
     pub begun: Option<u64>,
+    /// When the last life began that events started.
+    pub brought: Option<u64>,
+}
+
+/// When an event came last, and when it came before that.
+#[derive(Clone, Copy)]
+pub struct Came {
+    pub last: u64,
+    pub before: Option<u64>,
+}
+
+/// An event comes once more.
+pub(crate) fn came_again(time: u64, came: Option<Came>) -> Came
+    ensures { result ≡ came_again time came }
+{
+    match came {
+        Some(came) => Came {
+            last: time,
+            before: Some(came.last),
+        },
+        None => Came {
+            last: time,
+            before: None,
+        },
+    }
 }
 
 /// An instance of which nothing was seen yet.
@@ -30,6 +55,7 @@ pub(crate) fn new_row(place: u64, time: u64) -> Row
         since: time,
         told: false,
         begun: None,
+        brought: None,
     }
 }
 
@@ -81,6 +107,20 @@ fn begun_after(state: State, time: u64, begun: Option<u64>) -> Option<u64>
     }
 }
 
+// An instance that is told which events started it.
+fn brought_row(row: Row) -> Row
+    ensures { result ≡ brought_row row row.begun }
+{
+    Row {
+        place: row.place,
+        state: row.state,
+        since: row.since,
+        told: true,
+        begun: row.begun,
+        brought: row.begun.or(row.brought),
+    }
+}
+
 /// What is known of an instance after a sign of it.
 pub(crate) fn next_row(time: u64, row: Row, sign: &Sign) -> Row
     ensures { result ≡ next_row time row sign.now }
@@ -92,17 +132,12 @@ pub(crate) fn next_row(time: u64, row: Row, sign: &Sign) -> Row
             since: time,
             told: row.told && !is_waiting(*state),
             begun: begun_after(*state, time, row.begun),
+            brought: row.brought,
         },
         Sign::StartedBy {
             events: _,
             source: _,
-        } => Row {
-            place: row.place,
-            state: row.state,
-            since: row.since,
-            told: true,
-            begun: row.begun,
-        },
+        } => { if row.told { row } else { brought_row(row) } }
         Sign::Fails => row,
         Sign::Signal(_) => row,
         Sign::Comes => row,

@@ -8,7 +8,7 @@ ghost use Rattle.up_chart.specs.declared.moment.Sign.TheVariants.{StartedBy};
 use crate::arrow::push_arrows;
 use crate::label::{Arrow, Mark, Span, Start};
 use crate::moment::{Moment, Sign};
-use crate::row::{Row, is_up, is_waiting, new_row, next_row};
+use crate::row::{Row, came_again, is_up, is_waiting, new_row, next_row};
 use crate::rows::Rows;
 use crate::times::Times;
 use std::alloc::{AllocError, Global};
@@ -19,7 +19,7 @@ use up_text::Text;
 #[derive(Drop)]
 pub struct Seen {
     pub rows: Rows,
-    /// When each event came last.
+    /// When each event came.
     pub times: Times,
     pub spans: Vec<Span>,
     pub arrows: Vec<Arrow>,
@@ -157,7 +157,11 @@ fn set_time(alloc: Global, times: &mut Times, moment: &Moment) -> Result<(), All
     ensures { OnOk result (times.new ≡ times_after times.old moment.now) }
 {
     match moment.sign {
-        Sign::Comes => times.set(alloc, moment.name.as_str(), moment.time),
+        Sign::Comes => {
+            let name = moment.name.as_str();
+            let came = came_again(moment.time, times.get(name));
+            times.set(alloc, name, came)
+        }
         Sign::Enters(_)
         | Sign::StartedBy {
             events: _,
@@ -211,21 +215,14 @@ impl Seen {
         ensures spans { OnOk result (self.new.spans.items
             ≡ self.old.spans.items ++ spans_by moment.now.time row.now moment.now.sign) }
         ensures arrows { OnOk result (self.new.arrows.items ≡ self.old.arrows.items
-            ++ arrows_by self.old.rows self.old.times row.now moment.now.name moment.now.sign) }
+            ++ arrows_by self.old.rows self.old.times row.now moment.now.sign) }
         ensures marks { OnOk result (self.new.marks.items
             ≡ self.old.marks.items ++ marks_by moment.now.time row.now moment.now.sign) }
         ensures starts { OnOk result (self.new.starts.items
             ≡ self.old.starts.items ++ starts_by row.now moment.now) }
     {
         push_spans(&mut self.spans, moment.time, row, &moment.sign)?;
-        push_arrows(
-            &mut self.arrows,
-            &self.rows,
-            &self.times,
-            row,
-            moment.name.as_str(),
-            &moment.sign,
-        )?;
+        push_arrows(&mut self.arrows, &self.rows, &self.times, row, &moment.sign)?;
         push_marks(&mut self.marks, moment.time, row, &moment.sign)?;
         push_starts(&mut self.starts, row, moment)
     }
@@ -237,8 +234,7 @@ impl Seen {
         ensures spans { OnOk result (self.new.spans.items ≡ self.old.spans.items
             ++ spans_by moment.now.time (row_for self.old.rows moment.now) moment.now.sign) }
         ensures arrows { OnOk result (self.new.arrows.items ≡ self.old.arrows.items
-            ++ arrows_by self.old.rows self.old.times (row_for self.old.rows moment.now)
-            moment.now.name moment.now.sign) }
+            ++ arrows_by self.old.rows self.old.times (row_for self.old.rows moment.now) moment.now.sign) }
         ensures marks { OnOk result (self.new.marks.items ≡ self.old.marks.items
             ++ marks_by moment.now.time (row_for self.old.rows moment.now) moment.now.sign) }
         ensures starts { OnOk result (self.new.starts.items ≡ self.old.starts.items
