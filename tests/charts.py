@@ -168,8 +168,8 @@ UNKNOWN = {
     "s.conf": "start on started a\nexec /bin/s\n",
     "t.conf": "task\nstart on go\nexec /bin/t\n",
 }
-# The rows are b, a, p, s, q, h, t, f. q and h hold p and s from 100 on. Before either of these orders a process, a is started again, at 300, and b
-# stops, which stops p: so neither has an arrow. `go/failed` is the init's own, and comes from outside.
+# The rows are b, a, p, s, q, h, t, f. q and h hold p and s from 100 on. Before s has a process a is started again, at 300, and before p has one b stops,
+# which stops p: so neither has an arrow. `go/failed` is the init's own, and comes from outside.
 UNKNOWN_RECORD = """clock 0
 request 1 start b
 turn 20
@@ -221,6 +221,44 @@ clock 1000
 """
 UNKNOWN_DRAWN = ["M100 50V83", "M100 70V103", "M700 -8V123", "M800 -8V143"]
 
+OFTEN = {"k.conf": "start on A and B\nexec /bin/k\n", "l.conf": "start on go\nexec /bin/l\n"}
+# The rows are l, k. The `go` at 200 finds l running. The first life of k has an arrow from B alone, as A came twice; the second from both.
+OFTEN_RECORD = """clock 0
+emit A
+turn 20
+clock 100
+emit A
+emit go
+turn 20
+spawned l "" main 1
+turn 20
+clock 200
+emit go
+turn 20
+clock 300
+ended l "" main exit 0
+turn 20
+clock 400
+emit go
+turn 20
+spawned l "" main 2
+turn 20
+clock 500
+emit B
+turn 20
+clock 600
+spawned k "" main 3
+ended k "" main exit 0
+turn 20
+emit A
+turn 20
+clock 700
+emit B
+turn 20
+clock 1000
+"""
+OFTEN_DRAWN = ["M100 -8V3", "M400 -8V3", "M500 -8V23", "M600 -8V30H700", "M700 -8V23"]
+
 
 def found(text, mark):
     """What the lines with a mark say between its end and the next quote."""
@@ -236,7 +274,9 @@ def arrows(folder):
     cases = {
         "arrows": (ARROWS, ARROWS_RECORD, ["a", "c", "b", "d", "e"], ARROWS_DRAWN),
         "unknown": (UNKNOWN, UNKNOWN_RECORD, ["b", "a", "p", "s", "q", "h", "t", "f"], UNKNOWN_DRAWN),
+        "often": (OFTEN, OFTEN_RECORD, ["l", "k"], OFTEN_DRAWN),
     }
+    lives = {"arrows": 5, "unknown": 6, "often": 4}
     for name, (files, steps, rows, wanted) in cases.items():
         jobs, record = folder / name, folder / f"{name}.record"
         write(jobs, files)
@@ -245,7 +285,7 @@ def arrows(folder):
         check(f"chart: rows of {name}", (names(text), status), (rows, 0))
         check(f"chart: arrows of {name}", found(text, '<path class="arrow" d="'), wanted)
         started = [line for line in drawn(text).splitlines() if 'class="by"' in line]
-        check(f"chart: lives of {name} that events started", len(started), {"arrows": 5, "unknown": 6}[name])
+        check(f"chart: lives of {name} that events started", len(started), lives[name])
 
 
 def refusals(folder):
