@@ -21,7 +21,6 @@ use Rattle.up_model.specs.declared.step.Step.{Step}
 use Rattle.up_model.specs.declared.step.Step.TheVariants as step
 use Rattle.up_model.specs.declared.who.Who.{Who}
 use Rattle.up_model.specs.Judgement.{is_success}
-use Rattle.up_model.specs.Requests.{RequestValue}
 use Rattle.up_model.specs.Status.{instance_suffix}
 use Rattle.up_chart.specs.declared.clock.Clock.{Clock}
 use Rattle.up_chart.specs.declared.moment.Moment.{Moment}
