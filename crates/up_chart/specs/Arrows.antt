@@ -5,7 +5,7 @@ use Rattle.up_value.specs.Values.{Bytes}
 use Rattle.up_chart.specs.declared.label.Arrow.{Arrow}
 use Rattle.up_chart.specs.declared.moment.Moment.{Moment}
 use Rattle.up_chart.specs.declared.moment.Sign.{Sign}
-use Rattle.up_chart.specs.declared.moment.Sign.TheVariants.{Enters, StartedBy, Fails, Signal, Comes}
+use Rattle.up_chart.specs.declared.moment.Sign.TheVariants.{Enters, StartedBy, ByClient, Fails, Signal, Comes}
 use Rattle.up_chart.specs.declared.row.Came.{Came}
 use Rattle.up_chart.specs.declared.row.Row.{Row}
 use Rattle.up_chart.specs.Moments.{life_event, state_told}
@@ -70,11 +70,17 @@ arrows_to rows times row (Some begun) events source =
     from_life rows times (is_one events) row begun (last_life None events) source
     ++ flat_map (from_outside times (is_one events) row begun) events
 
+-- a client starts a life at once, from outside
+abbrev pub from_client : (place : ℕ) → (begun : Option ℕ) → List Arrow
+from_client place None = []
+from_client place (Some begun) = (record { from = None; came = begun; place = place; begun = begun }) ∷ []
+
 -- the arrows to a life are told once, as its events are: not if it was stopped before it had a process
 abbrev pub arrows_by : Named → Times → Row → Sign → List Arrow
 arrows_by rows times row (Enters to) = []
 arrows_by rows times row (StartedBy events source) =
     if row.told then [] else arrows_to rows times row row.begun (words_of events) source
+arrows_by rows times row ByClient = if row.asked then [] else from_client row.place row.begun
 arrows_by rows times row Fails = []
 arrows_by rows times row (Signal signal) = []
 arrows_by rows times row Comes = []

@@ -11,7 +11,7 @@ use Rattle.up_chart.specs.declared.label.Span.{Span}
 use Rattle.up_chart.specs.declared.label.Start.{Start}
 use Rattle.up_chart.specs.declared.moment.Moment.{Moment}
 use Rattle.up_chart.specs.declared.moment.Sign.{Sign}
-use Rattle.up_chart.specs.declared.moment.Sign.TheVariants.{Enters, StartedBy, Fails, Signal, Comes}
+use Rattle.up_chart.specs.declared.moment.Sign.TheVariants.{Enters, StartedBy, ByClient, Fails, Signal, Comes}
 use Rattle.up_chart.specs.declared.row.Row.{Row}
 use Rattle.up_chart.specs.Arrows.{arrows_in}
 use Rattle.up_chart.specs.Rows.{Named, all_rows, is_up, is_waiting, row_for, rows_after}
@@ -25,6 +25,7 @@ span_of end row = if is_waiting row.state || nat_le end row.since then []
 abbrev pub spans_by : ℕ → Row → Sign → List Span
 spans_by time row (Enters to) = span_of time row
 spans_by time row (StartedBy events source) = []
+spans_by time row ByClient = []
 spans_by time row Fails = []
 spans_by time row (Signal signal) = []
 spans_by time row Comes = []
@@ -36,6 +37,7 @@ mark row time sign = (record { place = row.place; time = time; sign = sign }) �
 abbrev pub marks_by : ℕ → Row → Sign → List Mark
 marks_by time row (Enters to) = []
 marks_by time row (StartedBy events source) = if row.told then [] else mark row time (StartedBy events source)
+marks_by time row ByClient = []
 marks_by time row Fails = if is_up row.state then mark row time Fails else []
 marks_by time row (Signal signal) = mark row time (Signal signal)
 marks_by time row Comes = []
@@ -53,6 +55,7 @@ ended time name begun other = []
 abbrev pub starts_for : Row → ℕ → Bytes → Sign → List Start
 starts_for row time name (Enters to) = ended time name row.begun to
 starts_for row time name (StartedBy events source) = []
+starts_for row time name ByClient = []
 starts_for row time name Fails = []
 starts_for row time name (Signal signal) = []
 starts_for row time name Comes = []

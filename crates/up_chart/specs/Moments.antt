@@ -25,7 +25,7 @@ use Rattle.up_model.specs.Status.{instance_suffix}
 use Rattle.up_chart.specs.declared.clock.Clock.{Clock}
 use Rattle.up_chart.specs.declared.moment.Moment.{Moment}
 use Rattle.up_chart.specs.declared.moment.Sign.{Sign}
-use Rattle.up_chart.specs.declared.moment.Sign.TheVariants.{Enters, StartedBy, Fails, Signal, Comes}
+use Rattle.up_chart.specs.declared.moment.Sign.TheVariants.{Enters, StartedBy, ByClient, Fails, Signal, Comes}
 
 -- a clock that has read nothing yet
 abbrev pub no_clock : Clock
@@ -102,9 +102,9 @@ instance_of (Some job) None = None
 instance_of (Some job) (Some instance) = Some (name_of job instance)
 
 -- the events that started an instance, and which instance the last of them is about that is of an instance's life, by the environment
--- of its process (init(5), "Job environment"; starting(7))
+-- of its process (init(5), "Job environment"; starting(7)); without events a client did
 abbrev pub started_moments : ℕ → Who → (events source : Option Bytes) → List Moment
-started_moments time who None source = []
+started_moments time who None source = moments_by time who (Some ByClient)
 started_moments time who (Some events) source = moments_by time who (Some (StartedBy events source))
 
 unfoldable pub order_moments : ℕ → Order → List Moment

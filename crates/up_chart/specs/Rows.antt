@@ -6,13 +6,13 @@ use Rattle.up_model.specs.declared.state.State.{State}
 use Rattle.up_model.specs.declared.state.State.TheVariants as state
 use Rattle.up_chart.specs.declared.moment.Moment.{Moment}
 use Rattle.up_chart.specs.declared.moment.Sign.{Sign}
-use Rattle.up_chart.specs.declared.moment.Sign.TheVariants.{Enters, StartedBy, Fails, Signal, Comes}
+use Rattle.up_chart.specs.declared.moment.Sign.TheVariants.{Enters, StartedBy, ByClient, Fails, Signal, Comes}
 use Rattle.up_chart.specs.declared.row.Came.{Came}
 use Rattle.up_chart.specs.declared.row.Row.{Row}
 
 -- an instance of which nothing was seen yet
 abbrev pub new_row : (place time : ℕ) → Row
-new_row place time = record { place = place; state = state.Waiting; since = time; told = false; begun = None; brought = None }
+new_row place time = record { place = place; state = state.Waiting; since = time; told = false; asked = false; begun = None; brought = None }
 
 abbrev pub is_waiting : State → Bool
 is_waiting state.Waiting = true
@@ -38,17 +38,19 @@ abbrev pub brought_row : Row → (begun : Option ℕ) → Row
 brought_row row None = record row { told = true }
 brought_row row (Some begun) = record row { told = true; brought = Some begun }
 
--- what is known of an instance after a sign of it; which events started it is told once for each life
+-- what is known of an instance after a sign of it; who started it is told once for each life
 abbrev pub next_row : ℕ → Row → Sign → Row
 next_row time row (Enters to) = record {
   place = row.place;
   state = to;
   since = time;
   told = row.told && not (is_waiting to);
+  asked = row.asked && not (is_waiting to);
   begun = begun_after to time row.begun;
   brought = row.brought;
 }
 next_row time row (StartedBy events source) = if row.told then row else brought_row row row.begun
+next_row time row ByClient = record row { asked = true }
 next_row time row Fails = row
 next_row time row (Signal signal) = row
 next_row time row Comes = row

@@ -11,7 +11,7 @@ use Rattle.up_chart.specs.declared.label.Label.{Label}
 use Rattle.up_chart.specs.declared.label.Mark.{Mark}
 use Rattle.up_chart.specs.declared.label.Span.{Span}
 use Rattle.up_chart.specs.declared.moment.Sign.{Sign}
-use Rattle.up_chart.specs.declared.moment.Sign.TheVariants.{Enters, StartedBy, Fails, Signal, Comes}
+use Rattle.up_chart.specs.declared.moment.Sign.TheVariants.{Enters, StartedBy, ByClient, Fails, Signal, Comes}
 use Rattle.up_chart.specs.declared.scale.TheConstants.{FAR, HEIGHT, WIDTH}
 use Rattle.up_chart.specs.declared.svg.TheConstants.{BAR_BEGINS, BAR_ENDS, BEGINNING, LETTERS, LOOKS, STEPS, TICKS}
 
@@ -171,6 +171,7 @@ signal_mark x y signal = codes "<path class=\"signal\"" ++ place_text x (y + 2) 
 abbrev pub sign_text : (x y : ℕ) → Sign → Bytes
 sign_text x y (Enters to) = []
 sign_text x y (StartedBy events source) = started_text x y events
+sign_text x y ByClient = []
 sign_text x y Fails = crash_text x y
 sign_text x y (Signal signal) = signal_mark x y signal
 sign_text x y Comes = []

@@ -1,7 +1,7 @@
 //! The arrows from where an event came that started an instance, to where the instance's life begins.
 ghost use Rattle.std.specs.Prelude.{◌≡◌, ◌++◌, OnOk, IfOk, None, map, option_map};
 ghost use Rattle.std.specs.List.{flat_map};
-ghost use Rattle.up_chart.specs.Arrows.{arrow, arrows_by, arrows_to, from_life, from_outside, is_known, is_life, is_only, last_life, place_of, words_of};
+ghost use Rattle.up_chart.specs.Arrows.{arrow, arrows_by, arrows_to, from_client, from_life, from_outside, is_known, is_life, is_only, last_life, place_of, words_of};
 
 use crate::label::Arrow;
 use crate::moment::{Sign, life_event, state_told};
@@ -180,7 +180,27 @@ fn push_arrows_to(
     push_all_from_outside(arrows, times, alone, row, begun, events)
 }
 
-/// The arrows to an instance of which this is known, if a sign tells which events started it.
+// A client starts a life at once, from outside.
+fn push_from_client(
+    arrows: &mut Vec<Arrow>,
+    place: u64,
+    begun: Option<u64>,
+) -> Result<(), AllocError>
+    ensures { OnOk result (arrows.new.items ≡ arrows.old.items ++ from_client place begun) }
+{
+    let Some(begun) = begun else {
+        return Ok(());
+    };
+    arrows.push(Arrow {
+        from: None,
+        came: begun,
+        place,
+        begun,
+    })?;
+    Ok(())
+}
+
+/// The arrows to an instance of which this is known, if a sign tells who started it.
 pub(crate) fn push_arrows(
     arrows: &mut Vec<Arrow>,
     rows: &Rows,
@@ -199,6 +219,12 @@ pub(crate) fn push_arrows(
             push_arrows_to(arrows, rows, times, row, words.as_slice(), source)
         }
         Sign::Enters(_) => Ok(()),
+        Sign::ByClient => {
+            if row.asked {
+                return Ok(());
+            }
+            push_from_client(arrows, row.place, row.begun)
+        }
         Sign::Fails => Ok(()),
         Sign::Signal(_) => Ok(()),
         Sign::Comes => Ok(()),

@@ -17,6 +17,8 @@ pub enum Sign {
     Enters(State),
     /// Events with these names started it. The last of them that is of an instance's life is of this one.
     StartedBy { events: Text, source: Option<Text> },
+    /// A client started it, and no event.
+    ByClient,
     /// Its main process couldn't be started, or was ended by a signal or with a status other than 0.
     Fails,
     /// One of its processes is sent a signal.
@@ -202,7 +204,7 @@ fn instance_of(alloc: Global, vars: &Env) -> Result<Option<Text>, AllocError>
     Ok(Some(name))
 }
 
-// The events that started an instance.
+// The events that started an instance, or that a client did.
 fn push_started(
     moments: &mut Vec<Moment>,
     time: u64,
@@ -215,7 +217,7 @@ fn push_started(
 {
     let Some(events) = events else {
         drop(source);
-        return Ok(());
+        return push_sign(moments, time, who, Some(Sign::ByClient));
     };
     match Text::from_str(*moments.allocator(), events) {
         Ok(events) => push_sign(moments, time, who, Some(Sign::StartedBy { events, source })),

@@ -16,6 +16,8 @@ pub struct Row {
     pub since: u64,
     /// Whether it was told which events started it.
     pub told: bool,
+    /// Whether it was told that a client started it.
+    pub asked: bool,
     /// When it began to start, while it does.
     pub begun: Option<u64>,
     /// When the last life began that events started.
@@ -54,6 +56,7 @@ pub(crate) fn new_row(place: u64, time: u64) -> Row
         state: State::Waiting,
         since: time,
         told: false,
+        asked: false,
         begun: None,
         brought: None,
     }
@@ -116,6 +119,7 @@ fn brought_row(row: Row) -> Row
         state: row.state,
         since: row.since,
         told: true,
+        asked: row.asked,
         begun: row.begun,
         brought: row.begun.or(row.brought),
     }
@@ -131,6 +135,7 @@ pub(crate) fn next_row(time: u64, row: Row, sign: &Sign) -> Row
             state: *state,
             since: time,
             told: row.told && !is_waiting(*state),
+            asked: row.asked && !is_waiting(*state),
             begun: begun_after(*state, time, row.begun),
             brought: row.brought,
         },
@@ -138,6 +143,15 @@ pub(crate) fn next_row(time: u64, row: Row, sign: &Sign) -> Row
             events: _,
             source: _,
         } => { if row.told { row } else { brought_row(row) } }
+        Sign::ByClient => Row {
+            place: row.place,
+            state: row.state,
+            since: row.since,
+            told: row.told,
+            asked: true,
+            begun: row.begun,
+            brought: row.brought,
+        },
         Sign::Fails => row,
         Sign::Signal(_) => row,
         Sign::Comes => row,

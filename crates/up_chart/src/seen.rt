@@ -52,6 +52,7 @@ fn push_spans(spans: &mut Vec<Span>, time: u64, row: &Row, sign: &Sign) -> Resul
             events: _,
             source: _,
         } => Ok(()),
+        Sign::ByClient => Ok(()),
         Sign::Fails => Ok(()),
         Sign::Signal(_) => Ok(()),
         Sign::Comes => Ok(()),
@@ -103,6 +104,7 @@ fn push_marks(marks: &mut Vec<Mark>, time: u64, row: &Row, sign: &Sign) -> Resul
             let sign = started_by(events, source)?;
             push_mark(marks, row.place, time, sign)
         }
+        Sign::ByClient => Ok(()),
         Sign::Fails => {
             if is_up(row.state) {
                 push_mark(marks, row.place, time, Sign::Fails)
@@ -167,6 +169,7 @@ fn set_time(alloc: Global, times: &mut Times, moment: &Moment) -> Result<(), All
             events: _,
             source: _,
         }
+        | Sign::ByClient
         | Sign::Fails
         | Sign::Signal(_) => Ok(()),
     }

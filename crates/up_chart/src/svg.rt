@@ -493,6 +493,7 @@ fn push_mark(text: &mut Vec<u8>, end: u64, mark: &Mark) -> Result<(), AllocError
         Sign::StartedBy { events, source: _ } => {
             push_started(text, x, y, events.as_str().as_bytes())
         }
+        Sign::ByClient => Ok(()),
         Sign::Fails => push_crash(text, x, y),
         Sign::Signal(signal) => push_signal_mark(text, x, y, *signal),
         Sign::Comes => Ok(()),
