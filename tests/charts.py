@@ -156,7 +156,7 @@ spawned d "" main 4
 turn 20
 clock 1000
 """
-ARROWS_DRAWN = ["M0 -8V3", "M0 -8V23", "M200 10V43", "M100 -8V50H200", "M500 70V37", "M500 70V83"]
+ARROWS_DRAWN = ["M0 -8V3", "M0 -8V23", "M200 10V43", "M100 -8V50H200", "M400 -8V63", "M500 70V37", "M500 70V83"]
 
 UNKNOWN = {
     "a.conf": "exec /bin/a\n",
@@ -169,7 +169,7 @@ UNKNOWN = {
     "t.conf": "task\nstart on go\nexec /bin/t\n",
 }
 # The rows are b, a, p, s, q, h, t, f. q and h hold p and s from 100 on. Before s has a process a is started again, at 300, and before p has one b stops,
-# which stops p: so neither has an arrow. `go/failed` is the init's own, and comes from outside.
+# which stops p: so neither has an arrow. A client starts b, and a twice. `go/failed` is the init's own, and comes from outside.
 UNKNOWN_RECORD = """clock 0
 request 1 start b
 turn 20
@@ -219,7 +219,7 @@ ended t "" main exit 1
 turn 20
 clock 1000
 """
-UNKNOWN_DRAWN = ["M100 50V83", "M100 70V103", "M700 -8V123", "M800 -8V143"]
+UNKNOWN_DRAWN = ["M0 -8V3", "M0 -8V23", "M100 50V83", "M100 70V103", "M200 -8V23", "M700 -8V123", "M800 -8V143"]
 
 OFTEN = {"k.conf": "start on A and B\nexec /bin/k\n", "l.conf": "start on go\nexec /bin/l\n"}
 # The rows are l, k. The `go` at 200 finds l running. The first life of k has an arrow from B alone, as A came twice; the second from both.
