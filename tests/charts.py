@@ -169,7 +169,7 @@ UNKNOWN = {
     "t.conf": "task\nstart on go\nexec /bin/t\n",
 }
 # The rows are b, a, p, s, q, h, t, f. q and h hold p and s from 100 on. Before s has a process a is started again, at 300, and before p has one b stops,
-# which stops p: so neither has an arrow. A client starts b, and a twice. `go/failed` is the init's own, and comes from outside.
+# which stops p: so neither has an arrow from a row. A client starts b, and a twice. `go/failed` is the init's own, and comes from outside.
 UNKNOWN_RECORD = """clock 0
 request 1 start b
 turn 20

@@ -75,12 +75,12 @@ abbrev pub from_client : (place : ℕ) → (begun : Option ℕ) → List Arrow
 from_client place None = []
 from_client place (Some begun) = (record { from = None; came = begun; place = place; begun = begun }) ∷ []
 
--- the arrows to a life are told once, as its events are: not if it was stopped before it had a process
+-- the arrows to a life are told once, as its events are
 abbrev pub arrows_by : Named → Times → Row → Sign → List Arrow
 arrows_by rows times row (Enters to) = []
 arrows_by rows times row (StartedBy events source) =
-    if row.told then [] else arrows_to rows times row row.begun (words_of events) source
-arrows_by rows times row ByClient = if row.asked then [] else from_client row.place row.begun
+    if row.told then [] else arrows_to rows times row row.born (words_of events) source
+arrows_by rows times row ByClient = if row.asked then [] else from_client row.place row.born
 arrows_by rows times row Fails = []
 arrows_by rows times row (Signal signal) = []
 arrows_by rows times row Comes = []

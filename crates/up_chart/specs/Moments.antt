@@ -5,7 +5,7 @@ use Rattle.std.specs.Str.{bytes_eq}
 use Rattle.up_stanza.specs.declared.process.Process.{Process}
 use Rattle.up_stanza.specs.declared.process.Process.TheVariants as process
 use Rattle.up_value.specs.Bindings.{value_of}
-use Rattle.up_value.specs.Values.{Bytes}
+use Rattle.up_value.specs.Values.{Bindings, Bytes}
 use Rattle.up_model.specs.declared.event.Event.{Event}
 use Rattle.up_model.specs.declared.input.Input.{Input}
 use Rattle.up_model.specs.declared.input.Input.TheVariants as input
@@ -21,6 +21,7 @@ use Rattle.up_model.specs.declared.step.Step.{Step}
 use Rattle.up_model.specs.declared.step.Step.TheVariants as step
 use Rattle.up_model.specs.declared.who.Who.{Who}
 use Rattle.up_model.specs.Judgement.{is_success}
+use Rattle.up_model.specs.Readings.{has_stop_env}
 use Rattle.up_model.specs.Status.{instance_suffix}
 use Rattle.up_chart.specs.declared.clock.Clock.{Clock}
 use Rattle.up_chart.specs.declared.moment.Moment.{Moment}
@@ -101,16 +102,20 @@ instance_of None instance = None
 instance_of (Some job) None = None
 instance_of (Some job) (Some instance) = Some (name_of job instance)
 
--- the events that started an instance, and which instance the last of them is about that is of an instance's life, by the environment
--- of its process (init(5), "Job environment"; starting(7)); without events a client did
+-- the instance that an environment names as that of the last event by which its own was started that is of an instance's life
+-- (starting(7)); that of pre-stop and post-stop has the variables of the events that stopped it (init(5), "Job environment")
+abbrev pub source_of : Process → Bindings → Option Bytes
+source_of its env = if has_stop_env its then None
+    else instance_of (value_of (codes "JOB") env) (value_of (codes "INSTANCE") env)
+
+-- the events that started an instance, by the environment of its process; without events a client did
 abbrev pub started_moments : ℕ → Who → (events source : Option Bytes) → List Moment
 started_moments time who None source = moments_by time who (Some ByClient)
 started_moments time who (Some events) source = moments_by time who (Some (StartedBy events source))
 
 unfoldable pub order_moments : ℕ → Order → List Moment
 order_moments time order =
-    started_moments time order.who (value_of (codes "UPSTART_EVENTS") order.env)
-    (instance_of (value_of (codes "JOB") order.env) (value_of (codes "INSTANCE") order.env))
+    started_moments time order.who (value_of (codes "UPSTART_EVENTS") order.env) (source_of order.process order.env)
     ++ moments_by time order.who (Some (Enters (state_by order.process)))
 
 -- the state that an event of an instance's life tells (starting(7), started(7), stopping(7), stopped(7))

@@ -12,7 +12,7 @@ use Rattle.up_chart.specs.declared.row.Row.{Row}
 
 -- an instance of which nothing was seen yet
 abbrev pub new_row : (place time : ℕ) → Row
-new_row place time = record { place = place; state = state.Waiting; since = time; told = false; asked = false; begun = None; brought = None }
+new_row place time = record { place = place; state = state.Waiting; since = time; told = false; asked = false; begun = None; born = None; brought = None }
 
 abbrev pub is_waiting : State → Bool
 is_waiting state.Waiting = true
@@ -33,10 +33,15 @@ begun_after state.Spawned time begun = begun
 begun_after state.PostStart time begun = begun
 begun_after other time begun = None
 
+-- when the life of an instance began
+abbrev pub born_after : State → ℕ → Option ℕ → Option ℕ
+born_after state.Starting time born = Some time
+born_after other time born = born
+
 -- an instance that is told which events started it, in a life that began then
-abbrev pub brought_row : Row → (begun : Option ℕ) → Row
+abbrev pub brought_row : Row → (born : Option ℕ) → Row
 brought_row row None = record row { told = true }
-brought_row row (Some begun) = record row { told = true; brought = Some begun }
+brought_row row (Some born) = record row { told = true; brought = Some born }
 
 -- what is known of an instance after a sign of it; who started it is told once for each life
 abbrev pub next_row : ℕ → Row → Sign → Row
@@ -47,9 +52,10 @@ next_row time row (Enters to) = record {
   told = row.told && not (is_waiting to);
   asked = row.asked && not (is_waiting to);
   begun = begun_after to time row.begun;
+  born = born_after to time row.born;
   brought = row.brought;
 }
-next_row time row (StartedBy events source) = if row.told then row else brought_row row row.begun
+next_row time row (StartedBy events source) = if row.told then row else brought_row row row.born
 next_row time row ByClient = record row { asked = true }
 next_row time row Fails = row
 next_row time row (Signal signal) = row

@@ -161,9 +161,9 @@ fn push_arrows_to(
     source: &Option<Text>,
 ) -> Result<(), AllocError>
     ensures { OnOk result (arrows.new.items ≡ arrows.old.items
-        ++ arrows_to rows.now times.now row.now row.now.begun (map (λ event. event.now) events.now) source.now) }
+        ++ arrows_to rows.now times.now row.now row.now.born (map (λ event. event.now) events.now) source.now) }
 {
-    let Some(begun) = row.begun else {
+    let Some(begun) = row.born else {
         return Ok(());
     };
     let alone = events.len() == 1;
@@ -223,7 +223,7 @@ pub(crate) fn push_arrows(
             if row.asked {
                 return Ok(());
             }
-            push_from_client(arrows, row.place, row.begun)
+            push_from_client(arrows, row.place, row.born)
         }
         Sign::Fails => Ok(()),
         Sign::Signal(_) => Ok(()),

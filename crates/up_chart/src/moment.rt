@@ -4,7 +4,7 @@ ghost use Rattle.std.specs.List.{flat_map};
 ghost use Rattle.up_model.specs.Judgement.{is_success};
 ghost use Rattle.up_model.specs.Status.{instance_suffix};
 ghost use Rattle.up_value.specs.Bindings.{value_of};
-ghost use Rattle.up_chart.specs.Moments.{asked, comes, end_sign, event_moments, heard, instance_of, life_event, moment, moments_by, name_of, order_moments, output_moments, refusal_sign, started_moments, state_by, state_told, step_moments, told_by};
+ghost use Rattle.up_chart.specs.Moments.{asked, comes, end_sign, event_moments, heard, instance_of, life_event, moment, moments_by, name_of, order_moments, output_moments, refusal_sign, source_of, started_moments, state_by, state_told, step_moments, told_by};
 
 use std::alloc::{AllocError, Global};
 use up_model::{Command, Event, How, Input, Order, Output, Process, State, Step, Who};
@@ -204,6 +204,16 @@ fn instance_of(alloc: Global, vars: &Env) -> Result<Option<Text>, AllocError>
     Ok(Some(name))
 }
 
+// The instance that an environment names as that of the last event by which its own was started that is of an instance's life.
+fn source_of(alloc: Global, process: Process, env: &Env) -> Result<Option<Text>, AllocError>
+    ensures { IfOk result (λ source. source ≡ source_of process env.now) }
+{
+    match process {
+        Process::PreStop | Process::PostStop => Ok(None),
+        Process::Main | Process::PreStart | Process::PostStart => instance_of(alloc, env),
+    }
+}
+
 // The events that started an instance, or that a client did.
 fn push_started(
     moments: &mut Vec<Moment>,
@@ -232,7 +242,7 @@ fn push_started(
 fn push_order(moments: &mut Vec<Moment>, time: u64, order: &Order) -> Result<(), AllocError>
     ensures { OnOk result (moments.new.items ≡ moments.old.items ++ order_moments time order.now) }
 {
-    let source = instance_of(*moments.allocator(), &order.env)?;
+    let source = source_of(*moments.allocator(), order.process, &order.env)?;
     push_started(
         moments,
         time,

@@ -1,6 +1,6 @@
 //! What is known of an instance, and what a moment makes of it.
 ghost use Rattle.std.specs.Prelude.{◌≡◌};
-ghost use Rattle.up_chart.specs.Rows.{begun_after, brought_row, came_again, is_up, is_waiting, new_row, next_row};
+ghost use Rattle.up_chart.specs.Rows.{begun_after, born_after, brought_row, came_again, is_up, is_waiting, new_row, next_row};
 
 use crate::moment::Sign;
 use up_model::State;
@@ -20,6 +20,8 @@ pub struct Row {
     pub asked: bool,
     /// When it began to start, while it does.
     pub begun: Option<u64>,
+    /// When its life began.
+    pub born: Option<u64>,
     /// When the last life began that events started.
     pub brought: Option<u64>,
 }
@@ -58,6 +60,7 @@ pub(crate) fn new_row(place: u64, time: u64) -> Row
         told: false,
         asked: false,
         begun: None,
+        born: None,
         brought: None,
     }
 }
@@ -110,9 +113,26 @@ fn begun_after(state: State, time: u64, begun: Option<u64>) -> Option<u64>
     }
 }
 
+fn born_after(state: State, time: u64, born: Option<u64>) -> Option<u64>
+    ensures { result ≡ born_after state time born }
+{
+    match state {
+        State::Starting => Some(time),
+        State::Waiting
+        | State::PreStart
+        | State::Spawned
+        | State::PostStart
+        | State::Running
+        | State::PreStop
+        | State::Stopping
+        | State::Killed
+        | State::PostStop => born,
+    }
+}
+
 // An instance that is told which events started it.
 fn brought_row(row: Row) -> Row
-    ensures { result ≡ brought_row row row.begun }
+    ensures { result ≡ brought_row row row.born }
 {
     Row {
         place: row.place,
@@ -121,7 +141,8 @@ fn brought_row(row: Row) -> Row
         told: true,
         asked: row.asked,
         begun: row.begun,
-        brought: row.begun.or(row.brought),
+        born: row.born,
+        brought: row.born.or(row.brought),
     }
 }
 
@@ -137,6 +158,7 @@ pub(crate) fn next_row(time: u64, row: Row, sign: &Sign) -> Row
             told: row.told && !is_waiting(*state),
             asked: row.asked && !is_waiting(*state),
             begun: begun_after(*state, time, row.begun),
+            born: born_after(*state, time, row.born),
             brought: row.brought,
         },
         Sign::StartedBy {
@@ -150,6 +172,7 @@ pub(crate) fn next_row(time: u64, row: Row, sign: &Sign) -> Row
             told: row.told,
             asked: true,
             begun: row.begun,
+            born: row.born,
             brought: row.brought,
         },
         Sign::Fails => row,
