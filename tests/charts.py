@@ -54,6 +54,8 @@ DRAWN = """<g transform="translate(31,44)">
 <rect class="running" x="520" y="23" width="280" height="14"><title>running, 520 to 800 ms</title></rect>
 <rect class="stopping" x="800" y="23" width="200" height="14"><title>stopping, 800 to 1000 ms</title></rect>
 <rect class="running" x="100" y="3" width="900" height="14"><title>running, 100 to 1000 ms</title></rect>
+<path class="arrow" d="M0 -8V3"/>
+<path class="arrow" d="M100 10V23"/>
 <text class="by" dx="3" x="0" y="13">startup</text>
 <text class="by" dx="3" x="100" y="33">started</text>
 <path class="crash" d="M500 24l5 11h-10z"><title>main failed</title></path>
@@ -121,6 +123,171 @@ def signs(folder):
     check("blame: no start came to its end", initd("blame", jobs, record), ("", 0))
 
 
+ARROWS = {
+    "a.conf": "start on startup\nexec /bin/a\n",
+    "b.conf": "start on go and started a\nexec /bin/b\n",
+    "c.conf": "start on startup or started d\nstop on halt\nexec /bin/c\n",
+    "d.conf": "exec /bin/d\n",
+    "e.conf": "start on started a and started d\nexec /bin/e\n",
+}
+# The rows are a, c, b, d, e, and the run takes 1,000 ms, so that x is the time. b waits for a from 100 to 200; c is started by startup, and again
+# by d, whose row is below its own; a client starts d; of e's two events only the last is known.
+ARROWS_RECORD = """clock 0
+emit startup
+turn 20
+clock 100
+request 1 emit go
+turn 20
+clock 200
+spawned a "" main 1
+spawned c "" main 2
+turn 20
+clock 300
+spawned b "" main 3
+emit halt
+turn 20
+clock 400
+ended c "" main signal TERM
+turn 20
+request 2 start d
+turn 20
+clock 500
+spawned d "" main 4
+turn 20
+clock 1000
+"""
+ARROWS_DRAWN = ["M0 -8V3", "M0 -8V23", "M200 10V43", "M100 -8V50H200", "M400 -8V63", "M500 70V37", "M500 70V83"]
+
+UNKNOWN = {
+    "a.conf": "exec /bin/a\n",
+    "b.conf": "exec /bin/b\n",
+    "f.conf": "start on go/failed\nexec /bin/f\n",
+    "h.conf": "task\nstart on starting s\nexec /bin/h\n",
+    "p.conf": "start on started a\nstop on stopping b\npost-stop exec /bin/post\nexec /bin/p\n",
+    "q.conf": "task\nstart on starting p\nexec /bin/q\n",
+    "s.conf": "start on started a\nexec /bin/s\n",
+    "t.conf": "task\nstart on go\nexec /bin/t\n",
+}
+# The rows are b, a, p, s, q, h, t, f. q and h hold p and s from 100 on. Before s has a process a is started again, at 300, and before p has one b stops,
+# which stops p: so neither has an arrow from a row. A client starts b, and a twice. `go/failed` is the init's own, and comes from outside.
+UNKNOWN_RECORD = """clock 0
+request 1 start b
+turn 20
+spawned b "" main 1
+turn 20
+request 2 start a
+turn 20
+clock 100
+spawned a "" main 2
+turn 20
+clock 200
+spawned q "" main 3
+spawned h "" main 4
+turn 20
+request 3 stop a
+turn 20
+ended a "" main signal TERM
+turn 20
+request 4 start a
+turn 20
+clock 300
+spawned a "" main 5
+turn 20
+clock 400
+request 5 stop b
+turn 20
+ended b "" main signal TERM
+turn 20
+clock 500
+ended q "" main exit 0
+turn 20
+spawned p "" post-stop 6
+ended p "" post-stop exit 0
+turn 20
+clock 600
+ended h "" main exit 0
+turn 20
+spawned s "" main 7
+turn 20
+clock 700
+emit go
+turn 20
+spawned t "" main 8
+turn 20
+clock 800
+ended t "" main exit 1
+turn 20
+clock 1000
+"""
+UNKNOWN_DRAWN = ["M0 -8V3", "M0 -8V23", "M100 50V83", "M100 70V103", "M200 -8V23", "M700 -8V123", "M800 -8V143"]
+
+OFTEN = {"k.conf": "start on A and B\nexec /bin/k\n", "l.conf": "start on go\nexec /bin/l\n"}
+# The rows are l, k. The `go` at 200 finds l running. The first life of k has an arrow from B alone, as A came twice; the second from both.
+OFTEN_RECORD = """clock 0
+emit A
+turn 20
+clock 100
+emit A
+emit go
+turn 20
+spawned l "" main 1
+turn 20
+clock 200
+emit go
+turn 20
+clock 300
+ended l "" main exit 0
+turn 20
+clock 400
+emit go
+turn 20
+spawned l "" main 2
+turn 20
+clock 500
+emit B
+turn 20
+clock 600
+spawned k "" main 3
+ended k "" main exit 0
+turn 20
+emit A
+turn 20
+clock 700
+emit B
+turn 20
+clock 1000
+"""
+OFTEN_DRAWN = ["M100 -8V3", "M400 -8V3", "M500 -8V23", "M600 -8V30H700", "M700 -8V23"]
+
+
+def found(text, mark):
+    """What the lines with a mark say between its end and the next quote."""
+    return [line.split(mark, 1)[1].split('"', 1)[0] for line in drawn(text).splitlines() if mark in line]
+
+
+def names(text):
+    return [line.split(">")[-2].split("<")[0] for line in drawn(text).splitlines() if 'class="name"' in line]
+
+
+def arrows(folder):
+    """From where and when an event came that started an instance, to where and when its life began."""
+    cases = {
+        "arrows": (ARROWS, ARROWS_RECORD, ["a", "c", "b", "d", "e"], ARROWS_DRAWN),
+        "unknown": (UNKNOWN, UNKNOWN_RECORD, ["b", "a", "p", "s", "q", "h", "t", "f"], UNKNOWN_DRAWN),
+        "often": (OFTEN, OFTEN_RECORD, ["l", "k"], OFTEN_DRAWN),
+    }
+    lives = {"arrows": 5, "unknown": 6, "often": 4}
+    for name, (files, steps, rows, wanted) in cases.items():
+        jobs, record = folder / name, folder / f"{name}.record"
+        write(jobs, files)
+        record.write_text(steps)
+        text, status = initd("chart", jobs, record)
+        check(f"chart: rows of {name}", (names(text), status), (rows, 0))
+        check(f"chart: arrows of {name}", found(text, '<path class="arrow" d="'), wanted)
+        started = [line for line in drawn(text).splitlines() if 'class="by"' in line]
+        check(f"chart: lives of {name} that events started", len(started), lives[name])
+
+
 def refusals(folder):
     jobs, record = folder / "jobs", folder / "bad.record"
     record.write_text("emit startup\nbogus\n")
@@ -160,6 +327,7 @@ def long_record(folder):
 def all_of(folder):
     pictures(folder)
     signs(folder)
+    arrows(folder)
     refusals(folder)
     long_record(folder)
     folders = examples(folder / "examples")

@@ -1,4 +1,4 @@
--- What a map's entries say of the instances that contracts see.
+-- What a map's entries say of what contracts see by names.
 pub mod RowLemmas
 -- Lists to which what one item more shows is appended.
 pub mod Growing

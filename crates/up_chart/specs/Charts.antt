@@ -11,8 +11,9 @@ use Rattle.up_chart.specs.declared.label.Span.{Span}
 use Rattle.up_chart.specs.declared.label.Start.{Start}
 use Rattle.up_chart.specs.declared.moment.Moment.{Moment}
 use Rattle.up_chart.specs.declared.moment.Sign.{Sign}
-use Rattle.up_chart.specs.declared.moment.Sign.TheVariants.{Enters, StartedBy, Fails, Signal}
+use Rattle.up_chart.specs.declared.moment.Sign.TheVariants.{Enters, StartedBy, ByClient, Fails, Signal, Comes}
 use Rattle.up_chart.specs.declared.row.Row.{Row}
+use Rattle.up_chart.specs.Arrows.{arrows_in}
 use Rattle.up_chart.specs.Rows.{Named, all_rows, is_up, is_waiting, row_for, rows_after}
 
 -- the state in which an instance was until then, if it was in one for a while
@@ -23,9 +24,11 @@ span_of end row = if is_waiting row.state || nat_le end row.since then []
 -- a state ends when the next is entered
 abbrev pub spans_by : ℕ → Row → Sign → List Span
 spans_by time row (Enters to) = span_of time row
-spans_by time row (StartedBy events) = []
+spans_by time row (StartedBy events source) = []
+spans_by time row ByClient = []
 spans_by time row Fails = []
 spans_by time row (Signal signal) = []
+spans_by time row Comes = []
 
 abbrev pub mark : Row → ℕ → Sign → List Mark
 mark row time sign = (record { place = row.place; time = time; sign = sign }) ∷ []
@@ -33,9 +36,11 @@ mark row time sign = (record { place = row.place; time = time; sign = sign }) �
 -- which events started it, unless that was told; the failure of main while nobody had asked for its end; each signal
 abbrev pub marks_by : ℕ → Row → Sign → List Mark
 marks_by time row (Enters to) = []
-marks_by time row (StartedBy events) = if row.told then [] else mark row time (StartedBy events)
+marks_by time row (StartedBy events source) = if row.told then [] else mark row time (StartedBy events source)
+marks_by time row ByClient = []
 marks_by time row Fails = if is_up row.state then mark row time Fails else []
 marks_by time row (Signal signal) = mark row time (Signal signal)
+marks_by time row Comes = []
 
 -- a start that began then
 abbrev pub started : (time : ℕ) → Bytes → Option ℕ → List Start
@@ -49,9 +54,11 @@ ended time name begun other = []
 
 abbrev pub starts_for : Row → ℕ → Bytes → Sign → List Start
 starts_for row time name (Enters to) = ended time name row.begun to
-starts_for row time name (StartedBy events) = []
+starts_for row time name (StartedBy events source) = []
+starts_for row time name ByClient = []
 starts_for row time name Fails = []
 starts_for row time name (Signal signal) = []
+starts_for row time name Comes = []
 
 abbrev pub starts_by : Row → Moment → List Start
 starts_by row seen = starts_for row seen.time seen.name seen.sign
@@ -87,6 +94,7 @@ chart_of end moments =
       end = end;
       labels = flat_map label_of rows;
       spans = spans_in [] moments ++ flat_map (last_span end) rows;
+      arrows = arrows_in [] [] moments;
       marks = marks_in [] moments;
       starts = starts_in [] moments;
     }

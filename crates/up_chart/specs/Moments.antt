@@ -5,7 +5,7 @@ use Rattle.std.specs.Str.{bytes_eq}
 use Rattle.up_stanza.specs.declared.process.Process.{Process}
 use Rattle.up_stanza.specs.declared.process.Process.TheVariants as process
 use Rattle.up_value.specs.Bindings.{value_of}
-use Rattle.up_value.specs.Values.{Bytes}
+use Rattle.up_value.specs.Values.{Bindings, Bytes}
 use Rattle.up_model.specs.declared.event.Event.{Event}
 use Rattle.up_model.specs.declared.input.Input.{Input}
 use Rattle.up_model.specs.declared.input.Input.TheVariants as input
@@ -13,17 +13,20 @@ use Rattle.up_model.specs.declared.output.Order.{Order}
 use Rattle.up_model.specs.declared.output.Output.{Output}
 use Rattle.up_model.specs.declared.output.Output.TheVariants as output
 use Rattle.up_model.specs.declared.process.How.{How}
+use Rattle.up_model.specs.declared.request.Command.{Command}
+use Rattle.up_model.specs.declared.request.Command.TheVariants as command
 use Rattle.up_model.specs.declared.state.State.{State}
 use Rattle.up_model.specs.declared.state.State.TheVariants as state
 use Rattle.up_model.specs.declared.step.Step.{Step}
 use Rattle.up_model.specs.declared.step.Step.TheVariants as step
 use Rattle.up_model.specs.declared.who.Who.{Who}
 use Rattle.up_model.specs.Judgement.{is_success}
+use Rattle.up_model.specs.Readings.{has_stop_env}
 use Rattle.up_model.specs.Status.{instance_suffix}
 use Rattle.up_chart.specs.declared.clock.Clock.{Clock}
 use Rattle.up_chart.specs.declared.moment.Moment.{Moment}
 use Rattle.up_chart.specs.declared.moment.Sign.{Sign}
-use Rattle.up_chart.specs.declared.moment.Sign.TheVariants.{Enters, StartedBy, Fails, Signal}
+use Rattle.up_chart.specs.declared.moment.Sign.TheVariants.{Enters, StartedBy, ByClient, Fails, Signal, Comes}
 
 -- a clock that has read nothing yet
 abbrev pub no_clock : Clock
@@ -65,8 +68,22 @@ refusal_sign process.Main = Some Fails
 refusal_sign process.PreStop = Some (Enters state.Running)
 refusal_sign other = None
 
+-- an event of an instance's life is named with the instance, and any other by its name alone
+abbrev pub life_event : (name who : Bytes) → Bytes
+life_event name who = name ++ codes " " ++ who
+
+abbrev pub comes : ℕ → (event : Bytes) → List Moment
+comes time event = (record { time = time; name = event; sign = Comes }) ∷ []
+
+-- the event that a client emits
+abbrev pub asked : ℕ → Command → (name : Bytes) → List Moment
+asked time command.Emit name = comes time name
+asked time other name = []
+
 -- what an input shows
 abbrev pub heard : ℕ → Input → List Moment
+heard time (input.Emit event) = comes time event.name
+heard time (input.Request id request) = asked time request.command request.name
 heard time (input.Ended who its how) = moments_by time who (end_sign its how)
 heard time (input.Refused who its) = moments_by time who (refusal_sign its)
 heard time other = []
@@ -79,13 +96,26 @@ state_by process.PostStart = state.PostStart
 state_by process.PreStop = state.PreStop
 state_by process.PostStop = state.PostStop
 
--- the events that started an instance, by the environment of its process (init(5), "Job environment")
-abbrev pub started_moments : ℕ → Who → Option Bytes → List Moment
-started_moments time who None = []
-started_moments time who (Some events) = moments_by time who (Some (StartedBy events))
+-- the instance that JOB and INSTANCE name
+abbrev pub instance_of : (job instance : Option Bytes) → Option Bytes
+instance_of None instance = None
+instance_of (Some job) None = None
+instance_of (Some job) (Some instance) = Some (name_of job instance)
+
+-- the instance that an environment names as that of the last event by which its own was started that is of an instance's life
+-- (starting(7)); that of pre-stop and post-stop has the variables of the events that stopped it (init(5), "Job environment")
+abbrev pub source_of : Process → Bindings → Option Bytes
+source_of its env = if has_stop_env its then None
+    else instance_of (value_of (codes "JOB") env) (value_of (codes "INSTANCE") env)
+
+-- the events that started an instance, by the environment of its process; without events a client did
+abbrev pub started_moments : ℕ → Who → (events source : Option Bytes) → List Moment
+started_moments time who None source = moments_by time who (Some ByClient)
+started_moments time who (Some events) source = moments_by time who (Some (StartedBy events source))
 
 unfoldable pub order_moments : ℕ → Order → List Moment
-order_moments time order = started_moments time order.who (value_of (codes "UPSTART_EVENTS") order.env)
+order_moments time order =
+    started_moments time order.who (value_of (codes "UPSTART_EVENTS") order.env) (source_of order.process order.env)
     ++ moments_by time order.who (Some (Enters (state_by order.process)))
 
 -- the state that an event of an instance's life tells (starting(7), started(7), stopping(7), stopped(7))
@@ -97,15 +127,19 @@ state_told name =
     else (if bytes_eq name (codes "stopped") then Some state.Waiting
     else None)))
 
-abbrev pub told : ℕ → Option State → (job instance : Option Bytes) → List Moment
-told time None job instance = []
-told time (Some to) None instance = []
-told time (Some to) (Some job) None = []
-told time (Some to) (Some job) (Some instance) = moment time job instance (Enters to) ∷ []
+abbrev pub told_by : ℕ → (event : Bytes) → State → (who : Option Bytes) → List Moment
+told_by time event to None = []
+told_by time event to (Some who) =
+    (record { time = time; name = who; sign = Enters to }) ∷ comes time (life_event event who)
+
+abbrev pub told : ℕ → (event : Bytes) → Option State → (who : Option Bytes) → List Moment
+told time event None who = comes time event
+told time event (Some to) who = told_by time event to who
 
 unfoldable pub event_moments : ℕ → Event → List Moment
 event_moments time event =
-    told time (state_told event.name) (value_of (codes "JOB") event.vars) (value_of (codes "INSTANCE") event.vars)
+    told time event.name (state_told event.name)
+    (instance_of (value_of (codes "JOB") event.vars) (value_of (codes "INSTANCE") event.vars))
 
 -- what an output shows
 abbrev pub output_moments : ℕ → Output → List Moment

@@ -6,12 +6,13 @@ use Rattle.up_model.specs.declared.state.State.{State}
 use Rattle.up_model.specs.declared.state.State.TheVariants as state
 use Rattle.up_chart.specs.declared.moment.Moment.{Moment}
 use Rattle.up_chart.specs.declared.moment.Sign.{Sign}
-use Rattle.up_chart.specs.declared.moment.Sign.TheVariants.{Enters, StartedBy, Fails, Signal}
+use Rattle.up_chart.specs.declared.moment.Sign.TheVariants.{Enters, StartedBy, ByClient, Fails, Signal, Comes}
+use Rattle.up_chart.specs.declared.row.Came.{Came}
 use Rattle.up_chart.specs.declared.row.Row.{Row}
 
 -- an instance of which nothing was seen yet
 abbrev pub new_row : (place time : ℕ) → Row
-new_row place time = record { place = place; state = state.Waiting; since = time; told = false; begun = None }
+new_row place time = record { place = place; state = state.Waiting; since = time; told = false; asked = false; begun = None; born = None; brought = None }
 
 abbrev pub is_waiting : State → Bool
 is_waiting state.Waiting = true
@@ -32,49 +33,86 @@ begun_after state.Spawned time begun = begun
 begun_after state.PostStart time begun = begun
 begun_after other time begun = None
 
--- what is known of an instance after a sign of it; which events started it is told once for each life
+-- when the life of an instance began
+abbrev pub born_after : State → ℕ → Option ℕ → Option ℕ
+born_after state.Starting time born = Some time
+born_after other time born = born
+
+-- an instance that is told which events started it, in a life that began then
+abbrev pub brought_row : Row → (born : Option ℕ) → Row
+brought_row row None = record row { told = true }
+brought_row row (Some born) = record row { told = true; brought = Some born }
+
+-- what is known of an instance after a sign of it; who started it is told once for each life
 abbrev pub next_row : ℕ → Row → Sign → Row
 next_row time row (Enters to) = record {
   place = row.place;
   state = to;
   since = time;
   told = row.told && not (is_waiting to);
+  asked = row.asked && not (is_waiting to);
   begun = begun_after to time row.begun;
+  born = born_after to time row.born;
+  brought = row.brought;
 }
-next_row time row (StartedBy events) = record row { told = true }
+next_row time row (StartedBy events source) = if row.told then row else brought_row row row.born
+next_row time row ByClient = record row { asked = true }
 next_row time row Fails = row
 next_row time row (Signal signal) = row
+next_row time row Comes = row
 
--- instances by their names, in the order in which they were seen first
+-- what is kept by names, in the order in which they were seen first
+abbrev pub entry_of : {V : Type 0} → Bytes → List (Bytes × V) → Option V
+entry_of name [] = None
+entry_of name (entry ∷ entries) = if bytes_eq name entry.0 then Some entry.1 else entry_of name entries
+
+-- one that is there keeps its place, and a new one goes last
+abbrev pub set_entry : {V : Type 0} → Bytes → V → List (Bytes × V) → List (Bytes × V)
+set_entry name value [] = (name, value) ∷ []
+set_entry name value (other ∷ entries) =
+    if bytes_eq name other.0 then (other.0, value) ∷ entries else other ∷ set_entry name value entries
+
+-- the entries that a map has
+abbrev pub named : {A V : Type 0} → String A × V → Bytes × V
+named entry = (string_bytes entry.0, entry.1)
+
+abbrev pub all_named : {A V : Type 0} → List (String A × V) → List (Bytes × V)
+all_named entries = map named entries
+
+-- instances by their names
 abbrev pub Named : Type 0
 Named = List (Bytes × Row)
 
-abbrev pub row_of : Bytes → Named → Option Row
-row_of name [] = None
-row_of name (row ∷ rows) = if bytes_eq name row.0 then Some row.1 else row_of name rows
-
--- one that is there keeps its place, and a new one goes last
-abbrev pub set_row : Bytes → Row → Named → Named
-set_row name row [] = (name, row) ∷ []
-set_row name row (other ∷ rows) =
-    if bytes_eq name other.0 then (other.0, row) ∷ rows else other ∷ set_row name row rows
-
 -- what is known of the instance of a moment before it
 abbrev pub row_for : Named → Moment → Row
-row_for rows seen = unwrap_or (row_of seen.name rows) (new_row (length rows) seen.time)
+row_for rows seen = unwrap_or (entry_of seen.name rows) (new_row (length rows) seen.time)
 
--- the instances after a moment
+abbrev pub rows_by : Named → Moment → Sign → Named
+rows_by rows seen Comes = rows
+rows_by rows seen sign = set_entry seen.name (next_row seen.time (row_for rows seen) sign) rows
+
+-- the instances after a moment: an event that comes is none
 unfoldable pub rows_after : Named → Moment → Named
-rows_after rows seen = set_row seen.name (next_row seen.time (row_for rows seen) seen.sign) rows
+rows_after rows seen = rows_by rows seen seen.sign
 
 -- the instances after moments
 abbrev pub all_rows : Named → List Moment → Named
 all_rows rows [] = rows
 all_rows rows (seen ∷ moments) = all_rows (rows_after rows seen) moments
 
--- the instances that a map's entries are
-abbrev pub named_of : {A : Type 0} → String A × Row → Bytes × Row
-named_of entry = (string_bytes entry.0, entry.1)
+-- when each event came
+abbrev pub Times : Type 0
+Times = List (Bytes × Came)
 
-abbrev pub rows_of : {A : Type 0} → List (String A × Row) → Named
-rows_of entries = map named_of entries
+-- an event comes once more
+abbrev pub came_again : ℕ → Option Came → Came
+came_again time None = record { last = time; before = None }
+came_again time (Some came) = record { last = time; before = Some came.last }
+
+abbrev pub times_by : Times → Moment → Sign → Times
+times_by times seen Comes = set_entry seen.name (came_again seen.time (entry_of seen.name times)) times
+times_by times seen other = times
+
+-- the times after a moment
+unfoldable pub times_after : Times → Moment → Times
+times_after times seen = times_by times seen seen.sign

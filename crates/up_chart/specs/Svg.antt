@@ -1,16 +1,17 @@
 -- A picture as a text in SVG.
-use Rattle.std.specs.Prelude.{ℕ, ◌+◌, ◌-◌, ◌*◌, ◌/◌, max, min, nat_le, nat_lt, ◌==◌, List, [], ◌∷◌, ◌++◌, length, if◌then◌else◌, codes}
+use Rattle.std.specs.Prelude.{ℕ, ◌+◌, ◌-◌, ◌*◌, ◌/◌, max, min, nat_le, nat_lt, ◌==◌, List, [], ◌∷◌, ◌++◌, Option, None, Some, length, if◌then◌else◌, codes}
 use Rattle.std.specs.Fmt.{decimal}
 use Rattle.std.specs.List.{flat_map}
 use Rattle.up_value.specs.Values.{Bytes}
 use Rattle.up_model.specs.Signals.{signal_text}
 use Rattle.up_model.specs.Status.{state_name}
 use Rattle.up_chart.specs.declared.chart.Chart.{Chart}
+use Rattle.up_chart.specs.declared.label.Arrow.{Arrow}
 use Rattle.up_chart.specs.declared.label.Label.{Label}
 use Rattle.up_chart.specs.declared.label.Mark.{Mark}
 use Rattle.up_chart.specs.declared.label.Span.{Span}
 use Rattle.up_chart.specs.declared.moment.Sign.{Sign}
-use Rattle.up_chart.specs.declared.moment.Sign.TheVariants.{Enters, StartedBy, Fails, Signal}
+use Rattle.up_chart.specs.declared.moment.Sign.TheVariants.{Enters, StartedBy, ByClient, Fails, Signal, Comes}
 use Rattle.up_chart.specs.declared.scale.TheConstants.{FAR, HEIGHT, WIDTH}
 use Rattle.up_chart.specs.declared.svg.TheConstants.{BAR_BEGINS, BAR_ENDS, BEGINNING, LETTERS, LOOKS, STEPS, TICKS}
 
@@ -123,6 +124,31 @@ span_text end span =
     (max (x_at end span.end - x_at end span.begin) 1)
     ++ bar_title (state_name span.state) span.begin span.end
 
+-- an arrow begins in the middle of a row, and one from outside above the first
+abbrev pub tail_text : (from : Option ℕ) → Bytes
+tail_text None = codes "-8"
+tail_text (Some from) = decimal (y_at from + 10)
+
+-- it ends at the upper edge of a bar, or at the lower if it comes from a row below
+abbrev pub tip_y : (from : Option ℕ) → (place : ℕ) → ℕ
+tip_y None place = y_at place + 3
+tip_y (Some from) place = if nat_lt place from then y_at place + 17 else y_at place + 3
+
+-- it goes straight to a life that begins where the event came; to one that begins later it goes on along its row
+unfoldable pub way_text : (from : Option ℕ) → (place x to_x : ℕ) → Bytes
+way_text from place x to_x =
+    if nat_lt x to_x then codes "V" ++ decimal (y_at place + 10) ++ codes "H" ++ decimal to_x
+    else codes "V" ++ decimal (tip_y from place)
+
+unfoldable pub arrow_path : (from : Option ℕ) → (place x to_x : ℕ) → Bytes
+arrow_path from place x to_x =
+    codes "<path class=\"arrow\" d=\"M" ++ decimal x ++ codes " " ++ tail_text from ++ way_text from place x to_x
+    ++ codes "\"/>\n"
+
+-- from where and when the event came, to where and when the life begins
+abbrev pub arrow_text : (end : ℕ) → Arrow → Bytes
+arrow_text end arrow = arrow_path arrow.from arrow.place (x_at end arrow.came) (x_at end arrow.begun)
+
 -- the events that started an instance
 unfoldable pub started_text : (x y : ℕ) → Bytes → Bytes
 started_text x y events = codes "<text class=\"by\" dx=\"3\"" ++ attribute (codes "x") x
@@ -144,9 +170,11 @@ signal_mark x y signal = codes "<path class=\"signal\"" ++ place_text x (y + 2) 
 
 abbrev pub sign_text : (x y : ℕ) → Sign → Bytes
 sign_text x y (Enters to) = []
-sign_text x y (StartedBy events) = started_text x y events
+sign_text x y (StartedBy events source) = started_text x y events
+sign_text x y ByClient = []
 sign_text x y Fails = crash_text x y
 sign_text x y (Signal signal) = signal_mark x y signal
+sign_text x y Comes = []
 
 abbrev pub mark_text : (end : ℕ) → Mark → Bytes
 mark_text end mark = sign_text (x_at end mark.time) (y_at mark.place) mark.sign
@@ -155,4 +183,4 @@ mark_text end mark = sign_text (x_at end mark.time) (y_at mark.place) mark.sign
 unfoldable pub svg_of : Chart → Bytes
 svg_of chart = head chart.labels ++ axis chart.end (length chart.labels)
     ++ flat_map label_text chart.labels ++ flat_map (span_text chart.end) chart.spans
-    ++ flat_map (mark_text chart.end) chart.marks ++ codes "</g>\n</svg>\n"
+    ++ flat_map (arrow_text chart.end) chart.arrows ++ flat_map (mark_text chart.end) chart.marks ++ codes "</g>\n</svg>\n"

@@ -1,10 +1,11 @@
 //! The picture of a run: its rows, the states of each, its marks, and its starts.
 ghost use Rattle.std.specs.Prelude.{◌≡◌, ◌++◌, [], OnOk, IfOk};
 ghost use Rattle.std.specs.List.{flat_map};
+ghost use Rattle.up_chart.specs.Arrows.{arrows_in};
 ghost use Rattle.up_chart.specs.Charts.{chart_of, label_of, last_span, marks_in, spans_in, starts_in};
 ghost use Rattle.up_chart.specs.Rows.{all_rows};
 
-use crate::label::{Label, Mark, Span, Start};
+use crate::label::{Arrow, Label, Mark, Span, Start};
 use crate::moment::Moment;
 use crate::row::Row;
 use crate::rows::Rows;
@@ -20,6 +21,7 @@ pub struct Chart {
     /// The names of its rows, in order.
     pub labels: Items<Label>,
     pub spans: Items<Span>,
+    pub arrows: Items<Arrow>,
     pub marks: Items<Mark>,
     pub starts: Items<Start>,
 }
@@ -59,6 +61,7 @@ fn push_last(spans: &mut Vec<Span>, end: u64, rows: &Rows) -> Result<(), AllocEr
 fn all_seen(alloc: Global, moments: &[Moment]) -> Result<Seen, AllocError>
     ensures rows { IfOk result (λ seen. seen.rows ≡ all_rows [] moments.now) }
     ensures spans { IfOk result (λ seen. seen.spans.items ≡ spans_in [] moments.now) }
+    ensures arrows { IfOk result (λ seen. seen.arrows.items ≡ arrows_in [] [] moments.now) }
     ensures marks { IfOk result (λ seen. seen.marks.items ≡ marks_in [] moments.now) }
     ensures starts { IfOk result (λ seen. seen.starts.items ≡ starts_in [] moments.now) }
 {
@@ -74,10 +77,13 @@ pub fn chart_of(alloc: Global, end: u64, moments: &[Moment]) -> Result<Chart, Al
 {
     let Seen {
         rows,
+        times,
         mut spans,
+        arrows,
         marks,
         starts,
     } = all_seen(alloc, moments)?;
+    drop(times);
     let mut labels = Vec::new(alloc);
     push_labels(&mut labels, &rows)?;
     push_last(&mut spans, end, &rows)?;
@@ -86,6 +92,7 @@ pub fn chart_of(alloc: Global, end: u64, moments: &[Moment]) -> Result<Chart, Al
         end,
         labels: Items::new(labels),
         spans: Items::new(spans),
+        arrows: Items::new(arrows),
         marks: Items::new(marks),
         starts: Items::new(starts),
     })

@@ -19,6 +19,19 @@ pub struct Span {
     pub end: u64,
 }
 
+/// An event that started an instance.
+#[derive(Clone, Copy)]
+pub struct Arrow {
+    /// The row of the instance of whose life it is; an event from outside has none.
+    pub from: Option<u64>,
+    /// When it came.
+    pub came: u64,
+    /// The row of the instance that it started.
+    pub place: u64,
+    /// When that one's life began.
+    pub begun: u64,
+}
+
 /// What happened to an instance.
 #[derive(Drop)]
 pub struct Mark {

@@ -1,6 +1,7 @@
 //! A run as a picture, and how long each start in it took.
 #![tactic(auto)]
 
+mod arrow;
 pub mod blame;
 pub mod chart;
 mod clock;
@@ -12,8 +13,9 @@ mod rows;
 mod scale;
 mod seen;
 pub mod svg;
+mod times;
 
 pub use chart::{Chart, chart_of};
 pub use clock::Clock;
-pub use label::{Label, Mark, Span, Start};
+pub use label::{Arrow, Label, Mark, Span, Start};
 pub use moment::{Moment, Sign, push_step};

@@ -1,25 +1,30 @@
 //! What is seen of instances in the steps of a run, and when.
-ghost use Rattle.std.specs.Prelude.{◌≡◌, ◌++◌, ◌∷◌, [], OnOk, IfOk, option_map, string_bytes};
+ghost use Rattle.std.specs.Prelude.{◌≡◌, ◌++◌, ◌∷◌, [], OnOk, IfOk, codes, option_map, string_bytes};
 ghost use Rattle.std.specs.List.{flat_map};
 ghost use Rattle.up_model.specs.Judgement.{is_success};
 ghost use Rattle.up_model.specs.Status.{instance_suffix};
-ghost use Rattle.up_chart.specs.Moments.{end_sign, event_moments, heard, moment, moments_by, name_of, order_moments, output_moments, refusal_sign, started_moments, state_by, state_told, step_moments};
+ghost use Rattle.up_value.specs.Bindings.{value_of};
+ghost use Rattle.up_chart.specs.Moments.{asked, comes, end_sign, event_moments, heard, instance_of, life_event, moment, moments_by, name_of, order_moments, output_moments, refusal_sign, source_of, started_moments, state_by, state_told, step_moments, told_by};
 
 use std::alloc::{AllocError, Global};
-use up_model::{Event, How, Input, Order, Output, Process, State, Step, Who};
-use up_text::Text;
+use up_model::{Command, Event, How, Input, Order, Output, Process, State, Step, Who};
+use up_text::{Env, Text};
 
 /// What is seen of an instance.
 #[derive(Drop)]
 pub enum Sign {
     /// It enters a state.
     Enters(State),
-    /// Events with these names started it.
-    StartedBy(Text),
+    /// Events with these names started it. The last of them that is of an instance's life is of this one.
+    StartedBy { events: Text, source: Option<Text> },
+    /// A client started it, and no event.
+    ByClient,
     /// Its main process couldn't be started, or was ended by a signal or with a status other than 0.
     Fails,
     /// One of its processes is sent a signal.
     Signal(u8),
+    /// This isn't an instance, but an event that comes.
+    Comes,
 }
 
 /// What is seen of an instance, and when.
@@ -27,7 +32,8 @@ pub enum Sign {
 pub struct Moment {
     /// In milliseconds since the first reading of the clock.
     pub time: u64,
-    /// The instance as it is printed: its job's name, and its own in parentheses if it has one.
+    /// The instance as it is printed: its job's name, and its own in parentheses if it has one. Or the name of an event that comes, and
+    /// after a space the instance of whose life it is.
     pub name: Text,
     pub sign: Sign,
 }
@@ -69,6 +75,50 @@ fn push_moment(
             drop(sign);
             Err(refused)
         }
+    }
+}
+
+/// An event of an instance's life, named with the instance.
+pub(crate) fn life_event(alloc: Global, name: &str, who: &str) -> Result<Text, AllocError>
+    ensures { IfOk result (λ event. event ≡ life_event name.now who.now) }
+{
+    let mut event = String::from_str(alloc, name)?;
+    event.push_str(" ")?;
+    event.push_str(who)?;
+    Ok(Text::new(event))
+}
+
+fn push_comes(moments: &mut Vec<Moment>, time: u64, event: &str) -> Result<(), AllocError>
+    ensures { OnOk result (moments.new.items ≡ moments.old.items ++ comes time event.now) }
+{
+    let name = Text::from_str(*moments.allocator(), event)?;
+    moments.push(Moment {
+        time,
+        name,
+        sign: Sign::Comes,
+    })?;
+    Ok(())
+}
+
+// The event that a client emits.
+fn push_asked(
+    moments: &mut Vec<Moment>,
+    time: u64,
+    command: Command,
+    name: &str,
+) -> Result<(), AllocError>
+    ensures { OnOk result (moments.new.items ≡ moments.old.items ++ asked time command name.now) }
+{
+    match command {
+        Command::Emit => push_comes(moments, time, name),
+        Command::Start
+        | Command::Stop
+        | Command::Restart
+        | Command::Status
+        | Command::List
+        | Command::Reload
+        | Command::ReloadConfiguration
+        | Command::Version => Ok(()),
     }
 }
 
@@ -115,6 +165,10 @@ fn push_heard(moments: &mut Vec<Moment>, time: u64, given: &Input) -> Result<(),
     ensures { OnOk result (moments.new.items ≡ moments.old.items ++ heard time given.now) }
 {
     match given {
+        Input::Emit(event) => push_comes(moments, time, event.name.as_str()),
+        Input::Request { id: _, request } => {
+            push_asked(moments, time, request.command, request.name.as_str())
+        }
         Input::Ended { who, process, how } => {
             push_sign(moments, time, who, end_sign(*process, *how))
         }
@@ -136,28 +190,66 @@ fn state_by(process: Process) -> State
     }
 }
 
-// The events that started an instance.
+// The instance that JOB and INSTANCE name.
+fn instance_of(alloc: Global, vars: &Env) -> Result<Option<Text>, AllocError>
+    ensures { IfOk result (λ who. who ≡ instance_of (value_of (codes "JOB") vars.now) (value_of (codes "INSTANCE") vars.now)) }
+{
+    let Some(job) = vars.get("JOB") else {
+        return Ok(None);
+    };
+    let Some(instance) = vars.get("INSTANCE") else {
+        return Ok(None);
+    };
+    let name = name_of(alloc, job, instance)?;
+    Ok(Some(name))
+}
+
+// The instance that an environment names as that of the last event by which its own was started that is of an instance's life.
+fn source_of(alloc: Global, process: Process, env: &Env) -> Result<Option<Text>, AllocError>
+    ensures { IfOk result (λ source. source ≡ source_of process env.now) }
+{
+    match process {
+        Process::PreStop | Process::PostStop => Ok(None),
+        Process::Main | Process::PreStart | Process::PostStart => instance_of(alloc, env),
+    }
+}
+
+// The events that started an instance, or that a client did.
 fn push_started(
     moments: &mut Vec<Moment>,
     time: u64,
     who: &Who,
     events: Option<&str>,
+    source: Option<Text>,
 ) -> Result<(), AllocError>
     ensures { OnOk result (moments.new.items
-        ≡ moments.old.items ++ started_moments time who.now (option_map (λ names. names.now) events.entry)) }
+        ≡ moments.old.items ++ started_moments time who.now (option_map (λ names. names.now) events.entry) source) }
 {
     let Some(events) = events else {
-        return Ok(());
+        drop(source);
+        return push_sign(moments, time, who, Some(Sign::ByClient));
     };
-    let events = Text::from_str(*moments.allocator(), events)?;
-    push_sign(moments, time, who, Some(Sign::StartedBy(events)))
+    match Text::from_str(*moments.allocator(), events) {
+        Ok(events) => push_sign(moments, time, who, Some(Sign::StartedBy { events, source })),
+        Err(refused) => {
+            drop(source);
+            Err(refused)
+        }
+    }
 }
 
 #[tactic(auto, unfolding(crate::specs::Moments::order_moments))]
 fn push_order(moments: &mut Vec<Moment>, time: u64, order: &Order) -> Result<(), AllocError>
     ensures { OnOk result (moments.new.items ≡ moments.old.items ++ order_moments time order.now) }
 {
-    push_started(moments, time, &order.who, order.env.get("UPSTART_EVENTS"))?;
+    let source = source_of(*moments.allocator(), order.process, &order.env)?;
+    push_started(
+        moments,
+        time,
+        &order.who,
+        order.env.get("UPSTART_EVENTS"),
+        source,
+    )?;
     push_sign(
         moments,
         time,
@@ -166,8 +258,8 @@ fn push_order(moments: &mut Vec<Moment>, time: u64, order: &Order) -> Result<(),
     )
 }
 
-// The state that an event of an instance's life tells.
-fn state_told(name: &str) -> Option<State>
+/// The state that an event of an instance's life tells.
+pub(crate) fn state_told(name: &str) -> Option<State>
     ensures { result ≡ state_told name.now }
 {
     match name {
@@ -179,20 +271,57 @@ fn state_told(name: &str) -> Option<State>
     }
 }
 
+// A state, and the event that tells it.
+fn push_told(
+    moments: &mut Vec<Moment>,
+    time: u64,
+    event: &str,
+    state: State,
+    who: Option<Text>,
+) -> Result<(), AllocError>
+    ensures { OnOk result (moments.new.items ≡ moments.old.items ++ told_by time event.now state who) }
+{
+    let Some(name) = who else {
+        return Ok(());
+    };
+    let event = match life_event(*moments.allocator(), event, name.as_str()) {
+        Ok(event) => event,
+        Err(refused) => {
+            drop(name);
+            return Err(refused);
+        }
+    };
+    let entered = moments.push(Moment {
+        time,
+        name,
+        sign: Sign::Enters(state),
+    });
+    match entered {
+        Ok(()) => {
+            moments.push(Moment {
+                time,
+                name: event,
+                sign: Sign::Comes,
+            })?;
+            Ok(())
+        }
+        Err(refused) => {
+            drop(event);
+            Err(refused.into())
+        }
+    }
+}
+
 #[tactic(auto, unfolding(crate::specs::Moments::event_moments))]
 fn push_event(moments: &mut Vec<Moment>, time: u64, event: &Event) -> Result<(), AllocError>
     ensures { OnOk result (moments.new.items ≡ moments.old.items ++ event_moments time event.now) }
 {
-    let Some(state) = state_told(event.name.as_str()) else {
-        return Ok(());
+    let name = event.name.as_str();
+    let Some(state) = state_told(name) else {
+        return push_comes(moments, time, name);
     };
-    let Some(job) = event.vars.get("JOB") else {
-        return Ok(());
-    };
-    let Some(instance) = event.vars.get("INSTANCE") else {
-        return Ok(());
-    };
-    push_moment(moments, time, job, instance, Sign::Enters(state))
+    let who = instance_of(*moments.allocator(), &event.vars)?;
+    push_told(moments, time, name, state, who)
 }
 
 fn push_output(moments: &mut Vec<Moment>, time: u64, output: &Output) -> Result<(), AllocError>

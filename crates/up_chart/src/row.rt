@@ -1,6 +1,6 @@
 //! What is known of an instance, and what a moment makes of it.
 ghost use Rattle.std.specs.Prelude.{◌≡◌};
-ghost use Rattle.up_chart.specs.Rows.{begun_after, is_up, is_waiting, new_row, next_row};
+ghost use Rattle.up_chart.specs.Rows.{begun_after, born_after, brought_row, came_again, is_up, is_waiting, new_row, next_row};
 
 use crate::moment::Sign;
 use up_model::State;
@@ -16,8 +16,37 @@ pub struct Row {
     pub since: u64,
     /// Whether it was told which events started it.
     pub told: bool,
+    /// Whether it was told that a client started it.
+    pub asked: bool,
     /// When it began to start, while it does.
     pub begun: Option<u64>,
+    /// When its life began.
+    pub born: Option<u64>,
+    /// When the last life began that events started.
+    pub brought: Option<u64>,
+}
+
+/// When an event came last, and when it came before that.
+#[derive(Clone, Copy)]
+pub struct Came {
+    pub last: u64,
+    pub before: Option<u64>,
+}
+
+/// An event comes once more.
+pub(crate) fn came_again(time: u64, came: Option<Came>) -> Came
+    ensures { result ≡ came_again time came }
+{
+    match came {
+        Some(came) => Came {
+            last: time,
+            before: Some(came.last),
+        },
+        None => Came {
+            last: time,
+            before: None,
+        },
+    }
 }
 
 /// An instance of which nothing was seen yet.
@@ -29,7 +58,10 @@ pub(crate) fn new_row(place: u64, time: u64) -> Row
         state: State::Waiting,
         since: time,
         told: false,
+        asked: false,
         begun: None,
+        born: None,
+        brought: None,
     }
 }
 
@@ -81,6 +113,39 @@ fn begun_after(state: State, time: u64, begun: Option<u64>) -> Option<u64>
     }
 }
 
+fn born_after(state: State, time: u64, born: Option<u64>) -> Option<u64>
+    ensures { result ≡ born_after state time born }
+{
+    match state {
+        State::Starting => Some(time),
+        State::Waiting
+        | State::PreStart
+        | State::Spawned
+        | State::PostStart
+        | State::Running
+        | State::PreStop
+        | State::Stopping
+        | State::Killed
+        | State::PostStop => born,
+    }
+}
+
+// An instance that is told which events started it.
+fn brought_row(row: Row) -> Row
+    ensures { result ≡ brought_row row row.born }
+{
+    Row {
+        place: row.place,
+        state: row.state,
+        since: row.since,
+        told: true,
+        asked: row.asked,
+        begun: row.begun,
+        born: row.born,
+        brought: row.born.or(row.brought),
+    }
+}
+
 /// What is known of an instance after a sign of it.
 pub(crate) fn next_row(time: u64, row: Row, sign: &Sign) -> Row
     ensures { result ≡ next_row time row sign.now }
@@ -91,16 +156,27 @@ pub(crate) fn next_row(time: u64, row: Row, sign: &Sign) -> Row
             state: *state,
             since: time,
             told: row.told && !is_waiting(*state),
+            asked: row.asked && !is_waiting(*state),
             begun: begun_after(*state, time, row.begun),
+            born: born_after(*state, time, row.born),
+            brought: row.brought,
         },
-        Sign::StartedBy(_) => Row {
+        Sign::StartedBy {
+            events: _,
+            source: _,
+        } => { if row.told { row } else { brought_row(row) } }
+        Sign::ByClient => Row {
             place: row.place,
             state: row.state,
             since: row.since,
-            told: true,
+            told: row.told,
+            asked: true,
             begun: row.begun,
+            born: row.born,
+            brought: row.brought,
         },
         Sign::Fails => row,
         Sign::Signal(_) => row,
+        Sign::Comes => row,
     }
 }

@@ -1,6 +1,6 @@
 //! What is known of each instance, found by its name.
 ghost use Rattle.std.specs.Prelude.{◌≡◌, ◌<◌, [], length, OnOk, Some, slice_get, string_bytes};
-ghost use Rattle.up_chart.specs.Rows.{row_of, rows_of, set_row};
+ghost use Rattle.up_chart.specs.Rows.{all_named, entry_of, set_entry};
 
 use crate::row::Row;
 use indexmap::IndexMap;
@@ -16,15 +16,15 @@ pub struct Rows {
 impl Model for Rows {
     ghost use Rattle.std.specs.Prelude.{List, ℕ};
     ghost use Rattle.up_chart.specs.declared.row.Row.{Row};
-    ghost use Rattle.up_chart.specs.Rows.{rows_of};
+    ghost use Rattle.up_chart.specs.Rows.{all_named};
 
     ghost Value = { List (List ℕ × Row) };
 
-    ghost view = { λ rows. rows_of rows.rows.entries };
+    ghost view = { λ rows. all_named rows.rows.entries };
 }
 
 fn insert(rows: &mut IndexMap<String, Row>, name: String, row: Row) -> Result<(), AllocError>
-    ensures { OnOk result (rows_of rows.new.entries ≡ set_row (string_bytes name) row (rows_of rows.old.entries)) }
+    ensures { OnOk result (all_named rows.new.entries ≡ set_entry (string_bytes name) row (all_named rows.old.entries)) }
 {
     match rows.insert(name, row) {
         Ok(_) => Ok(()),
@@ -52,7 +52,7 @@ impl Rows {
     }
 
     pub(crate) fn get(&self, name: &str) -> Option<Row>
-        ensures { result ≡ row_of name.now self.now }
+        ensures { result ≡ entry_of name.now self.now }
     {
         match self.rows.get(name) {
             Some(row) => Some(*row),
@@ -72,7 +72,7 @@ impl Rows {
 
     /// One that is there keeps its place, and a new one goes last.
     pub(crate) fn set(&mut self, alloc: Global, name: &str, row: Row) -> Result<(), AllocError>
-        ensures { OnOk result (self.new ≡ set_row name.now row self.old) }
+        ensures { OnOk result (self.new ≡ set_entry name.now row self.old) }
     {
         let name = String::from_str(alloc, name)?;
         insert(&mut self.rows, name, row)

@@ -2,10 +2,10 @@
 ghost use Rattle.std.specs.Prelude.{◌≡◌, ◌++◌, ◌≤◌, ◌<◌, ◌^◌, ◌*◌, IfOk, OnOk, max, length};
 ghost use Rattle.std.specs.List.{flat_map};
 ghost use Rattle.up_model.specs.Signals.{signal_text};
-ghost use Rattle.up_chart.specs.Svg.{axis, bar, bar_title, column, corner, crash_text, head, interval, label_text, legend, longest, mark_text, name_text, opening, place_text, row_line, signal_mark, span_text, started_text, svg_of, tick_at, tick_line, tick_text, tick_time};
+ghost use Rattle.up_chart.specs.Svg.{arrow_path, arrow_text, axis, bar, bar_title, column, corner, crash_text, head, interval, label_text, legend, longest, mark_text, name_text, opening, place_text, row_line, signal_mark, span_text, started_text, svg_of, tail_text, tick_at, tick_line, tick_text, tick_time, tip_y, way_text};
 
 use crate::chart::Chart;
-use crate::label::{Label, Mark, Span};
+use crate::label::{Arrow, Label, Mark, Span};
 use crate::moment::Sign;
 use crate::push::{push, push_all_escaped, push_attribute, push_decimal};
 use crate::scale::{WIDTH, shown_end, tick_step, x_at, y_at};
@@ -66,6 +66,8 @@ const LOOKS: &'static str = "<style>\
     .line{stroke:#eee}\
     .crash{fill:#c00}\
     .signal{stroke:#000;stroke-width:2}\
+    .arrow{stroke:#555;stroke-width:.7;marker-start:url(#tail);marker-end:url(#tip)}\
+    .end{fill:#555}\
     .starting{fill:#f5d76e}\
     .pre-start{fill:#f2a65a}\
     .spawned{fill:#7fa8e0}\
@@ -75,6 +77,10 @@ const LOOKS: &'static str = "<style>\
     .stopping{fill:#b0b0b0}\
     .post-stop{fill:#8a7fb8}\
     </style>\n\
+    <defs><marker id=\"tail\" markerUnits=\"userSpaceOnUse\" markerWidth=\"4\" markerHeight=\"4\" refX=\"2\" refY=\"2\">\
+    <circle class=\"end\" cx=\"2\" cy=\"2\" r=\"2\"/></marker>\
+    <marker id=\"tip\" markerUnits=\"userSpaceOnUse\" markerWidth=\"6\" markerHeight=\"6\" refX=\"6\" refY=\"3\" orient=\"auto\">\
+    <path class=\"end\" d=\"M0 0l6 3l-6 3z\"/></marker></defs>\n\
     <rect width=\"100%\" height=\"100%\" fill=\"#fff\"/>\n\
     <rect class=\"starting\" x=\"16\" y=\"12\" width=\"14\" height=\"14\"/>\
     <text x=\"34\" y=\"23\">starting</text>\n\
@@ -95,7 +101,9 @@ const LOOKS: &'static str = "<style>\
     <path class=\"crash\" d=\"M688 13l5 11h-10z\"/>\
     <text x=\"698\" y=\"23\">main failed</text>\n\
     <path class=\"signal\" d=\"M776 11v16\"/>\
-    <text x=\"782\" y=\"23\">signal</text>\n";
+    <text x=\"782\" y=\"23\">signal</text>\n\
+    <path class=\"arrow\" d=\"M832 19H854\"/>\
+    <text x=\"860\" y=\"23\">started by</text>\n";
 
 /// How a picture begins, before its size and after it.
 const BEGINNING: &'static str = "<svg xmlns=\"http://www.w3.org/2000/svg\"";
@@ -346,6 +354,87 @@ fn push_signal(text: &mut Vec<u8>, signal: u8) -> Result<(), AllocError>
     }
 }
 
+// Where an arrow begins: in a row, or above the first.
+fn push_tail(text: &mut Vec<u8>, from: Option<u64>) -> Result<(), AllocError>
+    ensures { OnOk result (text.new.items ≡ text.old.items ++ tail_text from) }
+{
+    match from {
+        Some(from) => push_decimal(text, y_at(from) + 10),
+        None => push(text, "-8"),
+    }
+}
+
+// Where it ends.
+fn tip_y(from: Option<u64>, place: u64) -> u64
+    ensures { result ≡ tip_y from place }
+{
+    match from {
+        Some(from) if place < from => y_at(place) + 17,
+        _ => y_at(place) + 3,
+    }
+}
+
+// Straight to a life that begins where the event came, or on along its row to one that begins later.
+#[tactic(auto, unfolding(crate::specs::Svg::way_text))]
+fn push_way(
+    text: &mut Vec<u8>,
+    from: Option<u64>,
+    place: u64,
+    x: u64,
+    to_x: u64,
+) -> Result<(), AllocError>
+    ensures { OnOk result (text.new.items ≡ text.old.items ++ way_text from place x to_x) }
+{
+    push(text, "V")?;
+    if x < to_x {
+        push_decimal(text, y_at(place) + 10)?;
+        push(text, "H")?;
+        push_decimal(text, to_x)
+    } else {
+        push_decimal(text, tip_y(from, place))
+    }
+}
+
+#[tactic(auto, unfolding(crate::specs::Svg::arrow_path))]
+fn push_arrow_path(
+    text: &mut Vec<u8>,
+    from: Option<u64>,
+    place: u64,
+    x: u64,
+    to_x: u64,
+) -> Result<(), AllocError>
+    ensures { OnOk result (text.new.items ≡ text.old.items ++ arrow_path from place x to_x) }
+{
+    push(text, "<path class=\"arrow\" d=\"M")?;
+    push_decimal(text, x)?;
+    push(text, " ")?;
+    push_tail(text, from)?;
+    push_way(text, from, place, x, to_x)?;
+    push(text, "\"/>\n")
+}
+
+// From where and when an event came, to where and when the life begins that it brought.
+fn push_arrow(text: &mut Vec<u8>, end: u64, arrow: &Arrow) -> Result<(), AllocError>
+    ensures { OnOk result (text.new.items ≡ text.old.items ++ arrow_text end arrow.now) }
+{
+    push_arrow_path(
+        text,
+        arrow.from,
+        arrow.place,
+        x_at(end, arrow.came),
+        x_at(end, arrow.begun),
+    )
+}
+
+fn push_arrows(text: &mut Vec<u8>, end: u64, arrows: &[Arrow]) -> Result<(), AllocError>
+    ensures { OnOk result (text.new.items ≡ text.old.items ++ flat_map (arrow_text end) arrows.now) }
+{
+    for arrow in arrows {
+        push_arrow(text, end, arrow)?;
+    }
+    Ok(())
+}
+
 // The events that started an instance, where its start begins.
 #[tactic(auto, unfolding(crate::specs::Svg::started_text))]
 fn push_started(text: &mut Vec<u8>, x: u64, y: u64, events: &[u8]) -> Result<(), AllocError>
@@ -401,9 +490,13 @@ fn push_mark(text: &mut Vec<u8>, end: u64, mark: &Mark) -> Result<(), AllocError
     let y = y_at(mark.place);
     match &mark.sign {
         Sign::Enters(_) => Ok(()),
-        Sign::StartedBy(events) => push_started(text, x, y, events.as_str().as_bytes()),
+        Sign::StartedBy { events, source: _ } => {
+            push_started(text, x, y, events.as_str().as_bytes())
+        }
+        Sign::ByClient => Ok(()),
         Sign::Fails => push_crash(text, x, y),
         Sign::Signal(signal) => push_signal_mark(text, x, y, *signal),
+        Sign::Comes => Ok(()),
     }
 }
 
@@ -428,6 +521,7 @@ pub fn svg(alloc: Global, chart: &Chart) -> Result<Vec<u8>, AllocError>
     push_axis(&mut text, chart.end, labels.len() as u64)?;
     push_labels(&mut text, labels)?;
     push_spans(&mut text, chart.end, chart.spans.as_slice())?;
+    push_arrows(&mut text, chart.end, chart.arrows.as_slice())?;
     push_marks(&mut text, chart.end, chart.marks.as_slice())?;
     push(&mut text, "</g>\n</svg>\n")?;
     Ok(text)

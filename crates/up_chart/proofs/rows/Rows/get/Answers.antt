@@ -1,9 +1,9 @@
 use Rattle.std.proofs.Common.{◌∙◌}
-use Rattle.up_chart.proofs.RowLemmas.{lookup_row}
+use Rattle.up_chart.proofs.RowLemmas.{lookup_named}
 use Rattle.up_chart.proofs.rows.Rows.get.Goals as goal
 
 pub returns-in-Some : goal.returns-in-Some
-returns-in-Some c = rw (← c.self.view_is) (c.in-Some.ensures.value ∙ lookup_row c.args.name.now c.self.inside.rows.entries)
+returns-in-Some c = rw (← c.self.view_is) (c.in-Some.ensures.value ∙ lookup_named c.args.name.now c.self.inside.rows.entries)
 
 pub returns-in-None : goal.returns-in-None
-returns-in-None c = rw (← c.self.view_is) (c.in-None.ensures.value ∙ lookup_row c.args.name.now c.self.inside.rows.entries)
+returns-in-None c = rw (← c.self.view_is) (c.in-None.ensures.value ∙ lookup_named c.args.name.now c.self.inside.rows.entries)

@@ -1,0 +1,232 @@
+//! The arrows from where an event came that started an instance, to where the instance's life begins.
+ghost use Rattle.std.specs.Prelude.{◌≡◌, ◌++◌, OnOk, IfOk, None, map, option_map};
+ghost use Rattle.std.specs.List.{flat_map};
+ghost use Rattle.up_chart.specs.Arrows.{arrow, arrows_by, arrows_to, from_client, from_life, from_outside, is_known, is_life, is_only, last_life, place_of, words_of};
+
+use crate::label::Arrow;
+use crate::moment::{Sign, life_event, state_told};
+use crate::row::{Came, Row};
+use crate::rows::Rows;
+use crate::times::Times;
+use std::alloc::{AllocError, Global};
+use up_text::Text;
+
+// Whether no other event of the name came since the last life that events started.
+fn is_only(brought: Option<u64>, before: Option<u64>) -> bool
+    ensures { result ≡ is_only brought before }
+{
+    match (brought, before) {
+        (_, None) => true,
+        (None, Some(_)) => false,
+        (Some(brought), Some(before)) => before <= brought,
+    }
+}
+
+// Whether an event is known to have started a life that began then.
+fn is_known(alone: bool, row: &Row, begun: u64, came: Came) -> bool
+    ensures { result ≡ is_known alone row.now begun came }
+{
+    came.last <= begun && (is_only(row.brought, came.before) || (alone && came.last == begun))
+}
+
+fn push_arrow(
+    arrows: &mut Vec<Arrow>,
+    from: Option<u64>,
+    alone: bool,
+    row: &Row,
+    begun: u64,
+    came: Option<Came>,
+) -> Result<(), AllocError>
+    ensures { OnOk result (arrows.new.items ≡ arrows.old.items ++ arrow from alone row.now begun came) }
+{
+    let Some(came) = came else {
+        return Ok(());
+    };
+    if !is_known(alone, row, begun, came) {
+        return Ok(());
+    }
+    arrows.push(Arrow {
+        from,
+        came: came.last,
+        place: row.place,
+        begun,
+    })?;
+    Ok(())
+}
+
+fn place_of(rows: &Rows, who: &str) -> Option<u64>
+    ensures { result ≡ place_of rows.now who.now }
+{
+    match rows.get(who) {
+        Some(row) => Some(row.place),
+        None => None,
+    }
+}
+
+fn is_life(event: &str) -> bool
+    ensures { result ≡ is_life event.now }
+{
+    state_told(event).is_some()
+}
+
+// The names of events, which a space separates.
+fn words_of<'a>(alloc: Global, events: &'a str) -> Result<Vec<&'a str>, AllocError>
+    ensures { IfOk result (λ words. map (λ word. word.now) words.items ≡ words_of events.now) }
+{
+    events.split(' ').collect(alloc)
+}
+
+// The last of these events that is of an instance's life.
+fn last_life<'a>(events: &[&'a str]) -> Option<&'a str>
+    ensures { option_map (λ event. event.now) result ≡ last_life None (map (λ event. event.now) events.now) }
+{
+    let mut last = None;
+    for event in events {
+        if is_life(event) {
+            last = Some(*event);
+        }
+    }
+    last
+}
+
+// An event of an instance's life comes from the instance's row.
+fn push_from_life(
+    arrows: &mut Vec<Arrow>,
+    rows: &Rows,
+    times: &Times,
+    alone: bool,
+    row: &Row,
+    begun: u64,
+    event: Option<&str>,
+    source: &Option<Text>,
+) -> Result<(), AllocError>
+    ensures { OnOk result (arrows.new.items ≡ arrows.old.items ++ from_life rows.now times.now alone row.now begun
+        (option_map (λ event. event.now) event.entry) source.now) }
+{
+    let Some(event) = event else {
+        return Ok(());
+    };
+    let Some(who) = source else {
+        return Ok(());
+    };
+    let who = who.as_str();
+    let event = life_event(*arrows.allocator(), event, who)?;
+    let came = times.get(event.as_str());
+    drop(event);
+    push_arrow(arrows, place_of(rows, who), alone, row, begun, came)
+}
+
+// Any other comes from outside.
+fn push_from_outside(
+    arrows: &mut Vec<Arrow>,
+    times: &Times,
+    alone: bool,
+    row: &Row,
+    begun: u64,
+    event: &str,
+) -> Result<(), AllocError>
+    ensures { OnOk result (arrows.new.items
+        ≡ arrows.old.items ++ from_outside times.now alone row.now begun event.now) }
+{
+    if is_life(event) {
+        return Ok(());
+    }
+    push_arrow(arrows, None, alone, row, begun, times.get(event))
+}
+
+fn push_all_from_outside(
+    arrows: &mut Vec<Arrow>,
+    times: &Times,
+    alone: bool,
+    row: &Row,
+    begun: u64,
+    events: &[&str],
+) -> Result<(), AllocError>
+    ensures { OnOk result (arrows.new.items ≡ arrows.old.items
+        ++ flat_map (from_outside times.now alone row.now begun) (map (λ event. event.now) events.now)) }
+{
+    for event in events {
+        push_from_outside(arrows, times, alone, row, begun, event)?;
+    }
+    Ok(())
+}
+
+// The arrows to a life that these events started.
+fn push_arrows_to(
+    arrows: &mut Vec<Arrow>,
+    rows: &Rows,
+    times: &Times,
+    row: &Row,
+    events: &[&str],
+    source: &Option<Text>,
+) -> Result<(), AllocError>
+    ensures { OnOk result (arrows.new.items ≡ arrows.old.items
+        ++ arrows_to rows.now times.now row.now row.now.born (map (λ event. event.now) events.now) source.now) }
+{
+    let Some(begun) = row.born else {
+        return Ok(());
+    };
+    let alone = events.len() == 1;
+    push_from_life(
+        arrows,
+        rows,
+        times,
+        alone,
+        row,
+        begun,
+        last_life(events),
+        source,
+    )?;
+    push_all_from_outside(arrows, times, alone, row, begun, events)
+}
+
+// A client starts a life at once, from outside.
+fn push_from_client(
+    arrows: &mut Vec<Arrow>,
+    place: u64,
+    begun: Option<u64>,
+) -> Result<(), AllocError>
+    ensures { OnOk result (arrows.new.items ≡ arrows.old.items ++ from_client place begun) }
+{
+    let Some(begun) = begun else {
+        return Ok(());
+    };
+    arrows.push(Arrow {
+        from: None,
+        came: begun,
+        place,
+        begun,
+    })?;
+    Ok(())
+}
+
+/// The arrows to an instance of which this is known, if a sign tells who started it.
+pub(crate) fn push_arrows(
+    arrows: &mut Vec<Arrow>,
+    rows: &Rows,
+    times: &Times,
+    row: &Row,
+    sign: &Sign,
+) -> Result<(), AllocError>
+    ensures { OnOk result (arrows.new.items ≡ arrows.old.items ++ arrows_by rows.now times.now row.now sign.now) }
+{
+    match sign {
+        Sign::StartedBy { events, source } => {
+            if row.told {
+                return Ok(());
+            }
+            let words = words_of(*arrows.allocator(), events.as_str())?;
+            push_arrows_to(arrows, rows, times, row, words.as_slice(), source)
+        }
+        Sign::Enters(_) => Ok(()),
+        Sign::ByClient => {
+            if row.asked {
+                return Ok(());
+            }
+            push_from_client(arrows, row.place, row.born)
+        }
+        Sign::Fails => Ok(()),
+        Sign::Signal(_) => Ok(()),
+        Sign::Comes => Ok(()),
+    }
+}
