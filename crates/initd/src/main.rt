@@ -7,8 +7,8 @@ use std::os::fd::{AsRawFd, IntoRawFd};
 use std::process::ExitCode;
 use std::rt::Env;
 use std::{env, io};
-use up_command::answer::answer;
-use up_command::{print_refusal, read_words};
+use up_command::run_command::run_command;
+use up_command::{parse_args, print_refusal};
 use up_model::ExitStatus;
 
 // Opens the null device at each of the descriptors 0 to 2 without which the program was started. Else the next files that are opened
@@ -43,8 +43,8 @@ fn words_of(rt: &(impl Env + AllocGlobal)) -> io::Result<Vec<String>> {
 fn run(rt: &HostRuntime) -> io::Result<ExitStatus> {
     fill_standard(rt)?;
     let words = words_of(rt)?;
-    match read_words(rt.alloc(), words.as_slice()) {
-        Ok(asked) => answer(rt, asked),
+    match parse_args(rt.alloc(), words.as_slice()) {
+        Ok(invocation) => run_command(rt, invocation),
         Err(error) => Ok(print_refusal(rt, &error)),
     }
 }

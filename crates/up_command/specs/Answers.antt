@@ -1,13 +1,13 @@
 -- The status of what a command line asks for.
-use Rattle.up_command.specs.declared.command.Asked.{Asked}
-use Rattle.up_command.specs.declared.command.Asked.TheVariants.{Bundle, Check, Compile, Graph, Lint, Replay, Run, Show, View}
+use Rattle.up_command.specs.declared.command.Invocation.{Invocation}
+use Rattle.up_command.specs.declared.command.Invocation.TheVariants.{Bundle, Check, Compile, Graph, Lint, Replay, Run, Show, View}
 use Rattle.up_disk.specs.Disk.{ChecksBy, CompilesDir, EndsWith, GraphsDir, PlaysSource, ShowsFile}
 use Rattle.up_model.specs.declared.exit_status.ExitStatus.{ExitStatus}
 use Rattle.up_tools.specs.Lints.{LintsDir}
 use Rattle.up_tools.specs.Views.{ViewsSource}
 
 -- the status of what is asked for; that of a bundle rests on standard input, and that of a run on its rounds
-abbrev pub Answers : Asked → ExitStatus → Type 0
+abbrev pub Answers : Invocation → ExitStatus → Type 0
 Answers Bundle status = Unit {0}
 Answers (Check dir explain) status = EndsWith (ChecksBy explain dir.now) status
 Answers (Graph dir) status = EndsWith (GraphsDir dir.now) status

@@ -18,7 +18,7 @@ use up_wire::DEFAULT_SOCKET;
 
 /// What the program is asked for.
 #[derive(Drop)]
-pub enum Asked<'a> {
+pub enum Invocation<'a> {
     /// To replay the bundle on standard input.
     Bundle,
     /// To report the faults of a folder, perhaps with what each means.
@@ -69,29 +69,29 @@ pub enum Asked<'a> {
     },
 }
 
-fn asked_check<'a>(given: &ArgMatches<'a>) -> Option<Asked<'a>> {
+fn parse_check<'a>(given: &ArgMatches<'a>) -> Option<Invocation<'a>> {
     let dir = given.get_str("DIR")?;
     let explain = is_set(given, "explain");
-    Some(Asked::Check { dir, explain })
+    Some(Invocation::Check { dir, explain })
 }
 
-fn asked_compile<'a>(given: &ArgMatches<'a>) -> Option<Asked<'a>> {
+fn parse_compile<'a>(given: &ArgMatches<'a>) -> Option<Invocation<'a>> {
     let dir = given.get_str("DIR")?;
     let image = given.get_str("IMAGE")?;
-    Some(Asked::Compile { dir, image })
+    Some(Invocation::Compile { dir, image })
 }
 
-fn asked_view<'a>(view: View, given: &ArgMatches<'a>) -> Option<Asked<'a>> {
+fn parse_view<'a>(view: View, given: &ArgMatches<'a>) -> Option<Invocation<'a>> {
     let source = given.get_str("SOURCE")?;
     let log = given.get_str("RECORD")?;
-    Some(Asked::View { view, source, log })
+    Some(Invocation::View { view, source, log })
 }
 
 fn is_set(given: &ArgMatches, flag: &str) -> bool {
     given.get_one::<bool>(flag).unwrap_or(false)
 }
 
-fn asked_run<'a>(given: &ArgMatches<'a>) -> Option<Asked<'a>> {
+fn parse_run<'a>(given: &ArgMatches<'a>) -> Option<Invocation<'a>> {
     let source = given.get_str("SOURCE")?;
     let socket = given.get_str("SOCKET").unwrap_or(DEFAULT_SOCKET);
     let rounds = Rounds {
@@ -108,7 +108,7 @@ fn asked_run<'a>(given: &ArgMatches<'a>) -> Option<Asked<'a>> {
         log: given.get_str("record"),
         over: is_set(given, "record-over"),
     };
-    Some(Asked::Run {
+    Some(Invocation::Run {
         source,
         socket,
         rounds,
@@ -133,12 +133,12 @@ fn base_of(alloc: Global, words: &[&str]) -> Result<Env, TextFault> {
     Ok(base)
 }
 
-fn asked_replay<'a>(alloc: Global, given: &ArgMatches<'a>) -> Result<Option<Asked<'a>>, TextFault> {
+fn parse_replay<'a>(alloc: Global, given: &ArgMatches<'a>) -> Result<Option<Invocation<'a>>, TextFault> {
     let (Some(source), Some(script)) = (given.get_str("SOURCE"), given.get_str("SCRIPT")) else {
         return Ok(None);
     };
     let base = base_of(alloc, given.get_strs("env").unwrap_or(&[]))?;
-    Ok(Some(Asked::Replay {
+    Ok(Some(Invocation::Replay {
         source,
         script,
         base,
@@ -166,13 +166,13 @@ fn texts_of(alloc: Global, words: &[&str]) -> Result<Items<Text>, AllocError> {
     Ok(Items::new(texts))
 }
 
-fn asked_lint<'a>(alloc: Global, given: &ArgMatches<'a>) -> Result<Option<Asked<'a>>, TextFault> {
+fn parse_lint<'a>(alloc: Global, given: &ArgMatches<'a>) -> Result<Option<Invocation<'a>>, TextFault> {
     let Some(dir) = given.get_str("DIR") else {
         return Ok(None);
     };
     let left_out = kinds_of(alloc, given.get_strs("allow").unwrap_or(&[]))?;
     let outside = texts_of(alloc, given.get_strs("event").unwrap_or(&[]))?;
-    Ok(Some(Asked::Lint {
+    Ok(Some(Invocation::Lint {
         dir,
         left_out,
         outside,
@@ -180,28 +180,28 @@ fn asked_lint<'a>(alloc: Global, given: &ArgMatches<'a>) -> Result<Option<Asked<
 }
 
 // What a command asks for that takes no values which may be wrong.
-fn asked_plain<'a>(word: &str, given: &ArgMatches<'a>) -> Option<Asked<'a>> {
+fn parse_plain<'a>(word: &str, given: &ArgMatches<'a>) -> Option<Invocation<'a>> {
     match word {
-        "check" => asked_check(given),
-        "graph" => given.get_str("DIR").map(|dir| Asked::Graph { dir }),
-        "compile" => asked_compile(given),
-        "show" => given.get_str("IMAGE").map(|image| Asked::Show { image }),
-        "chart" => asked_view(View::Chart, given),
-        "blame" => asked_view(View::Blame, given),
-        _ => asked_run(given),
+        "check" => parse_check(given),
+        "graph" => given.get_str("DIR").map(|dir| Invocation::Graph { dir }),
+        "compile" => parse_compile(given),
+        "show" => given.get_str("IMAGE").map(|image| Invocation::Show { image }),
+        "chart" => parse_view(View::Chart, given),
+        "blame" => parse_view(View::Blame, given),
+        _ => parse_run(given),
     }
 }
 
 // What a command asks for; `None` if one of its words is missing.
-fn asked_by<'a>(
+fn parse_subcommand<'a>(
     alloc: Global,
     word: &str,
     given: &ArgMatches<'a>,
-) -> Result<Option<Asked<'a>>, TextFault> {
+) -> Result<Option<Invocation<'a>>, TextFault> {
     match word {
-        "lint" => asked_lint(alloc, given),
-        "replay" => asked_replay(alloc, given),
-        _ => Ok(asked_plain(word, given)),
+        "lint" => parse_lint(alloc, given),
+        "replay" => parse_replay(alloc, given),
+        _ => Ok(parse_plain(word, given)),
     }
 }
 
@@ -214,16 +214,16 @@ fn wanted(word: &str) -> &'static str {
 }
 
 // What the matches of a command line ask for.
-fn read_matches<'a>(
+fn parse_matches<'a>(
     alloc: Global,
     command: &mut Command<'a>,
     matches: &ArgMatches<'a>,
-) -> Result<Asked<'a>, Error> {
+) -> Result<Invocation<'a>, Error> {
     let Some((word, given)) = matches.subcommand() else {
-        return Ok(Asked::Bundle);
+        return Ok(Invocation::Bundle);
     };
-    match asked_by(alloc, word, given) {
-        Ok(Some(asked)) => Ok(asked),
+    match parse_subcommand(alloc, word, given) {
+        Ok(Some(invocation)) => Ok(invocation),
         Ok(None) => Err(command.error(ErrorKind::MissingRequiredArgument, "a word is missing")?),
         Err(TextFault::Memory) => Err(Error::from(AllocError)),
         Err(_) => Err(command.error(ErrorKind::InvalidValue, wanted(word))?),
@@ -231,14 +231,14 @@ fn read_matches<'a>(
 }
 
 // What the words of a command line ask for.
-fn read_by<'a>(
+fn parse_by<'a>(
     alloc: Global,
     command: &mut Command<'a>,
     words: &'a [String],
-) -> Result<Asked<'a>, Error> {
+) -> Result<Invocation<'a>, Error> {
     match command.try_get_matches_from_mut(words) {
         Ok(matches) => {
-            let read = read_matches(alloc, command, &matches);
+            let read = parse_matches(alloc, command, &matches);
             drop(matches);
             read
         }
@@ -247,10 +247,10 @@ fn read_by<'a>(
 }
 
 /// What the words of a command line, the program's name first, ask for. An error is also the text of `--help` and `--version`.
-pub fn read_words<'a>(alloc: Global, words: &'a [String]) -> Result<Asked<'a>, Error> {
+pub fn parse_args<'a>(alloc: Global, words: &'a [String]) -> Result<Invocation<'a>, Error> {
     match command(alloc) {
         Ok(mut command) => {
-            let read = read_by(alloc, &mut command, words);
+            let read = parse_by(alloc, &mut command, words);
             drop(command);
             read
         }

@@ -1,9 +1,9 @@
 //! What the words of a command line ask for, and the status of what is done for it.
 #![tactic(auto)]
 
-pub mod answer;
 mod arguments;
 pub mod command;
 mod noted;
+pub mod run_command;
 
-pub use command::{Asked, print_refusal, read_words};
+pub use command::{Invocation, parse_args, print_refusal};

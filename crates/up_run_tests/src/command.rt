@@ -1,7 +1,7 @@
 //! What command lines ask for.
 use std::alloc::{AllocError, Global};
 use std::test::Fail;
-use up_command::{Asked, print_refusal, read_words};
+use up_command::{Invocation, parse_args, print_refusal};
 use up_run::{Rounds, Telling};
 use up_text::{Env, Text};
 use up_tools::Kind;
@@ -264,14 +264,14 @@ fn has_variable(base: &Env, one: &Option<(&str, &str)>) -> bool {
     }
 }
 
-fn is_wanted(asked: &Asked, wanted: &Wanted) -> bool {
+fn is_wanted(asked: &Invocation, wanted: &Wanted) -> bool {
     match (asked, wanted) {
-        (Asked::Bundle, Wanted::Bundle) => true,
-        (Asked::Check { dir, explain }, Wanted::Check { dir: d, explain: e }) => {
+        (Invocation::Bundle, Wanted::Bundle) => true,
+        (Invocation::Check { dir, explain }, Wanted::Check { dir: d, explain: e }) => {
             *dir == *d && *explain == *e
         }
         (
-            Asked::Lint {
+            Invocation::Lint {
                 dir,
                 left_out,
                 outside,
@@ -282,12 +282,12 @@ fn is_wanted(asked: &Asked, wanted: &Wanted) -> bool {
                 outside: events,
             },
         ) => *dir == *d && left_out.as_slice() == *kinds && are_texts(outside.as_slice(), events),
-        (Asked::Compile { dir, image }, Wanted::Compile { dir: d, image: i }) => {
+        (Invocation::Compile { dir, image }, Wanted::Compile { dir: d, image: i }) => {
             *dir == *d && *image == *i
         }
-        (Asked::Show { image }, Wanted::Show { image: i }) => *image == *i,
+        (Invocation::Show { image }, Wanted::Show { image: i }) => *image == *i,
         (
-            Asked::Replay {
+            Invocation::Replay {
                 source,
                 script,
                 base,
@@ -300,7 +300,7 @@ fn is_wanted(asked: &Asked, wanted: &Wanted) -> bool {
             },
         ) => *source == *s && *script == *t && base.len() == *count && has_variable(base, one),
         (
-            Asked::Run {
+            Invocation::Run {
                 source,
                 socket,
                 rounds,
@@ -318,7 +318,7 @@ fn is_wanted(asked: &Asked, wanted: &Wanted) -> bool {
 }
 
 fn asks(alloc: Global, words: &[String], wanted: &Wanted) -> bool {
-    match read_words(alloc, words) {
+    match parse_args(alloc, words) {
         Ok(asked) => {
             let is = is_wanted(&asked, wanted);
             drop(asked);
@@ -333,7 +333,7 @@ fn asks(alloc: Global, words: &[String], wanted: &Wanted) -> bool {
 
 // The status of a command line that is refused.
 fn refusal(rt: &HostRuntime, words: &[String]) -> Option<u8> {
-    match read_words(rt.alloc(), words) {
+    match parse_args(rt.alloc(), words) {
         Ok(read) => {
             drop(read);
             None
@@ -348,7 +348,7 @@ fn refusal(rt: &HostRuntime, words: &[String]) -> Option<u8> {
 
 // The text of a command line that is refused.
 fn refusal_text(alloc: Global, words: &[String]) -> Result<Option<String>, AllocError> {
-    match read_words(alloc, words) {
+    match parse_args(alloc, words) {
         Ok(read) => {
             drop(read);
             Ok(None)

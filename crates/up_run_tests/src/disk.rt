@@ -2,8 +2,8 @@
 use crate::walk::{below, expect, make_file, scratch, text_of};
 use std::test::Fail;
 use std::{fs, io};
-use up_command::Asked;
-use up_command::answer::answer;
+use up_command::Invocation;
+use up_command::run_command::run_command;
 use up_disk::print::print;
 use up_disk::{check_dir, compile_dir, read_bytes, replay_dir, replay_image, replay_source};
 use up_model::ExitStatus;
@@ -194,16 +194,16 @@ fn answers(rt: &HostRuntime, dir: &str) -> Result<bool, Fail> {
     make_file(rt, dir, "up.script", b"turn 0\n")?;
     let script = below(rt, dir, "up.script")?;
     let script = script.as_str();
-    let checked = answer(
+    let checked = run_command(
         rt,
-        Asked::Check {
+        Invocation::Check {
             dir,
             explain: false,
         },
     )?;
-    let replayed = answer(
+    let replayed = run_command(
         rt,
-        Asked::Replay {
+        Invocation::Replay {
             source: dir,
             script,
             base: Env::new(rt.alloc()),

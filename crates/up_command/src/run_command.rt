@@ -2,7 +2,7 @@
 ghost use Rattle.std.specs.Prelude.{IfOk};
 ghost use Rattle.up_command.specs.Answers.{Answers};
 
-use crate::command::Asked;
+use crate::command::Invocation;
 use crate::noted::Noted;
 use std::fs::File;
 use std::io;
@@ -31,7 +31,7 @@ fn replay_input(rt: &(impl Input + Print + Eprint + AllocGlobal)) -> io::Result<
 
 /// Does what is asked for, prints on standard output, and returns the status: that of what is printed, `Unusable` if it can't be written,
 /// `Memory` if memory ran out. An error is that of the standard output, or memory ran out for its buffer.
-pub fn answer<
+pub fn run_command<
     R: Files<File = File>
         + Net
         + Processes
@@ -42,20 +42,20 @@ pub fn answer<
         + AllocGlobal
         + Clone
         + Drop,
->(rt: &R, asked: Asked) -> io::Result<ExitStatus>
-    ensures { IfOk result (Answers asked.entry) }
+>(rt: &R, invocation: Invocation) -> io::Result<ExitStatus>
+    ensures { IfOk result (Answers invocation.entry) }
 {
-    match asked {
-        Asked::Bundle => replay_input(rt),
-        Asked::Check { dir, explain } => {
+    match invocation {
+        Invocation::Bundle => replay_input(rt),
+        Invocation::Check { dir, explain } => {
             if explain {
                 print(rt, explain_dir(rt, dir))
             } else {
                 print(rt, check_dir(rt, dir))
             }
         }
-        Asked::Graph { dir } => print(rt, graph_dir(rt, dir)),
-        Asked::Lint {
+        Invocation::Graph { dir } => print(rt, graph_dir(rt, dir)),
+        Invocation::Lint {
             dir,
             left_out,
             outside,
@@ -63,15 +63,15 @@ pub fn answer<
             let printed = lint_dir(rt, dir, left_out.as_slice(), outside.as_slice());
             print(rt, printed)
         }
-        Asked::Compile { dir, image } => print(rt, compile_dir(rt, dir, image)),
-        Asked::Show { image } => print(rt, show_image(rt, image)),
-        Asked::Replay {
+        Invocation::Compile { dir, image } => print(rt, compile_dir(rt, dir, image)),
+        Invocation::Show { image } => print(rt, show_image(rt, image)),
+        Invocation::Replay {
             source,
             script,
             base,
         } => print(rt, replay_source(rt, source, base, script)),
-        Asked::View { view, source, log } => print(rt, view_source(rt, view, source, log)),
-        Asked::Run {
+        Invocation::View { view, source, log } => print(rt, view_source(rt, view, source, log)),
+        Invocation::Run {
             source,
             socket,
             rounds,
