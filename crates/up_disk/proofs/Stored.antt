@@ -1,5 +1,5 @@
 -- What an image that was read says, and which files define its jobs.
-use Rattle.std.proofs.Common.{◌≡◌, ℕ, Bool, true, false, List, length, Result, Err, Decides, refl, sym, ◌∙◌, subst}
+use Rattle.std.proofs.Common.{◌≡◌, ℕ, Bool, List, length, Result, Err, Decides, refl, sym, ◌∙◌, subst}
 use Rattle.std.specs.Prelude.{Option, None, Some, Ok, IfOk}
 use Rattle.std.proofs.lemmas.Bool.{false≢true, le-leb}
 use Rattle.up_conf.specs.declared.folder.File.{File}
