@@ -1,13 +1,8 @@
 //! Images of tables on the disk: writes the one of a folder, and prints what one says.
-ghost use Rattle.std.specs.Prelude.{◌≡◌, ◌+◌, ◌≤◌, ◌⊎◌, IfOk, IfSome, List, length, true, ℕ};
-ghost use Rattle.up_disk.specs.Disk.{CompilesDir, IsRefusedImage, IsUnusable, ShowsFile, ShowsImage, StoresFiles, StoresTable};
+ghost use Rattle.std.specs.Prelude.{◌≡◌, ◌+◌, ◌≤◌, Decides, IfOk, IfSome, length};
+ghost use Rattle.up_disk.specs.Disk.{CompilesDir, Defines, DefinesAll, DefinesImage, IsUnusable, ShowsBundle, ShowsBytes, ShowsFile, ShowsTable, StoresFiles, StoresTable};
 ghost use Rattle.up_disk.specs.Walk.{IsWalked};
-ghost use Rattle.up_conf.specs.Folders.{jobs_of};
-ghost use Rattle.up_image.specs.Image.{IsImage};
-ghost use Rattle.up_image.specs.Reading.{HasTable};
 ghost use Rattle.up_image.specs.declared.limits.TheConstants.{MAX_IMAGE};
-ghost use Rattle.up_script.specs.Bundle.{files_of, lines_of};
-ghost use Rattle.up_script.specs.declared.bundle.TheConstants.{MAX_BUNDLE};
 
 use crate::walk::{WalkError, read_file, walk};
 use crate::why::{say, say_error};
@@ -114,10 +109,8 @@ fn store<R: Files + Eprint + AllocGlobal>(
 ) -> Result<Printed, AllocError>
     ensures { IfOk result (StoresTable image.now printed) }
 {
-    let bytes = match table.to_bytes(rt.alloc()) {
-        Ok(bytes) => bytes,
-        Err(ImageError::Memory) => return Err(AllocError),
-        Err(error) => return image_refused(rt.alloc(), error),
+    let Ok(bytes) = table.to_bytes(rt.alloc()) else {
+        return Err(AllocError);
     };
     match write_whole(rt, image, bytes.as_slice()) {
         Ok(()) => Ok(printed),
@@ -194,42 +187,46 @@ fn bundle_of(alloc: Global, folder: &Folder) -> Result<Vec<u8>, AllocError> {
 }
 
 // Whether files are compiled to a table with this image.
+#[tactic(auto, using(crate::proofs::Stored::same_image, crate::proofs::Stored::refused))]
 fn define_image(alloc: Global, folder: &Folder, image: &[u8]) -> Result<bool, AllocError>
-    ensures { IfOk result (λ has. has ≡ true → IsImage image.now (jobs_of folder.now)) }
+    ensures { IfOk result (λ define. Decides define (DefinesImage folder.now image.now)) }
 {
     let table = match compile(alloc, folder) {
         Ok((table, _)) => table,
         Err(CompileError::Memory) => return Err(AllocError),
-        Err(_) => return Ok(false),
+        Err(CompileError::SameName | CompileError::TooManyJobs | CompileError::ImageTooLarge) => {
+            return Ok(false);
+        }
     };
     match table.to_bytes(alloc) {
         Ok(bytes) => Ok(bytes.as_slice() == image),
-        Err(ImageError::Memory) => Err(AllocError),
-        Err(_) => Ok(false),
+        Err(_) => Err(AllocError),
     }
 }
 
-/// Whether files define a table: then they have the image that is written of it, whatever the version of the one that it was read from.
-#[tactic(auto, using(up_image::proofs::Tables::same_jobs))]
+/// Whether files define the jobs of a table: then they have the image that is written of it, whatever the version of the one that it was
+/// read from.
 pub(crate) fn define_table(
     alloc: Global,
     folder: &Folder,
     table: &Table,
 ) -> Result<bool, AllocError>
-    ensures { IfOk result (λ define. define ≡ true → jobs_of folder.now ≡ table.now) }
+    ensures { IfOk result (λ define. Decides define (Defines folder.now table.now)) }
 {
-    match table.to_bytes(alloc) {
-        Ok(image) => define_image(alloc, folder, image.as_slice()),
-        Err(ImageError::Memory) => Err(AllocError),
-        Err(_) => Ok(false),
-    }
+    let Ok(image) = table.to_bytes(alloc) else {
+        return Err(AllocError);
+    };
+    let define = define_image(alloc, folder, image.as_slice())?;
+    Ok(define)
 }
 
-// Whether the files of a bundle do.
+// Whether a bundle is no longer than one may be, and its files do.
 fn defines(alloc: Global, bundle: &[u8], table: &Table) -> Result<bool, AllocError>
-    requires { length bundle.now ≤ MAX_BUNDLE }
-    ensures { IfOk result (λ define. define ≡ true → jobs_of (files_of (lines_of bundle.now)) ≡ table.now) }
+    ensures { IfOk result (λ define. Decides define (DefinesAll bundle.now table.now)) }
 {
+    if bundle.len() > MAX_BUNDLE {
+        return Ok(false);
+    }
     let bundle = read_bundle(alloc, bundle)?;
     define_table(alloc, &bundle.folder, table)
 }
@@ -242,22 +239,17 @@ pub(crate) fn no_files<R: Eprint + AllocGlobal>(rt: &R, image: &str) -> Result<P
     cannot_use(rt.alloc(), image)
 }
 
-// What is printed for the table of an image, in the file with this path.
-fn show_table<R: Eprint + AllocGlobal>(
+// What is printed for the table of an image, in the file with this path, if this bundle is to have the files that define its jobs.
+fn show_bundle<R: Eprint + AllocGlobal>(
     rt: &R,
+    bundle: Vec<u8>,
     table: &Table,
     image: &str,
 ) -> Result<Printed, AllocError>
-    ensures { IfOk result (λ made. (bytes : List ℕ) → HasTable bytes table.now
-        → ShowsImage bytes made ⊎ IsUnusable image.now made) }
+    ensures { IfOk result (ShowsBundle bundle.items image.now table.now) }
 {
-    let folder = job_files(rt.alloc(), table)?;
-    let text = bundle_of(rt.alloc(), &folder)?;
-    if text.len() > MAX_BUNDLE {
-        return no_files(rt, image);
-    }
-    if defines(rt.alloc(), text.as_slice(), table)? {
-        let text = Items::new(text);
+    if defines(rt.alloc(), bundle.as_slice(), table)? {
+        let text = Items::new(bundle);
         Ok(Printed {
             text,
             status: ExitStatus::Done,
@@ -267,6 +259,19 @@ fn show_table<R: Eprint + AllocGlobal>(
     }
 }
 
+// What is printed for the table of an image, in the file with this path.
+fn show_table<R: Eprint + AllocGlobal>(
+    rt: &R,
+    table: &Table,
+    image: &str,
+) -> Result<Printed, AllocError>
+    ensures { IfOk result (ShowsTable image.now table.now) }
+{
+    let folder = job_files(rt.alloc(), table)?;
+    let bundle = bundle_of(rt.alloc(), &folder)?;
+    show_bundle(rt, bundle, table, image)
+}
+
 // What is printed for the bytes of an image, in the file with this path.
 #[tactic(auto, using(crate::proofs::Stored::read_is))]
 fn show_bytes<R: Eprint + AllocGlobal>(
@@ -274,8 +279,7 @@ fn show_bytes<R: Eprint + AllocGlobal>(
     bytes: &[u8],
     image: &str,
 ) -> Result<Printed, AllocError>
-    ensures { IfOk result (λ made. ShowsImage bytes.now made
-        ⊎ (IsUnusable image.now made ⊎ IsRefusedImage made)) }
+    ensures { IfOk result (ShowsBytes bytes.now image.now) }
 {
     match Table::from_bytes(rt.alloc(), bytes) {
         Ok(table) => show_table(rt, &table, image),

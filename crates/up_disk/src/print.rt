@@ -1,6 +1,6 @@
 //! Prints on standard output.
 ghost use Rattle.std.specs.Prelude.{◌≡◌, IfOk, Ok};
-ghost use Rattle.up_disk.specs.Disk.{EndsWith};
+ghost use Rattle.up_disk.specs.Disk.{EndsWith, HasStatus};
 
 use std::alloc::AllocError;
 use std::io;
@@ -14,7 +14,8 @@ pub fn print(
     rt: &(impl Print + AllocGlobal),
     made: Result<Printed, AllocError>,
 ) -> io::Result<ExitStatus>
-    ensures { IfOk result (EndsWith (λ found. made ≡ Ok found)) }
+    ensures status { IfOk result (HasStatus made) }
+    ensures ends { IfOk result (EndsWith (λ found. made ≡ Ok found)) }
 {
     match made {
         Ok(made) => {

@@ -1,7 +1,6 @@
 //! Replays a script over a folder on the disk, or over an image.
-ghost use Rattle.std.specs.Prelude.{IfOk, List, ℕ};
-ghost use Rattle.up_image.specs.Reading.{HasTable};
-ghost use Rattle.up_disk.specs.Disk.{PlaysSource, PlaysStored};
+ghost use Rattle.std.specs.Prelude.{IfOk};
+ghost use Rattle.up_disk.specs.Disk.{PlaysBytes, PlaysSource, PlaysStored, PlaysTable};
 
 use crate::disk::{play, replay_dir};
 use crate::image::{define_table, no_files, read_bytes};
@@ -23,8 +22,7 @@ fn replay_files<R: Files + Eprint + AllocGlobal>(
     base: Env,
     script: &str,
 ) -> Result<Printed, AllocError>
-    ensures { IfOk result (λ made. (bytes : List ℕ) → HasTable bytes table.now
-        → PlaysStored image.now base script.now made) }
+    ensures { IfOk result (PlaysTable image.now base script.now table.now) }
 {
     match define_table(rt.alloc(), folder, table) {
         Ok(true) => play(rt, folder, base, script),
@@ -47,8 +45,7 @@ fn replay_table<R: Files + Eprint + AllocGlobal>(
     base: Env,
     script: &str,
 ) -> Result<Printed, AllocError>
-    ensures { IfOk result (λ made. (bytes : List ℕ) → HasTable bytes table.now
-        → PlaysStored image.now base script.now made) }
+    ensures { IfOk result (PlaysTable image.now base script.now table.now) }
 {
     match job_files(rt.alloc(), table) {
         Ok(folder) => {
@@ -72,7 +69,7 @@ fn replay_bytes<R: Files + Eprint + AllocGlobal>(
     base: Env,
     script: &str,
 ) -> Result<Printed, AllocError>
-    ensures { IfOk result (PlaysStored image.now base script.now) }
+    ensures { IfOk result (PlaysBytes bytes.now image.now base script.now) }
 {
     match Table::from_bytes(rt.alloc(), bytes) {
         Ok(table) => {

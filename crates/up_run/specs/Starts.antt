@@ -12,7 +12,7 @@ use Rattle.up_engine.specs.Stands.{Stands}
 use Rattle.up_daemon.specs.declared.daemon.Daemon.{Daemon}
 use Rattle.up_daemon.specs.Daemons.{engine_of, clients_of, was_refused}
 use Rattle.up_print.specs.Folders.{prints, IsTable, PrintsFaults}
-use Rattle.up_disk.specs.Disk.{CannotWalk, IsRefusedImage, IsUnusable}
+use Rattle.up_disk.specs.Disk.{CannotWalk, IsRefusedFile, IsRefusedImage, IsUnusable}
 use Rattle.up_disk.specs.Walk.{IsWalked}
 use Rattle.up_run.specs.declared.jobs.Jobs.{Jobs}
 
@@ -28,21 +28,24 @@ pub record AreOfFolder (jobs : Jobs) : Type 0 where
   pub defined : AreOfFiles files jobs
 
 -- the jobs of an image, for which nothing is printed
-pub record AreOfImage (jobs : Jobs) : Type 0 where
+pub record AreOfImage (image : List ℕ) (jobs : Jobs) : Type 0 where
   pub printed : jobs.printed ≡ prints [] Done
-  pub image : List ℕ
   pub stored : List JobDef
   pub table : jobs.table ≡ Some stored
   pub has : HasTable image stored
 
+-- the jobs of an image, or none of one that is refused, and why
+abbrev pub AreOfBytes : List ℕ → Jobs → Type 0
+AreOfBytes image jobs = AreOfImage image jobs ⊎ ((jobs.table ≡ None) × IsRefusedImage image jobs.printed)
+
 -- no jobs, and why
 pub record AreNone (source : List ℕ) (jobs : Jobs) : Type 0 where
   pub none : jobs.table ≡ None
-  pub why : CannotWalk source jobs.printed ⊎ (IsRefusedImage jobs.printed ⊎ IsUnusable source jobs.printed)
+  pub why : CannotWalk source jobs.printed ⊎ (IsRefusedFile jobs.printed ⊎ IsUnusable source jobs.printed)
 
 -- what a run reads of a folder or an image with this path
 abbrev pub ReadsJobs : List ℕ → Jobs → Type 0
-ReadsJobs source jobs = AreOfFolder jobs ⊎ (AreOfImage jobs ⊎ AreNone source jobs)
+ReadsJobs source jobs = AreOfFolder jobs ⊎ (((image : List ℕ) × AreOfImage image jobs) ⊎ AreNone source jobs)
 
 -- the environment of each process, before that of its job
 abbrev pub run_base : List (List ℕ × List ℕ)

@@ -1,7 +1,6 @@
 //! The jobs of a run: those of a folder or of an image.
-ghost use Rattle.std.specs.Prelude.{◌≡◌, ◌⊎◌, IfOk, None, Ok};
-ghost use Rattle.up_disk.specs.Disk.{CannotWalk, IsRefusedImage};
-ghost use Rattle.up_run.specs.Starts.{AreNone, AreOfFiles, AreOfFolder, AreOfImage, ReadsJobs};
+ghost use Rattle.std.specs.Prelude.{◌≡◌, IfOk, None, Ok};
+ghost use Rattle.up_run.specs.Starts.{AreOfBytes, AreOfFiles, ReadsJobs};
 
 use std::alloc::{AllocError, Global};
 use std::fs;
@@ -46,7 +45,7 @@ fn folder_jobs(alloc: Global, folder: &Folder) -> Result<Jobs, AllocError>
 // The jobs of an image, for which nothing is printed, or why it is refused.
 #[tactic(auto, using(up_disk::proofs::Stored::read_is))]
 fn image_jobs(alloc: Global, bytes: &[u8]) -> Result<Jobs, AllocError>
-    ensures { IfOk result (λ jobs. AreOfImage jobs ⊎ ((jobs.table ≡ None) × IsRefusedImage jobs.printed)) }
+    ensures { IfOk result (AreOfBytes bytes.now) }
 {
     match Table::from_bytes(alloc, bytes) {
         Ok(table) => {

@@ -1,2 +1,4 @@
 -- What inputs show, one after another.
 pub mod Watching
+-- What is printed of a record over an image.
+pub mod Viewing

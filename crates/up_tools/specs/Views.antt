@@ -3,7 +3,6 @@ use Rattle.std.specs.Prelude.{◌≡◌, ◌⊎◌, ℕ, ◌≤◌, List, [], Op
 use Rattle.up_model.specs.Values.{Bytes}
 use Rattle.up_conf.specs.declared.folder.File.{File}
 use Rattle.up_conf.specs.declared.job.JobDef.{JobDef}
-use Rattle.up_conf.specs.Folders.{jobs_of}
 use Rattle.up_image.specs.Reading.{HasTable}
 use Rattle.up_model.specs.declared.input.Input.{Input}
 use Rattle.up_model.specs.Answers.{answers}
@@ -12,7 +11,7 @@ use Rattle.up_chart.specs.Blame.{blame_of}
 use Rattle.up_chart.specs.Charts.{chart_of}
 use Rattle.up_chart.specs.Moments.{clock_at, moments_from, no_clock, time_of}
 use Rattle.up_chart.specs.Svg.{svg_of}
-use Rattle.up_disk.specs.Disk.{CannotWalk, IsRefusedImage, IsUnusable}
+use Rattle.up_disk.specs.Disk.{CannotWalk, Defines, IsRefusedImage, IsUnusable}
 use Rattle.up_disk.specs.Walk.{IsWalked}
 use Rattle.up_print.specs.declared.printed.Printed.{Printed}
 use Rattle.up_script.specs.declared.bundle.TheConstants.{MAX_BUNDLE}
@@ -69,17 +68,24 @@ ViewsDir dir how name made = ViewsFiles how name made ⊎ (CannotWalk dir made �
 abbrev pub ViewsShown : (bundle : Bytes) → View → (name : Bytes) → Printed → Type 0
 ViewsShown bundle how name made = ViewsOver how (files_of (lines_of bundle)) name made ⊎ IsUnusable name made
 
--- the same over files that define the jobs of an image
-pub record ViewsImage (how : View) (name : Bytes) (made : Printed) : Type 0 where
+-- the same over files that define these jobs
+pub record ViewsJobs (how : View) (jobs : List JobDef) (name : Bytes) (made : Printed) : Type 0 where
   pub files : List File
-  pub image : Bytes
-  pub has : HasTable image (jobs_of files)
+  pub define : Defines files jobs
   pub over : ViewsOver how files name made
 
--- the same for an image in a file, or why there is none
+-- the same for the table of an image, or why there is none
+abbrev pub ViewsTable : (image : Bytes) → View → (name : Bytes) → List JobDef → Printed → Type 0
+ViewsTable image how name jobs made = ViewsJobs how jobs name made ⊎ (IsUnusable image made ⊎ IsUnusable name made)
+
+-- the same for the bytes of an image: by the table that they have, or they are refused
+abbrev pub ViewsBytes : (bytes image : Bytes) → View → (name : Bytes) → Printed → Type 0
+ViewsBytes bytes image how name made =
+    ((jobs : List JobDef) × HasTable bytes jobs × ViewsTable image how name jobs made) ⊎ IsRefusedImage bytes made
+
+-- the same for an image, or that its file can't be used
 abbrev pub ViewsStored : (image : Bytes) → View → (name : Bytes) → Printed → Type 0
-ViewsStored image how name made = ViewsImage how name made
-    ⊎ (IsRefusedImage made ⊎ (IsUnusable image made ⊎ IsUnusable name made))
+ViewsStored image how name made = ((bytes : Bytes) × ViewsBytes bytes image how name made) ⊎ IsUnusable image made
 
 -- what is printed of a record over a folder or an image
 abbrev pub ViewsSource : (source : Bytes) → View → (name : Bytes) → Printed → Type 0
