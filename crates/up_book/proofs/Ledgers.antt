@@ -13,13 +13,13 @@ use Rattle.up_model.specs.declared.state.State.{State}
 use Rattle.up_model.specs.declared.state.State.TheVariants as state
 use Rattle.up_model.specs.Chronicle.{Chronicle, Entry, Given, Queued, Made, Released, Failed, Entered, Ordered, Signalled, Replied, Outside, Entering}
 use Rattle.up_model.specs.Configuration.{Configuration, job_named}
-use Rattle.up_model.specs.Instances.{Instance, instances_of, all_instances, with_instance, without_instance}
+use Rattle.up_model.specs.Instances.{Instance, instances_of, all_instances}
 use Rattle.up_model.specs.Outputs.{outputs_of}
 use Rattle.up_model.specs.Queue.{queue}
 use Rattle.up_model.specs.Readings.{entry_at, holders, id_of, id_at}
 use Rattle.up_model.specs.Replies.{answering, releasing, if_waits, request_in, request_instance, status_if, status_of, waiter_in}
 use Rattle.up_model.specs.Values.{Bytes}
-use Rattle.up_model.proofs.Places.{bytes_same, count}
+use Rattle.up_model.proofs.Places.{count}
 use Rattle.up_job.specs.InstanceLists.{limits_of, new_instance}
 use Rattle.up_job.specs.JobLists.{position_at, job_of}
 use Rattle.up_job.specs.Lists.{nth}

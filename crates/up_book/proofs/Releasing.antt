@@ -1,14 +1,12 @@
 -- What an instance that lets its holders go puts out, and that instances are of jobs.
-use Rattle.std.proofs.Common.{◌≡◌, ℕ, zero, suc, Bool, true, false, List, [], ◌∷◌, ◌++◌, length, map, Some, is_some, bytes_eq, if◌then◌else◌, refl, ◌∙◌, ap, arith, append_assoc}
-use Rattle.up_job.specs.Lists.{nth}
-use Rattle.up_conf.specs.declared.job.JobDef.{JobDef}
+use Rattle.std.proofs.Common.{◌≡◌, ℕ, Bool, List, [], ◌∷◌, ◌++◌, length, map, refl, ◌∙◌, ap, arith, append_assoc}
 use Rattle.up_model.specs.Chronicle.{Chronicle, Released}
-use Rattle.up_model.specs.Configuration.{Configuration, job_named}
+use Rattle.up_model.specs.Configuration.{Configuration}
 use Rattle.up_model.specs.Outputs.{outputs_of}
 use Rattle.up_model.specs.Readings.{holders}
 use Rattle.up_model.specs.Replies.{answering, releasing, status_of}
 use Rattle.up_model.specs.Values.{Bytes}
-use Rattle.up_model.proofs.Places.{older-other, bytes_refl}
+use Rattle.up_model.proofs.Places.{older-other}
 use Rattle.up_job.specs.declared.holder.Holder.{Holder}
 use Rattle.up_book.specs.Keeps.{HoldsOlder}
 use Rattle.up_book.specs.Replying.{replies_to}
@@ -31,4 +29,3 @@ released-out places config c i failed its told older same text =
       longer = omega arith;
       same = λ p before. rw (older-other (length c) p before) refl;
     }
-

@@ -24,8 +24,10 @@ use Rattle.up_model.proofs.NameLaws.{made-found}
 use Rattle.up_model.proofs.Places.{older-other}
 use Rattle.up_model.proofs.ReplyLaws.{releasing-all}
 use Rattle.up_model.proofs.Sparing.{same-append}
-use Rattle.up_model.specs.Chronicle.{Chronicle, Entry, Given, Made, Aimed, Restarted, Signalled, Replied}
-use Rattle.up_model.specs.Commands.{Outcome, Refused, Told, Done, Target, Nobody, Concerns, entries_of, start_at, stop_at, restart_at, start, stop, restart, is_running, refusal, status, status_at, stopped_text, reload, reload_at, reloading, target_of, listing, version_text, outcome_by, outcome_of}
+use Rattle.up_engine.proofs.Quiet.{none-asked, stays-quiet}
+use Rattle.up_model.specs.Chronicle.{Chronicle, Entry, Given, Queued, Made, Aimed, Restarted, Signalled, Replied, Outside}
+use Rattle.up_model.specs.Queue.{queue}
+use Rattle.up_model.specs.Commands.{Outcome, Refused, Told, Done, Target, Nobody, Concerns, entries_of, start_at, stop_at, restart_at, start, stop, restart, is_running, refusal, status, status_at, stopped_text, reload, reload_at, reloading, target_of, listing, version_text, max_events, outcome_by, outcome_of}
 use Rattle.up_model.specs.Configuration.{Configuration}
 use Rattle.up_model.specs.Due.{due, effect}
 use Rattle.up_model.specs.Events.{with_instance as with_variables}
@@ -368,3 +370,25 @@ answered-due its config id request c is answered distinct made none =
     by_command command.Stop answered = absurd answered
     by_command command.Restart answered = absurd answered
     by_command command.Emit answered = absurd answered
+
+-- and after an `emit` of a client that waits for the event
+pub emitted-due : (config : Configuration) (id : ℕ) (request : RequestValue) (c : Chronicle) → request.command ≡ command.Emit → request.wait ≡ true → AreDistinct config.jobs → AreMadeBy config.jobs c → due config c ≡ []
+    → due config (entries_of (length c) (outcome_of config (length c) request (Given (input.Request id request) ∷ c)) ++ Given (input.Request id request) ∷ c) ≡ []
+emitted-due config id request c is waits distinct made none =
+    subst (λ its. due config (entries_of (length c) (outcome_by its config (length c) request d) ++ d) ≡ []) (sym is) (by_room (nat_lt (length (queue d)) max_events))
+  where
+    d : Chronicle
+    d = Given (input.Request id request) ∷ c
+
+    queued : Entry
+    queued = Queued (Outside (length c)) (record { name = request.name; vars = request.vars })
+
+    still : move_first config.jobs (queued ∷ d) ≡ []
+    still = still-stay config.jobs (queued ∷ d) (stays-quiet (length (queued ∷ d)) config.jobs (queued ∷ []) d (tt, tt) (asked-stays config id request c distinct made none (length (queued ∷ d))))
+
+    unasked : asked (queued ∷ d) ≡ None
+    unasked = ap (λ (b : Bool). if b then None else Some (length c)) waits
+
+    by_room : (b : Bool) → due config (entries_of (length c) (if b then Done (queued ∷ []) else Refused (codes "Too many events")) ++ d) ≡ []
+    by_room true = none-due config (queued ∷ d) distinct made still refl ∙ none-asked (queued ∷ d) unasked
+    by_room false = outcome-due config id request (Refused (codes "Too many events")) c tt distinct made none

@@ -599,6 +599,10 @@ fn change<B: Book>(
         }
         Command::Emit => {
             emit(alloc, book, name.as_str(), vars)?;
+            if wait {
+                // The event isn't heard before its turn.
+                return Ok(Concern::Nobody);
+            }
             Ok(Concern::Anybody)
         }
         Command::Version => {

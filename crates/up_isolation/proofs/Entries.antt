@@ -1,6 +1,6 @@
 -- Entries about two instances that are alike.
-use Rattle.std.proofs.Common.{◌≡◌, ℕ, inl, Bool, true, false, List, [], ◌∷◌, Option, Some, length}
-use Rattle.std.proofs.Common.{if◌then◌else◌, bytes_eq, refl, sym, ◌∙◌, ap, ap₂, arith, eq-eqb}
+use Rattle.std.proofs.Common.{◌≡◌, ℕ, inl, Bool, List, [], ◌∷◌, Option, Some, length}
+use Rattle.std.proofs.Common.{if◌then◌else◌, refl, sym, ◌∙◌, ap, ap₂, arith, eq-eqb}
 use Rattle.up_conf.specs.declared.job.JobDef.{JobDef}
 use Rattle.up_stanza.specs.declared.process.Process.{Process}
 use Rattle.up_stanza.specs.declared.process.Process.TheVariants.{Main}
@@ -13,20 +13,19 @@ use Rattle.up_model.specs.declared.state.State.TheVariants as state
 use Rattle.up_model.specs.declared.who.Who.{Who}
 use Rattle.up_model.specs.Chronicle.{Chronicle, Entry, Queued, Aimed, Restarted, Released, Entered, Ordered}
 use Rattle.up_model.specs.Chronicle.{Signalled, Entering}
-use Rattle.up_model.specs.Configuration.{Configuration, job_named}
+use Rattle.up_model.specs.Configuration.{Configuration}
 use Rattle.up_model.specs.Instances.{Instance}
 use Rattle.up_model.specs.Outputs.{order_of, order_by, signal_of}
 use Rattle.up_model.specs.Readings.{file_of, made_at, has_stop_env, process_env, pid_of}
 use Rattle.up_model.specs.Values.{Bytes, Bindings}
 use Rattle.up_model.proofs.NameLaws.{called}
-use Rattle.up_isolation.specs.Views.{jobs_called, owns}
+use Rattle.up_isolation.specs.Views.{owns}
 use Rattle.up_isolation.specs.Parts as parts
 use Rattle.up_isolation.specs.Parts.{Content, contents, content, Item, items, items_if, is_named_event}
 use Rattle.up_isolation.specs.Parts.{name_at}
 use Rattle.up_isolation.proofs.Lives.{Life, life}
 use Rattle.up_isolation.proofs.Lives as lives
 use Rattle.up_isolation.proofs.Known.{AreOlder, contents-later, older-later}
-use Rattle.up_isolation.proofs.Likes.{only}
 use Rattle.up_isolation.proofs.Pairs.{Pair, Carries, IsPlain, pair_more, bond-life, shows-item, items-own}
 use Rattle.up_isolation.proofs.Pairs.{outputs-own, own-true, made-same, name-same}
 

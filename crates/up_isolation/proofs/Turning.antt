@@ -9,7 +9,7 @@ use Rattle.up_model.specs.declared.event.Event.{Event}
 use Rattle.up_model.specs.Chronicle.{Chronicle, Entry, Given, Queued, Handled, Finished, Signalled, Entering}
 use Rattle.up_model.specs.Chronicle.{Outside}
 use Rattle.up_model.specs.Clock.{now, kill_due}
-use Rattle.up_model.specs.Configuration.{Configuration, job_named}
+use Rattle.up_model.specs.Configuration.{Configuration}
 use Rattle.up_model.specs.Instances.{Instance, instances_of}
 use Rattle.up_model.specs.Readings.{entry_at, made_at, event_at}
 use Rattle.up_model.specs.Replies.{request_at}

@@ -1,6 +1,5 @@
 -- That an input is given changes nothing of what is held.
-use Rattle.std.proofs.Common.{◌≡◌, ℕ, List, [], ◌∷◌, ◌++◌, refl, ap, ap₂}
-use Rattle.std.specs.List.{AllByRecursion}
+use Rattle.std.proofs.Common.{◌≡◌, ℕ, List, [], ◌∷◌, ◌++◌, refl, ap}
 use Rattle.up_model.specs.declared.input.Input.{Input}
 use Rattle.up_model.specs.Chronicle.{Chronicle, Given, StopOn}
 use Rattle.up_model.specs.Configuration.{Configuration}

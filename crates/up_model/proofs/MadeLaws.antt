@@ -1,5 +1,5 @@
 -- Each instance of a run is made by the file in force that has its job's name.
-use Rattle.std.proofs.Common.{◌≡◌, ℕ, zero, suc, Bool, true, false, not, nat_lt, List, [], ◌∷◌, ◌++◌, length, codes, if◌then◌else◌, Option, None, Some, is_some, refl, sym, ◌∙◌, ap, subst, append_assoc}
+use Rattle.std.proofs.Common.{◌≡◌, ℕ, zero, suc, Bool, true, false, not, nat_lt, List, [], ◌∷◌, ◌++◌, length, codes, if◌then◌else◌, Option, None, Some, is_some, refl, sym, ◌∙◌, subst, append_assoc}
 use Rattle.std.specs.List.{AllByRecursion}
 use Rattle.up_conf.specs.declared.job.JobDef.{JobDef}
 use Rattle.up_expr.specs.Truth.{Sight}
@@ -18,8 +18,8 @@ use Rattle.up_model.specs.declared.request.Command.TheVariants as command
 use Rattle.up_model.specs.declared.state.Goal.TheVariants.{Start, Stop}
 use Rattle.up_model.specs.declared.who.Who.{Who}
 use Rattle.up_model.specs.Answers.{after}
-use Rattle.up_model.specs.Chronicle.{Chronicle, Entry, Given, Queued, Handled, Offered, Fired, Finished, Made, Aimed, Released, Failed, Respawned, Signalled, Replied, Outside, Spoilt, StartOn, StopOn}
-use Rattle.up_model.specs.Clock.{all_overdue, kill, killing, now}
+use Rattle.up_model.specs.Chronicle.{Chronicle, Entry, Given, Handled, Offered, Fired, Finished, Made, Aimed, Failed, Signalled, StartOn, StopOn}
+use Rattle.up_model.specs.Clock.{all_overdue, kill, killing}
 use Rattle.up_model.specs.Commands.{Target, Nobody, Concerns, target_as, target_in, target_of, start, start_at, outcome_by, outcome_of, entries_of, holders_of, refusal, Refused, Done}
 use Rattle.up_model.specs.Configuration.{Configuration, job_named}
 use Rattle.up_model.specs.Due.{due, end_of, end_by, telling, failed_event_of, finishing, turn_of, turn_event, effect}
