@@ -133,7 +133,10 @@ fn base_of(alloc: Global, words: &[&str]) -> Result<Env, TextFault> {
     Ok(base)
 }
 
-fn parse_replay<'a>(alloc: Global, given: &ArgMatches<'a>) -> Result<Option<Invocation<'a>>, TextFault> {
+fn parse_replay<'a>(
+    alloc: Global,
+    given: &ArgMatches<'a>,
+) -> Result<Option<Invocation<'a>>, TextFault> {
     let (Some(source), Some(script)) = (given.get_str("SOURCE"), given.get_str("SCRIPT")) else {
         return Ok(None);
     };
@@ -166,7 +169,10 @@ fn texts_of(alloc: Global, words: &[&str]) -> Result<Items<Text>, AllocError> {
     Ok(Items::new(texts))
 }
 
-fn parse_lint<'a>(alloc: Global, given: &ArgMatches<'a>) -> Result<Option<Invocation<'a>>, TextFault> {
+fn parse_lint<'a>(
+    alloc: Global,
+    given: &ArgMatches<'a>,
+) -> Result<Option<Invocation<'a>>, TextFault> {
     let Some(dir) = given.get_str("DIR") else {
         return Ok(None);
     };
@@ -185,7 +191,9 @@ fn parse_plain<'a>(word: &str, given: &ArgMatches<'a>) -> Option<Invocation<'a>>
         "check" => parse_check(given),
         "graph" => given.get_str("DIR").map(|dir| Invocation::Graph { dir }),
         "compile" => parse_compile(given),
-        "show" => given.get_str("IMAGE").map(|image| Invocation::Show { image }),
+        "show" => given
+            .get_str("IMAGE")
+            .map(|image| Invocation::Show { image }),
         "chart" => parse_view(View::Chart, given),
         "blame" => parse_view(View::Blame, given),
         _ => parse_run(given),
