@@ -651,15 +651,20 @@ def concerns(job, given):
     return given[0] == "Clock" or given[0] in ("Spawned", "Refused", "Ended") and given[1][0] == job
 
 
+def hears(c, job, event):
+    """Whether the name stands in an expression in force of a job. An instance's own file is here that of its job."""
+    its = c.job_named(job)
+    return its is not None and (event in event_names(its.start_on) or bool(c.instances(job)) and event in event_names(its.stop_on))
+
+
 def notices(c, job, place):
     """What comes to a job's notice by an entry."""
     entry = c[place]
     if entry[0] == "Given" and concerns(job, entry[1]):
         return [("Received", entry[1])]
     if entry[0] == "Handled":
-        its, event = c.job_named(job), c.event_at(entry[1])
-        names = event_names(its.start_on) | event_names(its.stop_on) if its else set()
-        return [("Arrived", event[0], tuple(event[1].items()))] if event[0] in names else []
+        event = c.event_at(entry[1])
+        return [("Arrived", event[0], tuple(event[1].items()))] if hears(c.before(place), job, event[0]) else []
     if entry[0] == "Finished":
         before = c.before(place)
         return [("Unblocked", name) for name, instance in before.instances(job) if before.blocker(instance) == entry[1]]

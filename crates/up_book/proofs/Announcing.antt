@@ -34,7 +34,7 @@ no-wait false x y = refl
 
 unblocking : (config : Configuration) (c : Chronicle) (i : ℕ) (to : State) (event : Event) → is_blocking to ≡ false → Passes config c (Queued (Entering i to) event)
 unblocking config c i to event free = record {
-  spares = λ job x older. rw (free, no-wait (i == x.place) (Some (length c)) _, holding-later (Queued (Entering i to) event) c (holders x.place c) older) refl;
+  spares = λ x older. rw (free, no-wait (i == x.place) (Some (length c)) _, holding-later (Queued (Entering i to) event) c (holders x.place c) older) refl;
   instances = λ job. refl;
   seen = λ x. refl;
 }

@@ -55,18 +55,18 @@ Names other who = ⊥
 abbrev Unspoken : Who → Chronicle → Instance → Type 0
 Unspoken who c x = (its p : Process) → speaks_of (made_at x.place c) p who its ≡ false
 
-unspoken : (config : Configuration) (job : JobDef) (given : Input) (who : Who) (c : Chronicle) (x : Instance) → Names given who → Unspoken who c x → HoldsOlder x.place c
-    → summary config job (Given given ∷ c) x ≡ summary config job c x
-unspoken config job (input.Spawned w i p) who c x says silent older =
+unspoken : (given : Input) (who : Who) (c : Chronicle) (x : Instance) → Names given who → Unspoken who c x → HoldsOlder x.place c
+    → summary (Given given ∷ c) x ≡ summary c x
+unspoken (input.Spawned w i p) who c x says silent older =
     let none : Unspoken w c x = subst (λ v. Unspoken v c x) (sym says) silent in
     rw (none i process.Main, none i process.PreStart, none i process.PostStart, none i process.PreStop, none i process.PostStop, holding-later (Given (input.Spawned w i p)) c (holders x.place c) older) refl
-unspoken config job (input.Refused w i) who c x says silent older =
+unspoken (input.Refused w i) who c x says silent older =
     let none : Unspoken w c x = subst (λ v. Unspoken v c x) (sym says) silent in
     rw (none i process.Main, none i process.PreStart, none i process.PostStart, none i process.PreStop, none i process.PostStop, holding-later (Given (input.Refused w i)) c (holders x.place c) older) refl
-unspoken config job (input.Ended w i h) who c x says silent older =
+unspoken (input.Ended w i h) who c x says silent older =
     let none : Unspoken w c x = subst (λ v. Unspoken v c x) (sym says) silent in
     rw (none i process.Main, none i process.PreStart, none i process.PostStart, none i process.PreStop, none i process.PostStop, holding-later (Given (input.Ended w i h)) c (holders x.place c) older) refl
-unspoken config job other who c x says silent older = absurd says
+unspoken other who c x says silent older = absurd says
 
 both-false : (b d : Bool) → b ≡ false → (b && d) ≡ false
 both-false true d h = absurd cc
@@ -77,10 +77,10 @@ pub speaks-not : (job : Bytes) (who : Who) (i : ℕ) (c : Chronicle) (x : Instan
 speaks-not job who i c x named known single apart its p = rw known.1 (both-false (same_who who (called job x.name)) (same_process its p) (one-named job who i c x named single apart))
 
 given-others : (config : Configuration) (job : JobDef) (given : Input) (who : Who) (i : ℕ) (c : Chronicle) (xs : List Instance) → Names given who → instance_named who c ≡ Some i → ((p : ℕ) → HoldsOlder p c)
-    → AllByRecursion (IsKnown job.name c) xs → AreSingle (instances_of job.name c) xs → AllByRecursion (λ x. (x.place == i) ≡ false → summary config job (Given given ∷ c) x ≡ summary config job c x) xs
+    → AllByRecursion (IsKnown job.name c) xs → AreSingle (instances_of job.name c) xs → AllByRecursion (λ x. (x.place == i) ≡ false → summary (Given given ∷ c) x ≡ summary c x) xs
 given-others config job given who i c [] says named older known single = tt
 given-others config job given who i c (x ∷ xs) says named older known single =
-    ((λ apart. unspoken config job given who c x says (speaks-not job.name who i c x named known.0 single.0 apart) (older x.place)), given-others config job given who i c xs says named older known.1 single.1)
+    ((λ apart. unspoken given who c x says (speaks-not job.name who i c x named known.0 single.0 apart) (older x.place)), given-others config job given who i c xs says named older known.1 single.1)
 
 -- what an input makes of its instance
 abbrev pub change_of : Input → Change
@@ -92,54 +92,54 @@ change_of other = change.Ends
 same-self : (who : Who) → same_who who who ≡ true
 same-self who = rw (bytes_refl who.job, bytes_refl who.instance) refl
 
-given-here : (places : Places) (config : Configuration) (job : JobDef) (given : Input) (who : Who) (c : Chronicle) (x : Instance) → Names given who → made_at x.place c ≡ Some who → HoldsOlder x.place c
-    → summary config job (Given given ∷ c) x ≡ stepped places (change_of given) (summary config job c x)
-given-here places config job (input.Spawned w process.Main p) who c x says made older =
+given-here : (places : Places) (given : Input) (who : Who) (c : Chronicle) (x : Instance) → Names given who → made_at x.place c ≡ Some who → HoldsOlder x.place c
+    → summary (Given given ∷ c) x ≡ stepped places (change_of given) (summary c x)
+given-here places (input.Spawned w process.Main p) who c x says made older =
     let its : made_at x.place c ≡ Some w = made ∙ ap Some (sym says) in
     rw (its, same-self w, holding-later (Given (input.Spawned w process.Main p)) c (holders x.place c) older) refl
-given-here places config job (input.Spawned w process.PreStart p) who c x says made older =
+given-here places (input.Spawned w process.PreStart p) who c x says made older =
     let its : made_at x.place c ≡ Some w = made ∙ ap Some (sym says) in
     rw (its, same-self w, holding-later (Given (input.Spawned w process.PreStart p)) c (holders x.place c) older) refl
-given-here places config job (input.Spawned w process.PostStart p) who c x says made older =
+given-here places (input.Spawned w process.PostStart p) who c x says made older =
     let its : made_at x.place c ≡ Some w = made ∙ ap Some (sym says) in
     rw (its, same-self w, holding-later (Given (input.Spawned w process.PostStart p)) c (holders x.place c) older) refl
-given-here places config job (input.Spawned w process.PreStop p) who c x says made older =
+given-here places (input.Spawned w process.PreStop p) who c x says made older =
     let its : made_at x.place c ≡ Some w = made ∙ ap Some (sym says) in
     rw (its, same-self w, holding-later (Given (input.Spawned w process.PreStop p)) c (holders x.place c) older) refl
-given-here places config job (input.Spawned w process.PostStop p) who c x says made older =
+given-here places (input.Spawned w process.PostStop p) who c x says made older =
     let its : made_at x.place c ≡ Some w = made ∙ ap Some (sym says) in
     rw (its, same-self w, holding-later (Given (input.Spawned w process.PostStop p)) c (holders x.place c) older) refl
-given-here places config job (input.Refused w process.Main) who c x says made older =
+given-here places (input.Refused w process.Main) who c x says made older =
     let its : made_at x.place c ≡ Some w = made ∙ ap Some (sym says) in
     rw (its, same-self w, holding-later (Given (input.Refused w process.Main)) c (holders x.place c) older) refl
-given-here places config job (input.Refused w process.PreStart) who c x says made older =
+given-here places (input.Refused w process.PreStart) who c x says made older =
     let its : made_at x.place c ≡ Some w = made ∙ ap Some (sym says) in
     rw (its, same-self w, holding-later (Given (input.Refused w process.PreStart)) c (holders x.place c) older) refl
-given-here places config job (input.Refused w process.PostStart) who c x says made older =
+given-here places (input.Refused w process.PostStart) who c x says made older =
     let its : made_at x.place c ≡ Some w = made ∙ ap Some (sym says) in
     rw (its, same-self w, holding-later (Given (input.Refused w process.PostStart)) c (holders x.place c) older) refl
-given-here places config job (input.Refused w process.PreStop) who c x says made older =
+given-here places (input.Refused w process.PreStop) who c x says made older =
     let its : made_at x.place c ≡ Some w = made ∙ ap Some (sym says) in
     rw (its, same-self w, holding-later (Given (input.Refused w process.PreStop)) c (holders x.place c) older) refl
-given-here places config job (input.Refused w process.PostStop) who c x says made older =
+given-here places (input.Refused w process.PostStop) who c x says made older =
     let its : made_at x.place c ≡ Some w = made ∙ ap Some (sym says) in
     rw (its, same-self w, holding-later (Given (input.Refused w process.PostStop)) c (holders x.place c) older) refl
-given-here places config job (input.Ended w process.Main h) who c x says made older =
+given-here places (input.Ended w process.Main h) who c x says made older =
     let its : made_at x.place c ≡ Some w = made ∙ ap Some (sym says) in
     rw (its, same-self w, holding-later (Given (input.Ended w process.Main h)) c (holders x.place c) older) refl
-given-here places config job (input.Ended w process.PreStart h) who c x says made older =
+given-here places (input.Ended w process.PreStart h) who c x says made older =
     let its : made_at x.place c ≡ Some w = made ∙ ap Some (sym says) in
     rw (its, same-self w, holding-later (Given (input.Ended w process.PreStart h)) c (holders x.place c) older) refl
-given-here places config job (input.Ended w process.PostStart h) who c x says made older =
+given-here places (input.Ended w process.PostStart h) who c x says made older =
     let its : made_at x.place c ≡ Some w = made ∙ ap Some (sym says) in
     rw (its, same-self w, holding-later (Given (input.Ended w process.PostStart h)) c (holders x.place c) older) refl
-given-here places config job (input.Ended w process.PreStop h) who c x says made older =
+given-here places (input.Ended w process.PreStop h) who c x says made older =
     let its : made_at x.place c ≡ Some w = made ∙ ap Some (sym says) in
     rw (its, same-self w, holding-later (Given (input.Ended w process.PreStop h)) c (holders x.place c) older) refl
-given-here places config job (input.Ended w process.PostStop h) who c x says made older =
+given-here places (input.Ended w process.PostStop h) who c x says made older =
     let its : made_at x.place c ≡ Some w = made ∙ ap Some (sym says) in
     rw (its, same-self w, holding-later (Given (input.Ended w process.PostStop h)) c (holders x.place c) older) refl
-given-here places config job other who c x says made older = absurd says
+given-here places other who c x says made older = absurd says
 
 -- of what is to come nothing is said
 none-there : (p : ℕ) (c : Chronicle) → length c ≤ p → entry_at p c ≡ None
@@ -156,12 +156,12 @@ keeps-given places book after config c key i given who keeps single found says n
     let t : Touches config c (Given given ∷ c) key.job i (stepped places (change_of given)) = record {
       instances = λ name. refl;
       others = λ job. given-others config job given who i c (instances_of job.name c) says named keeps.older (known-all job.name c) (single job.name);
-      here = λ job x there at. given-here places config job given who c x says (ap (λ p. made_at p c) at ∙ made.1) (keeps.older x.place);
+      here = λ x at. given-here places given who c x says (ap (λ p. made_at p c) at ∙ made.1) (keeps.older x.place);
     } in
     record {
       jobs = rw does (one places (changed (change_of given)) (stepped places (change_of given)) book config c (Given given ∷ c) key i (view-changed places (change_of given)) keeps.jobs keeps.distinct found t);
       older = older-after (Given given) c tt keeps.older;
-      later = λ job x past. unspoken config job given who c x says (λ its p. rw (none-there x.place c (omega (arith, past))) refl) (keeps.older x.place) ∙ keeps.later job x (omega (arith, past));
+      later = λ x past. unspoken given who c x says (λ its p. rw (none-there x.place c (omega (arith, past))) refl) (keeps.older x.place) ∙ keeps.later x (omega (arith, past));
       distinct = keeps.distinct;
     }
 
@@ -178,14 +178,14 @@ none-named job who c x none single = by_case (bytes_eq who.job job) (bytes_eq wh
     by_case false d same its = refl
 
 unnamed-all : (config : Configuration) (job : JobDef) (given : Input) (who : Who) (c : Chronicle) (xs : List Instance) → Names given who → instance_named who c ≡ None → ((p : ℕ) → HoldsOlder p c)
-    → AllByRecursion (IsKnown job.name c) xs → AreSingle (instances_of job.name c) xs → map (summary config job (Given given ∷ c)) xs ≡ map (summary config job c) xs
+    → AllByRecursion (IsKnown job.name c) xs → AreSingle (instances_of job.name c) xs → map (summary (Given given ∷ c)) xs ≡ map (summary c) xs
 unnamed-all config job given who c [] says none older known single = refl
 unnamed-all config job given who c (x ∷ xs) says none older known single =
-    cons_same (unspoken config job given who c x says (λ its p. rw known.0.1 (both-false (same_who who (called job.name x.name)) (same_process its p) (none-named job.name who c x none single.0))) (older x.place))
+    cons_same (unspoken given who c x says (λ its p. rw known.0.1 (both-false (same_who who (called job.name x.name)) (same_process its p) (none-named job.name who c x none single.0))) (older x.place))
     (unnamed-all config job given who c xs says none older known.1 single.1)
 
 unnamed-jobs : (config : Configuration) (given : Input) (who : Who) (c : Chronicle) (jobs : List JobDef) → Names given who → instance_named who c ≡ None → ((p : ℕ) → HoldsOlder p c) → Singles c
-    → map (job_summary config (Given given ∷ c)) jobs ≡ map (job_summary config c) jobs
+    → map (job_summary (Given given ∷ c)) jobs ≡ map (job_summary c) jobs
 unnamed-jobs config given who c [] says none older single = refl
 unnamed-jobs config given who c (job ∷ jobs) says none older single =
     cons_same (ap (λ (its : List Summary). record { name = job.name; instances = its }) (unnamed-all config job given who c (instances_of job.name c) says none older (known-all job.name c) (single job.name)))
@@ -196,6 +196,6 @@ pub keeps-unnamed : (places : Places) (book : List JobInstances) (config : Confi
 keeps-unnamed places book config c given who keeps single says none = record {
   jobs = keeps.jobs ∙ sym (unnamed-jobs config given who c config.jobs says none keeps.older single);
   older = older-after (Given given) c tt keeps.older;
-  later = λ job x past. unspoken config job given who c x says (λ its p. rw (none-there x.place c (omega (arith, past))) refl) (keeps.older x.place) ∙ keeps.later job x (omega (arith, past));
+  later = λ x past. unspoken given who c x says (λ its p. rw (none-there x.place c (omega (arith, past))) refl) (keeps.older x.place) ∙ keeps.later x (omega (arith, past));
   distinct = keeps.distinct;
 }

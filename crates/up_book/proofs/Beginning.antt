@@ -16,7 +16,7 @@ use Rattle.up_model.specs.Queue.{queue}
 use Rattle.up_model.specs.Values.{Bytes}
 use Rattle.up_book.specs.Eventing.{place_of}
 use Rattle.up_book.specs.declared.past.Past.{Past}
-use Rattle.up_job.specs.InstanceLists.{limits_of, new_instance}
+use Rattle.up_job.specs.InstanceLists.{new_instance}
 use Rattle.up_job.specs.Moments.{room}
 use Rattle.up_book.specs.Counting.{uses, start_uses}
 use Rattle.up_book.specs.Remembering.{StopsRemember, StartsRemember}
@@ -26,7 +26,7 @@ use Rattle.up_book.specs.Summaries.{blank, job_summary}
 use Rattle.up_book.specs.Views.{Places, view, job_view}
 use Rattle.up_book.proofs.Lists.{cons_same}
 
-new-jobs : (places : Places) (config : Configuration) (jobs : List JobDef) → map (job_view places) (map new_job jobs) ≡ map (job_summary config []) jobs
+new-jobs : (places : Places) (config : Configuration) (jobs : List JobDef) → map (job_view places) (map new_job jobs) ≡ map (job_summary []) jobs
 new-jobs places config [] = refl
 new-jobs places config (job ∷ jobs) = cons_same refl (new-jobs places config jobs)
 
@@ -49,7 +49,7 @@ forgets-nothing book config distinct jobs starts unused events reading = record 
   lives = rw events (record {
     jobs = rw jobs (new-jobs (place_of [] (queue [])) config config.jobs);
     older = λ i. tt;
-    later = λ job its past. rw (take-none (room job.limit)) refl;
+    later = λ its past. rw (take-none (room its.file.limit)) refl;
     distinct = distinct;
   });
   remembered = record {
@@ -70,7 +70,7 @@ forgets-nothing book config distinct jobs starts unused events reading = record 
 }
 
 -- and what is kept of a new instance is blank
-pub new-blank : (places : Places) (job : JobDef) (name : Bytes) (trigger : Option (List Mark)) → view places (new_instance name (limits_of job) trigger) ≡ blank job name
+pub new-blank : (places : Places) (job : JobDef) (name : Bytes) (trigger : Option (List Mark)) → view places (new_instance name job trigger) ≡ blank job name
 new-blank places job name trigger = refl
 
 -- a trigger that agrees with nothing seen, whatever ids stand for, keeps nothing

@@ -48,10 +48,10 @@ made-in places jobs config c key kept keeps found = by_job (nth key.job jobs) re
     by_job : (o : Option JobInstances) → nth key.job jobs ≡ o → nth key.at (list_of o) ≡ Some kept → Made config c jobs key
     by_job None is found = absurd cc
     by_job (Some j) is found =
-        let def = map-nth (job_view places) (job_summary config c) jobs config.jobs key.job j keeps is in
-        let alike : map (view places) j.instances ≡ map (summary config def.0 c) (instances_of def.0.name c) = ap (λ (s : JobSummary). s.instances) def.2 in
+        let def = map-nth (job_view places) (job_summary c) jobs config.jobs key.job j keeps is in
+        let alike : map (view places) j.instances ≡ map (summary c) (instances_of def.0.name c) = ap (λ (s : JobSummary). s.instances) def.2 in
         let named : j.name ≡ def.0.name = ap (λ (s : JobSummary). s.name) def.2 in
-        let its = map-nth (view places) (summary config def.0 c) j.instances (instances_of def.0.name c) key.at kept alike found in
+        let its = map-nth (view places) (summary c) j.instances (instances_of def.0.name c) key.at kept alike found in
         record {
           place = its.0.place;
           is = ap (λ (o : Option JobInstances). option_map {T = Instance} (λ x. x.place) (Rattle.up_book.specs.Keeps.instance_in key.at o c)) is

@@ -99,14 +99,14 @@ forgets-finished book after config c id e origin event f distinct found queued f
     let new = place_of (without id book.events) (without_event e (queue c)) in
     let its = names book.events c id e found in
     let all : uses id book.instances + start_uses id book.starts.items ≡ 0 =
-    none-used (uses id book.instances + start_uses id book.starts.items) (sym (held old book.instances book.starts.items config c id e origin event f.lives.jobs f.remembered f.regular.made f.lives.distinct its queued) ∙ free) in
+    none-used (uses id book.instances + start_uses id book.starts.items) (sym (held old book.instances book.starts.items config c id e origin event f.lives.jobs f.remembered f.lives.distinct its queued) ∙ free) in
     let none : uses id book.instances ≡ 0 = omega (arith, all) in
     let gone : finishing.Forgets old new id e = record { names = its; agree = λ other apart. place-finished book.events (queue c) (length c) id other e (queue_by_age c) found apart } in
     let later = standings-later (Finished e) c (queue c) f.regular.origins (age-all (queue c) (length c) (queue_by_age c)) (λ p. refl) in
     let lives : Keeps new after.instances config (Finished e ∷ c) = record {
       jobs = rw jobs (finishing.keeps-finished old new id e book.instances config c f.lives.jobs f.lives.older gone none);
       older = older-after (Finished e) c tt f.lives.older;
-      later = λ job x past. finishing.summary-finished config job e c x (f.lives.older x.place) ∙ ap (unblocked_summary e) (f.lives.later job x (omega (arith, past)));
+      later = λ x past. finishing.summary-finished e c x (f.lives.older x.place) ∙ ap (unblocked_summary e) (f.lives.later x (omega (arith, past)));
       distinct = f.lives.distinct;
     } in
     record {
@@ -182,7 +182,7 @@ may-leave book config c id e f found free never =
     let there = event-placed book.events (queue c) c id e f.standings found in
     let its = queued-there (entry_at e c) there.0 there.1 in
     let none : uses id book.instances + start_uses id book.starts.items ≡ 0 = none-used (uses id book.instances + start_uses id book.starts.items)
-    (sym (held (place_of book.events (queue c)) book.instances book.starts.items config c id e its.0 there.0 f.lives.jobs f.remembered f.regular.made f.lives.distinct (names book.events c id e found) its.1) ∙ free) in
+    (sym (held (place_of book.events (queue c)) book.instances book.starts.items config c id e its.0 there.0 f.lives.jobs f.remembered f.lives.distinct (names book.events c id e found) its.1) ∙ free) in
     let live = named-there book.events (queue c) id e found in
     never live.0 live.1 (sym (ap holds_in live.1) ∙ f.counted id ∙ none)
 

@@ -33,7 +33,6 @@ use Rattle.up_marks.proofs.Markings.{kept_in_tree}
 use Rattle.up_book.specs.Keeps.{KeepsJobs, AreDistinct}
 use Rattle.up_book.specs.Summaries.{ByEvent, holding_in, holding_at, Summary, summary, JobSummary, job_summary}
 use Rattle.up_book.specs.Views.{Places, view, job_view, holding_of}
-use Rattle.up_model.proofs.FileLaws.{AreMadeBy, are_by}
 use Rattle.up_book.proofs.Outgoing.{found-all}
 use Rattle.std.specs.List.{AllByRecursion}
 
@@ -134,56 +133,50 @@ trigger-used places id (Some marks) (Some tree) sights p names agrees = marks-us
 trigger-used places id None (Some tree) sights p names agrees = absurd agrees
 trigger-used places id (Some marks) None sights p names agrees = absurd agrees
 
-some_same : {X : Type 0} {a b : X} → Some a ≡ Some b → a ≡ b
-some_same same = cc
-
 -- what instances hold
-instances-used : (places : Places) (config : Configuration) (job : JobDef) (c : Chronicle) (id : EventId) (p : ℕ) (origin : Origin) (event : Event) (its : List Kept) (xs : List Instance) → Names places id p
-    → entry_at p c ≡ Some (Queued origin event) → map (view places) its ≡ map (summary config job c) xs → InstancesRemember places config job c its xs → AllByRecursion (λ x. Some job ≡ Some x.file) xs → count_in p (held_by_instances config xs c) ≡ kept_uses id its
-instances-used places config job c id p origin event [] [] names queued same remember files = refl
-instances-used places config job c id p origin event [] (x ∷ xs) names queued same remember files = absurd remember
-instances-used places config job c id p origin event (k ∷ its) [] names queued same remember files = absurd remember
-instances-used places config job c id p origin event (k ∷ its) (x ∷ xs) names queued same remember files =
-    let first : view places k ≡ summary config job c x = cc in
-    let rest : map (view places) its ≡ map (summary config job c) xs = cc in
+instances-used : (places : Places) (config : Configuration) (c : Chronicle) (id : EventId) (p : ℕ) (origin : Origin) (event : Event) (its : List Kept) (xs : List Instance) → Names places id p
+    → entry_at p c ≡ Some (Queued origin event) → map (view places) its ≡ map (summary c) xs → InstancesRemember places config c its xs → count_in p (held_by_instances config xs c) ≡ kept_uses id its
+instances-used places config c id p origin event [] [] names queued same remember = refl
+instances-used places config c id p origin event [] (x ∷ xs) names queued same remember = absurd remember
+instances-used places config c id p origin event (k ∷ its) [] names queued same remember = absurd remember
+instances-used places config c id p origin event (k ∷ its) (x ∷ xs) names queued same remember =
+    let first : view places k ≡ summary c x = cc in
+    let rest : map (view places) its ≡ map (summary c) xs = cc in
     let hold : map (holding_of places) k.holders ≡ map (holding_at c) (holders x.place c) = ap (λ (s : Summary). s.holders) first in
     let stops = kept x.file.stop_on (seen config (StopOn x.place) c) in
-    let file : job ≡ x.file = some_same files.0 in
     omega (
       arith,
       count-append p (held_by config x c) (held_by_instances config xs c),
       count-append p stops (holders x.place c),
-      ap (λ (its : JobDef). count_in p (kept its.stop_on (seen config (StopOn x.place) c))) file,
-      trigger-used places id k.stop_on job.stop_on (seen config (StopOn x.place) c) p names remember.0,
+      trigger-used places id k.stop_on x.file.stop_on (seen config (StopOn x.place) c) p names remember.0,
       holders-count p c origin event (holders x.place c) queued,
       ap (holder_count p) hold,
       holders-used places id k.holders p names,
-      instances-used places config job c id p origin event its xs names queued rest remember.1 files.1,
+      instances-used places config c id p origin event its xs names queued rest remember.1,
     )
 
 -- and what jobs hold
 jobs-used : (places : Places) (config : Configuration) (c : Chronicle) (id : EventId) (p : ℕ) (origin : Origin) (event : Event) (its : List JobInstances) (triggers : List (Option (List Mark))) (jobs : List JobDef) → Names places id p
-    → entry_at p c ≡ Some (Queued origin event) → map (job_view places) its ≡ map (job_summary config c) jobs → StopsRemember places config c its jobs → StartsRemember places config c triggers jobs
-    → AreMadeBy config.jobs c → AllByRecursion (λ job. job_named job.name config.jobs ≡ Some job) jobs → count_in p (held_by_jobs config (job_names jobs) c) ≡ uses id its + start_uses id triggers
-jobs-used places config c id p origin event [] [] [] names queued same stops starts made found = refl
-jobs-used places config c id p origin event [] [] (job ∷ jobs) names queued same stops starts made found = absurd stops
-jobs-used places config c id p origin event [] (t ∷ ts) [] names queued same stops starts made found = absurd starts
-jobs-used places config c id p origin event [] (t ∷ ts) (job ∷ jobs) names queued same stops starts made found = absurd stops
-jobs-used places config c id p origin event (j ∷ its) ts [] names queued same stops starts made found = absurd stops
-jobs-used places config c id p origin event (j ∷ its) [] (job ∷ jobs) names queued same stops starts made found = absurd starts
-jobs-used places config c id p origin event (j ∷ its) (t ∷ ts) (job ∷ jobs) names queued same stops starts made found =
-    let first : job_view places j ≡ job_summary config c job = cc in
-    let rest : map (job_view places) its ≡ map (job_summary config c) jobs = cc in
+    → entry_at p c ≡ Some (Queued origin event) → map (job_view places) its ≡ map (job_summary c) jobs → StopsRemember places config c its jobs → StartsRemember places config c triggers jobs
+    → AllByRecursion (λ job. job_named job.name config.jobs ≡ Some job) jobs → count_in p (held_by_jobs config (job_names jobs) c) ≡ uses id its + start_uses id triggers
+jobs-used places config c id p origin event [] [] [] names queued same stops starts found = refl
+jobs-used places config c id p origin event [] [] (job ∷ jobs) names queued same stops starts found = absurd stops
+jobs-used places config c id p origin event [] (t ∷ ts) [] names queued same stops starts found = absurd starts
+jobs-used places config c id p origin event [] (t ∷ ts) (job ∷ jobs) names queued same stops starts found = absurd stops
+jobs-used places config c id p origin event (j ∷ its) ts [] names queued same stops starts found = absurd stops
+jobs-used places config c id p origin event (j ∷ its) [] (job ∷ jobs) names queued same stops starts found = absurd starts
+jobs-used places config c id p origin event (j ∷ its) (t ∷ ts) (job ∷ jobs) names queued same stops starts found =
+    let first : job_view places j ≡ job_summary c job = cc in
+    let rest : map (job_view places) its ≡ map (job_summary c) jobs = cc in
     let keeps = kept (start_on_of (file_in_force config job.name c)) (seen config (StartOn job.name) c) in
-    let files = subst (λ file. AllByRecursion (λ x. file ≡ Some x.file) (instances_of job.name c)) found.0 (are_by config.jobs job.name c made) in
     omega (
       arith,
       count-append p (held_by_job config job.name c) (held_by_jobs config (job_names jobs) c),
       count-append p keeps (held_by_instances config (instances_of job.name c) c),
       ap (λ file. count_in p (kept (start_on_of file) (seen config (StartOn job.name) c))) found.0,
       trigger-used places id t job.start_on (seen config (StartOn job.name) c) p names starts.0,
-      instances-used places config job c id p origin event j.instances (instances_of job.name c) names queued (ap (λ (s : JobSummary). s.instances) first) stops.0 files,
-      jobs-used places config c id p origin event its ts jobs names queued rest stops.1 starts.1 made found.1,
+      instances-used places config c id p origin event j.instances (instances_of job.name c) names queued (ap (λ (s : JobSummary). s.instances) first) stops.0,
+      jobs-used places config c id p origin event its ts jobs names queued rest stops.1 starts.1 found.1,
     )
 
 -- whether it is among these
@@ -201,9 +194,9 @@ has-count p (x ∷ xs) = by_case (x == p) (has-count p xs)
 
 -- an event is held if what is kept uses it
 pub held : (places : Places) (jobs : List JobInstances) (triggers : List (Option (List Mark))) (config : Configuration) (c : Chronicle) (id : EventId) (p : ℕ) (origin : Origin) (event : Event) → KeepsJobs places jobs config c
-    → Remembered places jobs triggers config c → AreMadeBy config.jobs c → AreDistinct config.jobs → Names places id p → entry_at p c ≡ Some (Queued origin event) → is_held config p c ≡ not (uses id jobs + start_uses id triggers == 0)
-held places jobs triggers config c id p origin event keeps remembered made distinct names queued =
-    has-count p (held_by_jobs config (names_in_order config c) c) ∙ ap (λ n. not (n == 0)) (jobs-used places config c id p origin event jobs triggers config.jobs names queued keeps remembered.stops remembered.starts made (found-all config.jobs distinct))
+    → Remembered places jobs triggers config c → AreDistinct config.jobs → Names places id p → entry_at p c ≡ Some (Queued origin event) → is_held config p c ≡ not (uses id jobs + start_uses id triggers == 0)
+held places jobs triggers config c id p origin event keeps remembered distinct names queued =
+    has-count p (held_by_jobs config (names_in_order config c) c) ∙ ap (λ n. not (n == 0)) (jobs-used places config c id p origin event jobs triggers config.jobs names queued keeps remembered.stops remembered.starts (found-all config.jobs distinct))
 
 -- what one change makes of the uses
 pub uses-changed : (id : EventId) (f : Kept → Kept) (at : ℕ) (its : List Kept) (k : Kept) → nth at its ≡ Some k

@@ -17,7 +17,7 @@ use Rattle.up_marks.proofs.SkipLemmas.{seen_own}
 use Rattle.up_model.specs.Chronicle.{Chronicle, Expression, Offered, StartOn, StopOn}
 use Rattle.up_model.specs.Configuration.{Configuration}
 use Rattle.up_model.specs.Queue.{queue}
-use Rattle.up_model.specs.Readings.{event_at}
+use Rattle.up_model.specs.Readings.{event_at, file_of}
 use Rattle.up_model.specs.Seen.{seen, sight_of, same_expression, env_of}
 use Rattle.up_model.specs.Values.{Bindings}
 use Rattle.up_model.specs.declared.event.Event.{Event}
@@ -36,7 +36,7 @@ use Rattle.up_book.specs.declared.past.Past.{Past}
 use Rattle.up_book.proofs.Keyed.{job-there}
 use Rattle.up_book.proofs.Ledgers.{keyed, silent, calm}
 use Rattle.up_book.proofs.Lists.{cons_same}
-use Rattle.up_book.proofs.One.{there, nth-all, IsKnown, known-all}
+use Rattle.up_book.proofs.One.{there, its-file, nth-all, IsKnown, known-all}
 use Rattle.up_book.proofs.Seeing.{forgets-seen, offered-spares, offered-seen, stop-known, start-of}
 use Rattle.up_book.proofs.Sights.{remembered-stop, remembered-start}
 use Rattle.up_book.proofs.Whole.{keeps-spared}
@@ -96,15 +96,15 @@ forgets-deaf-start past config c place e job f in_jobs deaf =
     let same : with_at place (λ t. trigger) triggers ≡ triggers = with-same place (λ t. trigger) triggers trigger before.1 refl in
     forgets-deaf past config c (StartOn job.name) e f (subst (λ ts. Remembered places past.instances ts config (Offered (StartOn job.name) e ∷ c)) same remembered)
 
-forgets-deaf-stop : (past : Past) (config : Configuration) (c : Chronicle) (key : InstanceKey) (job : JobDef) (i e : ℕ) → Forgets past config c → standing.instance_place past c key ≡ Some i → nth key.job config.jobs ≡ Some job
+forgets-deaf-stop : (past : Past) (config : Configuration) (c : Chronicle) (key : InstanceKey) (job : JobDef) (i e : ℕ) → Forgets past config c → standing.instance_place past c key ≡ Some i → file_of i c ≡ Some job
     → may_hear job.stop_on (event_at e c) ≡ false → Forgets past config (Offered (StopOn i) e ∷ c)
-forgets-deaf-stop past config c key job i e f found in_jobs deaf =
+forgets-deaf-stop past config c key job i e f found file deaf =
     let places = place_of past.events (queue c) in
     let t = there places past.instances config c key i f.lives.jobs found in
     let x : Expression = StopOn t.its.place in
-    let own : job ≡ t.job = cc in
-    let unnamed : may_hear t.job.stop_on (event_at e c) ≡ false = subst (λ (j : JobDef). may_hear j.stop_on (event_at e c) ≡ false) own deaf in
-    let new = deaf-seen places t.kept.stop_on t.job.stop_on config x e c (eq-eqb t.its.place t.its.place refl) unnamed (stop-known past config c key i t f) in
+    let own : job ≡ t.its.file = sym (its-file places past.instances config c key i job t file) in
+    let unnamed : may_hear t.its.file.stop_on (event_at e c) ≡ false = subst (λ (j : JobDef). may_hear j.stop_on (event_at e c) ≡ false) own deaf in
+    let new = deaf-seen places t.kept.stop_on t.its.file.stop_on config x e c (eq-eqb t.its.place t.its.place refl) unnamed (stop-known past config c key i t f) in
     let known = nth-all (IsKnown t.job.name c) key.at (Rattle.up_model.specs.Instances.instances_of t.job.name c) t.its t.in_instances (known-all t.job.name c) in
     let remembered = remembered-stop places past.instances past.starts.items config c (Offered x e) t.kept.stop_on key t.job t.its (offered-seen config c x e) f.lives.distinct t.in_jobs t.in_instances known.0 new f.remembered in
     let same : changed_at key (with_stop_on t.kept.stop_on) past.instances ≡ past.instances = keyed-same key past.instances t.kept t.found in
@@ -118,9 +118,9 @@ stands-deaf-start ledger config c n job e s there deaf =
     let x = Offered (StartOn job.name) e in
     silent ledger ledger.past config c x s (forgets-deaf-start ledger.past config c n e job s.past (job-there config n job there) deaf) tt tt (calm config c x (λ its. refl) (λ j. refl) (λ j. refl))
 
-pub stands-deaf-stop : (ledger : Ledger) (config : Configuration) (c : Chronicle) (key : InstanceKey) (job : JobDef) (i e : ℕ) → Stands ledger Stepping config c → instance_place config c key ≡ Some i → job_at config key.job ≡ Some job
+pub stands-deaf-stop : (ledger : Ledger) (config : Configuration) (c : Chronicle) (key : InstanceKey) (job : JobDef) (i e : ℕ) → Stands ledger Stepping config c → instance_place config c key ≡ Some i → file_of i c ≡ Some job
     → may_hear job.stop_on (event_at e c) ≡ false → Stands ledger Stepping config (Offered (StopOn i) e ∷ c)
-stands-deaf-stop ledger config c key job i e s found there deaf =
+stands-deaf-stop ledger config c key job i e s found file deaf =
     let x = Offered (StopOn i) e in
-    silent ledger ledger.past config c x s (forgets-deaf-stop ledger.past config c key job i e s.past (keyed ledger.past config c key i s.past found) (job-there config key.job job there) deaf) tt tt
+    silent ledger ledger.past config c x s (forgets-deaf-stop ledger.past config c key job i e s.past (keyed ledger.past config c key i s.past found) file deaf) tt tt
     (calm config c x (λ its. refl) (λ j. refl) (λ j. refl))

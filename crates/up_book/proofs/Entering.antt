@@ -59,7 +59,7 @@ pub record Is (places : Places) (config : Configuration) (c : Chronicle) (i : �
   pub apart : (p : ℕ) → (i == p) ≡ false → concerns p e ≡ false
   pub instances : (job : Bytes) → instances_of job (e ∷ c) ≡ instances_of job c
   pub seen : (x : Expression) → seen config x (e ∷ c) ≡ seen config x c
-  pub here : (job : JobDef) (x : Instance) → (i == x.place) ≡ true → summary config job (e ∷ c) x ≡ stepped places its (summary config job c x)
+  pub here : (x : Instance) → (i == x.place) ≡ true → summary (e ∷ c) x ≡ stepped places its (summary c x)
 
 pub flipped : (p q : ℕ) → (p == q) ≡ false → (q == p) ≡ false
 flipped p q apart = ne_eqb q p (λ e. eqb-false p q apart (sym e))
@@ -68,8 +68,8 @@ pub touches-by : (places : Places) (config : Configuration) (c : Chronicle) (pla
     → Touches config c (e ∷ c) place i (stepped places its)
 touches-by places config c place i e its is older = record {
   instances = is.instances;
-  others = λ job. all-of (λ x. (x.place == i) ≡ false → summary config job (e ∷ c) x ≡ summary config job c x) (instances_of job.name c) (λ x apart. spared config job e c x (is.apart x.place (flipped x.place i apart)) (older x.place));
-  here = λ job x in_jobs at. is.here job x (eq-eqb i x.place (sym at));
+  others = λ job. all-of (λ x. (x.place == i) ≡ false → summary (e ∷ c) x ≡ summary c x) (instances_of job.name c) (λ x apart. spared e c x (is.apart x.place (flipped x.place i apart)) (older x.place));
+  here = λ x at. is.here x (eq-eqb i x.place (sym at));
 }
 
 -- the instance of a key is older than the end
@@ -80,9 +80,9 @@ place-older places book config c key i keeps found =
     omega (arith, t.place, its.0)
 
 pub later-after : (places : Places) (book : List JobInstances) (config : Configuration) (c : Chronicle) (i : ℕ) (e : Entry) → Keeps places book config c → i < length c
-    → ((job : JobDef) (x : Instance) → (x.place == i) ≡ false → summary config job (e ∷ c) x ≡ summary config job c x) → (job : JobDef) (its : Instance) → length (e ∷ c) ≤ its.place → summary config job (e ∷ c) its ≡ blank job its.name
-later-after places book config c i e keeps within same job its past =
-    same job its (ne_eqb its.place i (λ p. omega (arith, past, within))) ∙ keeps.later job its (omega (arith, past))
+    → ((x : Instance) → (x.place == i) ≡ false → summary (e ∷ c) x ≡ summary c x) → (its : Instance) → length (e ∷ c) ≤ its.place → summary (e ∷ c) its ≡ blank its.file its.name
+later-after places book config c i e keeps within same its past =
+    same its (ne_eqb its.place i (λ p. omega (arith, past, within))) ∙ keeps.later its (omega (arith, past))
 
 -- the book keeps one entry more
 pub keeps-after : (places : Places) (book after : List JobInstances) (config : Configuration) (c : Chronicle) (key : InstanceKey) (i : ℕ) (e : Entry) (its : Change)
@@ -93,7 +93,7 @@ keeps-after places book after config c key i e its keeps found is new does =
     record {
       jobs = rw does (one places (changed its) (stepped places its) book config c (e ∷ c) key i (view-changed places its) keeps.jobs keeps.distinct found t);
       older = older-after e c new keeps.older;
-      later = later-after places book config c i e keeps (place-older places book config c key i keeps found) (λ job x apart. spared config job e c x (is.apart x.place (flipped x.place i apart)) (keeps.older x.place));
+      later = later-after places book config c i e keeps (place-older places book config c key i keeps found) (λ x apart. spared e c x (is.apart x.place (flipped x.place i apart)) (keeps.older x.place));
       distinct = keeps.distinct;
     }
 
@@ -109,16 +109,16 @@ is-entered places config c i to other older = record {
   apart = λ p apart. apart;
   instances = λ job. moved to other job;
   seen = λ x. refl;
-  here = λ job x same. by_state to job x same;
+  here = λ x same. by_state to x same;
 }
   where
     moved : (its : State) → is_waiting its ≡ false → (job : Bytes) → instances_of job (Entered i its ∷ c) ≡ instances_of job c
     moved state.Waiting waits job = absurd cc
     moved its waits job = refl
 
-    by_state : (its : State) (job : JobDef) (x : Instance) → (i == x.place) ≡ true → summary config job (Entered i its ∷ c) x ≡ stepped places (change.Enters its) (summary config job c x)
-    by_state state.Starting job x same = rw (same, holding-later (Entered i state.Starting) c (holders x.place c) (older x.place)) refl
-    by_state its job x same = rw (same, holding-later (Entered i its) c (holders x.place c) (older x.place)) refl
+    by_state : (its : State) (x : Instance) → (i == x.place) ≡ true → summary (Entered i its ∷ c) x ≡ stepped places (change.Enters its) (summary c x)
+    by_state state.Starting x same = rw (same, holding-later (Entered i state.Starting) c (holders x.place c) (older x.place)) refl
+    by_state its x same = rw (same, holding-later (Entered i its) c (holders x.place c) (older x.place)) refl
 
 pub is-started : (places : Places) (config : Configuration) (c : Chronicle) (i : ℕ) (environment : Bindings) (its : List Holder) (events : List ℕ)
     → AreOlder (length c) events → map (holding_of places) its ≡ map (holding_at c) events → Is places config c i (Aimed i Start environment events) (change.Starts environment its)
@@ -126,7 +126,7 @@ is-started places config c i environment its events new same = record {
   apart = λ p apart. apart;
   instances = λ job. refl;
   seen = λ x. refl;
-  here = λ job x at. rw (at, holding-later (Aimed i Start environment events) c events new, same) refl;
+  here = λ x at. rw (at, holding-later (Aimed i Start environment events) c events new, same) refl;
 }
 
 pub is-stopped : (places : Places) (config : Configuration) (c : Chronicle) (i : ℕ) (environment : Option Bindings) (its : List Holder) (events : List ℕ)
@@ -135,7 +135,7 @@ is-stopped places config c i environment its events new same = record {
   apart = λ p apart. apart;
   instances = λ job. refl;
   seen = λ x. refl;
-  here = λ job x at. rw (at, holding-later (Aimed i Stop (bindings_of environment) events) c events new, same) refl;
+  here = λ x at. rw (at, holding-later (Aimed i Stop (bindings_of environment) events) c events new, same) refl;
 }
 
 pub is-ended : (places : Places) (config : Configuration) (c : Chronicle) (i : ℕ) → ((p : ℕ) → HoldsOlder p c) → Is places config c i (Aimed i Stop [] (holders i c)) change.Ends
@@ -143,7 +143,7 @@ is-ended places config c i older = record {
   apart = λ p apart. apart;
   instances = λ job. refl;
   seen = λ x. refl;
-  here = λ job x at.
+  here = λ x at.
       let mine : holders i c ≡ holders x.place c = ap (λ p. holders p c) (eqb-true i x.place at) in
       rw (at, holding-later (Aimed i Stop [] (holders i c)) c (holders i c) (older i), mine) refl;
 }
@@ -154,7 +154,7 @@ is-restarted places config c i its events new same = record {
   apart = λ p apart. apart;
   instances = λ job. refl;
   seen = λ x. refl;
-  here = λ job x at. rw (at, holding-later (Restarted i events) c events new, same) refl;
+  here = λ x at. rw (at, holding-later (Restarted i events) c events new, same) refl;
 }
 
 pub is-released : (places : Places) (config : Configuration) (c : Chronicle) (i : ℕ) (failed : Bool) → Is places config c i (Released i failed) (change.Releases [])
@@ -162,7 +162,7 @@ is-released places config c i failed = record {
   apart = λ p apart. apart;
   instances = λ job. refl;
   seen = λ x. refl;
-  here = λ job x at. rw at refl;
+  here = λ x at. rw at refl;
 }
 
 pub is-failed : (places : Places) (config : Configuration) (c : Chronicle) (i : ℕ) (failure : Failure) → ((p : ℕ) → HoldsOlder p c) → Is places config c i (Failed i failure) (change.Fails failure)
@@ -170,7 +170,7 @@ is-failed places config c i failure older = record {
   apart = λ p apart. apart;
   instances = λ job. refl;
   seen = λ x. refl;
-  here = λ job x at. rw (at, holding-later (Failed i failure) c (holders x.place c) (older x.place)) refl;
+  here = λ x at. rw (at, holding-later (Failed i failure) c (holders x.place c) (older x.place)) refl;
 }
 
 pub is-ordered : (places : Places) (config : Configuration) (c : Chronicle) (i : ℕ) (its : Process) → ((p : ℕ) → HoldsOlder p c) → Is places config c i (Ordered i its) (change.Orders its)
@@ -178,22 +178,22 @@ is-ordered places config c i its older = record {
   apart = λ p apart. apart;
   instances = λ job. refl;
   seen = λ x. refl;
-  here = λ job x at. by_process its job x at;
+  here = λ x at. by_process its x at;
 }
   where
-    by_process : (p : Process) (job : JobDef) (x : Instance) → (i == x.place) ≡ true → summary config job (Ordered i p ∷ c) x ≡ stepped places (change.Orders p) (summary config job c x)
-    by_process process.Main job x at = rw (at, holding-later (Ordered i process.Main) c (holders x.place c) (older x.place)) refl
-    by_process process.PreStart job x at = rw (at, holding-later (Ordered i process.PreStart) c (holders x.place c) (older x.place)) refl
-    by_process process.PostStart job x at = rw (at, holding-later (Ordered i process.PostStart) c (holders x.place c) (older x.place)) refl
-    by_process process.PreStop job x at = rw (at, holding-later (Ordered i process.PreStop) c (holders x.place c) (older x.place)) refl
-    by_process process.PostStop job x at = rw (at, holding-later (Ordered i process.PostStop) c (holders x.place c) (older x.place)) refl
+    by_process : (p : Process) (x : Instance) → (i == x.place) ≡ true → summary (Ordered i p ∷ c) x ≡ stepped places (change.Orders p) (summary c x)
+    by_process process.Main x at = rw (at, holding-later (Ordered i process.Main) c (holders x.place c) (older x.place)) refl
+    by_process process.PreStart x at = rw (at, holding-later (Ordered i process.PreStart) c (holders x.place c) (older x.place)) refl
+    by_process process.PostStart x at = rw (at, holding-later (Ordered i process.PostStart) c (holders x.place c) (older x.place)) refl
+    by_process process.PreStop x at = rw (at, holding-later (Ordered i process.PreStop) c (holders x.place c) (older x.place)) refl
+    by_process process.PostStop x at = rw (at, holding-later (Ordered i process.PostStop) c (holders x.place c) (older x.place)) refl
 
 pub is-signalled : (places : Places) (config : Configuration) (c : Chronicle) (i signal : ℕ) → ((p : ℕ) → HoldsOlder p c) → Is places config c i (Signalled i signal false) (change.Signals (Some (now c)))
 is-signalled places config c i signal older = record {
   apart = λ p apart. apart;
   instances = λ job. refl;
   seen = λ x. refl;
-  here = λ job x at. rw (at, holding-later (Signalled i signal false) c (holders x.place c) (older x.place)) refl;
+  here = λ x at. rw (at, holding-later (Signalled i signal false) c (holders x.place c) (older x.place)) refl;
 }
 
 pub is-killed : (places : Places) (config : Configuration) (c : Chronicle) (i signal : ℕ) → ((p : ℕ) → HoldsOlder p c) → Is places config c i (Signalled i signal true) (change.Signals None)
@@ -201,7 +201,7 @@ is-killed places config c i signal older = record {
   apart = λ p apart. apart;
   instances = λ job. refl;
   seen = λ x. refl;
-  here = λ job x at. rw (at, holding-later (Signalled i signal true) c (holders x.place c) (older x.place)) refl;
+  here = λ x at. rw (at, holding-later (Signalled i signal true) c (holders x.place c) (older x.place)) refl;
 }
 
 -- the own event of an instance, of which the id stands for the end of the chronicle
@@ -211,7 +211,7 @@ is-blocked places config c i to event id blocking place older = record {
   apart = λ p apart. rw apart refl;
   instances = λ job. refl;
   seen = λ x. refl;
-  here = λ job x at. rw (at, blocking, place, holding-later (Queued (Entering i to) event) c (holders x.place c) (older x.place)) refl;
+  here = λ x at. rw (at, blocking, place, holding-later (Queued (Entering i to) event) c (holders x.place c) (older x.place)) refl;
 }
 
 pub is-entered-moved : (to : State) (i : ℕ) (c : Chronicle) → is_waiting to ≡ false → (job : Bytes) → instances_of job (Entered i to ∷ c) ≡ instances_of job c

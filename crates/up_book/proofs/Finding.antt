@@ -93,19 +93,19 @@ pub record Job (places : Places) (jobs : List JobInstances) (config : Configurat
   pub kept : JobInstances
   pub there : nth place jobs ≡ Some kept
   pub name : kept.name ≡ job.name
-  pub same : map (view places) kept.instances ≡ map (summary config job c) (instances_of job.name c)
+  pub same : map (view places) kept.instances ≡ map (summary c) (instances_of job.name c)
 
 pub job-there : (places : Places) (jobs : List JobInstances) (config : Configuration) (c : Chronicle) (place : ℕ) (job : JobDef) → KeepsJobs places jobs config c → nth place config.jobs ≡ Some job → Job places jobs config c place job
 job-there places jobs config c place job keeps there =
-    let viewed : nth place (map (job_view places) jobs) ≡ Some (job_summary config c job) = ap (nth place) keeps ∙ map-nth (job_summary config c) place config.jobs job there in
-    let its = nth-map (job_view places) place jobs (job_summary config c job) viewed in
+    let viewed : nth place (map (job_view places) jobs) ≡ Some (job_summary c job) = ap (nth place) keeps ∙ map-nth (job_summary c) place config.jobs job there in
+    let its = nth-map (job_view places) place jobs (job_summary c job) viewed in
     record { kept = its.0; there = its.1; name = ap (λ (s : JobSummary). s.name) its.2; same = ap (λ (s : JobSummary). s.instances) its.2 }
 
 -- how many instances it has
 pub counts : (book : Past) (config : Configuration) (c : Chronicle) (place : ℕ) (job : JobDef) → Forgets book config c → nth place config.jobs ≡ Some job → length (instances_at place book.instances) ≡ length (instances_of job.name c)
 counts book config c place job f there =
     let its = job-there (place_of book.events (queue c)) book.instances config c place job f.lives.jobs there in
-    ap (λ o. length (list_of o)) its.there ∙ map-length (view (place_of book.events (queue c))) (summary config job c) its.kept.instances (instances_of job.name c) its.same
+    ap (λ o. length (list_of o)) its.there ∙ map-length (view (place_of book.events (queue c))) (summary c) its.kept.instances (instances_of job.name c) its.same
 
 -- the one of a name
 place_in : List Instance → ℕ → Option ℕ
@@ -147,7 +147,7 @@ finds book config c place job name f there =
     λ at. ap (λ o. option_map {T = Instance} (λ x. x.place) (instance_in at o c)) its.there ∙ ap (λ n. option_map {T = Instance} (λ x. x.place) (nth at (instances_of n c))) its.name in
     ap (λ o. option_map (instance_place book c) (option_map key_at (placed_by name_of name (list_of o)))) its.there
     ∙ once (placed_by name_of name its.kept.instances)
-    ∙ found-in name its.kept.instances (instances_of job.name c) (λ at. at) (λ at. place_at book.instances c (key_at at)) stand (names-same places config job c its.kept.instances (instances_of job.name c) its.same)
+    ∙ found-in name its.kept.instances (instances_of job.name c) (λ at. at) (λ at. place_at book.instances c (key_at at)) stand (names-same places c its.kept.instances (instances_of job.name c) its.same)
   where
     once : (o : Option ℕ) → (let key_at : ℕ → InstanceKey = λ at. record { job = place; at = at } in option_map (instance_place book c) (option_map key_at o)) ≡ option_map (λ at. place_at book.instances c (record { job = place; at = at })) o
     once None = refl

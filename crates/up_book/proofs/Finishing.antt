@@ -29,18 +29,18 @@ known-without p (Some q) = by_case (q == p)
     by_case true = refl
     by_case false = refl
 
-pub summary-finished : (config : Configuration) (job : JobDef) (p : ℕ) (c : Chronicle) (x : Instance) → HoldsOlder x.place c → summary config job (Finished p ∷ c) x ≡ unblocked_summary p (summary config job c x)
-summary-finished config job p c x older = rw (holding-later (Finished p) c (holders x.place c) older, known-without p (blocker x.place c)) refl
+pub summary-finished : (p : ℕ) (c : Chronicle) (x : Instance) → HoldsOlder x.place c → summary (Finished p ∷ c) x ≡ unblocked_summary p (summary c x)
+summary-finished p c x older = rw (holding-later (Finished p) c (holders x.place c) older, known-without p (blocker x.place c)) refl
 
 summaries-finished : (config : Configuration) (job : JobDef) (p : ℕ) (c : Chronicle) (xs : List Instance) → ((i : ℕ) → HoldsOlder i c)
-    → map (summary config job (Finished p ∷ c)) xs ≡ map (unblocked_summary p) (map (summary config job c) xs)
+    → map (summary (Finished p ∷ c)) xs ≡ map (unblocked_summary p) (map (summary c) xs)
 summaries-finished config job p c [] older = refl
-summaries-finished config job p c (x ∷ xs) older = cons_same (summary-finished config job p c x (older x.place)) (summaries-finished config job p c xs older)
+summaries-finished config job p c (x ∷ xs) older = cons_same (summary-finished p c x (older x.place)) (summaries-finished config job p c xs older)
 
-jobs-finished : (config : Configuration) (p : ℕ) (c : Chronicle) (jobs : List JobDef) → ((i : ℕ) → HoldsOlder i c) → map (job_summary config (Finished p ∷ c)) jobs ≡ map (unblocked_job p) (map (job_summary config c) jobs)
+jobs-finished : (config : Configuration) (p : ℕ) (c : Chronicle) (jobs : List JobDef) → ((i : ℕ) → HoldsOlder i c) → map (job_summary (Finished p ∷ c)) jobs ≡ map (unblocked_job p) (map (job_summary c) jobs)
 jobs-finished config p c [] older = refl
 jobs-finished config p c (job ∷ jobs) older =
-    cons_same (ap (λ (xs : List Summary). record (job_summary config c job) { instances = xs }) (summaries-finished config job p c (instances_of job.name c) older)) (jobs-finished config p c jobs older)
+    cons_same (ap (λ (xs : List Summary). record (job_summary c job) { instances = xs }) (summaries-finished config job p c (instances_of job.name c) older)) (jobs-finished config p c jobs older)
 
 -- by what is kept: these agree on all ids but the one that is gone
 pub record Forgets (old new : Places) (id : EventId) (p : ℕ) : Type 0 where

@@ -46,32 +46,32 @@ concerns i (Ordered other its) = other == i
 concerns i (Signalled other signal by_timer) = other == i
 concerns i (Replied request answer) = false
 
-pub spared : (config : Configuration) (job : JobDef) (e : Entry) (c : Chronicle) (x : Instance) → concerns x.place e ≡ false → HoldsOlder x.place c
-    → summary config job (e ∷ c) x ≡ summary config job c x
-spared config job (Given (input.Emit event)) c x apart older = rw (holding-later (Given (input.Emit event)) c (holders x.place c) older) refl
-spared config job (Given (input.Request id request)) c x apart older = rw (holding-later (Given (input.Request id request)) c (holders x.place c) older) refl
-spared config job (Given (input.Clock reading)) c x apart older = rw (holding-later (Given (input.Clock reading)) c (holders x.place c) older) refl
-spared config job (Given input.Turn) c x apart older = rw (holding-later (Given input.Turn) c (holders x.place c) older) refl
-spared config job (Given (input.Spawned who its pid)) c x apart older = absurd cc
-spared config job (Given (input.Refused who its)) c x apart older = absurd cc
-spared config job (Given (input.Ended who its how)) c x apart older = absurd cc
-spared config job (Queued (Outside given) event) c x apart older = rw (holding-later (Queued (Outside given) event) c (holders x.place c) older) refl
-spared config job (Queued (Spoilt spoilt) event) c x apart older = rw (holding-later (Queued (Spoilt spoilt) event) c (holders x.place c) older) refl
-spared config job (Queued (Entering other entered) event) c x apart older = rw (holding-later (Queued (Entering other entered) event) c (holders x.place c) older, apart) refl
-spared config job (Handled event) c x apart older = rw (holding-later (Handled event) c (holders x.place c) older) refl
-spared config job (Offered expression event) c x apart older = rw (holding-later (Offered expression event) c (holders x.place c) older) refl
-spared config job (Fired expression taken) c x apart older = rw (holding-later (Fired expression taken) c (holders x.place c) older) refl
-spared config job (Finished event) c x apart older = absurd cc
-spared config job (Made file name) c x apart older = absurd cc
-spared config job (Aimed other Start env its) c x apart older = rw (apart, holding-later (Aimed other Start env its) c (holders x.place c) older) refl
-spared config job (Aimed other Stop env its) c x apart older = rw (apart, holding-later (Aimed other Stop env its) c (holders x.place c) older) refl
-spared config job (Restarted other its) c x apart older = rw (apart, holding-later (Restarted other its) c (holders x.place c) older) refl
-spared config job (Released other failed) c x apart older = rw (apart, holding-later (Released other failed) c (holders x.place c) older) refl
-spared config job (Failed other its) c x apart older = rw (apart, holding-later (Failed other its) c (holders x.place c) older) refl
-spared config job (Respawned other moment) c x apart older = rw (apart, holding-later (Respawned other moment) c (holders x.place c) older) refl
-spared config job (Entered other state.Starting) c x apart older = rw (apart, holding-later (Entered other state.Starting) c (holders x.place c) older) refl
-spared config job (Entered other to) c x apart older = rw (apart, holding-later (Entered other to) c (holders x.place c) older) refl
-spared config job (Ordered other its) c x apart older = rw (apart, holding-later (Ordered other its) c (holders x.place c) older) refl
-spared config job (Signalled other signal true) c x apart older = rw (apart, holding-later (Signalled other signal true) c (holders x.place c) older) refl
-spared config job (Signalled other signal false) c x apart older = rw (apart, holding-later (Signalled other signal false) c (holders x.place c) older) refl
-spared config job (Replied request answer) c x apart older = rw (holding-later (Replied request answer) c (holders x.place c) older) refl
+pub spared : (e : Entry) (c : Chronicle) (x : Instance) → concerns x.place e ≡ false → HoldsOlder x.place c
+    → summary (e ∷ c) x ≡ summary c x
+spared (Given (input.Emit event)) c x apart older = rw (holding-later (Given (input.Emit event)) c (holders x.place c) older) refl
+spared (Given (input.Request id request)) c x apart older = rw (holding-later (Given (input.Request id request)) c (holders x.place c) older) refl
+spared (Given (input.Clock reading)) c x apart older = rw (holding-later (Given (input.Clock reading)) c (holders x.place c) older) refl
+spared (Given input.Turn) c x apart older = rw (holding-later (Given input.Turn) c (holders x.place c) older) refl
+spared (Given (input.Spawned who its pid)) c x apart older = absurd cc
+spared (Given (input.Refused who its)) c x apart older = absurd cc
+spared (Given (input.Ended who its how)) c x apart older = absurd cc
+spared (Queued (Outside given) event) c x apart older = rw (holding-later (Queued (Outside given) event) c (holders x.place c) older) refl
+spared (Queued (Spoilt spoilt) event) c x apart older = rw (holding-later (Queued (Spoilt spoilt) event) c (holders x.place c) older) refl
+spared (Queued (Entering other entered) event) c x apart older = rw (holding-later (Queued (Entering other entered) event) c (holders x.place c) older, apart) refl
+spared (Handled event) c x apart older = rw (holding-later (Handled event) c (holders x.place c) older) refl
+spared (Offered expression event) c x apart older = rw (holding-later (Offered expression event) c (holders x.place c) older) refl
+spared (Fired expression taken) c x apart older = rw (holding-later (Fired expression taken) c (holders x.place c) older) refl
+spared (Finished event) c x apart older = absurd cc
+spared (Made file name) c x apart older = absurd cc
+spared (Aimed other Start env its) c x apart older = rw (apart, holding-later (Aimed other Start env its) c (holders x.place c) older) refl
+spared (Aimed other Stop env its) c x apart older = rw (apart, holding-later (Aimed other Stop env its) c (holders x.place c) older) refl
+spared (Restarted other its) c x apart older = rw (apart, holding-later (Restarted other its) c (holders x.place c) older) refl
+spared (Released other failed) c x apart older = rw (apart, holding-later (Released other failed) c (holders x.place c) older) refl
+spared (Failed other its) c x apart older = rw (apart, holding-later (Failed other its) c (holders x.place c) older) refl
+spared (Respawned other moment) c x apart older = rw (apart, holding-later (Respawned other moment) c (holders x.place c) older) refl
+spared (Entered other state.Starting) c x apart older = rw (apart, holding-later (Entered other state.Starting) c (holders x.place c) older) refl
+spared (Entered other to) c x apart older = rw (apart, holding-later (Entered other to) c (holders x.place c) older) refl
+spared (Ordered other its) c x apart older = rw (apart, holding-later (Ordered other its) c (holders x.place c) older) refl
+spared (Signalled other signal true) c x apart older = rw (apart, holding-later (Signalled other signal true) c (holders x.place c) older) refl
+spared (Signalled other signal false) c x apart older = rw (apart, holding-later (Signalled other signal false) c (holders x.place c) older) refl
+spared (Replied request answer) c x apart older = rw (holding-later (Replied request answer) c (holders x.place c) older) refl

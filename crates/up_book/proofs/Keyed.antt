@@ -32,16 +32,16 @@ by-table : (at : ℕ) (job : Option JobDef) (c : Chronicle) → instance_of at j
 by-table at None c = refl
 by-table at (Some job) c = nth-get at (instances_of job.name c)
 
-keyed-in : (places : Places) (config : Configuration) (c : Chronicle) (jobs : List JobInstances) (defs : List JobDef) (n at : ℕ) → map (job_view places) jobs ≡ map (job_summary config c) defs
+keyed-in : (places : Places) (config : Configuration) (c : Chronicle) (jobs : List JobInstances) (defs : List JobDef) (n at : ℕ) → map (job_view places) jobs ≡ map (job_summary c) defs
     → instance_in at (nth n jobs) c ≡ instance_of at (nth n defs) c
 keyed-in places config c [] [] n at same = refl
 keyed-in places config c [] (d ∷ defs) n at same = absurd cc
 keyed-in places config c (j ∷ jobs) [] n at same = absurd cc
 keyed-in places config c (j ∷ jobs) (d ∷ defs) zero at same =
-    let first : job_view places j ≡ job_summary config c d = cc in
+    let first : job_view places j ≡ job_summary c d = cc in
     ap (λ name. nth at (instances_of name c)) (ap (λ (s : JobSummary). s.name) first)
 keyed-in places config c (j ∷ jobs) (d ∷ defs) (suc n) at same =
-    let rest : map (job_view places) jobs ≡ map (job_summary config c) defs = cc in
+    let rest : map (job_view places) jobs ≡ map (job_summary c) defs = cc in
     keyed-in places config c jobs defs n at rest
 
 table-in : (places : Places) (jobs : List JobInstances) (config : Configuration) (c : Chronicle) (key : InstanceKey) → KeepsJobs places jobs config c

@@ -22,7 +22,7 @@ knows-so : (places : Places) (book : List JobInstances) (config : Configuration)
     → Knows places c i k
 knows-so places book config c key i k t found =
     let same : t.kept ≡ k = some_same (sym t.found ∙ found) in
-    let its : view places k ≡ summary config t.job c t.its = ap (view places) (sym same) ∙ t.same in
+    let its : view places k ≡ summary c t.its = ap (view places) (sym same) ∙ t.same in
     subst (λ p. Knows places c p k) t.place (record {
       goal = ap (λ (s : Summary). s.goal) its;
       state = ap (λ (s : Summary). s.state) its;

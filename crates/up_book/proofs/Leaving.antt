@@ -112,7 +112,7 @@ forgets-left book after config c key i k f found kept does starts events reading
         let lives : Keeps places after.instances config d = record {
           jobs = rw does (keeps-left places book.instances config c key.job key.at t.job t.its f.lives.jobs f.lives.distinct t.in_jobs f.lives.older t.in_instances);
           older = older-after e c tt f.lives.older;
-          later = λ job x past. spared config job e c x (ne_eqb t.its.place x.place (λ same. omega (arith, past, within))) (f.lives.older x.place) ∙ f.lives.later job x (omega (arith, past));
+          later = λ x past. spared e c x (ne_eqb t.its.place x.place (λ same. omega (arith, past, within))) (f.lives.older x.place) ∙ f.lives.later x (omega (arith, past));
           distinct = f.lives.distinct;
         } in
         let remembered : Remembered places after.instances book.starts.items config d =
@@ -129,13 +129,13 @@ forgets-left book after config c key i k f found kept does starts events reading
 
 -- one that is gone lets its holders go: nobody notices
 gone-summaries : (config : Configuration) (job : JobDef) (i : ℕ) (failed : Bool) (c : Chronicle) → ((p : ℕ) → HoldsOlder p c) → count i (instances_of job.name c) ≡ 0
-    → map (summary config job (Released i failed ∷ c)) (instances_of job.name c) ≡ map (summary config job c) (instances_of job.name c)
+    → map (summary (Released i failed ∷ c)) (instances_of job.name c) ≡ map (summary c) (instances_of job.name c)
 gone-summaries config job i failed c older none =
-    map-all (λ x. (i == x.place) ≡ false) (summary config job (Released i failed ∷ c)) (summary config job c) (instances_of job.name c)
-    (λ x apart. spared config job (Released i failed) c x apart (older x.place)) (all-apart i (instances_of job.name c) none)
+    map-all (λ x. (i == x.place) ≡ false) (summary (Released i failed ∷ c)) (summary c) (instances_of job.name c)
+    (λ x apart. spared (Released i failed) c x apart (older x.place)) (all-apart i (instances_of job.name c) none)
 
 gone-jobs : (config : Configuration) (i : ℕ) (failed : Bool) (c : Chronicle) (jobs : List JobDef) → ((p : ℕ) → HoldsOlder p c) → count i (all_instances c) ≡ 0
-    → map (job_summary config (Released i failed ∷ c)) jobs ≡ map (job_summary config c) jobs
+    → map (job_summary (Released i failed ∷ c)) jobs ≡ map (job_summary c) jobs
 gone-jobs config i failed c [] older none = refl
 gone-jobs config i failed c (job ∷ jobs) older none =
     cons_same (ap (λ (its : List Summary). record { name = job.name; instances = its }) (gone-summaries config job i failed c older (omega (arith, instances-exist i job.name c, none)))) (gone-jobs config i failed c jobs older none)
@@ -147,7 +147,7 @@ forgets-gone book config c i f gone =
     let lives : Keeps places book.instances config (e ∷ c) = record {
       jobs = f.lives.jobs ∙ sym (gone-jobs config i false c config.jobs f.lives.older gone.1);
       older = older-after e c tt f.lives.older;
-      later = λ job x past. spared config job e c x (ne_eqb i x.place (λ same. omega (arith, past, gone.0))) (f.lives.older x.place) ∙ f.lives.later job x (omega (arith, past));
+      later = λ x past. spared e c x (ne_eqb i x.place (λ same. omega (arith, past, gone.0))) (f.lives.older x.place) ∙ f.lives.later x (omega (arith, past));
       distinct = f.lives.distinct;
     } in
     forgets-lives book book config c e f lives (remembered-later places book.instances book.starts.items config c e (record { instances = λ job. refl; seen = λ x. refl }) f.remembered) refl tt (λ p. refl) refl

@@ -16,11 +16,11 @@ use Rattle.up_model.specs.Configuration.{Configuration, job_named}
 use Rattle.up_model.specs.Instances.{Instance, instances_of, all_instances}
 use Rattle.up_model.specs.Outputs.{outputs_of}
 use Rattle.up_model.specs.Queue.{queue}
-use Rattle.up_model.specs.Readings.{entry_at, holders, id_of, id_at}
+use Rattle.up_model.specs.Readings.{entry_at, file_of, holders, id_of, id_at}
 use Rattle.up_model.specs.Replies.{answering, releasing, if_waits, request_in, request_instance, status_if, status_of, waiter_in}
 use Rattle.up_model.specs.Values.{Bytes}
 use Rattle.up_model.proofs.Places.{count}
-use Rattle.up_job.specs.InstanceLists.{limits_of, new_instance}
+use Rattle.up_job.specs.InstanceLists.{new_instance}
 use Rattle.up_job.specs.JobLists.{position_at, job_of}
 use Rattle.up_job.specs.Lists.{nth}
 use Rattle.up_job.specs.declared.instance.Instance.{Instance as Kept}
@@ -60,8 +60,8 @@ use Rattle.up_book.proofs.Keyed.{place-keyed, job-there}
 use Rattle.up_book.proofs.Leaving.{forgets-answered, forgets-gone}
 use Rattle.up_book.proofs.Making.{position-so}
 use Rattle.up_book.proofs.Lifecycle.{keeps-made, keeps-left}
-use Rattle.up_book.proofs.One.{There, there}
-use Rattle.up_book.proofs.Outgoing.{IsSilent, entering-out, ordered-out, signalled-out, silent-out, status-known}
+use Rattle.up_book.proofs.One.{There, there, its-file, nth-all}
+use Rattle.up_book.proofs.Outgoing.{IsSilent, entering-out, named-there, ordered-out, signalled-out, silent-out, status-known}
 use Rattle.up_book.proofs.Requested.{IsPlain, Mentions, status-apart, status-left, left-gone, other-gone, gone-later, on-later}
 use Rattle.up_book.proofs.Runs.{IsMild, step-released}
 use Rattle.up_book.proofs.Standing.{same-entry}
@@ -94,6 +94,15 @@ exists-so past config c key i f found = there-exists (place_of past.events (queu
 pub older-so : (past : Past) (config : Configuration) (c : Chronicle) (key : InstanceKey) (i : ℕ) → Forgets past config c → instance_place config c key ≡ Some i → i < length c
 older-so past config c key i f found = place-older (place_of past.events (queue c)) past.instances config c key i f.lives (keyed past config c key i f found)
 
+-- the file of an instance is that of its job in the table
+pub in-table : (past : Past) (config : Configuration) (c : Chronicle) (key : InstanceKey) (i : ℕ) (job : JobDef) → Forgets past config c → instance_place config c key ≡ Some i → file_of i c ≡ Some job
+    → nth key.job config.jobs ≡ Some job
+in-table past config c key i job f found file =
+    let t = there-so past config c key i f found in
+    let by = nth-all (λ y. job_named t.job.name config.jobs ≡ Some y.file) key.at (instances_of t.job.name c) t.its t.in_instances (are_by config.jobs t.job.name c f.regular.made) in
+    t.in_jobs ∙ sym (named-there key.job config.jobs t.job t.in_jobs f.lives.distinct) ∙ by
+    ∙ ap Some (its-file (place_of past.events (queue c)) past.instances config c key i job t file)
+
 -- an entry that asks for nothing
 pub silent : (old : Ledger) (past : Past) (config : Configuration) (c : Chronicle) (e : Entry) → Stands old Stepping config c → Forgets past config (e ∷ c) → IsSilent e → IsPlain e → Spares config c e
     → Stands (record old { past = past }) Stepping config (e ∷ c)
@@ -124,13 +133,13 @@ same-job : {a b : JobDef} → Some a ≡ Some b → a ≡ b
 same-job e = cc
 
 pub ordered : (past : Past) (config : Configuration) (c : Chronicle) (key : InstanceKey) (i : ℕ) (job : JobDef) (its : Process) (out : Option Output) → Forgets past config c → instance_place config c key ≡ Some i
-    → job_at config key.job ≡ Some job → IsOrder job (kept_at key past.instances) its out → outputs_of (Ordered i its ∷ c) ≡ outputs_of c ++ listed out
-ordered past config c key i job its out f found in_table is =
+    → file_of i c ≡ Some job → IsOrder job (kept_at key past.instances) its out → outputs_of (Ordered i its ∷ c) ≡ outputs_of c ++ listed out
+ordered past config c key i job its out f found file is =
     let t = there-so past config c key i f found in
     let order : (places : Places) → listed out ≡ order_by job (view places t.kept) its = subst (λ (k : Option Kept). IsOrder job k its out) t.found is in
-    let one : t.job ≡ job = same-job (sym t.in_jobs ∙ job-there config key.job job in_table) in
-    ap (λ p. outputs_of (Ordered p its ∷ c)) (sym t.place) ∙ ordered-out config c key.job key.at t.job t.its its f.lives.distinct f.regular.made t.in_jobs t.in_instances
-    ∙ ap (λ os. outputs_of c ++ os) (ap (λ s. order_by t.job s its) (sym t.same) ∙ ap (λ (j : JobDef). order_by j (view (place_of past.events (queue c)) t.kept) its) one ∙ sym (order (place_of past.events (queue c))))
+    let one : t.its.file ≡ job = its-file (place_of past.events (queue c)) past.instances config c key i job t file in
+    ap (λ p. outputs_of (Ordered p its ∷ c)) (sym t.place) ∙ ordered-out c key.at t.job t.its its t.in_instances
+    ∙ ap (λ os. outputs_of c ++ os) (ap (λ s. order_by t.its.file s its) (sym t.same) ∙ ap (λ (j : JobDef). order_by j (view (place_of past.events (queue c)) t.kept) its) one ∙ sym (order (place_of past.events (queue c))))
 
 -- a signal
 kept-job : (at : ℕ) (o : Option JobInstances) (kept : Kept) → kept_in at o ≡ Some kept → (j : JobInstances) × (o ≡ Some j)
@@ -298,12 +307,12 @@ step-made outputs asked on past config c place job name f there s = record {
     d = Made job name ∷ c
 
     new : Kept
-    new = new_instance name (limits_of job) None
+    new = new_instance name job None
 
     moved : (key : InstanceKey) (i : ℕ) → on ≡ Some (Exists key) → request_instance c ≡ Some i → instance_place config c key ≡ Some i → instance_place config d (after_made place (position_at name place past.instances) key) ≡ Some i
     moved key i is acted found =
         let keeps = keeps-made places new past.instances config c place job name f.lives.jobs f.lives.distinct there f.lives.older
-        (f.lives.later job (record { place = length c; name = name; file = job }) (omega arith)) (new-blank places job name None) in
+        (f.lives.later (record { place = length c; name = name; file = job }) (omega arith)) (new-blank places job name None) in
         let stands = key-made places past.instances config c place job new name key i f.lives.jobs f.lives.distinct there (keyed past config c key i f found) in
         ap (λ p. instance_place config d (after_made place p key)) (position-so past config c place job name f there)
         ∙ sym (place-keyed places _ config d _ keeps) ∙ stands

@@ -127,11 +127,11 @@ jobs-by : (places : Places) (jobs : List JobInstances) → left_by_jobs (map (jo
 jobs-by places [] = refl
 jobs-by places (job ∷ jobs) = rw (kept-by places job.instances, jobs-by places jobs) refl
 
-seen-by : (config : Configuration) (job : JobDef) (c : Chronicle) (its : List Instance) → left_by_all (map (summary config job c) its) ≡ sum (λ p. left_at p c) its
+seen-by : (config : Configuration) (job : JobDef) (c : Chronicle) (its : List Instance) → left_by_all (map (summary c) its) ≡ sum (λ p. left_at p c) its
 seen-by config job c [] = refl
 seen-by config job c (x ∷ its) = rw (is_some-map Some (blocker x.place c), seen-by config job c its) refl
 
-summed-by : (config : Configuration) (c : Chronicle) (jobs : List JobDef) → left_by_jobs (map (job_summary config c) jobs) ≡ job_sums (λ p. left_at p c) jobs c
+summed-by : (config : Configuration) (c : Chronicle) (jobs : List JobDef) → left_by_jobs (map (job_summary c) jobs) ≡ job_sums (λ p. left_at p c) jobs c
 summed-by config c [] = refl
 summed-by config c (job ∷ jobs) = rw (seen-by config job c (instances_of job.name c), summed-by config c jobs) refl
 

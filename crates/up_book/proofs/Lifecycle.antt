@@ -26,34 +26,34 @@ use Rattle.up_book.proofs.One.{IsKnown, known-all, called, jobs-elsewhere, none-
 -- a job changes, and all others stay
 pub one-job : (places : Places) (f : JobInstances → JobInstances) (g : JobSummary → JobSummary) (jobs : List JobInstances) (config : Configuration) (c d : Chronicle) (place : ℕ) (job : JobDef)
     → ((j : JobInstances) → job_view places (f j) ≡ g (job_view places j)) → KeepsJobs places jobs config c → AreDistinct config.jobs → nth place config.jobs ≡ Some job
-    → job_summary config d job ≡ g (job_summary config c job) → ((other : JobDef) → bytes_eq other.name job.name ≡ false → job_summary config d other ≡ job_summary config c other)
+    → job_summary d job ≡ g (job_summary c job) → ((other : JobDef) → bytes_eq other.name job.name ≡ false → job_summary d other ≡ job_summary c other)
     → KeepsJobs places (with_at place f jobs) config d
 one-job places f g jobs config c d place job same keeps distinct there here others =
     with_at-map (job_view places) f g same place jobs
     ∙ ap (with_at place g) keeps
-    ∙ sym (with_at-read (job_summary config c) (job_summary config d) g place config.jobs job there here
-    (jobs-elsewhere (job_summary config c) (job_summary config d) place config.jobs job there distinct others))
+    ∙ sym (with_at-read (job_summary c) (job_summary d) g place config.jobs job there here
+    (jobs-elsewhere (job_summary c) (job_summary d) place config.jobs job there distinct others))
 
 -- what is made leaves what is known of others
-pub spared-made : (config : Configuration) (job : JobDef) (file : JobDef) (name : Bytes) (c : Chronicle) (x : Instance) → (length c == x.place) ≡ false → HoldsOlder x.place c
-    → summary config job (Made file name ∷ c) x ≡ summary config job c x
-spared-made config job file name c x apart older = rw (apart, holding-later (Made file name) c (holders x.place c) older) refl
+pub spared-made : (file : JobDef) (name : Bytes) (c : Chronicle) (x : Instance) → (length c == x.place) ≡ false → HoldsOlder x.place c
+    → summary (Made file name ∷ c) x ≡ summary c x
+spared-made file name c x apart older = rw (apart, holding-later (Made file name) c (holders x.place c) older) refl
 
 pub map-all : (P : Instance → Type 0) (f g : Instance → Summary) (xs : List Instance) → ((x : Instance) → P x → f x ≡ g x) → AllByRecursion P xs → map f xs ≡ map g xs
 map-all P f g [] same all = refl
 map-all P f g (x ∷ xs) same all = cons_same (same x all.0) (map-all P f g xs same all.1)
 
 spared-made-all : (config : Configuration) (job : JobDef) (file : JobDef) (name : Bytes) (c : Chronicle) (its : Bytes) → ((i : ℕ) → HoldsOlder i c)
-    → map (summary config job (Made file name ∷ c)) (instances_of its c) ≡ map (summary config job c) (instances_of its c)
+    → map (summary (Made file name ∷ c)) (instances_of its c) ≡ map (summary c) (instances_of its c)
 spared-made-all config job file name c its older =
-    map-all (IsKnown its c) (summary config job (Made file name ∷ c)) (summary config job c) (instances_of its c)
-    (λ x known. spared-made config job file name c x (older-other (length c) x.place known.0) (older x.place)) (known-all its c)
+    map-all (IsKnown its c) (summary (Made file name ∷ c)) (summary c) (instances_of its c)
+    (λ x known. spared-made file name c x (older-other (length c) x.place known.0) (older x.place)) (known-all its c)
 
 -- of what was just made nothing is known
-pub made-blank : (config : Configuration) (job : JobDef) (file : JobDef) (name : Bytes) (c : Chronicle) → ((i : ℕ) → HoldsOlder i c) → summary config job c (record { place = length c; name = name; file = job }) ≡ blank job name
-    → summary config job (Made file name ∷ c) (record { place = length c; name = name; file = job }) ≡ blank job name
+pub made-blank : (config : Configuration) (job : JobDef) (file : JobDef) (name : Bytes) (c : Chronicle) → ((i : ℕ) → HoldsOlder i c) → summary c (record { place = length c; name = name; file = job }) ≡ blank job name
+    → summary (Made file name ∷ c) (record { place = length c; name = name; file = job }) ≡ blank job name
 made-blank config job file name c older none =
-    let fresh : record (summary config job c (record { place = length c; name = name; file = job })) { children = idle } ≡ blank job name = ap (λ (s : Summary). record s { children = idle }) none in
+    let fresh : record (summary c (record { place = length c; name = name; file = job })) { children = idle } ≡ blank job name = ap (λ (s : Summary). record s { children = idle }) none in
     rw (eq-eqb (length c) (length c) refl, holding-later (Made file name) c (holders (length c) c) (older (length c))) fresh
 
 abbrev pub with_summary : Summary → JobSummary → JobSummary
@@ -62,16 +62,16 @@ with_summary s job = record job { instances = with_named (λ t. t.name) s job.in
 same-instances : (job : JobSummary) (xs ys : List Summary) → xs ≡ ys → record job { instances = xs } ≡ record job { instances = ys }
 same-instances job xs ys same = ap (λ (zs : List Summary). record job { instances = zs }) same
 
-made-here : (config : Configuration) (job : JobDef) (name : Bytes) (c : Chronicle) → ((i : ℕ) → HoldsOlder i c) → summary config job c (record { place = length c; name = name; file = job }) ≡ blank job name
-    → job_summary config (Made job name ∷ c) job ≡ with_summary (blank job name) (job_summary config c job)
+made-here : (config : Configuration) (job : JobDef) (name : Bytes) (c : Chronicle) → ((i : ℕ) → HoldsOlder i c) → summary c (record { place = length c; name = name; file = job }) ≡ blank job name
+    → job_summary (Made job name ∷ c) job ≡ with_summary (blank job name) (job_summary c job)
 made-here config job name c older none =
     let d : Chronicle = Made job name ∷ c in
     let made : Instance = record { place = length c; name = name; file = job } in
-    let order : map (summary config job d) (with_named (λ (x : Instance). x.name) made (instances_of job.name c)) ≡ with_named (λ (s : Summary). s.name) (summary config job d made) (map (summary config job d) (instances_of job.name c)) =
-    with_named-map (summary config job d) (λ (x : Instance). x.name) (λ (s : Summary). s.name) (λ x. refl) made (instances_of job.name c) in
+    let order : map (summary d) (with_named (λ (x : Instance). x.name) made (instances_of job.name c)) ≡ with_named (λ (s : Summary). s.name) (summary d made) (map (summary d) (instances_of job.name c)) =
+    with_named-map (summary d) (λ (x : Instance). x.name) (λ (s : Summary). s.name) (λ x. refl) made (instances_of job.name c) in
     let rest = spared-made-all config job job name c job.name older in
     let new = made-blank config job job name c older none in
-    rw (bytes_refl job.name) (same-instances (job_summary config c job) _ _ (order ∙ ap (λ (xs : List Summary). with_named (λ (s : Summary). s.name) (summary config job d made) xs) rest ∙ ap (λ (s : Summary). with_named (λ (t : Summary). t.name) s (map (summary config job c) (instances_of job.name c))) new))
+    rw (bytes_refl job.name) (same-instances (job_summary c job) _ _ (order ∙ ap (λ (xs : List Summary). with_named (λ (s : Summary). s.name) (summary d made) xs) rest ∙ ap (λ (s : Summary). with_named (λ (t : Summary). t.name) s (map (summary c) (instances_of job.name c))) new))
 
 back : (x y : Bytes) → bytes_eq x y ≡ false → bytes_eq y x ≡ false
 back x y apart = by_case (bytes_eq y x) refl
@@ -83,20 +83,20 @@ back x y apart = by_case (bytes_eq y x) refl
     by_case false differs = refl
 
 made-elsewhere : (config : Configuration) (job : JobDef) (name : Bytes) (c : Chronicle) (other : JobDef) → ((i : ℕ) → HoldsOlder i c) → bytes_eq other.name job.name ≡ false
-    → job_summary config (Made job name ∷ c) other ≡ job_summary config c other
+    → job_summary (Made job name ∷ c) other ≡ job_summary c other
 made-elsewhere config job name c other older apart =
-    rw (back other.name job.name apart) (same-instances (job_summary config c other) _ _ (spared-made-all config other job name c other.name older))
+    rw (back other.name job.name apart) (same-instances (job_summary c other) _ _ (spared-made-all config other job name c other.name older))
 
 -- a job has one instance more
 pub keeps-made : (places : Places) (kept : Kept) (jobs : List JobInstances) (config : Configuration) (c : Chronicle) (place : ℕ) (job : JobDef) (name : Bytes)
     → KeepsJobs places jobs config c → AreDistinct config.jobs → nth place config.jobs ≡ Some job → ((i : ℕ) → HoldsOlder i c)
-    → summary config job c (record { place = length c; name = name; file = job }) ≡ blank job name → view places kept ≡ blank job name
+    → summary c (record { place = length c; name = name; file = job }) ≡ blank job name → view places kept ≡ blank job name
     → KeepsJobs places (with_at place (with_made kept) jobs) config (Made job name ∷ c)
 keeps-made places kept jobs config c place job name keeps distinct there older none new =
     one-job places (with_made kept) (with_summary (view places kept)) jobs config c (Made job name ∷ c) place job
     (λ j. ap (λ (xs : List Summary). record (job_view places j) { instances = xs }) (with_named-map (view places) (λ (k : Kept). k.name) (λ (s : Summary). s.name) (λ k. refl) kept j.instances))
     keeps distinct there
-    (made-here config job name c older none ∙ ap (λ (s : Summary). with_summary s (job_summary config c job)) (sym new))
+    (made-here config job name c older none ∙ ap (λ (s : Summary). with_summary s (job_summary c job)) (sym new))
     (λ other apart. made-elsewhere config job name c other older apart)
 
 -- the instance at a place of a list, and the list without it
@@ -151,11 +151,11 @@ all-apart i (x ∷ xs) none = by_case (x.place == i) refl none (all-apart i xs)
 
 -- an instance that has entered waiting is gone
 left-elsewhere : (config : Configuration) (c : Chronicle) (i : ℕ) (other : JobDef) → ((p : ℕ) → HoldsOlder p c) → count i (instances_of other.name c) ≡ 0
-    → job_summary config (Entered i state.Waiting ∷ c) other ≡ job_summary config c other
+    → job_summary (Entered i state.Waiting ∷ c) other ≡ job_summary c other
 left-elsewhere config c i other older none =
-    rw (without-absent i (instances_of other.name c) none) (same-instances (job_summary config c other) _ _
-    (map-all (λ x. (i == x.place) ≡ false) (summary config other (Entered i state.Waiting ∷ c)) (summary config other c) (instances_of other.name c)
-    (λ x apart. spared config other (Entered i state.Waiting) c x apart (older x.place)) (all-apart i (instances_of other.name c) none)))
+    rw (without-absent i (instances_of other.name c) none) (same-instances (job_summary c other) _ _
+    (map-all (λ x. (i == x.place) ≡ false) (summary (Entered i state.Waiting ∷ c)) (summary c) (instances_of other.name c)
+    (λ x apart. spared (Entered i state.Waiting) c x apart (older x.place)) (all-apart i (instances_of other.name c) none)))
 
 without-count : (at : ℕ) (xs : List Instance) (x : Instance) → nth at xs ≡ Some x → count x.place xs ≤ 1 → count x.place (without_at at xs) ≡ 0
 without-count at [] x there once = absurd cc
@@ -178,14 +178,14 @@ without-count (suc at) (y ∷ ys) x there once = by_case (y.place == x.place) on
     by_case false once ih = omega (arith, ih (omega (arith, once)))
 
 left-here : (config : Configuration) (c : Chronicle) (at : ℕ) (job : JobDef) (x : Instance) → ((p : ℕ) → HoldsOlder p c) → nth at (instances_of job.name c) ≡ Some x
-    → job_summary config (Entered x.place state.Waiting ∷ c) job ≡ without_summary at (job_summary config c job)
+    → job_summary (Entered x.place state.Waiting ∷ c) job ≡ without_summary at (job_summary c job)
 left-here config c at job x older there =
     let d : Chronicle = Entered x.place state.Waiting ∷ c in
     let once : count x.place (instances_of job.name c) ≤ 1 = omega (arith, instances-exist x.place job.name c, all_instances-once x.place c) in
-    let rest : map (summary config job d) (without_at at (instances_of job.name c)) ≡ map (summary config job c) (without_at at (instances_of job.name c)) =
-    map-all (λ y. (x.place == y.place) ≡ false) (summary config job d) (summary config job c) (without_at at (instances_of job.name c))
-    (λ y apart. spared config job (Entered x.place state.Waiting) c y apart (older y.place)) (all-apart x.place (without_at at (instances_of job.name c)) (without-count at (instances_of job.name c) x there once)) in
-    rw (without-nth at (instances_of job.name c) x there once) (same-instances (job_summary config c job) _ _ (rest ∙ without_at-map (summary config job c) at (instances_of job.name c)))
+    let rest : map (summary d) (without_at at (instances_of job.name c)) ≡ map (summary c) (without_at at (instances_of job.name c)) =
+    map-all (λ y. (x.place == y.place) ≡ false) (summary d) (summary c) (without_at at (instances_of job.name c))
+    (λ y apart. spared (Entered x.place state.Waiting) c y apart (older y.place)) (all-apart x.place (without_at at (instances_of job.name c)) (without-count at (instances_of job.name c) x there once)) in
+    rw (without-nth at (instances_of job.name c) x there once) (same-instances (job_summary c job) _ _ (rest ∙ without_at-map (summary c) at (instances_of job.name c)))
 
 pub keeps-left : (places : Places) (jobs : List JobInstances) (config : Configuration) (c : Chronicle) (place at : ℕ) (job : JobDef) (x : Instance)
     → KeepsJobs places jobs config c → AreDistinct config.jobs → nth place config.jobs ≡ Some job → ((i : ℕ) → HoldsOlder i c) → nth at (instances_of job.name c) ≡ Some x

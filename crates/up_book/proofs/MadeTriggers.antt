@@ -25,32 +25,32 @@ use Rattle.up_book.proofs.One.{IsKnown, known-all, called, apart-back, nth-apart
 use Rattle.up_book.proofs.Triggers.{instances-later, starts-later}
 
 -- the names that are kept are those of the instances
-pub names-same : (places : Places) (config : Configuration) (job : JobDef) (c : Chronicle) (its : List Kept) (xs : List Instance) → map (view places) its ≡ map (summary config job c) xs → map (λ (k : Kept). k.name) its ≡ map (λ (x : Instance). x.name) xs
-names-same places config job c [] [] same = refl
-names-same places config job c [] (x ∷ xs) same = absurd cc
-names-same places config job c (k ∷ its) [] same = absurd cc
-names-same places config job c (k ∷ its) (x ∷ xs) same =
-    let first : view places k ≡ summary config job c x = cc in
-    let rest : map (view places) its ≡ map (summary config job c) xs = cc in
-    two (ap (λ (s : Summary). s.name) first) (names-same places config job c its xs rest)
+pub names-same : (places : Places) (c : Chronicle) (its : List Kept) (xs : List Instance) → map (view places) its ≡ map (summary c) xs → map (λ (k : Kept). k.name) its ≡ map (λ (x : Instance). x.name) xs
+names-same places c [] [] same = refl
+names-same places c [] (x ∷ xs) same = absurd cc
+names-same places c (k ∷ its) [] same = absurd cc
+names-same places c (k ∷ its) (x ∷ xs) same =
+    let first : view places k ≡ summary c x = cc in
+    let rest : map (view places) its ≡ map (summary c) xs = cc in
+    two (ap (λ (s : Summary). s.name) first) (names-same places c its xs rest)
   where
     two : {a b : Bytes} {xs ys : List Bytes} → a ≡ b → xs ≡ ys → a ∷ xs ≡ b ∷ ys
     two p q = cc
 
 -- one instance more
-instances-more : (places : Places) (config : Configuration) (job : JobDef) (c : Chronicle) (kept : Kept) (x : Instance) (its : List Kept) (xs : List Instance) → kept.name ≡ x.name
-    → map (λ (k : Kept). k.name) its ≡ map (λ (y : Instance). y.name) xs → Remembers places kept.stop_on job.stop_on (seen config (StopOn x.place) c) → InstancesRemember places config job c its xs
-    → InstancesRemember places config job c (with_named (λ k. k.name) kept its) (with_instance x xs)
-instances-more places config job c kept x [] [] name names new r = (new, tt)
-instances-more places config job c kept x [] (y ∷ xs) name names new r = absurd r
-instances-more places config job c kept x (k ∷ its) [] name names new r = absurd r
-instances-more places config job c kept x (k ∷ its) (y ∷ xs) name names new r =
+instances-more : (places : Places) (config : Configuration) (c : Chronicle) (kept : Kept) (x : Instance) (its : List Kept) (xs : List Instance) → kept.name ≡ x.name
+    → map (λ (k : Kept). k.name) its ≡ map (λ (y : Instance). y.name) xs → Remembers places kept.stop_on x.file.stop_on (seen config (StopOn x.place) c) → InstancesRemember places config c its xs
+    → InstancesRemember places config c (with_named (λ k. k.name) kept its) (with_instance x xs)
+instances-more places config c kept x [] [] name names new r = (new, tt)
+instances-more places config c kept x [] (y ∷ xs) name names new r = absurd r
+instances-more places config c kept x (k ∷ its) [] name names new r = absurd r
+instances-more places config c kept x (k ∷ its) (y ∷ xs) name names new r =
     let first : k.name ≡ y.name = cc in
     let rest : map (λ (k : Kept). k.name) its ≡ map (λ (y : Instance). y.name) xs = cc in
-    by_case (is_below k.name kept.name) (is_below y.name x.name) (ap (λ n. is_below n kept.name) first ∙ ap (is_below y.name) name) (instances-more places config job c kept x its xs name rest new r.1)
+    by_case (is_below k.name kept.name) (is_below y.name x.name) (ap (λ n. is_below n kept.name) first ∙ ap (is_below y.name) name) (instances-more places config c kept x its xs name rest new r.1)
   where
-    by_case : (b d : Bool) → b ≡ d → InstancesRemember places config job c (with_named (λ k. k.name) kept its) (with_instance x xs)
-        → InstancesRemember places config job c (if b then k ∷ with_named (λ k. k.name) kept its else kept ∷ k ∷ its) (if d then y ∷ with_instance x xs else x ∷ y ∷ xs)
+    by_case : (b d : Bool) → b ≡ d → InstancesRemember places config c (with_named (λ k. k.name) kept its) (with_instance x xs)
+        → InstancesRemember places config c (if b then k ∷ with_named (λ k. k.name) kept its else kept ∷ k ∷ its) (if d then y ∷ with_instance x xs else x ∷ y ∷ xs)
     by_case true true same ih = (r.0, ih)
     by_case true false same ih = absurd cc
     by_case false true same ih = absurd cc
@@ -63,11 +63,11 @@ others-made places config c job name [] [] apart r = tt
 others-made places config c job name [] (d ∷ jobs) apart r = absurd r
 others-made places config c job name (j ∷ its) [] apart r = absurd r
 others-made places config c job name (j ∷ its) (d ∷ jobs) apart r = (
-  rw (apart-back d.name job.name apart.0) (instances-later places config d (Made job name) c j.instances (instances_of d.name c) (λ x. refl) r.0),
+  rw (apart-back d.name job.name apart.0) (instances-later places config (Made job name) c j.instances (instances_of d.name c) (λ x. refl) r.0),
   others-made places config c job name its jobs apart.1 r.1,
 )
 
-stops-made : (places : Places) (config : Configuration) (c : Chronicle) (kept : Kept) (name : Bytes) (place : ℕ) (job : JobDef) (its : List JobInstances) (jobs : List JobDef) → map (job_view places) its ≡ map (job_summary config c) jobs
+stops-made : (places : Places) (config : Configuration) (c : Chronicle) (kept : Kept) (name : Bytes) (place : ℕ) (job : JobDef) (its : List JobInstances) (jobs : List JobDef) → map (job_view places) its ≡ map (job_summary c) jobs
     → AreDistinct jobs → nth place jobs ≡ Some job → kept.name ≡ name → Remembers places kept.stop_on job.stop_on (seen config (StopOn (length c)) c) → StopsRemember places config c its jobs
     → StopsRemember places config (Made job name ∷ c) (with_at place (with_made kept) its) jobs
 stops-made places config c kept name place job [] [] same distinct there named new r = tt
@@ -75,20 +75,20 @@ stops-made places config c kept name place job [] (d ∷ jobs) same distinct the
 stops-made places config c kept name place job (j ∷ its) [] same distinct there named new r = absurd r
 stops-made places config c kept name zero job (j ∷ its) (d ∷ jobs) same distinct there named new r =
     let is : d ≡ job = cc in
-    let first : job_view places j ≡ job_summary config c d = cc in
+    let first : job_view places j ≡ job_summary c d = cc in
     let made : Instance = record { place = length c; name = name; file = job } in
-    let names = names-same places config job c j.instances (instances_of job.name c) (ap (λ (s : JobSummary). s.instances) (first ∙ ap (job_summary config c) is)) in
-    let mine : InstancesRemember places config job c j.instances (instances_of job.name c) = subst (λ (x : JobDef). InstancesRemember places config x c j.instances (instances_of x.name c)) is r.0 in
-    let more = instances-more places config job c kept made j.instances (instances_of job.name c) named names new mine in
-    let later = instances-later places config job (Made job name) c (with_named (λ k. k.name) kept j.instances) (with_instance made (instances_of job.name c)) (λ x. refl) more in
-    let here : InstancesRemember places config job (Made job name ∷ c) (with_named (λ k. k.name) kept j.instances) (instances_of job.name (Made job name ∷ c)) = rw (bytes_refl job.name) later in (
-      subst (λ (x : JobDef). InstancesRemember places config x (Made job name ∷ c) (with_named (λ k. k.name) kept j.instances) (instances_of x.name (Made job name ∷ c))) (sym is) here,
+    let names = names-same places c j.instances (instances_of job.name c) (ap (λ (s : JobSummary). s.instances) (first ∙ ap (job_summary c) is)) in
+    let mine : InstancesRemember places config c j.instances (instances_of job.name c) = subst (λ (x : JobDef). InstancesRemember places config c j.instances (instances_of x.name c)) is r.0 in
+    let more = instances-more places config c kept made j.instances (instances_of job.name c) named names new mine in
+    let later = instances-later places config (Made job name) c (with_named (λ k. k.name) kept j.instances) (with_instance made (instances_of job.name c)) (λ x. refl) more in
+    let here : InstancesRemember places config (Made job name ∷ c) (with_named (λ k. k.name) kept j.instances) (instances_of job.name (Made job name ∷ c)) = rw (bytes_refl job.name) later in (
+      subst (λ (x : JobDef). InstancesRemember places config (Made job name ∷ c) (with_named (λ k. k.name) kept j.instances) (instances_of x.name (Made job name ∷ c))) (sym is) here,
       others-made places config c job name its jobs (subst (λ (x : JobDef). AllByRecursion (λ other. bytes_eq other.name x.name ≡ false) jobs) is distinct.0) r.1,
     )
 stops-made places config c kept name (suc place) job (j ∷ its) (d ∷ jobs) same distinct there named new r =
-    let rest : map (job_view places) its ≡ map (job_summary config c) jobs = cc in
+    let rest : map (job_view places) its ≡ map (job_summary c) jobs = cc in
     let apart : bytes_eq job.name d.name ≡ false = nth-apart place jobs job d there distinct.0 in (
-      rw apart (instances-later places config d (Made job name) c j.instances (instances_of d.name c) (λ x. refl) r.0),
+      rw apart (instances-later places config (Made job name) c j.instances (instances_of d.name c) (λ x. refl) r.0),
       stops-made places config c kept name place job its jobs rest distinct.1 there named new r.1,
     )
 
@@ -102,18 +102,18 @@ remembered-made places kept jobs starts config c place job name keeps distinct t
 }
 
 -- one instance less
-instances-less : (places : Places) (config : Configuration) (job : JobDef) (c : Chronicle) (at : ℕ) (its : List Kept) (xs : List Instance) → InstancesRemember places config job c its xs
-    → InstancesRemember places config job c (without_at at its) (without_at at xs)
-instances-less places config job c at [] [] r = tt
-instances-less places config job c at [] (y ∷ xs) r = absurd r
-instances-less places config job c at (k ∷ its) [] r = absurd r
-instances-less places config job c zero (k ∷ its) (y ∷ xs) r = r.1
-instances-less places config job c (suc at) (k ∷ its) (y ∷ xs) r = (r.0, instances-less places config job c at its xs r.1)
+instances-less : (places : Places) (config : Configuration) (c : Chronicle) (at : ℕ) (its : List Kept) (xs : List Instance) → InstancesRemember places config c its xs
+    → InstancesRemember places config c (without_at at its) (without_at at xs)
+instances-less places config c at [] [] r = tt
+instances-less places config c at [] (y ∷ xs) r = absurd r
+instances-less places config c at (k ∷ its) [] r = absurd r
+instances-less places config c zero (k ∷ its) (y ∷ xs) r = r.1
+instances-less places config c (suc at) (k ∷ its) (y ∷ xs) r = (r.0, instances-less places config c at its xs r.1)
 
-stay-by : (places : Places) (config : Configuration) (d : JobDef) (c : Chronicle) (i : ℕ) (j : JobInstances) → count i (instances_of d.name c) ≡ 0 → InstancesRemember places config d c j.instances (instances_of d.name c)
-    → InstancesRemember places config d (Entered i state.Waiting ∷ c) j.instances (instances_of d.name (Entered i state.Waiting ∷ c))
+stay-by : (places : Places) (config : Configuration) (d : JobDef) (c : Chronicle) (i : ℕ) (j : JobInstances) → count i (instances_of d.name c) ≡ 0 → InstancesRemember places config c j.instances (instances_of d.name c)
+    → InstancesRemember places config (Entered i state.Waiting ∷ c) j.instances (instances_of d.name (Entered i state.Waiting ∷ c))
 stay-by places config d c i j none r =
-    rw (without-absent i (instances_of d.name c) none) (instances-later places config d (Entered i state.Waiting) c j.instances (instances_of d.name c) (λ x. refl) r)
+    rw (without-absent i (instances_of d.name c) none) (instances-later places config (Entered i state.Waiting) c j.instances (instances_of d.name c) (λ x. refl) r)
 
 others-left : (places : Places) (config : Configuration) (c : Chronicle) (job : JobDef) (x : Instance) (its : List JobInstances) (jobs : List JobDef) → IsKnown job.name c x → AllByRecursion (λ other. bytes_eq other.name job.name ≡ false) jobs
     → StopsRemember places config c its jobs → StopsRemember places config (Entered x.place state.Waiting ∷ c) its jobs
@@ -134,11 +134,11 @@ stops-left places config c zero at job x (j ∷ its) (d ∷ jobs) distinct there
     let is : d ≡ job = cc in
     let known = nth-all (IsKnown job.name c) at (instances_of job.name c) x its_there (known-all job.name c) in
     let once : count x.place (instances_of job.name c) ≤ 1 = omega (arith, instances-exist x.place job.name c, all_instances-once x.place c) in
-    let mine : InstancesRemember places config job c j.instances (instances_of job.name c) = subst (λ (y : JobDef). InstancesRemember places config y c j.instances (instances_of y.name c)) is r.0 in
-    let less = instances-less places config job c at j.instances (instances_of job.name c) mine in
-    let later = instances-later places config job (Entered x.place state.Waiting) c (without_at at j.instances) (without_at at (instances_of job.name c)) (λ y. refl) less in
-    let here : InstancesRemember places config job (Entered x.place state.Waiting ∷ c) (without_at at j.instances) (instances_of job.name (Entered x.place state.Waiting ∷ c)) = rw (without-nth at (instances_of job.name c) x its_there once) later in (
-      subst (λ (y : JobDef). InstancesRemember places config y (Entered x.place state.Waiting ∷ c) (without_at at j.instances) (instances_of y.name (Entered x.place state.Waiting ∷ c))) (sym is) here,
+    let mine : InstancesRemember places config c j.instances (instances_of job.name c) = subst (λ (y : JobDef). InstancesRemember places config c j.instances (instances_of y.name c)) is r.0 in
+    let less = instances-less places config c at j.instances (instances_of job.name c) mine in
+    let later = instances-later places config (Entered x.place state.Waiting) c (without_at at j.instances) (without_at at (instances_of job.name c)) (λ y. refl) less in
+    let here : InstancesRemember places config (Entered x.place state.Waiting ∷ c) (without_at at j.instances) (instances_of job.name (Entered x.place state.Waiting ∷ c)) = rw (without-nth at (instances_of job.name c) x its_there once) later in (
+      subst (λ (y : JobDef). InstancesRemember places config (Entered x.place state.Waiting ∷ c) (without_at at j.instances) (instances_of y.name (Entered x.place state.Waiting ∷ c))) (sym is) here,
       others-left places config c job x its jobs known (subst (λ (y : JobDef). AllByRecursion (λ other. bytes_eq other.name y.name ≡ false) jobs) is distinct.0) r.1,
     )
 stops-left places config c (suc place) at job x (j ∷ its) (d ∷ jobs) distinct there its_there r =

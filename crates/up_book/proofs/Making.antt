@@ -16,7 +16,7 @@ use Rattle.up_book.specs.declared.past.Past.{Past}
 use Rattle.up_job.specs.declared.instance_key.InstanceKey.{InstanceKey}
 use Rattle.up_job.specs.declared.instances.JobInstances.{JobInstances}
 use Rattle.up_job.specs.declared.instance.Instance.{Instance as Kept}
-use Rattle.up_job.specs.InstanceLists.{limits_of, name_of, new_instance}
+use Rattle.up_job.specs.InstanceLists.{name_of, new_instance}
 use Rattle.up_job.specs.Named.{named}
 use Rattle.up_job.specs.Named.{place_of as place_of_name}
 use Rattle.up_job.specs.JobLists.{list_of}
@@ -54,16 +54,16 @@ uses-more id kept (suc place) (j ∷ jobs) none = omega (arith, uses-more id kep
 
 pub forgets-made : (book after : Past) (config : Configuration) (c : Chronicle) (place : ℕ) (job : JobDef) (name : Bytes) (trigger : Option (List Mark)) → Forgets book config c → nth place config.jobs ≡ Some job
     → instance_named (called job.name name) c ≡ None → ((places : Places) → Remembers places trigger job.stop_on []) → ((id : EventId) → uses_by id trigger ≡ 0)
-    → after.instances ≡ with_at place (with_made (new_instance name (limits_of job) trigger)) book.instances → after.starts ≡ book.starts → after.events ≡ book.events → after.reading ≡ book.reading → Forgets after config (Made job name ∷ c)
+    → after.instances ≡ with_at place (with_made (new_instance name job trigger)) book.instances → after.starts ≡ book.starts → after.events ≡ book.events → after.reading ≡ book.reading → Forgets after config (Made job name ∷ c)
 forgets-made book after config c place job name trigger f there none blank unused does starts events reading =
     let follow : MayFollow config c (Made job name) = (none, named-there place config.jobs job there f.lives.distinct) in
-    let kept = new_instance name (limits_of job) trigger in
+    let kept = new_instance name job trigger in
     let places = place_of book.events (queue c) in
     let lives : Keeps places after.instances config (Made job name ∷ c) = record {
       jobs = rw does (keeps-made places kept book.instances config c place job name f.lives.jobs f.lives.distinct there f.lives.older
-          (f.lives.later job (record { place = length c; name = name; file = job }) (omega arith)) (new-blank places job name trigger));
+          (f.lives.later (record { place = length c; name = name; file = job }) (omega arith)) (new-blank places job name trigger));
       older = older-after (Made job name) c tt f.lives.older;
-      later = λ other x past. spared-made config other job name c x (ne_eqb (length c) x.place (λ e. omega (arith, past))) (f.lives.older x.place) ∙ f.lives.later other x (omega (arith, past));
+      later = λ x past. spared-made job name c x (ne_eqb (length c) x.place (λ e. omega (arith, past))) (f.lives.older x.place) ∙ f.lives.later x (omega (arith, past));
       distinct = f.lives.distinct;
     } in
     let remembered : Remembered places after.instances book.starts.items config (Made job name ∷ c) =
@@ -76,11 +76,11 @@ pub position-so : (book : Past) (config : Configuration) (c : Chronicle) (place 
     → position_at name place book.instances ≡ position_in name (map (λ (x : Instance). x.name) (instances_of job.name c))
 position-so book config c place job name f there =
     let places = place_of book.events (queue c) in
-    let summed = map-nth (job_summary config c) place config.jobs job there in
-    let viewed : nth place (map (job_view places) book.instances) ≡ Some (job_summary config c job) = ap (nth place) f.lives.jobs ∙ summed in
-    let its = nth-map (job_view places) place book.instances (job_summary config c job) viewed in
+    let summed = map-nth (job_summary c) place config.jobs job there in
+    let viewed : nth place (map (job_view places) book.instances) ≡ Some (job_summary c job) = ap (nth place) f.lives.jobs ∙ summed in
+    let its = nth-map (job_view places) place book.instances (job_summary c job) viewed in
     let names : map (λ (k : Kept). k.name) its.0.instances ≡ map (λ (x : Instance). x.name) (instances_of job.name c) =
-    names-same places config job c its.0.instances (instances_of job.name c) (ap (λ (s : JobSummary). s.instances) its.2) in
+    names-same places c its.0.instances (instances_of job.name c) (ap (λ (s : JobSummary). s.instances) its.2) in
     ap (λ o. position_in name (map (λ (k : Kept). k.name) (list_of o))) its.1 ∙ ap (position_in name) names
 
 -- the key of the new one
@@ -90,12 +90,12 @@ pub made-key : (book : Past) (after : List JobInstances) (config : Configuration
 made-key book after config c place position job kept name f there does stands named =
     let places = place_of book.events (queue c) in
     let d : Chronicle = Made job name ∷ c in
-    let summed = map-nth (job_summary config c) place config.jobs job there in
-    let viewed : nth place (map (job_view places) book.instances) ≡ Some (job_summary config c job) = ap (nth place) f.lives.jobs ∙ summed in
-    let its = nth-map (job_view places) place book.instances (job_summary config c job) viewed in
+    let summed = map-nth (job_summary c) place config.jobs job there in
+    let viewed : nth place (map (job_view places) book.instances) ≡ Some (job_summary c job) = ap (nth place) f.lives.jobs ∙ summed in
+    let its = nth-map (job_view places) place book.instances (job_summary c job) viewed in
     let same_job : its.0.name ≡ job.name = ap (λ (s : JobSummary). s.name) its.2 in
     let names : map (λ (k : Kept). k.name) its.0.instances ≡ map (λ (x : Instance). x.name) (instances_of job.name c) =
-    names-same places config job c its.0.instances (instances_of job.name c) (ap (λ (s : JobSummary). s.instances) its.2) in
+    names-same places c its.0.instances (instances_of job.name c) (ap (λ (s : JobSummary). s.instances) its.2) in
     let made : Instance = record { place = length c; name = name; file = job } in
     let at : position ≡ position_in name (map (λ (x : Instance). x.name) (instances_of job.name c)) = stands ∙ ap (λ o. position_in kept.name (map (λ (k : Kept). k.name) (list_of o))) its.1 ∙ ap (position_in kept.name) names ∙ ap (λ n. position_in n (map (λ (x : Instance). x.name) (instances_of job.name c))) named in
     let here : nth place after ≡ Some (with_made kept its.0) = ap (nth place) does ∙ nth-with (with_made kept) place book.instances its.0 its.1 in

@@ -9,8 +9,9 @@ use Rattle.up_model.specs.declared.who.Who.{Who}
 use Rattle.up_model.specs.Chronicle.{Chronicle, Entry, Made, Entered}
 use Rattle.up_model.specs.Configuration.{Configuration}
 use Rattle.up_model.specs.Instances.{Instance, is_before, with_instance, without_instance, instances_of}
-use Rattle.up_model.specs.Readings.{made_at}
+use Rattle.up_model.specs.Readings.{made_at, file_of}
 use Rattle.up_model.specs.Values.{Bytes}
+use Rattle.up_model.proofs.FileLaws.{HasFile, files}
 use Rattle.up_model.proofs.Places.{bytes_same, bytes_refl, older-other, all-without, count, one_if, all_instances-once, instances-exist}
 use Rattle.up_job.specs.declared.instance_key.InstanceKey.{InstanceKey}
 use Rattle.up_job.specs.declared.instances.JobInstances.{JobInstances}
@@ -152,39 +153,39 @@ all-of P (x ∷ xs) each = (each x, all-of P xs each)
 -- what one step changes: one instance, and of it this
 pub record Touches (config : Configuration) (c d : Chronicle) (place i : ℕ) (g : Summary → Summary) : Type 0 where
   pub instances : (job : Bytes) → instances_of job d ≡ instances_of job c
-  pub others : (job : JobDef) → AllByRecursion (λ x. (x.place == i) ≡ false → summary config job d x ≡ summary config job c x) (instances_of job.name c)
-  pub here : (job : JobDef) (x : Instance) → nth place config.jobs ≡ Some job → x.place ≡ i → summary config job d x ≡ g (summary config job c x)
+  pub others : (job : JobDef) → AllByRecursion (λ x. (x.place == i) ≡ false → summary d x ≡ summary c x) (instances_of job.name c)
+  pub here : (x : Instance) → x.place ≡ i → summary d x ≡ g (summary c x)
 
 abbrev pub in_job : ℕ → (Summary → Summary) → JobSummary → JobSummary
 in_job at g job = record job { instances = with_at at g job.instances }
 
 touched-job : (config : Configuration) (c d : Chronicle) (place at i : ℕ) (g : Summary → Summary) (job : JobDef) (x : Instance) → Touches config c d place i g → nth place config.jobs ≡ Some job
-    → nth at (instances_of job.name c) ≡ Some x → x.place ≡ i → job_summary config d job ≡ in_job at g (job_summary config c job)
+    → nth at (instances_of job.name c) ≡ Some x → x.place ≡ i → job_summary d job ≡ in_job at g (job_summary c job)
 touched-job config c d at_job at i g job x t in_jobs there place =
     let once : count x.place (instances_of job.name c) ≤ 1 = omega (arith, instances-exist x.place job.name c, all_instances-once x.place c) in
-    let others : AllByRecursion (λ y. (y.place == x.place) ≡ false → summary config job d y ≡ summary config job c y) (instances_of job.name c) =
-    subst (λ p. AllByRecursion (λ y. (y.place == p) ≡ false → summary config job d y ≡ summary config job c y) (instances_of job.name c)) (sym place) (t.others job) in
-    rw (t.instances job.name) (ap (λ (xs : List Summary). record (job_summary config c job) { instances = xs })
-    (with_at-read (summary config job c) (summary config job d) g at (instances_of job.name c) x there (t.here job x in_jobs place)
-    (elsewhere-one (summary config job c) (summary config job d) at (instances_of job.name c) x there once others)))
+    let others : AllByRecursion (λ y. (y.place == x.place) ≡ false → summary d y ≡ summary c y) (instances_of job.name c) =
+    subst (λ p. AllByRecursion (λ y. (y.place == p) ≡ false → summary d y ≡ summary c y) (instances_of job.name c)) (sym place) (t.others job) in
+    rw (t.instances job.name) (ap (λ (xs : List Summary). record (job_summary c job) { instances = xs })
+    (with_at-read (summary c) (summary d) g at (instances_of job.name c) x there (t.here x place)
+    (elsewhere-one (summary c) (summary d) at (instances_of job.name c) x there once others)))
 
 spared-job : (config : Configuration) (c d : Chronicle) (place i : ℕ) (g : Summary → Summary) (who : Who) (other : JobDef) → Touches config c d place i g → made_at i c ≡ Some who
-    → bytes_eq other.name who.job ≡ false → job_summary config d other ≡ job_summary config c other
+    → bytes_eq other.name who.job ≡ false → job_summary d other ≡ job_summary c other
 spared-job config c d place i g who other t made apart =
     let none = none-of-others other.name c i who (instances_of other.name c) (known-all other.name c) made apart in
-    rw (t.instances other.name) (ap (λ (xs : List Summary). record (job_summary config c other) { instances = xs })
-    (absent (summary config other c) (summary config other d) i (instances_of other.name c) none (t.others other)))
+    rw (t.instances other.name) (ap (λ (xs : List Summary). record (job_summary c other) { instances = xs })
+    (absent (summary c) (summary d) i (instances_of other.name c) none (t.others other)))
 
 -- all jobs after one instance of one of them changed
 pub touched : (config : Configuration) (c d : Chronicle) (key : InstanceKey) (i : ℕ) (g : Summary → Summary) (job : JobDef) (x : Instance) (jobs : List JobDef)
     → Touches config c d key.job i g → nth key.job config.jobs ≡ Some job → AreDistinct jobs → nth key.job jobs ≡ Some job → nth key.at (instances_of job.name c) ≡ Some x → x.place ≡ i
-    → map (job_summary config d) jobs ≡ with_at key.job (in_job key.at g) (map (job_summary config c) jobs)
+    → map (job_summary d) jobs ≡ with_at key.job (in_job key.at g) (map (job_summary c) jobs)
 touched config c d key i g job x jobs t in_config distinct in_jobs in_instances place =
     let its = nth-all (IsKnown job.name c) key.at (instances_of job.name c) x in_instances (known-all job.name c) in
     let made : made_at i c ≡ Some (called job.name x.name) = ap (λ p. made_at p c) (sym place) ∙ its.1 in
-    with_at-read (job_summary config c) (job_summary config d) (in_job key.at g) key.job jobs job in_jobs
+    with_at-read (job_summary c) (job_summary d) (in_job key.at g) key.job jobs job in_jobs
     (touched-job config c d key.job key.at i g job x t in_config in_instances place)
-    (jobs-elsewhere (job_summary config c) (job_summary config d) key.job jobs job in_jobs distinct
+    (jobs-elsewhere (job_summary c) (job_summary d) key.job jobs job in_jobs distinct
     (λ other apart. spared-job config c d key.job i g (called job.name x.name) other t made apart))
 
 -- an instance that a key stands for
@@ -196,18 +197,18 @@ pub record There (places : Places) (jobs : List JobInstances) (config : Configur
   pub in_instances : nth key.at (instances_of job.name c) ≡ Some its
   pub place : its.place ≡ i
   pub found : kept_at key jobs ≡ Some kept
-  pub same : view places kept ≡ summary config job c its
+  pub same : view places kept ≡ summary c its
 
 there-in : (places : Places) (jobs : List JobInstances) (config : Configuration) (c : Chronicle) (key : InstanceKey) (i : ℕ) (kept_job : JobInstances) (job : JobDef) (its : Instance)
-    → nth key.job jobs ≡ Some kept_job → nth key.job config.jobs ≡ Some job → job_summary config c job ≡ job_view places kept_job
+    → nth key.job jobs ≡ Some kept_job → nth key.job config.jobs ≡ Some job → job_summary c job ≡ job_view places kept_job
     → nth key.at (instances_of kept_job.name c) ≡ Some its → its.place ≡ i → There places jobs config c key i
 there-in places jobs config c key i kept_job job its kept_there job_there same its_there place =
     let name : job.name ≡ kept_job.name = ap (λ (s : JobSummary). s.name) same in
-    let lists : map (summary config job c) (instances_of job.name c) ≡ map (view places) kept_job.instances = ap (λ (s : JobSummary). s.instances) same in
+    let lists : map (summary c) (instances_of job.name c) ≡ map (view places) kept_job.instances = ap (λ (s : JobSummary). s.instances) same in
     let mine : nth key.at (instances_of job.name c) ≡ Some its = ap (λ n. nth key.at (instances_of n c)) name ∙ its_there in
-    let seen_so : nth key.at (map (summary config job c) (instances_of job.name c)) ≡ Some (summary config job c its) = map-nth (summary config job c) key.at (instances_of job.name c) its mine in
-    let viewed : nth key.at (map (view places) kept_job.instances) ≡ Some (summary config job c its) = ap (nth key.at) (sym lists) ∙ seen_so in
-    let found = nth-map (view places) key.at kept_job.instances (summary config job c its) viewed in
+    let seen_so : nth key.at (map (summary c) (instances_of job.name c)) ≡ Some (summary c its) = map-nth (summary c) key.at (instances_of job.name c) its mine in
+    let viewed : nth key.at (map (view places) kept_job.instances) ≡ Some (summary c its) = ap (nth key.at) (sym lists) ∙ seen_so in
+    let found = nth-map (view places) key.at kept_job.instances (summary c its) viewed in
     record {
       job = job;
       its = its;
@@ -224,18 +225,30 @@ there-by : (places : Places) (jobs : List JobInstances) (config : Configuration)
 there-by places jobs config c key i None there keeps found = absurd cc
 there-by places jobs config c key i (Some kept_job) there keeps found =
     let viewed : nth key.job (map (job_view places) jobs) ≡ Some (job_view places kept_job) = map-nth (job_view places) key.job jobs kept_job there in
-    let summed : nth key.job (map (job_summary config c) config.jobs) ≡ Some (job_view places kept_job) = ap (nth key.job) (sym keeps) ∙ viewed in
-    let job = nth-map (job_summary config c) key.job config.jobs (job_view places kept_job) summed in
+    let summed : nth key.job (map (job_summary c) config.jobs) ≡ Some (job_view places kept_job) = ap (nth key.job) (sym keeps) ∙ viewed in
+    let job = nth-map (job_summary c) key.job config.jobs (job_view places kept_job) summed in
     by_case (nth key.at (instances_of kept_job.name c)) refl found job.0 job.1 job.2
   where
     by_case : (its : Option Instance) → nth key.at (instances_of kept_job.name c) ≡ its → option_map {T = Instance} (λ one. one.place) its ≡ Some i
-        → (job : JobDef) → nth key.job config.jobs ≡ Some job → job_summary config c job ≡ job_view places kept_job → There places jobs config c key i
+        → (job : JobDef) → nth key.job config.jobs ≡ Some job → job_summary c job ≡ job_view places kept_job → There places jobs config c key i
     by_case None is found job job_there same = absurd cc
     by_case (Some its) is found job job_there same = there-in places jobs config c key i kept_job job its there job_there same is cc
 
 pub there : (places : Places) (jobs : List JobInstances) (config : Configuration) (c : Chronicle) (key : InstanceKey) (i : ℕ)
     → KeepsJobs places jobs config c → place_at jobs c key ≡ Some i → There places jobs config c key i
 there places jobs config c key i keeps found = there-by places jobs config c key i (nth key.job jobs) refl keeps found
+
+-- its file is the one by which it was made
+pub there-file : (places : Places) (jobs : List JobInstances) (config : Configuration) (c : Chronicle) (key : InstanceKey) (i : ℕ) (t : There places jobs config c key i) → file_of i c ≡ Some t.its.file
+there-file places jobs config c key i t =
+    let has = nth-all (HasFile t.job.name c) key.at (instances_of t.job.name c) t.its t.in_instances (files t.job.name c) in
+    ap (λ p. file_of p c) (sym t.place) ∙ has.1
+
+same-file : {a b : JobDef} → Some a ≡ Some b → a ≡ b
+same-file same = cc
+
+pub its-file : (places : Places) (jobs : List JobInstances) (config : Configuration) (c : Chronicle) (key : InstanceKey) (i : ℕ) (job : JobDef) (t : There places jobs config c key i) → file_of i c ≡ Some job → t.its.file ≡ job
+its-file places jobs config c key i job t file = same-file (sym (there-file places jobs config c key i t) ∙ file)
 
 -- one instance is kept as it changes
 pub one : (places : Places) (f : Kept → Kept) (g : Summary → Summary) (jobs : List JobInstances) (config : Configuration) (c d : Chronicle) (key : InstanceKey) (i : ℕ)

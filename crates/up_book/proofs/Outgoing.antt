@@ -69,18 +69,17 @@ made-there at job x c here =
     its.1
 
 -- an order
-pub ordered-out : (config : Configuration) (c : Chronicle) (place at : ℕ) (job : JobDef) (x : Instance) (its : Process) → AreDistinct config.jobs → AreMadeBy config.jobs c → nth place config.jobs ≡ Some job
-    → nth at (instances_of job.name c) ≡ Some x → outputs_of (Ordered x.place its ∷ c) ≡ outputs_of c ++ order_by job (summary config job c x) its
+pub ordered-out : (c : Chronicle) (at : ℕ) (job : JobDef) (x : Instance) (its : Process) → nth at (instances_of job.name c) ≡ Some x
+    → outputs_of (Ordered x.place its ∷ c) ≡ outputs_of c ++ order_by x.file (summary c x) its
 unfolding outputs_of
-ordered-out config c place at job x its distinct made there here =
+ordered-out c at job x its here =
     let has = nth-all (HasFile job.name c) at (instances_of job.name c) x here (files job.name c) in
-    let by = nth-all (λ y. job_named job.name config.jobs ≡ Some y.file) at (instances_of job.name c) x here (are_by config.jobs job.name c made) in
-    let file : file_of x.place c ≡ Some job = has.1 ∙ sym by ∙ named-there place config.jobs job there distinct in
-    rw (made-there at job x c here, file) refl
+    let made : made_at x.place c ≡ Some (called x.file.name x.name) = made-there at job x c here ∙ ap (λ name. Some (called name x.name)) (sym has.2) in
+    rw (made, has.1) refl
 
 -- a signal
 pub signalled-out : (config : Configuration) (c : Chronicle) (at : ℕ) (job : JobDef) (x : Instance) (signal : ℕ) (by_timer : Bool)
-    → nth at (instances_of job.name c) ≡ Some x → outputs_of (Signalled x.place signal by_timer ∷ c) ≡ outputs_of c ++ signal_by job (summary config job c x) signal
+    → nth at (instances_of job.name c) ≡ Some x → outputs_of (Signalled x.place signal by_timer ∷ c) ≡ outputs_of c ++ signal_by job (summary c x) signal
 unfolding outputs_of
 signalled-out config c at job x signal by_timer here = rw (made-there at job x c here) refl
 
@@ -125,7 +124,7 @@ pid-own : (o : Option Process) (i : ℕ) (c : Chronicle) → pid_if i o c ≡ ow
 pid-own None i c = refl
 pid-own (Some its) i c = sym (ap (λ (w : Child). w.pid) (work-known its i c))
 
-pub status-known : (config : Configuration) (c : Chronicle) (at : ℕ) (job : JobDef) (x : Instance) → nth at (instances_of job.name c) ≡ Some x → status_of x.place c ≡ status_by job (summary config job c x)
+pub status-known : (config : Configuration) (c : Chronicle) (at : ℕ) (job : JobDef) (x : Instance) → nth at (instances_of job.name c) ≡ Some x → status_of x.place c ≡ status_by job (summary c x)
 status-known config c at job x here = rw (made-there at job x c here, pid-own (own_process (Rattle.up_model.specs.Readings.state_of x.place c)) x.place c) refl
 
 -- a signal by what is kept

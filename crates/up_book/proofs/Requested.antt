@@ -66,7 +66,7 @@ status-apart i e c apart older =
 
 -- the text that is to be kept of an instance that leaves
 pub status-left : (config : Configuration) (c : Chronicle) (at : ℕ) (job : JobDef) (x : Instance) → nth at (instances_of job.name c) ≡ Some x → x.place < length c
-    → status_of x.place (Entered x.place state.Waiting ∷ c) ≡ status_by job (record (summary config job c x) { state = state.Waiting })
+    → status_of x.place (Entered x.place state.Waiting ∷ c) ≡ status_by job (record (summary c x) { state = state.Waiting })
 status-left config c at job x here older = rw (older-other (length c) x.place older, made-there at job x c here, eq-eqb x.place x.place refl) refl
 
 count-gone : (p : ℕ) (xs : List Instance) → count p (without_instance p xs) ≡ 0

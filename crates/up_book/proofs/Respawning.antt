@@ -1,8 +1,6 @@
 -- The moments of respawns.
 use Rattle.std.proofs.Common.{◌≡◌, ℕ, take, Some, refl, sym, ◌∙◌, ap, subst}
 use Rattle.up_conf.specs.declared.job.JobDef.{JobDef}
-use Rattle.up_stanza.specs.declared.limit.Limit.{Limit}
-use Rattle.up_job.specs.Lists.{nth}
 use Rattle.up_job.specs.Moments.{moments_of, room, Falls}
 use Rattle.up_job.specs.declared.change.Change.TheVariants as change
 use Rattle.up_job.specs.declared.instance.Instance.{Instance as Kept}
@@ -27,15 +25,15 @@ some_same : {X : Type 0} {a b : X} → Some a ≡ Some b → a ≡ b
 some_same same = cc
 
 -- the moments that are kept are the last ones
-pub moments-known : (book : Past) (config : Configuration) (c : Chronicle) (key : InstanceKey) (i : ℕ) (k : Kept) (job : JobDef) (limit : Limit) → Forgets book config c → instance_place book c key ≡ Some i
-    → nth key.job config.jobs ≡ Some job → job.limit ≡ limit → kept_at key book.instances ≡ Some k → (k.moments.items ≡ take (room limit) (moments_of i c)) × Falls book.reading (moments_of i c)
-moments-known book config c key i k job limit f found in_jobs same kept =
+pub moments-known : (book : Past) (config : Configuration) (c : Chronicle) (key : InstanceKey) (i : ℕ) (k : Kept) → Forgets book config c → instance_place book c key ≡ Some i
+    → kept_at key book.instances ≡ Some k → (k.moments.items ≡ take (room k.file.limit) (moments_of i c)) × Falls book.reading (moments_of i c)
+moments-known book config c key i k f found kept =
     let t = there (place_of book.events (queue c)) book.instances config c key i f.lives.jobs found in
     let mine : t.kept ≡ k = some_same (sym t.found ∙ kept) in
-    let its : t.job ≡ job = some_same (sym t.in_jobs ∙ in_jobs) in
-    let all : t.kept.moments.items ≡ take (room t.job.limit) (moments_of t.its.place c) = ap (λ (s : Summary). s.moments.items) t.same in (
-      ap (λ (x : Kept). x.moments.items) (sym mine) ∙ all ∙ ap (λ (j : JobDef). take (room j.limit) (moments_of t.its.place c)) its ∙ ap (λ l. take (room l) (moments_of t.its.place c)) same
-          ∙ ap (λ p. take (room limit) (moments_of p c)) t.place,
+    let file : t.its.file ≡ k.file = sym (ap (λ (s : Summary). s.file) t.same) ∙ ap (λ (x : Kept). x.file) mine in
+    let all : t.kept.moments.items ≡ take (room t.its.file.limit) (moments_of t.its.place c) = ap (λ (s : Summary). s.moments.items) t.same in (
+      ap (λ (x : Kept). x.moments.items) (sym mine) ∙ all ∙ ap (λ (j : JobDef). take (room j.limit) (moments_of t.its.place c)) file
+          ∙ ap (λ p. take (room k.file.limit) (moments_of p c)) t.place,
       subst (λ n. Falls n (moments_of i c)) (sym f.reading) (f.regular.falling i),
     )
 
@@ -45,7 +43,7 @@ is-respawned places config c i moment older = record {
   apart = λ p apart. apart;
   instances = λ job. refl;
   seen = λ x. refl;
-  here = λ job x at. rw (at, holding-later (Respawned i moment) c (holders x.place c) (older x.place), noted-take (room job.limit) moment (moments_of x.place c)) refl;
+  here = λ x at. rw (at, holding-later (Respawned i moment) c (holders x.place c) (older x.place), noted-take (room x.file.limit) moment (moments_of x.place c)) refl;
 }
 
 pub is-respawned-at : (places : Places) (config : Configuration) (c : Chronicle) (i moment : ℕ) → moment ≡ now c → ((p : ℕ) → HoldsOlder p c) → Is places config c i (Respawned i (now c)) (change.Respawns moment)

@@ -18,7 +18,7 @@ use Rattle.up_model.specs.Configuration.{Configuration}
 use Rattle.up_model.specs.Held.{is_spoilt}
 use Rattle.up_model.specs.Instances.{Instance, instances_of}
 use Rattle.up_model.specs.Queue.{queue}
-use Rattle.up_model.specs.Readings.{event_at, env}
+use Rattle.up_model.specs.Readings.{event_at, env, file_of}
 use Rattle.up_model.specs.Seen as seen
 use Rattle.up_model.specs.declared.event_id.EventId.{EventId}
 use Rattle.up_model.specs.Environments.{env_of_job}
@@ -38,7 +38,7 @@ use Rattle.up_book.proofs.Entering.{brought}
 use Rattle.up_book.proofs.Holds.{holds-all, frees-all, all-standings, all-places, mild-hold, mild-free}
 use Rattle.up_book.proofs.Leaving.{trigger-listed}
 use Rattle.up_book.proofs.Lists.{cons_same}
-use Rattle.up_book.proofs.One.{There, there, IsKnown, known-all, nth-all}
+use Rattle.up_book.proofs.One.{There, there, its-file, IsKnown, known-all, nth-all}
 use Rattle.up_book.proofs.Regulars.{regular-next}
 use Rattle.up_book.proofs.Sights.{SeenBy, remembered-stop, remembered-start}
 use Rattle.up_book.proofs.Standing.{age-all, standings-later}
@@ -119,10 +119,10 @@ forgets-seen book after config c e f spares new same follow spoilt clock_same re
     }
 
 pub offered-spares : (config : Configuration) (c : Chronicle) (x : Expression) (e : ℕ) → Spares config c (Offered x e)
-offered-spares config c x e = record { spares = λ job y older. spared config job (Offered x e) c y refl older; instances = λ job. refl }
+offered-spares config c x e = record { spares = λ y older. spared (Offered x e) c y refl older; instances = λ job. refl }
 
 fired-spares : (config : Configuration) (c : Chronicle) (x : Expression) (ts : List ℕ) → Spares config c (Fired x ts)
-fired-spares config c x ts = record { spares = λ job y older. spared config job (Fired x ts) c y refl older; instances = λ job. refl }
+fired-spares config c x ts = record { spares = λ y older. spared (Fired x ts) c y refl older; instances = λ job. refl }
 
 if-apart : {X : Type 0} (b : Bool) (x y : X) → b ≡ false → (if b then x else y) ≡ y
 if-apart true x y h = absurd cc
@@ -135,39 +135,39 @@ fired-seen : (config : Configuration) (c : Chronicle) (own : Expression) (ts : L
 fired-seen config c own ts = record { instances = λ job. refl; others = λ x apart. if-apart (seen.same_expression own x) _ _ apart }
 
 -- what the `stop on` of an instance remembers before
-stop-in : (places : Places) (config : Configuration) (job : JobDef) (c : Chronicle) (at : ℕ) (its : List Kept) (xs : List Instance) (k : Kept) (x : Instance) → nth at its ≡ Some k → nth at xs ≡ Some x → InstancesRemember places config job c its xs
-    → Remembers places k.stop_on job.stop_on (seen.seen config (StopOn x.place) c)
-stop-in places config job c at [] xs k x there here r = absurd cc
-stop-in places config job c at (j ∷ its) [] k x there here r = absurd r
-stop-in places config job c zero (j ∷ its) (y ∷ xs) k x there here r =
+stop-in : (places : Places) (config : Configuration) (c : Chronicle) (at : ℕ) (its : List Kept) (xs : List Instance) (k : Kept) (x : Instance) → nth at its ≡ Some k → nth at xs ≡ Some x → InstancesRemember places config c its xs
+    → Remembers places k.stop_on x.file.stop_on (seen.seen config (StopOn x.place) c)
+stop-in places config c at [] xs k x there here r = absurd cc
+stop-in places config c at (j ∷ its) [] k x there here r = absurd r
+stop-in places config c zero (j ∷ its) (y ∷ xs) k x there here r =
     let mine : j ≡ k = cc in
     let its_own : y ≡ x = cc in
-    subst (λ (z : Instance). Remembers places k.stop_on job.stop_on (seen.seen config (StopOn z.place) c)) its_own (subst (λ (z : Kept). Remembers places z.stop_on job.stop_on (seen.seen config (StopOn y.place) c)) mine r.0)
-stop-in places config job c (suc at) (j ∷ its) (y ∷ xs) k x there here r = stop-in places config job c at its xs k x there here r.1
+    subst (λ (z : Instance). Remembers places k.stop_on z.file.stop_on (seen.seen config (StopOn z.place) c)) its_own (subst (λ (z : Kept). Remembers places z.stop_on y.file.stop_on (seen.seen config (StopOn y.place) c)) mine r.0)
+stop-in places config c (suc at) (j ∷ its) (y ∷ xs) k x there here r = stop-in places config c at its xs k x there here r.1
 
 stop-of : (places : Places) (config : Configuration) (c : Chronicle) (place at : ℕ) (its : List JobInstances) (jobs : List JobDef) (j : JobInstances) (job : JobDef) (k : Kept) (x : Instance) → nth place its ≡ Some j → nth at j.instances ≡ Some k
-    → nth place jobs ≡ Some job → nth at (instances_of job.name c) ≡ Some x → StopsRemember places config c its jobs → Remembers places k.stop_on job.stop_on (seen.seen config (StopOn x.place) c)
+    → nth place jobs ≡ Some job → nth at (instances_of job.name c) ≡ Some x → StopsRemember places config c its jobs → Remembers places k.stop_on x.file.stop_on (seen.seen config (StopOn x.place) c)
 stop-of places config c place at [] jobs j job k x there found in_jobs here r = absurd cc
 stop-of places config c place at (i ∷ its) [] j job k x there found in_jobs here r = absurd r
 stop-of places config c zero at (i ∷ its) (d ∷ jobs) j job k x there found in_jobs here r =
     let mine : i ≡ j = cc in
     let own : d ≡ job = cc in
-    stop-in places config job c at j.instances (instances_of job.name c) k x found here
-    (subst (λ (z : JobDef). InstancesRemember places config z c j.instances (instances_of z.name c)) own (subst (λ (z : JobInstances). InstancesRemember places config d c z.instances (instances_of d.name c)) mine r.0))
+    stop-in places config c at j.instances (instances_of job.name c) k x found here
+    (subst (λ (z : JobDef). InstancesRemember places config c j.instances (instances_of z.name c)) own (subst (λ (z : JobInstances). InstancesRemember places config c z.instances (instances_of d.name c)) mine r.0))
 stop-of places config c (suc place) at (i ∷ its) (d ∷ jobs) j job k x there found in_jobs here r = stop-of places config c place at its jobs j job k x there found in_jobs here r.1
 
 pub stop-known : (book : Past) (config : Configuration) (c : Chronicle) (key : InstanceKey) (i : ℕ) (t : There (place_of book.events (queue c)) book.instances config c key i) → Forgets book config c
-    → Remembers (place_of book.events (queue c)) t.kept.stop_on t.job.stop_on (seen.seen config (StopOn t.its.place) c)
+    → Remembers (place_of book.events (queue c)) t.kept.stop_on t.its.file.stop_on (seen.seen config (StopOn t.its.place) c)
 stop-known book config c key i t f = by_job (nth key.job book.instances) refl t.found
   where
-    by_job : (o : Option JobInstances) → nth key.job book.instances ≡ o → nth key.at (list_of o) ≡ Some t.kept → Remembers (place_of book.events (queue c)) t.kept.stop_on t.job.stop_on (seen.seen config (StopOn t.its.place) c)
+    by_job : (o : Option JobInstances) → nth key.job book.instances ≡ o → nth key.at (list_of o) ≡ Some t.kept → Remembers (place_of book.events (queue c)) t.kept.stop_on t.its.file.stop_on (seen.seen config (StopOn t.its.place) c)
     by_job None is found = absurd cc
     by_job (Some j) is found = stop-of (place_of book.events (queue c)) config c key.job key.at book.instances config.jobs j t.job t.kept t.its is found t.in_jobs t.in_instances f.remembered.stops
 
 -- the `stop on` of an instance was offered an event
 pub forgets-offered-stop : (book after : Past) (config : Configuration) (c : Chronicle) (key : InstanceKey) (i e : ℕ) (id : EventId) (live : LiveEvent) (t : There (place_of book.events (queue c)) book.instances config c key i) (trigger : Option (List Mark)) (nodes : List ℕ)
-    (environment : Bindings) (offer : Offer) → Forgets book config c → event_place book c id ≡ Some e → named id book.events ≡ Some live → Hears t.kept.stop_on trigger t.job.stop_on nodes id live.event environment offer
-    → environment ≡ env i c → nodes ≡ naming_in t.job.stop_on live.event.name → after.instances ≡ changed_at key (with_stop_on trigger) book.instances → after.starts ≡ book.starts
+    (environment : Bindings) (offer : Offer) → Forgets book config c → event_place book c id ≡ Some e → named id book.events ≡ Some live → Hears t.kept.stop_on trigger t.its.file.stop_on nodes id live.event environment offer
+    → environment ≡ env i c → nodes ≡ naming_in t.its.file.stop_on live.event.name → after.instances ≡ changed_at key (with_stop_on trigger) book.instances → after.starts ≡ book.starts
     → after.events ≡ all_changed with_hold (as_holders (replicate offer.kept id)) book.events → after.reading ≡ book.reading → Forgets after config (Offered (StopOn i) e ∷ c)
 forgets-offered-stop book after config c key i e id live t trigger nodes environment offer f placed there hears in_force leaves does starts events reading =
     subst (λ p. Forgets after config (Offered (StopOn p) e ∷ c)) t.place whole
@@ -181,7 +181,7 @@ forgets-offered-stop book after config c key i e id live t trigger nodes environ
     sights : List Sight
     sights = seen.seen config (StopOn t.its.place) c
 
-    before : Remembers places t.kept.stop_on t.job.stop_on (seen.seen config (StopOn t.its.place) c)
+    before : Remembers places t.kept.stop_on t.its.file.stop_on (seen.seen config (StopOn t.its.place) c)
     before = stop-known book config c key i t f
 
     counted : (other : EventId) → holds_of other (all_changed with_hold (as_holders (replicate offer.kept id)) book.events) ≡ uses other (changed_at key (with_stop_on trigger) book.instances) + start_uses other book.starts.items
@@ -198,8 +198,8 @@ forgets-offered-stop book after config c key i e id live t trigger nodes environ
         let saw : seen.seen config (StopOn t.its.place) (Offered (StopOn t.its.place) e ∷ c) ≡ seen.seen config (StopOn t.its.place) c ++ sight_of e live.event.name live.event.vars environment ∷ [] =
         seen_own config (StopOn t.its.place) (StopOn t.its.place) e c mine ∙ ap (λ o. seen.seen config (StopOn t.its.place) c ++ seen.sight_of e o (env t.its.place c)) queued
         ∙ ap (λ en. seen.seen config (StopOn t.its.place) c ++ sight_of e live.event.name live.event.vars en ∷ []) (sym in_env) in
-        let new : Remembers places trigger t.job.stop_on (seen.seen config (StopOn t.its.place) (Offered (StopOn t.its.place) e ∷ c)) =
-        subst (Remembers places trigger t.job.stop_on) (sym saw) (hears.remembers places (seen.seen config (StopOn t.its.place) c) e before placed leaves) in
+        let new : Remembers places trigger t.its.file.stop_on (seen.seen config (StopOn t.its.place) (Offered (StopOn t.its.place) e ∷ c)) =
+        subst (Remembers places trigger t.its.file.stop_on) (sym saw) (hears.remembers places (seen.seen config (StopOn t.its.place) c) e before placed leaves) in
         let within = (nth-all (IsKnown t.job.name c) key.at (instances_of t.job.name c) t.its t.in_instances (known-all t.job.name c)).0 in
         let remembered : Remembered places after.instances after.starts.items config (Offered (StopOn t.its.place) e ∷ c) = rw (does, starts)
         (remembered-stop places book.instances book.starts.items config c (Offered (StopOn t.its.place) e) trigger key t.job t.its (offered-seen config c (StopOn t.its.place) e) f.lives.distinct t.in_jobs t.in_instances within new f.remembered) in
@@ -212,7 +212,7 @@ forgets-offered-stop book after config c key i e id live t trigger nodes environ
 
 -- it fired
 pub forgets-fired-stop : (book after : Past) (config : Configuration) (c : Chronicle) (key : InstanceKey) (i : ℕ) (t : There (place_of book.events (queue c)) book.instances config c key i) (trigger : Option (List Mark)) (firing : Firing) (ts : List ℕ)
-    → Forgets book config c → Fires t.kept.stop_on trigger t.job.stop_on firing → after.instances ≡ changed_at key (with_stop_on trigger) book.instances → after.starts ≡ book.starts
+    → Forgets book config c → Fires t.kept.stop_on trigger t.its.file.stop_on firing → after.instances ≡ changed_at key (with_stop_on trigger) book.instances → after.starts ≡ book.starts
     → after.events ≡ all_changed (freed false) (as_holders firing.kept) book.events → after.reading ≡ book.reading → Forgets after config (Fired (StopOn i) ts ∷ c)
 forgets-fired-stop book after config c key i t trigger firing ts f fires does starts events reading =
     subst (λ p. Forgets after config (Fired (StopOn p) ts ∷ c)) t.place whole
@@ -220,7 +220,7 @@ forgets-fired-stop book after config c key i t trigger firing ts f fires does st
     places : Places
     places = place_of book.events (queue c)
 
-    before : Remembers places t.kept.stop_on t.job.stop_on (seen.seen config (StopOn t.its.place) c)
+    before : Remembers places t.kept.stop_on t.its.file.stop_on (seen.seen config (StopOn t.its.place) c)
     before = stop-known book config c key i t f
 
     kept : firing.kept ≡ kept_by t.kept.stop_on
@@ -230,7 +230,7 @@ forgets-fired-stop book after config c key i t trigger firing ts f fires does st
     listed other = ap (λ ids. holder_uses other (as_holders ids)) kept ∙ trigger-listed other t.kept.stop_on
 
     unused : (other : EventId) → uses_by other trigger ≡ 0
-    unused other = blank-unused trigger t.job.stop_on (λ others. fires.remembers places others (seen.seen config (StopOn t.its.place) c) before) other
+    unused other = blank-unused trigger t.its.file.stop_on (λ others. fires.remembers places others (seen.seen config (StopOn t.its.place) c) before) other
 
     counted : (other : EventId) → holds_of other (all_changed (freed false) (as_holders firing.kept) book.events) ≡ uses other (changed_at key (with_stop_on trigger) book.instances) + start_uses other book.starts.items
     counted other =
@@ -241,8 +241,8 @@ forgets-fired-stop book after config c key i t trigger firing ts f fires does st
     whole =
         let mine : seen.same_expression (StopOn t.its.place) (StopOn t.its.place) ≡ true = eq-eqb t.its.place t.its.place refl in
         let none : seen.seen config (StopOn t.its.place) (Fired (StopOn t.its.place) ts ∷ c) ≡ [] = rw mine refl in
-        let new : Remembers places trigger t.job.stop_on (seen.seen config (StopOn t.its.place) (Fired (StopOn t.its.place) ts ∷ c)) =
-        subst (Remembers places trigger t.job.stop_on) (sym none) (fires.remembers places places (seen.seen config (StopOn t.its.place) c) before) in
+        let new : Remembers places trigger t.its.file.stop_on (seen.seen config (StopOn t.its.place) (Fired (StopOn t.its.place) ts ∷ c)) =
+        subst (Remembers places trigger t.its.file.stop_on) (sym none) (fires.remembers places places (seen.seen config (StopOn t.its.place) c) before) in
         let within = (nth-all (IsKnown t.job.name c) key.at (instances_of t.job.name c) t.its t.in_instances (known-all t.job.name c)).0 in
         let remembered : Remembered places after.instances after.starts.items config (Fired (StopOn t.its.place) ts ∷ c) = rw (does, starts)
         (remembered-stop places book.instances book.starts.items config c (Fired (StopOn t.its.place) ts) trigger key t.job t.its (fired-seen config c (StopOn t.its.place) ts) f.lives.distinct t.in_jobs t.in_instances within new f.remembered) in
@@ -357,34 +357,34 @@ pub record StopOffer (book : Past) (key : InstanceKey) (job : JobDef) (id : Even
   pub leaves : (name : Bytes) → nodes name ≡ naming_in job.stop_on name
 
 pub stop-offered : (book after : Past) (config : Configuration) (c : Chronicle) (key : InstanceKey) (i e : ℕ) (job : JobDef) (id : EventId) (environment : Bindings) (trigger : Option (List Mark)) (nodes : Bytes → List ℕ) (offer : Offer)
-    → Forgets book config c → instance_place book c key ≡ Some i → nth key.job config.jobs ≡ Some job → event_place book c id ≡ Some e → environment ≡ env i c → StopOffer book key job id environment trigger nodes offer
+    → Forgets book config c → instance_place book c key ≡ Some i → file_of i c ≡ Some job → event_place book c id ≡ Some e → environment ≡ env i c → StopOffer book key job id environment trigger nodes offer
     → after.instances ≡ changed_at key (with_stop_on trigger) book.instances → after.starts ≡ book.starts → after.events ≡ all_changed with_hold (as_holders (replicate offer.kept id)) book.events → after.reading ≡ book.reading
     → Forgets after config (Offered (StopOn i) e ∷ c)
 stop-offered book after config c key i e job id environment trigger nodes offer f found in_jobs placed in_force o does starts events reading =
     let t = there (place_of book.events (queue c)) book.instances config c key i f.lives.jobs found in
     let live = named-there book.events (queue c) id e placed in
-    let own : t.job ≡ job = some_same (sym t.in_jobs ∙ in_jobs) in
+    let own : t.its.file ≡ job = its-file (place_of book.events (queue c)) book.instances config c key i job t in_jobs in
     let old : trigger_at key book.instances ≡ t.kept.stop_on = ap trigger_of t.found in
-    let hears : Hears t.kept.stop_on trigger t.job.stop_on (nodes live.0.event.name) id live.0.event environment offer =
+    let hears : Hears t.kept.stop_on trigger t.its.file.stop_on (nodes live.0.event.name) id live.0.event environment offer =
     subst (λ (j : JobDef). Hears t.kept.stop_on trigger j.stop_on (nodes live.0.event.name) id live.0.event environment offer) (sym own)
     (subst (λ x. Hears x trigger job.stop_on (nodes live.0.event.name) id live.0.event environment offer) old (o.hears live.0 live.1)) in
     forgets-offered-stop book after config c key i e id live.0 t trigger (nodes live.0.event.name) environment offer f placed live.1 hears in_force (o.leaves live.0.event.name ∙ ap (λ (j : JobDef). naming_in j.stop_on live.0.event.name) (sym own)) does starts events reading
 
 -- whether it is true then
 pub stop-true : (book : Past) (config : Configuration) (c : Chronicle) (key : InstanceKey) (i e : ℕ) (job : JobDef) (id : EventId) (environment : Bindings) (trigger : Option (List Mark)) (nodes : Bytes → List ℕ) (offer : Offer)
-    → Forgets book config c → instance_place book c key ≡ Some i → nth key.job config.jobs ≡ Some job → event_place book c id ≡ Some e → environment ≡ env i c → StopOffer book key job id environment trigger nodes offer
+    → Forgets book config c → instance_place book c key ≡ Some i → file_of i c ≡ Some job → event_place book c id ≡ Some e → environment ≡ env i c → StopOffer book key job id environment trigger nodes offer
     → offer.holds ≡ seen.holds job.stop_on (seen.seen config (StopOn i) (Offered (StopOn i) e ∷ c))
 stop-true book config c key i e job id environment trigger nodes offer f found in_jobs placed in_force o =
     let t = there (place_of book.events (queue c)) book.instances config c key i f.lives.jobs found in
     let live = named-there book.events (queue c) id e placed in
-    let own : t.job ≡ job = some_same (sym t.in_jobs ∙ in_jobs) in
+    let own : t.its.file ≡ job = its-file (place_of book.events (queue c)) book.instances config c key i job t in_jobs in
     let old : trigger_at key book.instances ≡ t.kept.stop_on = ap trigger_of t.found in
     let known = standing-known book config c id e live.0 f placed live.1 in
     let queued : event_at e c ≡ Some live.0.event = ap (λ p. event_at p c) (sym known.1) ∙ sym (ap (λ (s : Standing). s.event) known.2) in
     let before : Remembers (place_of book.events (queue c)) (trigger_at key book.instances) job.stop_on (seen.seen config (StopOn i) c) =
     subst (λ x. Remembers (place_of book.events (queue c)) x job.stop_on (seen.seen config (StopOn i) c)) (sym old)
     (subst (λ (j : JobDef). Remembers (place_of book.events (queue c)) t.kept.stop_on j.stop_on (seen.seen config (StopOn i) c)) own
-    (subst (λ p. Remembers (place_of book.events (queue c)) t.kept.stop_on t.job.stop_on (seen.seen config (StopOn p) c)) t.place (stop-known book config c key i t f))) in
+    (subst (λ p. Remembers (place_of book.events (queue c)) t.kept.stop_on t.its.file.stop_on (seen.seen config (StopOn p) c)) t.place (stop-known book config c key i t f))) in
     let saw : seen.seen config (StopOn i) (Offered (StopOn i) e ∷ c) ≡ seen.seen config (StopOn i) c ++ sight_of e live.0.event.name live.0.event.vars environment ∷ [] =
     seen_own config (StopOn i) (StopOn i) e c (eq-eqb i i refl) ∙ ap (λ x. seen.seen config (StopOn i) c ++ seen.sight_of e x (env i c)) queued
     ∙ ap (λ en. seen.seen config (StopOn i) c ++ sight_of e live.0.event.name live.0.event.vars en ∷ []) (sym in_force) in
@@ -418,12 +418,12 @@ start-true book config c place e job id environment trigger nodes offer f in_job
 
 -- a firing, by keys
 pub stop-fired : (book after : Past) (config : Configuration) (c : Chronicle) (key : InstanceKey) (i : ℕ) (job : JobDef) (trigger : Option (List Mark)) (firing : Firing) (ts : List ℕ) → Forgets book config c → instance_place book c key ≡ Some i
-    → nth key.job config.jobs ≡ Some job → Fires (trigger_at key book.instances) trigger job.stop_on firing → after.instances ≡ changed_at key (with_stop_on trigger) book.instances → after.starts ≡ book.starts
+    → file_of i c ≡ Some job → Fires (trigger_at key book.instances) trigger job.stop_on firing → after.instances ≡ changed_at key (with_stop_on trigger) book.instances → after.starts ≡ book.starts
     → after.events ≡ all_changed (freed false) (as_holders firing.kept) book.events → after.reading ≡ book.reading → Forgets after config (Fired (StopOn i) ts ∷ c)
 stop-fired book after config c key i job trigger firing ts f found in_jobs fires does starts events reading =
     let t = there (place_of book.events (queue c)) book.instances config c key i f.lives.jobs found in
-    let own : t.job ≡ job = some_same (sym t.in_jobs ∙ in_jobs) in
-    let its : Fires t.kept.stop_on trigger t.job.stop_on firing =
+    let own : t.its.file ≡ job = its-file (place_of book.events (queue c)) book.instances config c key i job t in_jobs in
+    let its : Fires t.kept.stop_on trigger t.its.file.stop_on firing =
     subst (λ (j : JobDef). Fires t.kept.stop_on trigger j.stop_on firing) (sym own) (subst (λ x. Fires x trigger job.stop_on firing) (ap trigger_of t.found) fires) in
     forgets-fired-stop book after config c key i t trigger firing ts f its does starts events reading
 
@@ -433,16 +433,16 @@ map-same f g [] same = refl
 map-same f g (id ∷ ids) same = cons_same (same id) (map-same f g ids same)
 
 pub stop-taken : (book : Past) (after : List LiveEvent) (config : Configuration) (c : Chronicle) (key : InstanceKey) (i : ℕ) (job : JobDef) (trigger : Option (List Mark)) (firing : Firing) (ts : List ℕ) → Forgets book config c → instance_place book c key ≡ Some i
-    → nth key.job config.jobs ≡ Some job → Fires (trigger_at key book.instances) trigger job.stop_on firing → after ≡ all_changed (freed false) (as_holders firing.kept) book.events
+    → file_of i c ≡ Some job → Fires (trigger_at key book.instances) trigger job.stop_on firing → after ≡ all_changed (freed false) (as_holders firing.kept) book.events
     → map (place_of after (queue c)) firing.taken ≡ map Some (seen.taken job.stop_on (seen.seen config (StopOn i) c))
 stop-taken book after config c key i job trigger firing ts f found in_jobs fires events =
     let places = place_of book.events (queue c) in
     let t = there places book.instances config c key i f.lives.jobs found in
-    let own : t.job ≡ job = some_same (sym t.in_jobs ∙ in_jobs) in
+    let own : t.its.file ≡ job = its-file (place_of book.events (queue c)) book.instances config c key i job t in_jobs in
     let before : Remembers places (trigger_at key book.instances) job.stop_on (seen.seen config (StopOn i) c) =
     subst (λ x. Remembers places x job.stop_on (seen.seen config (StopOn i) c)) (sym (ap trigger_of t.found))
     (subst (λ (j : JobDef). Remembers places t.kept.stop_on j.stop_on (seen.seen config (StopOn i) c)) own
-    (subst (λ p. Remembers places t.kept.stop_on t.job.stop_on (seen.seen config (StopOn p) c)) t.place (stop-known book config c key i t f))) in
+    (subst (λ p. Remembers places t.kept.stop_on t.its.file.stop_on (seen.seen config (StopOn p) c)) t.place (stop-known book config c key i t f))) in
     map-same (place_of after (queue c)) places firing.taken (λ id. ap (λ es. place_of es (queue c) id) events ∙ all-places (freed false) (as_holders firing.kept) book.events (queue c) id mild-free)
     ∙ fires.taken places (seen.seen config (StopOn i) c) before
 

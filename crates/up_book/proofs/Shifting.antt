@@ -67,8 +67,8 @@ nth-other f (suc m) (suc n) (x ∷ xs) apart = nth-other f m n xs (λ same. apar
 pub kept-name : (places : Places) (jobs : List JobInstances) (config : Configuration) (c : Chronicle) (n : ℕ) (kept : JobInstances) → KeepsJobs places jobs config c → nth n jobs ≡ Some kept
     → (job : JobDef) × (nth n config.jobs ≡ Some job) × (kept.name ≡ job.name)
 kept-name places jobs config c n kept keeps there =
-    let viewed : nth n (map (job_summary config c) config.jobs) ≡ Some (job_view places kept) = ap (nth n) (sym keeps) ∙ map-nth (job_view places) n jobs kept there in
-    let its = nth-map (job_summary config c) n config.jobs (job_view places kept) viewed in
+    let viewed : nth n (map (job_summary c) config.jobs) ≡ Some (job_view places kept) = ap (nth n) (sym keeps) ∙ map-nth (job_view places) n jobs kept there in
+    let its = nth-map (job_summary c) n config.jobs (job_view places kept) viewed in
     (its.0, its.1, sym (ap (λ (s : JobSummary). s.name) its.2))
 
 abbrev place_of_one : Option Instance → Option ℕ

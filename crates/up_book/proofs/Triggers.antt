@@ -30,14 +30,14 @@ trigger-agrees old new (Some marks) (Some tree) sights same agrees = agrees_move
 trigger-agrees old new None (Some tree) sights same agrees = absurd agrees
 trigger-agrees old new (Some marks) None sights same agrees = absurd agrees
 
-instances-agree : (old new : Places) (config : Configuration) (job : JobDef) (c : Chronicle) (its : List Kept) (xs : List Instance) → ((id : EventId) → 0 < kept_uses id its → Agree old new id)
-    → InstancesRemember old config job c its xs → InstancesRemember new config job c its xs
-instances-agree old new config job c [] [] same r = tt
-instances-agree old new config job c [] (x ∷ xs) same r = absurd r
-instances-agree old new config job c (k ∷ its) [] same r = absurd r
-instances-agree old new config job c (k ∷ its) (x ∷ xs) same r = (
-  trigger-agrees old new k.stop_on job.stop_on (seen config (StopOn x.place) c) (λ id some. same id (omega (arith, some))) r.0,
-  instances-agree old new config job c its xs (λ id some. same id (omega (arith, some))) r.1,
+instances-agree : (old new : Places) (config : Configuration) (c : Chronicle) (its : List Kept) (xs : List Instance) → ((id : EventId) → 0 < kept_uses id its → Agree old new id)
+    → InstancesRemember old config c its xs → InstancesRemember new config c its xs
+instances-agree old new config c [] [] same r = tt
+instances-agree old new config c [] (x ∷ xs) same r = absurd r
+instances-agree old new config c (k ∷ its) [] same r = absurd r
+instances-agree old new config c (k ∷ its) (x ∷ xs) same r = (
+  trigger-agrees old new k.stop_on x.file.stop_on (seen config (StopOn x.place) c) (λ id some. same id (omega (arith, some))) r.0,
+  instances-agree old new config c its xs (λ id some. same id (omega (arith, some))) r.1,
 )
 
 stops-agree : (old new : Places) (config : Configuration) (c : Chronicle) (its : List JobInstances) (jobs : List JobDef) → ((id : EventId) → 0 < uses id its → Agree old new id)
@@ -46,7 +46,7 @@ stops-agree old new config c [] [] same r = tt
 stops-agree old new config c [] (job ∷ jobs) same r = absurd r
 stops-agree old new config c (j ∷ its) [] same r = absurd r
 stops-agree old new config c (j ∷ its) (job ∷ jobs) same r = (
-  instances-agree old new config job c j.instances (instances_of job.name c) (λ id some. same id (omega (arith, some))) r.0,
+  instances-agree old new config c j.instances (instances_of job.name c) (λ id some. same id (omega (arith, some))) r.0,
   stops-agree old new config c its jobs (λ id some. same id (omega (arith, some))) r.1,
 )
 
@@ -73,20 +73,20 @@ pub record Unseen (config : Configuration) (c : Chronicle) (e : Entry) : Type 0 
   pub instances : (job : Bytes) → instances_of job (e ∷ c) ≡ instances_of job c
   pub seen : (x : Expression) → seen config x (e ∷ c) ≡ seen config x c
 
-pub instances-later : (places : Places) (config : Configuration) (job : JobDef) (e : Entry) (c : Chronicle) (its : List Kept) (xs : List Instance) → ((x : Expression) → seen config x (e ∷ c) ≡ seen config x c)
-    → InstancesRemember places config job c its xs → InstancesRemember places config job (e ∷ c) its xs
-instances-later places config job e c [] [] same r = tt
-instances-later places config job e c [] (x ∷ xs) same r = absurd r
-instances-later places config job e c (k ∷ its) [] same r = absurd r
-instances-later places config job e c (k ∷ its) (x ∷ xs) same r =
-    (subst (Remembers places k.stop_on job.stop_on) (sym (same (StopOn x.place))) r.0, instances-later places config job e c its xs same r.1)
+pub instances-later : (places : Places) (config : Configuration) (e : Entry) (c : Chronicle) (its : List Kept) (xs : List Instance) → ((x : Expression) → seen config x (e ∷ c) ≡ seen config x c)
+    → InstancesRemember places config c its xs → InstancesRemember places config (e ∷ c) its xs
+instances-later places config e c [] [] same r = tt
+instances-later places config e c [] (x ∷ xs) same r = absurd r
+instances-later places config e c (k ∷ its) [] same r = absurd r
+instances-later places config e c (k ∷ its) (x ∷ xs) same r =
+    (subst (Remembers places k.stop_on x.file.stop_on) (sym (same (StopOn x.place))) r.0, instances-later places config e c its xs same r.1)
 
 stops-later : (places : Places) (config : Configuration) (e : Entry) (c : Chronicle) (its : List JobInstances) (jobs : List JobDef) → Unseen config c e → StopsRemember places config c its jobs → StopsRemember places config (e ∷ c) its jobs
 stops-later places config e c [] [] u r = tt
 stops-later places config e c [] (job ∷ jobs) u r = absurd r
 stops-later places config e c (j ∷ its) [] u r = absurd r
 stops-later places config e c (j ∷ its) (job ∷ jobs) u r = (
-  subst (InstancesRemember places config job (e ∷ c) j.instances) (sym (u.instances job.name)) (instances-later places config job e c j.instances (instances_of job.name c) u.seen r.0),
+  subst (InstancesRemember places config (e ∷ c) j.instances) (sym (u.instances job.name)) (instances-later places config e c j.instances (instances_of job.name c) u.seen r.0),
   stops-later places config e c its jobs u r.1,
 )
 
@@ -107,21 +107,21 @@ remembered-later places jobs ts config c e u r = record {
 }
 
 -- a change of an instance that leaves its trigger
-instances-changed : (places : Places) (config : Configuration) (job : JobDef) (c : Chronicle) (f : Kept → Kept) (at : ℕ) (its : List Kept) (xs : List Instance) → ((k : Kept) → (f k).stop_on ≡ k.stop_on)
-    → InstancesRemember places config job c its xs → InstancesRemember places config job c (with_at at f its) xs
-instances-changed places config job c f at [] [] same r = tt
-instances-changed places config job c f at [] (x ∷ xs) same r = absurd r
-instances-changed places config job c f at (k ∷ its) [] same r = absurd r
-instances-changed places config job c f zero (k ∷ its) (x ∷ xs) same r =
-    (subst (λ t. Remembers places t job.stop_on (seen config (StopOn x.place) c)) (sym (same k)) r.0, r.1)
-instances-changed places config job c f (suc at) (k ∷ its) (x ∷ xs) same r = (r.0, instances-changed places config job c f at its xs same r.1)
+instances-changed : (places : Places) (config : Configuration) (c : Chronicle) (f : Kept → Kept) (at : ℕ) (its : List Kept) (xs : List Instance) → ((k : Kept) → (f k).stop_on ≡ k.stop_on)
+    → InstancesRemember places config c its xs → InstancesRemember places config c (with_at at f its) xs
+instances-changed places config c f at [] [] same r = tt
+instances-changed places config c f at [] (x ∷ xs) same r = absurd r
+instances-changed places config c f at (k ∷ its) [] same r = absurd r
+instances-changed places config c f zero (k ∷ its) (x ∷ xs) same r =
+    (subst (λ t. Remembers places t x.file.stop_on (seen config (StopOn x.place) c)) (sym (same k)) r.0, r.1)
+instances-changed places config c f (suc at) (k ∷ its) (x ∷ xs) same r = (r.0, instances-changed places config c f at its xs same r.1)
 
 stops-changed : (places : Places) (config : Configuration) (c : Chronicle) (f : Kept → Kept) (place at : ℕ) (its : List JobInstances) (jobs : List JobDef) → ((k : Kept) → (f k).stop_on ≡ k.stop_on)
     → StopsRemember places config c its jobs → StopsRemember places config c (with_at place (changed_in at f) its) jobs
 stops-changed places config c f place at [] [] same r = tt
 stops-changed places config c f place at [] (job ∷ jobs) same r = absurd r
 stops-changed places config c f place at (j ∷ its) [] same r = absurd r
-stops-changed places config c f zero at (j ∷ its) (job ∷ jobs) same r = (instances-changed places config job c f at j.instances (instances_of job.name c) same r.0, r.1)
+stops-changed places config c f zero at (j ∷ its) (job ∷ jobs) same r = (instances-changed places config c f at j.instances (instances_of job.name c) same r.0, r.1)
 stops-changed places config c f (suc place) at (j ∷ its) (job ∷ jobs) same r = (r.0, stops-changed places config c f place at its jobs same r.1)
 
 pub remembered-changed : (places : Places) (f : Kept → Kept) (key : InstanceKey) (jobs : List JobInstances) (ts : List (Option (List Mark))) (config : Configuration) (c : Chronicle) → ((k : Kept) → (f k).stop_on ≡ k.stop_on)
@@ -133,18 +133,18 @@ remembered-changed places f key jobs ts config c same r = record {
 }
 
 -- nobody waits for an event any more
-instances-unblocked : (places : Places) (config : Configuration) (job : JobDef) (c : Chronicle) (id : EventId) (its : List Kept) (xs : List Instance)
-    → InstancesRemember places config job c its xs → InstancesRemember places config job c (map (unblocked id) its) xs
-instances-unblocked places config job c id [] [] r = tt
-instances-unblocked places config job c id [] (x ∷ xs) r = absurd r
-instances-unblocked places config job c id (k ∷ its) [] r = absurd r
-instances-unblocked places config job c id (k ∷ its) (x ∷ xs) r = (r.0, instances-unblocked places config job c id its xs r.1)
+instances-unblocked : (places : Places) (config : Configuration) (c : Chronicle) (id : EventId) (its : List Kept) (xs : List Instance)
+    → InstancesRemember places config c its xs → InstancesRemember places config c (map (unblocked id) its) xs
+instances-unblocked places config c id [] [] r = tt
+instances-unblocked places config c id [] (x ∷ xs) r = absurd r
+instances-unblocked places config c id (k ∷ its) [] r = absurd r
+instances-unblocked places config c id (k ∷ its) (x ∷ xs) r = (r.0, instances-unblocked places config c id its xs r.1)
 
 stops-unblocked : (places : Places) (config : Configuration) (c : Chronicle) (id : EventId) (its : List JobInstances) (jobs : List JobDef) → StopsRemember places config c its jobs → StopsRemember places config c (map (unblocked_in id) its) jobs
 stops-unblocked places config c id [] [] r = tt
 stops-unblocked places config c id [] (job ∷ jobs) r = absurd r
 stops-unblocked places config c id (j ∷ its) [] r = absurd r
-stops-unblocked places config c id (j ∷ its) (job ∷ jobs) r = (instances-unblocked places config job c id j.instances (instances_of job.name c) r.0, stops-unblocked places config c id its jobs r.1)
+stops-unblocked places config c id (j ∷ its) (job ∷ jobs) r = (instances-unblocked places config c id j.instances (instances_of job.name c) r.0, stops-unblocked places config c id its jobs r.1)
 
 pub remembered-unblocked : (places : Places) (id : EventId) (jobs : List JobInstances) (ts : List (Option (List Mark))) (config : Configuration) (c : Chronicle)
     → Remembered places jobs ts config c → Remembered places (map (unblocked_in id) jobs) ts config c

@@ -19,7 +19,6 @@ use Rattle.up_marks.specs.declared.mark.Mark.{Mark}
 use Rattle.up_book.specs.Eventing.{Standing, standing_of, standing_at, place_of, holds_in, AreCounted}
 use Rattle.up_book.specs.Keeps.{KeepsJobs, AreDistinct as HaveNames}
 use Rattle.up_book.specs.Standing.{Forgets}
-use Rattle.up_model.proofs.FileLaws.{AreMadeBy}
 use Rattle.up_book.specs.Turning.{turn_at}
 use Rattle.up_book.specs.Views.{Places}
 use Rattle.up_book.proofs.Counting.{held}
@@ -129,25 +128,25 @@ matches (event ∷ events) (live ∷ lives) c distinct same =
     (record { place = rw mine refl; named = rw mine refl; standing = first }, more-match event live events lives c events lives distinct.0 (matches events lives c distinct.1 rest))
 
 pairs-of : (all : List LiveEvent) (jobs : List JobInstances) (starts : List (Option (List Mark))) (config : Configuration) (c : Chronicle) (events : List LiveEvent) (lives : List Live) → KeepsJobs (place_of all (queue c)) jobs config c
-    → Remembered (place_of all (queue c)) jobs starts config c → AreMadeBy config.jobs c → HaveNames config.jobs → AreCounted all jobs starts
+    → Remembered (place_of all (queue c)) jobs starts config c → HaveNames config.jobs → AreCounted all jobs starts
     → Match all (queue c) c events lives → Pairs (place_of all (queue c)) config c events lives
-pairs-of all jobs starts config c [] [] keeps remembered made distinct counted m = tt
-pairs-of all jobs starts config c [] (live ∷ lives) keeps remembered made distinct counted m = m
-pairs-of all jobs starts config c (event ∷ events) [] keeps remembered made distinct counted m = m
-pairs-of all jobs starts config c (event ∷ events) (live ∷ lives) keeps remembered made distinct counted m =
+pairs-of all jobs starts config c [] [] keeps remembered distinct counted m = tt
+pairs-of all jobs starts config c [] (live ∷ lives) keeps remembered distinct counted m = m
+pairs-of all jobs starts config c (event ∷ events) [] keeps remembered distinct counted m = m
+pairs-of all jobs starts config c (event ∷ events) (live ∷ lives) keeps remembered distinct counted m =
     let there : event_at live.place c ≡ Some event.event = sym (ap (λ (s : Standing). s.event) m.0.standing) in
     let queued = queued-there (entry_at live.place c) event.event there in
     let count : uses event.id jobs + start_uses event.id starts ≡ event.holds = sym (counted event.id) ∙ ap holds_in m.0.named in (
       record {
         place = m.0.place;
         handled = ap (λ (s : Standing). s.handled) m.0.standing;
-        held = held (place_of all (queue c)) jobs starts config c event.id live.place queued.0 event.event keeps remembered made distinct (names all c event.id live.place m.0.place) queued.1 ∙ ap (λ n. not (n == 0)) count;
+        held = held (place_of all (queue c)) jobs starts config c event.id live.place queued.0 event.event keeps remembered distinct (names all c event.id live.place m.0.place) queued.1 ∙ ap (λ n. not (n == 0)) count;
       },
-      pairs-of all jobs starts config c events lives keeps remembered made distinct counted m.1,
+      pairs-of all jobs starts config c events lives keeps remembered distinct counted m.1,
     )
 
 pub turn-known : (book : Past) (config : Configuration) (c : Chronicle) → Forgets book config c → AreDistinct book.events
     → turn_at (place_of book.events (queue c)) (next_turn book.events) ≡ option_map Some (turn_event config (queue c) c)
 turn-known book config c f distinct =
     turn-same (place_of book.events (queue c)) config c book.events (queue c)
-    (pairs-of book.events book.instances book.starts.items config c book.events (queue c) f.lives.jobs f.remembered f.regular.made f.lives.distinct f.counted (matches book.events (queue c) c distinct f.standings))
+    (pairs-of book.events book.instances book.starts.items config c book.events (queue c) f.lives.jobs f.remembered f.lives.distinct f.counted (matches book.events (queue c) c distinct f.standings))

@@ -43,39 +43,39 @@ use Rattle.up_book.proofs.Standing.{age-all, standings-later, standings-queued, 
 
 -- an entry that leaves all that is known of instances
 pub record Passes (config : Configuration) (c : Chronicle) (e : Entry) : Type 0 where
-  pub spares : (job : JobDef) (x : Instance) → HoldsOlder x.place c → summary config job (e ∷ c) x ≡ summary config job c x
+  pub spares : (x : Instance) → HoldsOlder x.place c → summary (e ∷ c) x ≡ summary c x
   pub instances : (job : Bytes) → instances_of job (e ∷ c) ≡ instances_of job c
   pub seen : (x : Expression) → seen config x (e ∷ c) ≡ seen config x c
 
 -- an entry that leaves all that is known of instances, whatever expressions see by it
 pub record Spares (config : Configuration) (c : Chronicle) (e : Entry) : Type 0 where
-  pub spares : (job : JobDef) (x : Instance) → HoldsOlder x.place c → summary config job (e ∷ c) x ≡ summary config job c x
+  pub spares : (x : Instance) → HoldsOlder x.place c → summary (e ∷ c) x ≡ summary c x
   pub instances : (job : Bytes) → instances_of job (e ∷ c) ≡ instances_of job c
 
 -- since it concerns none
 pub passing : (config : Configuration) (c : Chronicle) (e : Entry) → ((i : ℕ) → concerns i e ≡ false) → ((job : Bytes) → instances_of job (e ∷ c) ≡ instances_of job c) → ((x : Expression) → seen config x (e ∷ c) ≡ seen config x c) → Passes config c e
 passing config c e nobody instances same = record {
-  spares = λ job x older. spared config job e c x (nobody x.place) older;
+  spares = λ x older. spared e c x (nobody x.place) older;
   instances = instances;
   seen = same;
 }
 
-summaries-past : (config : Configuration) (job : JobDef) (e : Entry) (c : Chronicle) (xs : List Instance) → ((x : Instance) → HoldsOlder x.place c → summary config job (e ∷ c) x ≡ summary config job c x) → ((i : ℕ) → HoldsOlder i c)
-    → map (summary config job (e ∷ c)) xs ≡ map (summary config job c) xs
+summaries-past : (config : Configuration) (job : JobDef) (e : Entry) (c : Chronicle) (xs : List Instance) → ((x : Instance) → HoldsOlder x.place c → summary (e ∷ c) x ≡ summary c x) → ((i : ℕ) → HoldsOlder i c)
+    → map (summary (e ∷ c)) xs ≡ map (summary c) xs
 summaries-past config job e c [] spares older = refl
 summaries-past config job e c (x ∷ xs) spares older = cons_same (spares x (older x.place)) (summaries-past config job e c xs spares older)
 
-jobs-past : (config : Configuration) (e : Entry) (c : Chronicle) (jobs : List JobDef) → Spares config c e → ((i : ℕ) → HoldsOlder i c) → map (job_summary config (e ∷ c)) jobs ≡ map (job_summary config c) jobs
+jobs-past : (config : Configuration) (e : Entry) (c : Chronicle) (jobs : List JobDef) → Spares config c e → ((i : ℕ) → HoldsOlder i c) → map (job_summary (e ∷ c)) jobs ≡ map (job_summary c) jobs
 jobs-past config e c [] passes older = refl
 jobs-past config e c (job ∷ jobs) passes older =
-    cons_same (rw (passes.instances job.name) (ap (λ (xs : List Summary). record (job_summary config c job) { instances = xs }) (summaries-past config job e c (instances_of job.name c) (passes.spares job) older)))
+    cons_same (rw (passes.instances job.name) (ap (λ (xs : List Summary). record (job_summary c job) { instances = xs }) (summaries-past config job e c (instances_of job.name c) passes.spares older)))
     (jobs-past config e c jobs passes older)
 
 pub keeps-spared : (places : Places) (book : List JobInstances) (config : Configuration) (c : Chronicle) (e : Entry) → Keeps places book config c → Spares config c e → AreOlder (length c) (brought e) → Keeps places book config (e ∷ c)
 keeps-spared places book config c e keeps spares new = record {
   jobs = keeps.jobs ∙ sym (jobs-past config e c config.jobs spares keeps.older);
   older = older-after e c new keeps.older;
-  later = λ job x past. spares.spares job x (keeps.older x.place) ∙ keeps.later job x (omega (arith, past));
+  later = λ x past. spares.spares x (keeps.older x.place) ∙ keeps.later x (omega (arith, past));
   distinct = keeps.distinct;
 }
 
@@ -196,20 +196,20 @@ AreLiveIn places its = AllByRecursion (λ k. (id : EventId) → k.blocker ≡ So
 abbrev pub AreLive : Places → List JobInstances → Type 0
 AreLive places jobs = AllByRecursion (λ j. AreLiveIn places j.instances) jobs
 
-live-in : (places : Places) (config : Configuration) (job : JobDef) (c : Chronicle) (its : List Kept) (xs : List Instance) → map (view places) its ≡ map (summary config job c) xs → AreLiveIn places its
+live-in : (places : Places) (config : Configuration) (job : JobDef) (c : Chronicle) (its : List Kept) (xs : List Instance) → map (view places) its ≡ map (summary c) xs → AreLiveIn places its
 live-in places config job c [] xs same = tt
 live-in places config job c (k ∷ its) [] same = absurd cc
 live-in places config job c (k ∷ its) (x ∷ xs) same =
-    let first : view places k ≡ summary config job c x = cc in
-    let rest : map (view places) its ≡ map (summary config job c) xs = cc in
+    let first : view places k ≡ summary c x = cc in
+    let rest : map (view places) its ≡ map (summary c) xs = cc in
     ((λ id is. known-place places k.blocker (blocker x.place c) id (ap (λ (s : Summary). s.blocker) first) is), live-in places config job c its xs rest)
 
-live-jobs : (places : Places) (config : Configuration) (c : Chronicle) (jobs : List JobInstances) (defs : List JobDef) → map (job_view places) jobs ≡ map (job_summary config c) defs → AreLive places jobs
+live-jobs : (places : Places) (config : Configuration) (c : Chronicle) (jobs : List JobInstances) (defs : List JobDef) → map (job_view places) jobs ≡ map (job_summary c) defs → AreLive places jobs
 live-jobs places config c [] defs same = tt
 live-jobs places config c (j ∷ jobs) [] same = absurd cc
 live-jobs places config c (j ∷ jobs) (d ∷ defs) same =
-    let first : job_view places j ≡ job_summary config c d = cc in
-    let rest : map (job_view places) jobs ≡ map (job_summary config c) defs = cc in
+    let first : job_view places j ≡ job_summary c d = cc in
+    let rest : map (job_view places) jobs ≡ map (job_summary c) defs = cc in
     (live-in places config d c j.instances (instances_of d.name c) (ap (λ (s : JobSummary). s.instances) first), live-jobs places config c jobs defs rest)
 
 named-placed : (events : List LiveEvent) (lives : List Live) (id : EventId) (p : ℕ) → place_of events lives id ≡ Some p → named id events ≡ None → ⊥

@@ -33,13 +33,13 @@ AreDistinct (job ∷ jobs) = AllByRecursion (λ other. bytes_eq other.name job.n
 
 -- by where events were queued
 abbrev pub KeepsJobs : Places → List JobInstances → Configuration → Chronicle → Type 0
-KeepsJobs places jobs config c = map (job_view places) jobs ≡ map (job_summary config c) config.jobs
+KeepsJobs places jobs config c = map (job_view places) jobs ≡ map (job_summary c) config.jobs
 
 pub record Keeps (places : Places) (book : List JobInstances) (config : Configuration) (c : Chronicle) : Type 0 where
   pub jobs : KeepsJobs places book config c
   pub older : (i : ℕ) → HoldsOlder i c
   -- nothing is known of what is to come
-  pub later : (job : JobDef) (its : Instance) → length c ≤ its.place → summary config job c its ≡ blank job its.name
+  pub later : (its : Instance) → length c ≤ its.place → summary c its ≡ blank its.file its.name
   pub distinct : AreDistinct config.jobs
 
 abbrev pub instance_in : ℕ → Option JobInstances → Chronicle → Option Instance

@@ -11,19 +11,19 @@ use Rattle.up_job.specs.declared.instances.JobInstances.{JobInstances}
 use Rattle.up_job.specs.declared.instance.Instance.{Instance as Kept}
 use Rattle.up_book.specs.Views.{Places}
 
--- each of these instances of a job, of its `stop on`
-abbrev pub InstancesRemember : Places → Configuration → JobDef → Chronicle → List Kept → List Instance → Type 0
-InstancesRemember places config job c [] [] = Unit {0}
-InstancesRemember places config job c (kept ∷ its) (x ∷ xs) =
-    Remembers places kept.stop_on job.stop_on (seen config (StopOn x.place) c) × InstancesRemember places config job c its xs
-InstancesRemember places config job c [] (x ∷ xs) = ⊥
-InstancesRemember places config job c (kept ∷ its) [] = ⊥
+-- each of these instances, of the `stop on` of its file
+abbrev pub InstancesRemember : Places → Configuration → Chronicle → List Kept → List Instance → Type 0
+InstancesRemember places config c [] [] = Unit {0}
+InstancesRemember places config c (kept ∷ its) (x ∷ xs) =
+    Remembers places kept.stop_on x.file.stop_on (seen config (StopOn x.place) c) × InstancesRemember places config c its xs
+InstancesRemember places config c [] (x ∷ xs) = ⊥
+InstancesRemember places config c (kept ∷ its) [] = ⊥
 
 -- those of all jobs
 abbrev pub StopsRemember : Places → Configuration → Chronicle → List JobInstances → List JobDef → Type 0
 StopsRemember places config c [] [] = Unit {0}
 StopsRemember places config c (kept ∷ its) (job ∷ jobs) =
-    InstancesRemember places config job c kept.instances (instances_of job.name c) × StopsRemember places config c its jobs
+    InstancesRemember places config c kept.instances (instances_of job.name c) × StopsRemember places config c its jobs
 StopsRemember places config c [] (job ∷ jobs) = ⊥
 StopsRemember places config c (kept ∷ its) [] = ⊥
 

@@ -52,6 +52,7 @@ works_at instance c = record {
 -- All that is to be known of an instance. A place is `Some` of itself, since a key may stand for none.
 pub record Summary : Type 0 where
   pub name : Bytes
+  pub file : JobDef
   pub goal : Goal
   pub state : State
   pub restarted : Bool
@@ -63,15 +64,15 @@ pub record Summary : Type 0 where
   pub blocker : Option (Option ℕ)
   pub children : Children
   pub kill_moment : Option ℕ
-  pub kill_timeout : ℕ
   pub moments : Buffer ℕ
 
 abbrev pub known : Option ℕ → Option (Option ℕ)
 known place = option_map Some place
 
-abbrev pub summary : Configuration → JobDef → Chronicle → Instance → Summary
-summary config job c its = record {
+abbrev pub summary : Chronicle → Instance → Summary
+summary c its = record {
   name = its.name;
+  file = its.file;
   goal = goal its.place c;
   state = state_of its.place c;
   restarted = was_restarted its.place c;
@@ -83,8 +84,7 @@ summary config job c its = record {
   blocker = known (blocker its.place c);
   children = works_at its.place c;
   kill_moment = kill_moment its.place c;
-  kill_timeout = job.kill_timeout;
-  moments = buffer (take (room job.limit) (moments_of its.place c)) (room job.limit);
+  moments = buffer (take (room its.file.limit) (moments_of its.place c)) (room its.file.limit);
 }
 
 -- and of a job
@@ -92,16 +92,17 @@ pub record JobSummary : Type 0 where
   pub name : Bytes
   pub instances : List Summary
 
-abbrev pub job_summary : Configuration → Chronicle → JobDef → JobSummary
-job_summary config c job = record {
+abbrev pub job_summary : Chronicle → JobDef → JobSummary
+job_summary c job = record {
   name = job.name;
-  instances = map (summary config job c) (instances_of job.name c);
+  instances = map (summary c) (instances_of job.name c);
 }
 
--- an instance of which nothing is known
+-- an instance of which nothing is known but its file and its name
 abbrev pub blank : JobDef → Bytes → Summary
-blank job name = record {
+blank file name = record {
   name = name;
+  file = file;
   goal = Stop;
   state = state.Waiting;
   restarted = false;
@@ -113,6 +114,5 @@ blank job name = record {
   blocker = None;
   children = idle;
   kill_moment = None;
-  kill_timeout = job.kill_timeout;
-  moments = buffer [] (room job.limit);
+  moments = buffer [] (room file.limit);
 }

@@ -30,6 +30,7 @@ pending_of (Some pending) env = pending
 abbrev pub view : Places → Kept → Summary
 view places kept = record {
   name = kept.name;
+  file = kept.file;
   goal = kept.goal;
   state = kept.state;
   restarted = kept.restarted;
@@ -41,7 +42,6 @@ view places kept = record {
   blocker = option_map places kept.blocker;
   children = kept.children;
   kill_moment = kept.kill_moment;
-  kill_timeout = kept.kill_timeout;
   moments = kept.moments;
 }
 

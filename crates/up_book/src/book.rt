@@ -37,8 +37,9 @@ ghost use Rattle.up_text.specs.Scripts.{is_filled};
 
 use crate::holders::Holders;
 use std::alloc::AllocError;
-use up_conf::{JobDef, Limit};
+use up_conf::JobDef;
 use up_event::TurnKind;
+use up_image::JobFile;
 use up_job::InstanceKey;
 use up_model::{Answer, Event, EventId, Failure, Goal, Input, Output, Process, State};
 use up_text::{Env, Items, Text};
@@ -81,18 +82,24 @@ pub trait Book: Drop {
         ensures { (mode : Mode) (config : Configuration) (c : Chronicle) → stands self.now mode config c
             → result ≡ clock.now c };
 
-    /// Whether the limit of its job allows one respawn more of an instance (init(5), `respawn limit`).
-    fn may_respawn(&self, key: InstanceKey, job: &JobDef) -> bool
+    /// The job file by which an instance was made.
+    fn file(&self, key: InstanceKey) -> Option<&JobFile>
         ensures { (mode : Mode) (config : Configuration) (c : Chronicle) (i : ℕ)
             → stands self.now mode config c
-            → instance_place config c key ≡ Some i → job_at config key.job ≡ Some job.now
-            → result ≡ clock.may_respawn job.now.limit i c };
+            → instance_place config c key ≡ Some i → option_copied result ≡ read.file_of i c };
 
-    /// Whether the timer is to kill main of an instance (init(5), `kill timeout`).
+    /// Whether the limit of its file allows one respawn more of an instance (init(5), `respawn limit`).
+    fn may_respawn(&self, key: InstanceKey) -> bool
+        ensures { (mode : Mode) (config : Configuration) (c : Chronicle) (i : ℕ) (job : JobValue)
+            → stands self.now mode config c
+            → instance_place config c key ≡ Some i → read.file_of i c ≡ Some job
+            → result ≡ clock.may_respawn job.limit i c };
+
+    /// Whether the timer is to kill main of an instance, by its file (init(5), `kill timeout`).
     fn is_overdue(&self, key: InstanceKey) -> bool
         ensures { (mode : Mode) (config : Configuration) (c : Chronicle) (i : ℕ) (job : JobValue)
             → stands self.now mode config c
-            → instance_place config c key ≡ Some i → job_at config key.job ≡ Some job
+            → instance_place config c key ≡ Some i → read.file_of i c ≡ Some job
             → result ≡ clock.kill_due job i c };
 
     /// A reading of the clock, in milliseconds, before which the timer kills nobody. Takes no memory.
@@ -265,11 +272,11 @@ pub trait Book: Drop {
     fn order(&mut self, job: &JobDef, key: InstanceKey, process: Process) -> Result<(), AllocError>
         ensures after { OnOk result ((config : Configuration) (c : Chronicle) (i : ℕ)
             → stands self.old Stepping config c
-            → instance_place config c key ≡ Some i → job_at config key.job ≡ Some job.now
+            → instance_place config c key ≡ Some i → read.file_of i c ≡ Some job.now
             → stands self.new Stepping config (entry.Ordered i process ∷ c)) }
         ensures events { OnOk result ((config : Configuration) (c : Chronicle) (i : ℕ) (k : EventIdValue) (j : ℕ)
             → stands self.old Stepping config c
-            → instance_place config c key ≡ Some i → job_at config key.job ≡ Some job.now
+            → instance_place config c key ≡ Some i → read.file_of i c ≡ Some job.now
             → event_place self.old c k ≡ Some j → event_place self.new (entry.Ordered i process ∷ c) k ≡ Some j) };
 
     /// An instance emits an event on entering a state.
@@ -365,31 +372,31 @@ pub trait Book: Drop {
             → stands self.new Stepping config
             (replies.releasing i true (entry.Failed i failure ∷ c) ++ entry.Failed i failure ∷ c)) };
 
-    /// The job at an index of the table gets an instance of this name, which it didn't have.
-    fn make(&mut self, index: usize, job: &JobDef, name: &str) -> Result<InstanceKey, AllocError>
+    /// The job at an index of the table gets an instance of this name, which it didn't have, by this file of it.
+    fn make(&mut self, index: usize, file: &JobFile, name: &str) -> Result<InstanceKey, AllocError>
         ensures after { OnOk result ((config : Configuration) (c : Chronicle)
-            → stands self.old Stepping config c → job_at config index ≡ Some job.now
-            → instance_named (called job.now.name name.now) c ≡ None
-            → stands self.new Stepping config (entry.Made job.now name.now ∷ c)) }
+            → stands self.old Stepping config c → job_at config index ≡ Some file.now
+            → instance_named (called file.now.name name.now) c ≡ None
+            → stands self.new Stepping config (entry.Made file.now name.now ∷ c)) }
         ensures made { IfOk result (λ key. (config : Configuration) (c : Chronicle)
-            → stands self.old Stepping config c → job_at config index ≡ Some job.now
-            → instance_named (called job.now.name name.now) c ≡ None
-            → instance_place config (entry.Made job.now name.now ∷ c) key ≡ Some (length c)) }
+            → stands self.old Stepping config c → job_at config index ≡ Some file.now
+            → instance_named (called file.now.name name.now) c ≡ None
+            → instance_place config (entry.Made file.now name.now ∷ c) key ≡ Some (length c)) }
         ensures holders { OnOk result ((config : Configuration) (c : Chronicle)
             (who : HoldersValue) (places : List ℕ)
-            → stands self.old Stepping config c → job_at config index ≡ Some job.now
-            → instance_named (called job.now.name name.now) c ≡ None
+            → stands self.old Stepping config c → job_at config index ≡ Some file.now
+            → instance_named (called file.now.name name.now) c ≡ None
             → held_as (event_place self.old c) (request_place c) who ≡ map Some places
-            → held_as (event_place self.new (entry.Made job.now name.now ∷ c)) (request_place c) who
+            → held_as (event_place self.new (entry.Made file.now name.now ∷ c)) (request_place c) who
             ≡ map Some places) }
         ensures events { OnOk result ((config : Configuration) (c : Chronicle) (k : EventIdValue) (j : ℕ)
             → stands self.old Stepping config c
-            → job_at config index ≡ Some job.now → instance_named (called job.now.name name.now) c ≡ None
-            → event_place self.old c k ≡ Some j → event_place self.new (entry.Made job.now name.now ∷ c) k ≡ Some j) };
+            → job_at config index ≡ Some file.now → instance_named (called file.now.name name.now) c ≡ None
+            → event_place self.old c k ≡ Some j → event_place self.new (entry.Made file.now name.now ∷ c) k ≡ Some j) };
 
     /// The first job of the table, from an index on, with an expression that names an event, by a leaf without a literal value that rules
     /// the event out. Takes no memory.
-    fn next_hearer(&self, jobs: &[JobDef], event: EventId, from: usize) -> Option<usize>
+    fn next_hearer(&self, jobs: &[JobFile], event: EventId, from: usize) -> Option<usize>
         ensures next { (config : Configuration) (c : Chronicle) (e : ℕ) → stands self.now Stepping config c
             → jobs.now ≡ config.jobs
             → event_place self.now c event ≡ Some e → IsNextHearer config (read.event_at e c) from result }
@@ -407,7 +414,7 @@ pub trait Book: Drop {
             → stands self.now Stepping config (entry.Offered (entry.StartOn job.name) e ∷ c) }
         ensures stop { (config : Configuration) (c : Chronicle) (key : KeyValue) (job : JobValue) (i e : ℕ)
             → stands self.now Stepping config c → instance_place config c key ≡ Some i
-            → job_at config key.job ≡ Some job → may_hear job.stop_on (read.event_at e c) ≡ false
+            → read.file_of i c ≡ Some job → may_hear job.stop_on (read.event_at e c) ≡ false
             → stands self.now Stepping config (entry.Offered (entry.StopOn i) e ∷ c) }
         ensures events { (c : Chronicle) (x : ExpressionValue) (e : ℕ) (k : EventIdValue)
             → event_place self.now (entry.Offered x e ∷ c) k ≡ event_place self.now c k };
@@ -421,18 +428,18 @@ pub trait Book: Drop {
     ) -> Result<bool, AllocError>
         ensures after { OnOk result ((config : Configuration) (c : Chronicle) (i e : ℕ)
             → stands self.old Stepping config c
-            → instance_place config c key ≡ Some i → job_at config key.job ≡ Some job.now
+            → instance_place config c key ≡ Some i → read.file_of i c ≡ Some job.now
             → event_place self.old c event ≡ Some e
             → stands self.new Stepping config (entry.Offered (entry.StopOn i) e ∷ c)) }
         ensures holds { IfOk result (λ holds. (config : Configuration) (c : Chronicle) (i e : ℕ)
             → stands self.old Stepping config c
-            → instance_place config c key ≡ Some i → job_at config key.job ≡ Some job.now
+            → instance_place config c key ≡ Some i → read.file_of i c ≡ Some job.now
             → event_place self.old c event ≡ Some e
             → holds ≡ seen.holds job.now.stop_on
             (seen.seen config (entry.StopOn i) (entry.Offered (entry.StopOn i) e ∷ c))) }
         ensures events { OnOk result ((config : Configuration) (c : Chronicle) (i e : ℕ) (k : EventIdValue) (j : ℕ)
             → stands self.old Stepping config c
-            → instance_place config c key ≡ Some i → job_at config key.job ≡ Some job.now
+            → instance_place config c key ≡ Some i → read.file_of i c ≡ Some job.now
             → event_place self.old c event ≡ Some e → event_place self.old c k ≡ Some j
             → event_place self.new (entry.Offered (entry.StopOn i) e ∷ c) k ≡ Some j) };
 
@@ -465,19 +472,19 @@ pub trait Book: Drop {
     fn fire_stop(&mut self, job: &JobDef, key: InstanceKey) -> Result<Items<EventId>, AllocError>
         ensures after { OnOk result ((config : Configuration) (c : Chronicle) (i : ℕ)
             → stands self.old Stepping config c
-            → instance_place config c key ≡ Some i → job_at config key.job ≡ Some job.now
+            → instance_place config c key ≡ Some i → read.file_of i c ≡ Some job.now
             → stands self.new Stepping config
             (entry.Fired (entry.StopOn i) (seen.taken job.now.stop_on
             (seen.seen config (entry.StopOn i) c)) ∷ c)) }
         ensures taken { IfOk result (λ taken. (config : Configuration) (c : Chronicle) (i : ℕ)
             → stands self.old Stepping config c
-            → instance_place config c key ≡ Some i → job_at config key.job ≡ Some job.now
+            → instance_place config c key ≡ Some i → read.file_of i c ≡ Some job.now
             → map (event_place self.new (entry.Fired (entry.StopOn i)
             (seen.taken job.now.stop_on (seen.seen config (entry.StopOn i) c)) ∷ c)) taken
             ≡ map Some (seen.taken job.now.stop_on (seen.seen config (entry.StopOn i) c))) }
         ensures events { OnOk result ((config : Configuration) (c : Chronicle) (i : ℕ) (k : EventIdValue) (j : ℕ)
             → stands self.old Stepping config c
-            → instance_place config c key ≡ Some i → job_at config key.job ≡ Some job.now
+            → instance_place config c key ≡ Some i → read.file_of i c ≡ Some job.now
             → event_place self.old c k ≡ Some j → event_place self.new (entry.Fired (entry.StopOn i) (seen.taken job.now.stop_on
             (seen.seen config (entry.StopOn i) c)) ∷ c) k ≡ Some j) };
 

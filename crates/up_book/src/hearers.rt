@@ -6,8 +6,7 @@ ghost use Rattle.up_image.specs.Index.{named};
 ghost use Rattle.up_marks.specs.Naming.{Rising};
 ghost use Rattle.up_marks.specs.Ruling.{admits};
 
-use up_conf::JobDef;
-use up_image::Place;
+use up_image::{JobFile, Place};
 use up_marks::{Index, admits};
 use up_model::Event;
 
@@ -22,7 +21,7 @@ fn earlier_len(places: &[Place], job: usize) -> usize
 }
 
 // Whether a place is of a job from one on, and its leaf may match an event.
-fn is_next(jobs: &[JobDef], place: &Place, event: &Event, from: usize) -> bool
+fn is_next(jobs: &[JobFile], place: &Place, event: &Event, from: usize) -> bool
     ensures { result ≡ (nat_le from place.now.job && admits jobs.now event.now place.now) }
 {
     from <= usize::from(place.job) && admits(jobs, place, event)
@@ -30,7 +29,7 @@ fn is_next(jobs: &[JobDef], place: &Place, event: &Event, from: usize) -> bool
 
 // The job of the first of these places for which that is so.
 #[tactic(auto, using(crate::proofs::NextHearers::first_left))]
-fn first_job(jobs: &[JobDef], places: &[Place], event: &Event, from: usize) -> Option<usize>
+fn first_job(jobs: &[JobFile], places: &[Place], event: &Event, from: usize) -> Option<usize>
     ensures { result ≡ first_from (admits jobs.now event.now) from places.now }
 {
     for place in places {
@@ -42,7 +41,7 @@ fn first_job(jobs: &[JobDef], places: &[Place], event: &Event, from: usize) -> O
 }
 
 // The first job from one on that has one of these places with a leaf that may match an event.
-fn next_job_in(jobs: &[JobDef], places: &[Place], event: &Event, from: usize) -> Option<usize>
+fn next_job_in(jobs: &[JobFile], places: &[Place], event: &Event, from: usize) -> Option<usize>
     requires { Rising 0 places.now }
     ensures { IsNextJob (admits jobs.now event.now) from places.now result }
 {
@@ -51,7 +50,7 @@ fn next_job_in(jobs: &[JobDef], places: &[Place], event: &Event, from: usize) ->
 }
 
 /// The first job from one on with a leaf that may match an event. Takes no memory.
-pub(crate) fn next_job(index: &Index, jobs: &[JobDef], event: &Event, from: usize) -> Option<usize>
+pub(crate) fn next_job(index: &Index, jobs: &[JobFile], event: &Event, from: usize) -> Option<usize>
     ensures { IsNextJob (admits jobs.now event.now) from (named event.now.name index.now) result }
 {
     next_job_in(jobs, index.places(&event.name), event, from)

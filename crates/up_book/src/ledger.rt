@@ -23,7 +23,7 @@ use crate::step::{ActedOn, Step, put, tell};
 use std::alloc::{AllocError, Global};
 use up_conf::JobDef;
 use up_event::TurnKind;
-use up_image::Table;
+use up_image::{JobFile, Table};
 use up_job::{InstanceKey, Instances};
 use up_marks::Index;
 use up_model::{Answer, Event, EventId, Failure, Goal, Input, Output, Process, State};
@@ -172,8 +172,12 @@ impl Book for Ledger {
         self.past.now()
     }
 
-    fn may_respawn(&self, key: InstanceKey, job: &JobDef) -> bool {
-        self.past.may_respawn(key, job.limit)
+    fn file(&self, key: InstanceKey) -> Option<&JobFile> {
+        self.past.file(key)
+    }
+
+    fn may_respawn(&self, key: InstanceKey) -> bool {
+        self.past.may_respawn(key)
     }
 
     fn is_overdue(&self, key: InstanceKey) -> bool {
@@ -379,13 +383,13 @@ impl Book for Ledger {
         Ok(())
     }
 
-    fn make(&mut self, index: usize, job: &JobDef, name: &str) -> Result<InstanceKey, AllocError> {
-        let key = self.past.make(self.alloc, index, job, name)?;
+    fn make(&mut self, index: usize, file: &JobFile, name: &str) -> Result<InstanceKey, AllocError> {
+        let key = self.past.make(self.alloc, index, file, name)?;
         self.step.make(key)?;
         Ok(key)
     }
 
-    fn next_hearer(&self, jobs: &[JobDef], event: EventId, from: usize) -> Option<usize> {
+    fn next_hearer(&self, jobs: &[JobFile], event: EventId, from: usize) -> Option<usize> {
         match self.past.event_at(event) {
             Some(event) => next_job(&self.index, jobs, event, from),
             None => None,

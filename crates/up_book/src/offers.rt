@@ -101,12 +101,12 @@ impl Past {
         id: EventId,
     ) -> Result<bool, AllocError>
         ensures after { OnOk result ((config : Configuration) (c : Chronicle) (i e : ℕ) → Forgets self.old config c
-            → instance_place self.old c key ≡ Some i → nth key.job config.jobs ≡ Some job.now
+            → instance_place self.old c key ≡ Some i → read.file_of i c ≡ Some job.now
             → HasLeaves index.now key.job false job.now.stop_on → event_place self.old c id ≡ Some e
             → Forgets self.new config (entry.Offered (entry.StopOn i) e ∷ c)) }
         ensures holds { IfOk result (λ holds. (config : Configuration) (c : Chronicle) (i e : ℕ)
             → Forgets self.old config c
-            → instance_place self.old c key ≡ Some i → nth key.job config.jobs ≡ Some job.now
+            → instance_place self.old c key ≡ Some i → read.file_of i c ≡ Some job.now
             → HasLeaves index.now key.job false job.now.stop_on → event_place self.old c id ≡ Some e
             → holds ≡ seen.holds job.now.stop_on
             (seen.seen config (entry.StopOn i) (entry.Offered (entry.StopOn i) e ∷ c))) }
@@ -210,11 +210,11 @@ impl Past {
     ) -> Result<Items<EventId>, AllocError>
         ensures after { OnOk result ((config : Configuration) (c : Chronicle) (i : ℕ) (ts : List ℕ)
             → Forgets self.old config c → instance_place self.old c key ≡ Some i
-            → nth key.job config.jobs ≡ Some job.now
+            → read.file_of i c ≡ Some job.now
             → Forgets self.new config (entry.Fired (entry.StopOn i) ts ∷ c)) }
         ensures taken { IfOk result (λ taken. (config : Configuration) (c : Chronicle) (i : ℕ) (ts : List ℕ)
             → Forgets self.old config c → instance_place self.old c key ≡ Some i
-            → nth key.job config.jobs ≡ Some job.now
+            → read.file_of i c ≡ Some job.now
             → map (event_place self.new (entry.Fired (entry.StopOn i) ts ∷ c)) taken
             ≡ map Some (seen.taken job.now.stop_on (seen.seen config (entry.StopOn i) c))) }
         ensures places { OnOk result (SamePlaces self.new.events self.old.events) }

@@ -23,7 +23,7 @@ ghost use Rattle.up_book.specs.Eventing.{SamePlaces, finished_at, number_of};
 ghost use Rattle.up_model.specs.declared.event_id.EventId.{EventId as EventIdValue};
 ghost use Rattle.up_book.specs.Keeps.{is_waiting, AreOlder};
 ghost use Rattle.up_book.specs.Keys.{SpeaksOf};
-ghost use Rattle.up_job.specs.InstanceLists.{limits_of, new_instance};
+ghost use Rattle.up_job.specs.InstanceLists.{new_instance};
 ghost use Rattle.up_job.specs.JobLists.{with_made, removed_at, position_at};
 ghost use Rattle.up_job.specs.declared.instance.Instance.{Instance as InstanceValue};
 ghost use Rattle.up_job.specs.Lists.{with_at};
@@ -44,8 +44,8 @@ use crate::holding::{free_all_of, free_held, hold_all};
 use std::alloc::{AllocError, Global};
 use up_conf::JobDef;
 use up_event::{Events, Finished, TurnKind};
-use up_image::Table;
-use up_job::{Change, Holder, Instance, InstanceKey, Instances, Limits};
+use up_image::{JobFile, Table};
+use up_job::{Change, Holder, Instance, InstanceKey, Instances};
 use up_marks::Trigger;
 use up_model::{Event, EventId, Failure, Goal, Input, Process, State};
 use up_text::{Env, Items};
@@ -84,15 +84,6 @@ fn is_blocking(state: State) -> bool
         | State::PreStop
         | State::Killed
         | State::PostStop => false,
-    }
-}
-
-fn limits_of(job: &JobDef) -> Limits
-    ensures { result ≡ limits_of job.now }
-{
-    Limits {
-        respawn: job.limit,
-        kill_timeout: job.kill_timeout,
     }
 }
 
@@ -585,27 +576,27 @@ impl Past {
         }
     }
 
-    /// A job, which stands at this place of the table, gets an instance.
+    /// The job at a place of the table gets an instance, by this file of it.
     pub(crate) fn make(
         &mut self,
         alloc: Global,
         place: usize,
-        job: &JobDef,
+        file: &JobFile,
         name: &str,
     ) -> Result<InstanceKey, AllocError>
         ensures after { OnOk result ((config : Configuration) (c : Chronicle)
-            → Forgets self.old config c → nth place config.jobs ≡ Some job.now
-            → instance_named (called job.now.name name.now) c ≡ None
-            → Forgets self.new config (entry.Made job.now name.now ∷ c)) }
+            → Forgets self.old config c → nth place config.jobs ≡ Some file.now
+            → instance_named (called file.now.name name.now) c ≡ None
+            → Forgets self.new config (entry.Made file.now name.now ∷ c)) }
         ensures made { IfOk result (λ key. (config : Configuration) (c : Chronicle)
-            → Forgets self.old config c → nth place config.jobs ≡ Some job.now
-            → instance_place self.new (entry.Made job.now name.now ∷ c) key ≡ Some (length c)) }
+            → Forgets self.old config c → nth place config.jobs ≡ Some file.now
+            → instance_place self.new (entry.Made file.now name.now ∷ c) key ≡ Some (length c)) }
         ensures key { IfOk result (λ key. key
             ≡ record { job = place; at = position_at name.now place self.old.instances }) }
         ensures places { OnOk result (SamePlaces self.new.events self.old.events) }
     {
-        let stop_on = Trigger::new(alloc, &job.stop_on)?;
-        let at = self.add(place, name, limits_of(job), stop_on)?;
+        let stop_on = Trigger::new(alloc, &file.job().stop_on)?;
+        let at = self.add(place, name, file.share()?, stop_on)?;
         Ok(InstanceKey { job: place, at })
     }
 
@@ -613,19 +604,19 @@ impl Past {
         &mut self,
         job: usize,
         name: &str,
-        limits: Limits,
+        file: JobFile,
         stop_on: Trigger,
     ) -> Result<usize, AllocError>
         ensures added { OnOk result (self.new ≡ record self.old {
           instances
-              = with_at job (with_made (new_instance name.now limits stop_on)) self.old.instances;
+              = with_at job (with_made (new_instance name.now file stop_on)) self.old.instances;
         }) }
         ensures position { IfOk result (λ at. at ≡ position_at name.now job self.old.instances) }
     {
         if self.instances.position(job, name).is_some() {
             return Err(AllocError);
         }
-        match self.instances.add_at(job, name, limits, stop_on) {
+        match self.instances.add_at(job, name, file, stop_on) {
             Ok(at) => Ok(at),
             Err(_) => Err(AllocError),
         }

@@ -1,5 +1,5 @@
 //! What is known of an instance by what is kept of it. None of these calls takes memory.
-ghost use Rattle.std.specs.Prelude.{◌≡◌, ℕ, [], Some, is_some, length, option_map, IfSome};
+ghost use Rattle.std.specs.Prelude.{◌≡◌, ℕ, [], Some, is_some, length, option_map, take, IfSome};
 ghost use Rattle.std.specs.Option.{option_copied, option_map_or};
 ghost use Rattle.up_book.specs.Regular.{called};
 ghost use Rattle.up_model.specs.Held as held;
@@ -10,13 +10,15 @@ ghost use Rattle.up_conf.specs.declared.job.JobDef.{JobDef as JobValue};
 ghost use Rattle.up_job.specs.Alarms.{AllFrom};
 ghost use Rattle.up_job.specs.Changes as spec;
 ghost use Rattle.up_job.specs.Lists.{nth};
+ghost use Rattle.up_job.specs.Moments.{moments_of, room, Falls};
 ghost use Rattle.up_model.specs.Chronicle.{Chronicle};
 ghost use Rattle.up_model.specs.Clock as clock;
 ghost use Rattle.up_model.specs.Configuration.{Configuration};
 ghost use Rattle.up_model.specs.Readings as read;
 
 use crate::past::Past;
-use up_conf::{Limit, Process};
+use up_conf::Process;
+use up_image::JobFile;
 use up_job::{Instance, InstanceKey, child_of, is_overdue};
 use up_model::{Event, EventId, Failure, Goal, State};
 use up_text::Env;
@@ -31,6 +33,14 @@ fn name_of(kept: &Instance) -> &str
     ensures { result.now ≡ kept.now.name }
 {
     kept.name.as_str()
+}
+
+fn may_respawn(kept: &Instance, now: u64) -> bool
+    ensures { (i : ℕ) (c : Chronicle) → now ≡ clock.now c
+        → kept.now.moments.items ≡ take (room kept.now.file.limit) (moments_of i c) → Falls now (moments_of i c)
+        → result ≡ clock.may_respawn kept.now.file.limit i c }
+{
+    kept.moments.may_respawn(kept.file.job().limit, now)
 }
 
 fn is_blocked(kept: &Instance) -> bool
@@ -87,10 +97,21 @@ impl Past {
         }
     }
 
-    /// Whether the timer is to kill main of an instance (init(5), `kill timeout`).
+    /// The job file by which an instance was made.
+    pub(crate) fn file(&self, key: InstanceKey) -> Option<&JobFile>
+        ensures { (config : Configuration) (c : Chronicle) (i : ℕ) → Forgets self.now config c
+            → instance_place self.now c key ≡ Some i → option_copied result ≡ read.file_of i c }
+    {
+        match self.instances.at(key) {
+            Some(kept) => Some(&kept.file),
+            None => None,
+        }
+    }
+
+    /// Whether the timer is to kill main of an instance, by its file (init(5), `kill timeout`).
     pub(crate) fn is_overdue(&self, key: InstanceKey) -> bool
         ensures { (config : Configuration) (c : Chronicle) (i : ℕ) (job : JobValue) → Forgets self.now config c
-            → instance_place self.now c key ≡ Some i → nth key.job config.jobs ≡ Some job
+            → instance_place self.now c key ≡ Some i → read.file_of i c ≡ Some job
             → result ≡ clock.kill_due job i c }
     {
         match self.instances.at(key) {
@@ -169,14 +190,14 @@ impl Past {
         }
     }
 
-    /// Whether the limit of its job allows one respawn more of an instance (init(5), `respawn limit`).
-    pub(crate) fn may_respawn(&self, key: InstanceKey, limit: Limit) -> bool
+    /// Whether the limit of its file allows one respawn more of an instance (init(5), `respawn limit`).
+    pub(crate) fn may_respawn(&self, key: InstanceKey) -> bool
         ensures { (config : Configuration) (c : Chronicle) (i : ℕ) (job : JobValue) → Forgets self.now config c
-            → instance_place self.now c key ≡ Some i → nth key.job config.jobs ≡ Some job → job.limit ≡ limit
-            → result ≡ clock.may_respawn limit i c }
+            → instance_place self.now c key ≡ Some i → read.file_of i c ≡ Some job
+            → result ≡ clock.may_respawn job.limit i c }
     {
         match self.instances.at(key) {
-            Some(kept) => kept.moments.may_respawn(limit, self.reading),
+            Some(kept) => may_respawn(kept, self.reading),
             None => false,
         }
     }

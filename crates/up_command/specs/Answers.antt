@@ -16,4 +16,4 @@ Answers (Compile dir image) status = EndsWith (CompilesDir dir.now image.now) st
 Answers (Show image) status = EndsWith (ShowsFile image.now) status
 Answers (Replay source script base) status = EndsWith (PlaysSource source.now base script.now) status
 Answers (View view source log) status = EndsWith (ViewsSource source.now view log.now) status
-Answers (Run source socket rounds telling) status = Unit {0}
+Answers (Run source socket rounds options) status = Unit {0}

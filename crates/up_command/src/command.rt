@@ -11,7 +11,7 @@ use std::io::Eprint;
 use up_model::ExitStatus;
 use up_run::pace::MOST_PAUSE;
 use up_run::silence::MOST_SILENCE;
-use up_run::{Rounds, Telling};
+use up_run::{Rounds, ReportOptions};
 use up_text::{Env, Items, Text, TextFault};
 use up_tools::{Kind, View, kind_named};
 use up_wire::DEFAULT_SOCKET;
@@ -65,7 +65,7 @@ pub enum Invocation<'a> {
         source: &'a str,
         socket: &'a str,
         rounds: Rounds,
-        telling: Telling<'a>,
+        options: ReportOptions<'a>,
     },
 }
 
@@ -101,7 +101,7 @@ fn parse_run<'a>(given: &ArgMatches<'a>) -> Option<Invocation<'a>> {
             .get_one::<u64>("client-timeout")
             .unwrap_or(MOST_SILENCE),
     };
-    let telling = Telling {
+    let options = ReportOptions {
         verbose: is_set(given, "verbose"),
         quiet: is_set(given, "quiet"),
         tell: given.get_str("tell"),
@@ -112,7 +112,7 @@ fn parse_run<'a>(given: &ArgMatches<'a>) -> Option<Invocation<'a>> {
         source,
         socket,
         rounds,
-        telling,
+        options,
     })
 }
 

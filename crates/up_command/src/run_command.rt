@@ -75,7 +75,7 @@ pub fn run_command<
             source,
             socket,
             rounds,
-            telling,
-        } => run_source(rt, source, socket, rounds, telling),
+            options,
+        } => run_source(rt, source, socket, rounds, options),
     }
 }

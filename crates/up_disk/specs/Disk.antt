@@ -13,7 +13,7 @@ use Rattle.up_script.specs.Bundle.{files_of, lines_of}
 use Rattle.up_print.specs.Folders.{Checks, ChecksExplained, Graphs, image_refusal_line, prints, unusable}
 use Rattle.up_replay.specs.Replay.{Plays}
 use Rattle.up_script.specs.declared.bundle.TheConstants.{MAX_BUNDLE}
-use Rattle.up_script.specs.ScriptSteps.{script_inputs}
+use Rattle.up_script.specs.Statements.{script_inputs}
 use Rattle.up_disk.specs.declared.walk.WalkError.TheVariants.{Unusable}
 use Rattle.up_disk.specs.Walk.{IsWalked, MayFail}
 use Rattle.up_model.specs.declared.exit_status.ExitStatus.{ExitStatus}

@@ -37,7 +37,6 @@ use Rattle.up_book.specs.Keys.{job_at, instance_at, instance_place}
 use Rattle.up_book.proofs.Answering.{Names, speaks-not}
 use Rattle.up_book.proofs.Keyed.{nth-get, job-there}
 use Rattle.up_book.proofs.One.{IsKnown, known-all, called, none-of-others, nth-all, nth-apart, apart-back}
-use Rattle.up_model.proofs.FileLaws.{AreMadeBy}
 use Rattle.up_engine.specs.Effects.{IsAlone, Concerns, concern_of}
 use Rattle.up_engine.specs.Settling.{settle_one, settle_each, settle_all}
 use Rattle.up_engine.proofs.Effects.{stay-entries}
@@ -74,7 +73,7 @@ stay-one (suc n) jobs job x c stay = by_case (may_leave job x.place c) (stay-one
 -- so if no other may move, all have settled when it has
 rests-all : (jobs : List JobDef) (c : Chronicle) → RestAll jobs c → settle_all jobs c ≡ c
 rests-all [] c rest = refl
-rests-all (job ∷ jobs) c rest = ap (settle_all jobs) (each-still job (instances_of job.name c) c rest.0) ∙ rests-all jobs c rest.1
+rests-all (job ∷ jobs) c rest = ap (settle_all jobs) (each-still (instances_of job.name c) c rest.0) ∙ rests-all jobs c rest.1
 
 others-rest : (jobs : List JobDef) (its : JobDef) (x : Instance) (c d : Chronicle) → AllByRecursion (λ other. bytes_eq other.name its.name ≡ false) jobs → made_at x.place c ≡ Some (called its.name x.name)
     → ((job : JobDef) → bytes_eq job.name its.name ≡ false → instances_of job.name d ≡ instances_of job.name c) → Stay x.place jobs d → RestAll jobs d
@@ -82,50 +81,50 @@ others-rest [] its x c d apart made same stay = tt
 others-rest (job ∷ jobs) its x c d apart made same stay =
     let none : count x.place (instances_of job.name d) ≡ 0 =
     ap (count x.place) (same job apart.0) ∙ none-of-others job.name c x.place (called its.name x.name) (instances_of job.name c) (known-all job.name c) made apart.0 in
-    (stay-rest x.place job (instances_of job.name d) d stay.0 none, others-rest jobs its x c d apart.1 made same stay.1)
+    (stay-rest x.place (instances_of job.name d) d stay.0 none, others-rest jobs its x c d apart.1 made same stay.1)
 
 -- in its own job's list
-own-settles : (job : JobDef) (at : ℕ) (x : Instance) (c : Chronicle) → nth at (instances_of job.name c) ≡ Some x → StayIn x.place job (instances_of job.name c) c
-    → StayIn x.place job (instances_of job.name (settle_one 5 job x c)) (settle_one 5 job x c) → settle_each job (instances_of job.name c) c ≡ settle_one 5 job x c
+own-settles : (job : JobDef) (at : ℕ) (x : Instance) (c : Chronicle) → nth at (instances_of job.name c) ≡ Some x → StayIn x.place (instances_of job.name c) c
+    → StayIn x.place (instances_of job.name (settle_one 5 x.file x c)) (settle_one 5 x.file x c) → settle_each (instances_of job.name c) c ≡ settle_one 5 x.file x c
 own-settles job at x c there stay after =
     let its = among at (instances_of job.name c) x there in
     let front = its.front in
     let back = its.back in
-    let f = settle_one 5 job x c in
+    let f = settle_one 5 x.file x c in
     let apart = once job.name c front back x its.list in
-    let stay_front : StayIn x.place job front c = all-front (λ y. (y.place == x.place) ≡ false → may_leave job y.place c ≡ false) front (x ∷ back) (subst (λ xs. StayIn x.place job xs c) its.list stay) in
-    let rest_front : Rest job front c = stay-rest x.place job front c stay_front apart.before in
-    let lists = settle-lists 5 job x c in
-    let stay_back : StayIn x.place job back f = by_lists lists.stays front back its.list lists.lists in
-    let rest_back : Rest job back f = stay-rest x.place job back f stay_back apart.after in
-    ap (λ xs. settle_each job xs c) its.list ∙ each-append job front (x ∷ back) c ∙ ap (λ g. settle_each job back (settle_one 5 job x g)) (each-still job front c rest_front) ∙ each-still job back f rest_back
+    let stay_front : StayIn x.place front c = all-front (λ y. (y.place == x.place) ≡ false → may_leave y.file y.place c ≡ false) front (x ∷ back) (subst (λ xs. StayIn x.place xs c) its.list stay) in
+    let rest_front : Rest front c = stay-rest x.place front c stay_front apart.before in
+    let lists = settle-lists 5 x.file x c in
+    let stay_back : StayIn x.place back f = by_lists lists.stays front back its.list lists.lists in
+    let rest_back : Rest back f = stay-rest x.place back f stay_back apart.after in
+    ap (λ xs. settle_each xs c) its.list ∙ each-append front (x ∷ back) c ∙ ap (λ g. settle_each back (settle_one 5 x.file x g)) (each-still front c rest_front) ∙ each-still back f rest_back
   where
-    by_lists : (b : Bool) (front back : List Instance) → instances_of job.name c ≡ front ++ x ∷ back → Rattle.up_engine.specs.Settling.ListsAfter b x c (settle_one 5 job x c) → StayIn x.place job back (settle_one 5 job x c)
+    by_lists : (b : Bool) (front back : List Instance) → instances_of job.name c ≡ front ++ x ∷ back → Rattle.up_engine.specs.Settling.ListsAfter b x c (settle_one 5 x.file x c) → StayIn x.place back (settle_one 5 x.file x c)
     by_lists true front back list lists =
-        (all-back (λ y. (y.place == x.place) ≡ false → may_leave job y.place (settle_one 5 job x c) ≡ false) front (x ∷ back) (subst (λ xs. StayIn x.place job xs (settle_one 5 job x c)) (lists job.name ∙ list) after)).1
+        (all-back (λ y. (y.place == x.place) ≡ false → may_leave y.file y.place (settle_one 5 x.file x c) ≡ false) front (x ∷ back) (subst (λ xs. StayIn x.place xs (settle_one 5 x.file x c)) (lists job.name ∙ list) after)).1
     by_lists false front back list lists =
-        all-back (λ y. (y.place == x.place) ≡ false → may_leave job y.place (settle_one 5 job x c) ≡ false) front back (subst (λ xs. StayIn x.place job xs (settle_one 5 job x c)) (lists job.name ∙ without-one job.name c front back x list) after)
+        all-back (λ y. (y.place == x.place) ≡ false → may_leave y.file y.place (settle_one 5 x.file x c) ≡ false) front back (subst (λ xs. StayIn x.place xs (settle_one 5 x.file x c)) (lists job.name ∙ without-one job.name c front back x list) after)
 
 pub one-settles : (jobs : List JobDef) (n at : ℕ) (job : JobDef) (x : Instance) (c : Chronicle) → nth n jobs ≡ Some job → nth at (instances_of job.name c) ≡ Some x → AreDistinct jobs → Stay x.place jobs c
-    → settle_all jobs c ≡ settle_one 5 job x c
+    → settle_all jobs c ≡ settle_one 5 x.file x c
 one-settles [] n at job x c there here distinct stay = absurd cc
 one-settles (first ∷ jobs) zero at job x c there here distinct stay =
     let same : first ≡ job = cc in
-    let f = settle_one 5 job x c in
+    let f = settle_one 5 x.file x c in
     let its = nth-all (IsKnown job.name c) at (instances_of job.name c) x here (known-all job.name c) in
     let apart : AllByRecursion (λ other. bytes_eq other.name job.name ≡ false) jobs = subst (λ (j : JobDef). AllByRecursion (λ other. bytes_eq other.name j.name ≡ false) jobs) same distinct.0 in
-    let after = stay-one 5 (first ∷ jobs) job x c stay in
-    let own : settle_each job (instances_of job.name c) c ≡ f =
-    own-settles job at x c here (subst (λ (j : JobDef). StayIn x.place j (instances_of j.name c) c) same stay.0) (subst (λ (j : JobDef). StayIn x.place j (instances_of j.name f) f) same after.0) in
-    let lists = settle-lists 5 job x c in
+    let after = stay-one 5 (first ∷ jobs) x.file x c stay in
+    let own : settle_each (instances_of job.name c) c ≡ f =
+    own-settles job at x c here (subst (λ (j : JobDef). StayIn x.place (instances_of j.name c) c) same stay.0) (subst (λ (j : JobDef). StayIn x.place (instances_of j.name f) f) same after.0) in
+    let lists = settle-lists 5 x.file x c in
     let others : (other : JobDef) → bytes_eq other.name job.name ≡ false → instances_of other.name f ≡ instances_of other.name c =
     λ other differs. lists-kept lists.stays x c f lists.lists other.name (none-of-others other.name c x.place (called job.name x.name) (instances_of other.name c) (known-all other.name c) its.1 differs) in
-    ap (λ (j : JobDef). settle_all jobs (settle_each j (instances_of j.name c) c)) same ∙ ap (settle_all jobs) own ∙ rests-all jobs f (others-rest jobs job x c f apart its.1 others after.1)
+    ap (λ (j : JobDef). settle_all jobs (settle_each (instances_of j.name c) c)) same ∙ ap (settle_all jobs) own ∙ rests-all jobs f (others-rest jobs job x c f apart its.1 others after.1)
 one-settles (first ∷ jobs) (suc n) at job x c there here distinct stay =
     let its = nth-all (IsKnown job.name c) at (instances_of job.name c) x here (known-all job.name c) in
     let apart : bytes_eq first.name job.name ≡ false = apart-back job.name first.name (nth-apart n jobs job first there distinct.0) in
     let none = none-of-others first.name c x.place (called job.name x.name) (instances_of first.name c) (known-all first.name c) its.1 apart in
-    ap (settle_all jobs) (each-still first (instances_of first.name c) c (stay-rest x.place first (instances_of first.name c) c stay.0 none)) ∙ one-settles jobs n at job x c there here distinct.1 stay.1
+    ap (settle_all jobs) (each-still (instances_of first.name c) c (stay-rest x.place (instances_of first.name c) c stay.0 none)) ∙ one-settles jobs n at job x c there here distinct.1 stay.1
 
 -- the answer for a process, or its end, speaks of one instance
 abbrev Unspoken : Who → Chronicle → Instance → Type 0
@@ -151,16 +150,16 @@ over-given job given who y (ForProcess its) c is none = rw (awaited-given given 
 over-given job given who y ForChange c is none = rw (pid-given given who process.Main y c is none) refl
 over-given job given who y ForMain c is none = rw (pid-given given who process.Main y c is none) refl
 
-stayin-given : (job : JobDef) (given : Input) (who : Who) (i : ℕ) (its : List Instance) (c : Chronicle) → Names given who → instance_named who c ≡ Some i → AllByRecursion (IsKnown job.name c) its → AreSingle (instances_of job.name c) its
-    → StayIn i job its c → StayIn i job its (Given given ∷ c)
+stayin-given : (job : Bytes) (given : Input) (who : Who) (i : ℕ) (its : List Instance) (c : Chronicle) → Names given who → instance_named who c ≡ Some i → AllByRecursion (IsKnown job c) its → AreSingle (instances_of job c) its
+    → StayIn i its c → StayIn i its (Given given ∷ c)
 stayin-given job given who i [] c is named known single stay = tt
 stayin-given job given who i (y ∷ its) c is named known single stay =
-    ((λ apart. over-given job given who y (wait_in (state_of y.place c)) c is (speaks-not job.name who i c y named known.0 single.0 apart) ∙ stay.0 apart), stayin-given job given who i its c is named known.1 single.1 stay.1)
+    ((λ apart. over-given y.file given who y (wait_in (state_of y.place c)) c is (speaks-not job who i c y named known.0 single.0 apart) ∙ stay.0 apart), stayin-given job given who i its c is named known.1 single.1 stay.1)
 
 stay-given : (jobs : List JobDef) (given : Input) (who : Who) (i : ℕ) (c : Chronicle) → Names given who → instance_named who c ≡ Some i → Singles c → Stay i jobs c → Stay i jobs (Given given ∷ c)
 stay-given [] given who i c is named singles stay = tt
 stay-given (job ∷ jobs) given who i c is named singles stay =
-    (stayin-given job given who i (instances_of job.name c) c is named (known-all job.name c) (singles job.name) stay.0, stay-given jobs given who i c is named singles stay.1)
+    (stayin-given job.name given who i (instances_of job.name c) c is named (known-all job.name c) (singles job.name) stay.0, stay-given jobs given who i c is named singles stay.1)
 
 -- and so does what is judged of it, by which no instance comes or goes
 abbrev pub Own : ℕ → Entry → Type 0
@@ -234,29 +233,27 @@ alone-after config c key i es distinct found stay unasked own =
     let still : (name : Bytes) → instances_of name d ≡ instances_of name c = λ name. same-append (instances_of name) StandsStill (still-instances name) es c (own-still i es own) in
     let stays : Stay it.its.place config.jobs d = subst (λ p. Stay p config.jobs d) (sym it.place) (stay-entries i config.jobs es c (own-about i es own) stay) in
     record {
-      job = it.job;
       its = it.its;
-      in_table = it.in_table;
       there = same-instance config c d key still ∙ it.there;
       settles = one-settles config.jobs key.job key.at it.job it.its d (job-there config key.job it.job it.in_table) (ap (nth key.at) (still it.job.name) ∙ it.listed) distinct stays;
       unasked = same-append offering (About i) (offering-same i) es c (own-about i es own) ∙ unasked;
     }
 
 -- so after the answer for a process, or its end, the instance alone may move that it speaks of
-pub given-alone : (config : Configuration) (given : Input) (who : Who) (c : Chronicle) (key : InstanceKey) (i : ℕ) (es : List Entry) → AreDistinct config.jobs → AreMadeBy config.jobs c → Singles c → due config c ≡ [] → Names given who → instance_named who c ≡ Some i
+pub given-alone : (config : Configuration) (given : Input) (who : Who) (c : Chronicle) (key : InstanceKey) (i : ℕ) (es : List Entry) → AreDistinct config.jobs → Singles c → due config c ≡ [] → Names given who → instance_named who c ≡ Some i
     → instance_place config c key ≡ Some i → AllByRecursion (Own i) es → IsAlone key config (es ++ Given given ∷ c)
-given-alone config given who c key i es distinct made singles none is named found own =
-    alone-after config (Given given ∷ c) key i es distinct found (stay-given config.jobs given who i c is named singles (stay-still i config.jobs c (none-moves config c distinct made none))) refl own
+given-alone config given who c key i es distinct singles none is named found own =
+    alone-after config (Given given ∷ c) key i es distinct found (stay-given config.jobs given who i c is named singles (stay-still i config.jobs c (none-moves config c none))) refl own
 
 -- what a key says that was found for a process
 spoken : (place o : Option ℕ) → Some place ≡ option_map (λ (i : ℕ). Some i) o → (i : ℕ) × (o ≡ Some i) × (place ≡ Some i)
 spoken place None same = absurd cc
 spoken place (Some i) same = (i, refl, cc)
 
-pub concerns-alone : (places : Chronicle → EventId → Option ℕ) (config : Configuration) (given : Input) (who : Who) (c : Chronicle) (on : Option InstanceKey) (es : List Entry) → AreDistinct config.jobs → AreMadeBy config.jobs c → Singles c → Names given who
+pub concerns-alone : (places : Chronicle → EventId → Option ℕ) (config : Configuration) (given : Input) (who : Who) (c : Chronicle) (on : Option InstanceKey) (es : List Entry) → AreDistinct config.jobs → Singles c → Names given who
     → option_map (instance_place config c) on ≡ option_map (λ (i : ℕ). Some i) (instance_named who c) → ((i : ℕ) → instance_named who c ≡ Some i → AllByRecursion (Own i) es) → effect config given c ++ c ≡ es ++ Given given ∷ c
     → offering (effect config given c ++ c) ≡ None → Concerns places (concern_of on) config given c
-concerns-alone places config given who c None es distinct made singles names found own whole unasked = unasked
-concerns-alone places config given who c (Some key) es distinct made singles names found own whole unasked =
+concerns-alone places config given who c None es distinct singles names found own whole unasked = unasked
+concerns-alone places config given who c (Some key) es distinct singles names found own whole unasked =
     let its = spoken (instance_place config c key) (instance_named who c) found in
-    λ none. subst (IsAlone key config) (sym whole) (given-alone config given who c key its.0 es distinct made singles none names its.1 its.2 (own its.0 its.1))
+    λ none. subst (IsAlone key config) (sym whole) (given-alone config given who c key its.0 es distinct singles none names its.1 its.2 (own its.0 its.1))

@@ -1,19 +1,17 @@
 -- After a request that starts, stops or restarts an instance that one alone may move, and after one that is answered at once nobody.
-use Rattle.std.proofs.Common.{◌≡◌, ℕ, ◌==◌, Bool, true, false, not, ◌&&◌, nat_lt, List, [], ◌∷◌, ◌++◌, length, Option, None, Some, bytes_eq, if◌then◌else◌, refl, sym, ◌∙◌, ap, subst, eqb-true, eq-eqb, codes, append_assoc}
+use Rattle.std.proofs.Common.{◌≡◌, ℕ, ◌==◌, Bool, true, false, not, ◌&&◌, nat_lt, List, [], ◌∷◌, ◌++◌, length, Option, None, Some, if◌then◌else◌, refl, sym, ◌∙◌, ap, subst, eqb-true, eq-eqb, codes, append_assoc}
 use Rattle.std.specs.List.{AllByRecursion}
 use Rattle.up_book.specs.Keeps.{AreDistinct}
 use Rattle.up_book.specs.Keys.{instance_place}
 use Rattle.up_book.proofs.Keyed.{job-there}
-use Rattle.up_book.proofs.One.{IsKnown, known-all}
 use Rattle.up_conf.specs.declared.job.JobDef.{JobDef}
-use Rattle.up_model.proofs.FileLaws.{AreMadeBy}
 use Rattle.up_engine.specs.declared.due.Concern.{Concern}
 use Rattle.up_engine.specs.declared.due.Concern.TheVariants as on
 use Rattle.up_engine.specs.Effects.{ActsOn, Concerns as ConcernsOf, IsAlone, IsCalled}
 use Rattle.up_engine.specs.Requests.{answer_of}
 use Rattle.up_engine.proofs.Alone.{Own, here, one-settles}
 use Rattle.up_engine.proofs.Effects.{effect-offers, none-due, stay-entries}
-use Rattle.up_engine.proofs.Firing.{abouts-made, stay-still, still-stay}
+use Rattle.up_engine.proofs.Firing.{stay-made, stay-still, still-stay}
 use Rattle.up_engine.proofs.Hearing.{none-moves}
 use Rattle.up_engine.proofs.JobMoves.{move_first}
 use Rattle.up_engine.proofs.Moving.{StayIn, Stay}
@@ -21,7 +19,6 @@ use Rattle.up_engine.proofs.Opening.{About}
 use Rattle.up_engine.proofs.Settled.{still-instances}
 use Rattle.up_job.specs.declared.instance_key.InstanceKey.{InstanceKey}
 use Rattle.up_model.proofs.NameLaws.{made-found}
-use Rattle.up_model.proofs.Places.{older-other}
 use Rattle.up_model.proofs.ReplyLaws.{releasing-all}
 use Rattle.up_model.proofs.Sparing.{same-append}
 use Rattle.up_engine.proofs.Quiet.{none-asked, stays-quiet}
@@ -32,15 +29,15 @@ use Rattle.up_model.specs.Configuration.{Configuration}
 use Rattle.up_model.specs.Due.{due, effect}
 use Rattle.up_model.specs.Events.{with_instance as with_variables}
 use Rattle.up_model.specs.Files.{own_file}
-use Rattle.up_model.specs.Instances.{Instance, is_before, with_instance, instances_of, place_named, instance_named}
+use Rattle.up_model.specs.Instances.{Instance, instances_of, place_named, instance_named}
 use Rattle.up_model.specs.Life.{Wait, ForStart, ForEvent, ForAnswer, ForProcess, ForChange, ForMain, wait_in}
-use Rattle.up_model.specs.Moves.{is_over, may_leave}
+use Rattle.up_model.specs.Moves.{is_over}
 use Rattle.up_model.specs.Offers.{offering, max_instances}
 use Rattle.up_model.specs.Predicates.{is_start, entries_if}
-use Rattle.up_model.specs.Readings.{goal, state_of, is_awaited, pid_of, lives}
+use Rattle.up_model.specs.Readings.{goal, state_of, lives}
 use Rattle.up_model.specs.Replies.{asked, answering_hurried, releasing, unless_answered}
 use Rattle.up_model.specs.Requests.{RequestValue, not_supported}
-use Rattle.up_model.specs.Values.{Bytes, Bindings}
+use Rattle.up_model.specs.Values.{Bindings}
 use Rattle.up_model.specs.declared.event_id.EventId.{EventId}
 use Rattle.up_model.specs.declared.input.Input.TheVariants as input
 use Rattle.up_model.specs.declared.request.Answer.{Answer}
@@ -49,7 +46,6 @@ use Rattle.up_model.specs.declared.request.Command.TheVariants as command
 use Rattle.up_model.specs.declared.state.Goal.TheVariants.{Start, Stop}
 use Rattle.up_model.specs.declared.who.Who.{Who}
 use Rattle.up_text.specs.Scripts.{is_filled}
-use Rattle.up_stanza.specs.declared.process.Process.{Process}
 use Rattle.up_stanza.specs.declared.process.Process.TheVariants as process
 
 -- a request says nothing of what an instance waits for
@@ -61,70 +57,16 @@ over-asked job q (ForProcess its) id request c = refl
 over-asked job q ForChange id request c = refl
 over-asked job q ForMain id request c = refl
 
-stayin-asked : (i : ℕ) (job : JobDef) (its : List Instance) (id : ℕ) (request : RequestValue) (c : Chronicle) → StayIn i job its c → StayIn i job its (Given (input.Request id request) ∷ c)
-stayin-asked i job [] id request c all = tt
-stayin-asked i job (x ∷ its) id request c all = ((λ apart. over-asked job x.place (wait_in (state_of x.place c)) id request c ∙ all.0 apart), stayin-asked i job its id request c all.1)
+stayin-asked : (i : ℕ) (its : List Instance) (id : ℕ) (request : RequestValue) (c : Chronicle) → StayIn i its c → StayIn i its (Given (input.Request id request) ∷ c)
+stayin-asked i [] id request c all = tt
+stayin-asked i (x ∷ its) id request c all = ((λ apart. over-asked x.file x.place (wait_in (state_of x.place c)) id request c ∙ all.0 apart), stayin-asked i its id request c all.1)
 
 stay-asked : (i : ℕ) (jobs : List JobDef) (id : ℕ) (request : RequestValue) (c : Chronicle) → Stay i jobs c → Stay i jobs (Given (input.Request id request) ∷ c)
 stay-asked i [] id request c stay = tt
-stay-asked i (job ∷ jobs) id request c stay = (stayin-asked i job (instances_of job.name c) id request c stay.0, stay-asked i jobs id request c stay.1)
+stay-asked i (job ∷ jobs) id request c stay = (stayin-asked i (instances_of job.name c) id request c stay.0, stay-asked i jobs id request c stay.1)
 
-pub asked-stays : (config : Configuration) (id : ℕ) (request : RequestValue) (c : Chronicle) → AreDistinct config.jobs → AreMadeBy config.jobs c → due config c ≡ [] → (i : ℕ) → Stay i config.jobs (Given (input.Request id request) ∷ c)
-asked-stays config id request c distinct made none i = stay-asked i config.jobs id request c (stay-still i config.jobs c (none-moves config c distinct made none))
-
--- nor does an instance that is made of what an older one waits for
-awaited-made : (q : ℕ) (its : Process) (file : JobDef) (name : Bytes) (c : Chronicle) → (length c == q) ≡ false → is_awaited q its (Made file name ∷ c) ≡ is_awaited q its c
-awaited-made q its file name c other = rw other refl
-
-pid-made : (q : ℕ) (its : Process) (file : JobDef) (name : Bytes) (c : Chronicle) → (length c == q) ≡ false → pid_of q its (Made file name ∷ c) ≡ pid_of q its c
-pid-made q its file name c other = rw other refl
-
-over-made : (def : JobDef) (q : ℕ) (wait : Wait) (file : JobDef) (name : Bytes) (c : Chronicle) → (length c == q) ≡ false → is_over def q wait (Made file name ∷ c) ≡ is_over def q wait c
-over-made def q ForStart file name c other = refl
-over-made def q ForEvent file name c other = refl
-over-made def q (ForAnswer its) file name c other = rw (awaited-made q its file name c other) refl
-over-made def q (ForProcess its) file name c other = rw (awaited-made q its file name c other, pid-made q its file name c other) refl
-over-made def q ForChange file name c other = rw (pid-made q process.Main file name c other) refl
-over-made def q ForMain file name c other = rw (pid-made q process.Main file name c other) refl
-
-stayin-old : (def : JobDef) (its : List Instance) (file : JobDef) (name : Bytes) (c : Chronicle) → AllByRecursion (IsKnown def.name c) its → StayIn (length c) def its c → StayIn (length c) def its (Made file name ∷ c)
-stayin-old def [] file name c known all = tt
-stayin-old def (x ∷ its) file name c known all =
-    ((λ apart. over-made def x.place (wait_in (state_of x.place c)) file name c (older-other (length c) x.place known.0.0) ∙ all.0 apart), stayin-old def its file name c known.1 all.1)
-
-stayin-with : (def : JobDef) (y : Instance) (its : List Instance) (d : Chronicle) → StayIn y.place def its d → StayIn y.place def (with_instance y its) d
-stayin-with def y [] d all = ((λ apart. not-itself y apart), tt)
-  where
-    not-itself : (y : Instance) → (y.place == y.place) ≡ false → may_leave def y.place d ≡ false
-    not-itself y apart =
-        let same : (y.place == y.place) ≡ true = eq-eqb y.place y.place refl in
-        let both : true ≡ false = sym same ∙ apart in
-        absurd cc
-stayin-with def y (x ∷ its) d all = by_case (is_before x y) (stayin-with def y its d all.1)
-  where
-    not-itself : (y.place == y.place) ≡ false → may_leave def y.place d ≡ false
-    not-itself apart =
-        let same : (y.place == y.place) ≡ true = eq-eqb y.place y.place refl in
-        let both : true ≡ false = sym same ∙ apart in
-        absurd cc
-
-    by_case : (b : Bool) → StayIn y.place def (with_instance y its) d → StayIn y.place def (if b then x ∷ with_instance y its else y ∷ x ∷ its) d
-    by_case true rest = (all.0, rest)
-    by_case false rest = (not-itself, all)
-
-stay-made : (jobs : List JobDef) (file : JobDef) (name : Bytes) (c : Chronicle) → Stay (length c) jobs c → Stay (length c) jobs (Made file name ∷ c)
-stay-made [] file name c stay = tt
-stay-made (def ∷ jobs) file name c stay = (by_case (bytes_eq file.name def.name), stay-made jobs file name c stay.1)
-  where
-    made : Instance
-    made = record { place = length c; name = name; file = file }
-
-    old : StayIn (length c) def (instances_of def.name c) (Made file name ∷ c)
-    old = stayin-old def (instances_of def.name c) file name c (known-all def.name c) stay.0
-
-    by_case : (b : Bool) → StayIn (length c) def (if b then with_instance made (instances_of def.name c) else instances_of def.name c) (Made file name ∷ c)
-    by_case true = stayin-with def made (instances_of def.name c) (Made file name ∷ c) old
-    by_case false = old
+pub asked-stays : (config : Configuration) (id : ℕ) (request : RequestValue) (c : Chronicle) → due config c ≡ [] → (i : ℕ) → Stay i config.jobs (Given (input.Request id request) ∷ c)
+asked-stays config id request c none i = stay-asked i config.jobs id request c (stay-still i config.jobs c (none-moves config c none))
 
 -- entries of an instance of this name leave the others where they are
 still-named : (who : Who) (i : ℕ) (es c : List Entry) → AllByRecursion (Own i) es → instance_named who (es ++ c) ≡ instance_named who c
@@ -231,26 +173,24 @@ pub acted-alone : (config : Configuration) (d : Chronicle) (key : InstanceKey) (
 acted-alone config d key i distinct found stay unasked =
     let it = here config d key i found in
     record {
-      job = it.job;
       its = it.its;
-      in_table = it.in_table;
       there = it.there;
       settles = one-settles config.jobs key.job key.at it.job it.its d (job-there config key.job it.job it.in_table) it.listed distinct (subst (λ p. Stay p config.jobs d) (sym it.place) stay);
       unasked = unasked;
     }
 
 -- nothing is due after a request that is answered at once
-pub told-due : (config : Configuration) (id : ℕ) (request : RequestValue) (answer : Answer) (es c : List Entry) → AreDistinct config.jobs → AreMadeBy config.jobs c → due config c ≡ [] → ((i : ℕ) → AllByRecursion (About i) es)
+pub told-due : (config : Configuration) (id : ℕ) (request : RequestValue) (answer : Answer) (es c : List Entry) → due config c ≡ [] → ((i : ℕ) → AllByRecursion (About i) es)
     → asked (es ++ Given (input.Request id request) ∷ c) ≡ (if request.wait then None else Some (length c)) → offering (es ++ Given (input.Request id request) ∷ c) ≡ None
     → due config (Replied (length c) answer ∷ es ++ Given (input.Request id request) ∷ c) ≡ []
-told-due config id request answer es c distinct made none about asks unasked =
-    none-due config d distinct (abouts-made config.jobs (length d) (Replied (length c) answer ∷ es) (Given (input.Request id request) ∷ c) (tt, about (length d)) made) still unasked ∙ ap (λ o. answering_hurried (unless_answered o d) d) asks ∙ by_wait request.wait
+told-due config id request answer es c none about asks unasked =
+    none-due config d still unasked ∙ ap (λ o. answering_hurried (unless_answered o d) d) asks ∙ by_wait request.wait
   where
     d : Chronicle
     d = Replied (length c) answer ∷ es ++ Given (input.Request id request) ∷ c
 
     still : move_first config.jobs d ≡ []
-    still = still-stay config.jobs d (stay-entries (length d) config.jobs (Replied (length c) answer ∷ es) (Given (input.Request id request) ∷ c) (tt, about (length d)) (asked-stays config id request c distinct made none (length d)))
+    still = still-stay config.jobs d (stay-entries (length d) config.jobs (Replied (length c) answer ∷ es) (Given (input.Request id request) ∷ c) (tt, about (length d)) (asked-stays config id request c none (length d)))
 
     by_wait : (w : Bool) → answering_hurried (unless_answered (if w then None else Some (length c)) d) d ≡ []
     by_wait true = refl
@@ -267,11 +207,11 @@ told-entries given (Refused text) told = refl
 told-entries given (Told text) told = refl
 told-entries given (Done entries) told = absurd told
 
-pub outcome-due : (config : Configuration) (id : ℕ) (request : RequestValue) (outcome : Outcome) (c : Chronicle) → IsTold outcome → AreDistinct config.jobs → AreMadeBy config.jobs c → due config c ≡ []
+pub outcome-due : (config : Configuration) (id : ℕ) (request : RequestValue) (outcome : Outcome) (c : Chronicle) → IsTold outcome → due config c ≡ []
     → due config (entries_of (length c) outcome ++ Given (input.Request id request) ∷ c) ≡ []
-outcome-due config id request (Refused text) c told distinct made none = told-due config id request (record { ok = false; text = text }) [] c distinct made none (λ i. tt) refl refl
-outcome-due config id request (Told text) c told distinct made none = told-due config id request (record { ok = true; text = text }) [] c distinct made none (λ i. tt) refl refl
-outcome-due config id request (Done entries) c told distinct made none = absurd told
+outcome-due config id request (Refused text) c told none = told-due config id request (record { ok = false; text = text }) [] c none (λ i. tt) refl refl
+outcome-due config id request (Told text) c told none = told-due config id request (record { ok = true; text = text }) [] c none (λ i. tt) refl refl
+outcome-due config id request (Done entries) c told none = absurd told
 
 pub status-told : (target : Target) (c : Chronicle) → IsTold (status target c)
 status-told (Nobody text) c = tt
@@ -286,23 +226,23 @@ status-told (Concerns job who environment) c = by_place (instance_named who c)
     by_place (Some i) = tt
 
 -- and one that reloads
-pub reload-due : (config : Configuration) (id : ℕ) (request : RequestValue) (target : Target) (c : Chronicle) → AreDistinct config.jobs → AreMadeBy config.jobs c → due config c ≡ []
+pub reload-due : (config : Configuration) (id : ℕ) (request : RequestValue) (target : Target) (c : Chronicle) → due config c ≡ []
     → due config (entries_of (length c) (reload (length c) target (Given (input.Request id request) ∷ c)) ++ Given (input.Request id request) ∷ c) ≡ []
-reload-due config id request (Nobody text) c distinct made none = outcome-due config id request (Refused text) c tt distinct made none
-reload-due config id request (Concerns job who environment) c distinct made none = by_place (own_file who d) (instance_named who d)
+reload-due config id request (Nobody text) c none = outcome-due config id request (Refused text) c tt none
+reload-due config id request (Concerns job who environment) c none = by_place (own_file who d) (instance_named who d)
   where
     d : Chronicle
     d = Given (input.Request id request) ∷ c
 
     by_state : (its : JobDef) (i : ℕ) (b : Bool)
         → due config (entries_of (length c) (if b then Done (reloading (length c) i its.reload_signal) else refusal (codes "Job is not running: ") who) ++ d) ≡ []
-    by_state its i true = told-due config id request (record { ok = true; text = [] }) (Signalled i its.reload_signal false ∷ []) c distinct made none (λ q. (tt, tt)) refl refl
-    by_state its i false = outcome-due config id request (refusal (codes "Job is not running: ") who) c tt distinct made none
+    by_state its i true = told-due config id request (record { ok = true; text = [] }) (Signalled i its.reload_signal false ∷ []) c none (λ q. (tt, tt)) refl refl
+    by_state its i false = outcome-due config id request (refusal (codes "Job is not running: ") who) c tt none
 
     by_place : (file : Option JobDef) (o : Option ℕ) → due config (entries_of (length c) (reload_at (length c) file who o d) ++ d) ≡ []
-    by_place None None = outcome-due config id request (refusal (codes "Unknown instance: ") who) c tt distinct made none
-    by_place (Some its) None = outcome-due config id request (refusal (codes "Unknown instance: ") who) c tt distinct made none
-    by_place None (Some i) = outcome-due config id request (refusal (codes "Unknown instance: ") who) c tt distinct made none
+    by_place None None = outcome-due config id request (refusal (codes "Unknown instance: ") who) c tt none
+    by_place (Some its) None = outcome-due config id request (refusal (codes "Unknown instance: ") who) c tt none
+    by_place None (Some i) = outcome-due config id request (refusal (codes "Unknown instance: ") who) c tt none
     by_place (Some its) (Some i) = by_state its i (is_running (state_of i d) && lives i process.Main d)
 
 -- no event is taken up by a request
@@ -349,9 +289,9 @@ IsAnswered command.Reload = Unit {0}
 IsAnswered command.ReloadConfiguration = Unit {0}
 IsAnswered other = ⊥
 
-pub answered-due : (its : Command) (config : Configuration) (id : ℕ) (request : RequestValue) (c : Chronicle) → request.command ≡ its → IsAnswered its → AreDistinct config.jobs → AreMadeBy config.jobs c → due config c ≡ []
+pub answered-due : (its : Command) (config : Configuration) (id : ℕ) (request : RequestValue) (c : Chronicle) → request.command ≡ its → IsAnswered its → due config c ≡ []
     → due config (entries_of (length c) (outcome_of config (length c) request (Given (input.Request id request) ∷ c)) ++ Given (input.Request id request) ∷ c) ≡ []
-answered-due its config id request c is answered distinct made none =
+answered-due its config id request c is answered none =
     subst (λ its. due config (entries_of (length c) (outcome_by its config (length c) request d) ++ d) ≡ []) (sym is) (by_command its answered)
   where
     d : Chronicle
@@ -361,20 +301,20 @@ answered-due its config id request c is answered distinct made none =
     target = target_of config request.name request.vars d
 
     by_command : (its : Command) → IsAnswered its → due config (entries_of (length c) (outcome_by its config (length c) request d) ++ d) ≡ []
-    by_command command.Status answered = outcome-due config id request (status target d) c (status-told target d) distinct made none
-    by_command command.List answered = outcome-due config id request (Told (listing config d)) c tt distinct made none
-    by_command command.Version answered = outcome-due config id request (Told version_text) c tt distinct made none
-    by_command command.Reload answered = reload-due config id request target c distinct made none
-    by_command command.ReloadConfiguration answered = outcome-due config id request (Refused (not_supported command.ReloadConfiguration)) c tt distinct made none
+    by_command command.Status answered = outcome-due config id request (status target d) c (status-told target d) none
+    by_command command.List answered = outcome-due config id request (Told (listing config d)) c tt none
+    by_command command.Version answered = outcome-due config id request (Told version_text) c tt none
+    by_command command.Reload answered = reload-due config id request target c none
+    by_command command.ReloadConfiguration answered = outcome-due config id request (Refused (not_supported command.ReloadConfiguration)) c tt none
     by_command command.Start answered = absurd answered
     by_command command.Stop answered = absurd answered
     by_command command.Restart answered = absurd answered
     by_command command.Emit answered = absurd answered
 
 -- and after an `emit` of a client that waits for the event
-pub emitted-due : (config : Configuration) (id : ℕ) (request : RequestValue) (c : Chronicle) → request.command ≡ command.Emit → request.wait ≡ true → AreDistinct config.jobs → AreMadeBy config.jobs c → due config c ≡ []
+pub emitted-due : (config : Configuration) (id : ℕ) (request : RequestValue) (c : Chronicle) → request.command ≡ command.Emit → request.wait ≡ true → due config c ≡ []
     → due config (entries_of (length c) (outcome_of config (length c) request (Given (input.Request id request) ∷ c)) ++ Given (input.Request id request) ∷ c) ≡ []
-emitted-due config id request c is waits distinct made none =
+emitted-due config id request c is waits none =
     subst (λ its. due config (entries_of (length c) (outcome_by its config (length c) request d) ++ d) ≡ []) (sym is) (by_room (nat_lt (length (queue d)) max_events))
   where
     d : Chronicle
@@ -384,11 +324,11 @@ emitted-due config id request c is waits distinct made none =
     queued = Queued (Outside (length c)) (record { name = request.name; vars = request.vars })
 
     still : move_first config.jobs (queued ∷ d) ≡ []
-    still = still-stay config.jobs (queued ∷ d) (stays-quiet (length (queued ∷ d)) config.jobs (queued ∷ []) d (tt, tt) (asked-stays config id request c distinct made none (length (queued ∷ d))))
+    still = still-stay config.jobs (queued ∷ d) (stays-quiet (length (queued ∷ d)) config.jobs (queued ∷ []) d (tt, tt) (asked-stays config id request c none (length (queued ∷ d))))
 
     unasked : asked (queued ∷ d) ≡ None
     unasked = ap (λ (b : Bool). if b then None else Some (length c)) waits
 
     by_room : (b : Bool) → due config (entries_of (length c) (if b then Done (queued ∷ []) else Refused (codes "Too many events")) ++ d) ≡ []
-    by_room true = none-due config (queued ∷ d) distinct made still refl ∙ none-asked (queued ∷ d) unasked
-    by_room false = outcome-due config id request (Refused (codes "Too many events")) c tt distinct made none
+    by_room true = none-due config (queued ∷ d) still refl ∙ none-asked (queued ∷ d) unasked
+    by_room false = outcome-due config id request (Refused (codes "Too many events")) c tt none

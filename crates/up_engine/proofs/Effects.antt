@@ -34,9 +34,8 @@ use Rattle.up_model.proofs.Settling.{settle_still}
 use Rattle.up_model.proofs.Sparing.{same-append, all-append, all-if}
 use Rattle.up_book.specs.Keeps.{AreDistinct}
 use Rattle.up_engine.specs.Settling.{settle_one, settle_each, settle_all}
-use Rattle.up_model.proofs.FileLaws.{AreMadeBy}
 use Rattle.up_engine.proofs.JobMoves.{move_first, due-by}
-use Rattle.up_engine.proofs.Firing.{abouts-made, stay-entry, stay-still, still-stay}
+use Rattle.up_engine.proofs.Firing.{stay-entry, stay-still, still-stay}
 use Rattle.up_engine.proofs.Moving.{Stay}
 use Rattle.up_engine.proofs.Offering.{rested, rested-next}
 use Rattle.up_engine.proofs.Opening.{About, offering-same}
@@ -174,13 +173,13 @@ one-same f same (suc n) job x c = by_case (may_leave job x.place c) (one-same f 
     by_case true rest = rest ∙ same-append f (About x.place) (same x.place) (move job x c) c (move-about job x c)
     by_case false rest = refl
 
-pub each-same : {X : Type 0} (f : Chronicle → X) → ((i : ℕ) (e : Entry) (c : Chronicle) → About i e → f (e ∷ c) ≡ f c) → (job : JobDef) (its : List Instance) (c : Chronicle) → f (settle_each job its c) ≡ f c
-each-same f same job [] c = refl
-each-same f same job (x ∷ its) c = each-same f same job its (settle_one 5 job x c) ∙ one-same f same 5 job x c
+pub each-same : {X : Type 0} (f : Chronicle → X) → ((i : ℕ) (e : Entry) (c : Chronicle) → About i e → f (e ∷ c) ≡ f c) → (its : List Instance) (c : Chronicle) → f (settle_each its c) ≡ f c
+each-same f same [] c = refl
+each-same f same (x ∷ its) c = each-same f same its (settle_one 5 x.file x c) ∙ one-same f same 5 x.file x c
 
 pub all-same : {X : Type 0} (f : Chronicle → X) → ((i : ℕ) (e : Entry) (c : Chronicle) → About i e → f (e ∷ c) ≡ f c) → (jobs : List JobDef) (c : Chronicle) → f (settle_all jobs c) ≡ f c
 all-same f same [] c = refl
-all-same f same (job ∷ jobs) c = all-same f same jobs (settle_each job (instances_of job.name c) c) ∙ each-same f same job (instances_of job.name c) c
+all-same f same (job ∷ jobs) c = all-same f same jobs (settle_each (instances_of job.name c) c) ∙ each-same f same (instances_of job.name c) c
 
 -- a client that didn't wait is answered once
 asked-is : (o : Option ℕ) (request : ℕ) (c : Chronicle) → unless_answered o c ≡ Some request → o ≡ Some request
@@ -202,24 +201,24 @@ pub stay-entries : (i : ℕ) (jobs : List JobDef) (es c : List Entry) → AllByR
 stay-entries i jobs [] c all stay = stay
 stay-entries i jobs (e ∷ es) c all stay = stay-entry i jobs e (es ++ c) all.0 (stay-entries i jobs es c all.1 stay)
 
-pub none-due : (config : Configuration) (c : Chronicle) → AreDistinct config.jobs → AreMadeBy config.jobs c → move_first config.jobs c ≡ [] → offering c ≡ None → due config c ≡ answering_last c
-none-due config c distinct made still offers =
-    due-by config c distinct made ∙ ap (λ es. or_else es (or_else (offer_next config (offering c) c) (answering_last c))) still ∙ ap (λ o. or_else (offer_next config o c) (answering_last c)) offers
+pub none-due : (config : Configuration) (c : Chronicle) → move_first config.jobs c ≡ [] → offering c ≡ None → due config c ≡ answering_last c
+none-due config c still offers =
+    due-by config c ∙ ap (λ es. or_else es (or_else (offer_next config (offering c) c) (answering_last c))) still ∙ ap (λ o. or_else (offer_next config o c) (answering_last c)) offers
 
-pub last-rested : (config : Configuration) (c : Chronicle) → AreDistinct config.jobs → AreMadeBy config.jobs c → move_first config.jobs c ≡ [] → offering c ≡ None → answering_last c ++ c ≡ rested config c
-last-rested config c distinct made still offers =
+pub last-rested : (config : Configuration) (c : Chronicle) → move_first config.jobs c ≡ [] → offering c ≡ None → answering_last c ++ c ≡ rested config c
+last-rested config c still offers =
     let d : Chronicle = answering_last c ++ c in
     let i = length d in
     let all : AllByRecursion (About i) (answering_last c) = answering_hurried-all (About i) (λ request answer. tt) (unanswered c) c in
     let still_d : move_first config.jobs d ≡ [] = still-stay config.jobs d (stay-entries i config.jobs (answering_last c) c all (stay-still i config.jobs c still)) in
     let offers_d : offering d ≡ None = same-append offering (About i) (offering-same i) (answering_last c) c all ∙ offers in
-    let none : due config d ≡ [] = none-due config d distinct (abouts-made config.jobs i (answering_last c) c all made) still_d offers_d ∙ answered-once (unanswered c) c refl in
-    sym (settle_still (work config d) config d none) ∙ ap (λ es. rested config (es ++ c)) (sym (none-due config c distinct made still offers)) ∙ rested-next config c
+    let none : due config d ≡ [] = none-due config d still_d offers_d ∙ answered-once (unanswered c) c refl in
+    sym (settle_still (work config d) config d none) ∙ ap (λ es. rested config (es ++ c)) (sym (none-due config c still offers)) ∙ rested-next config c
 
 -- so the step is done when all have settled and the answer is given
-pub settled-rested : (config : Configuration) (c : Chronicle) → AreDistinct config.jobs → AreMadeBy config.jobs c → offering c ≡ None
+pub settled-rested : (config : Configuration) (c : Chronicle) → AreDistinct config.jobs → offering c ≡ None
     → answering_last (settle_all config.jobs c) ++ settle_all config.jobs c ≡ rested config c
-settled-rested config c distinct made offers =
-    let all = all-settled config c distinct made in
+settled-rested config c distinct offers =
+    let all = all-settled config c distinct in
     let none : offering (settle_all config.jobs c) ≡ None = all-same offering offering-same config.jobs c ∙ offers in
-    last-rested config (settle_all config.jobs c) distinct all.2 all.0 none ∙ all.1
+    last-rested config (settle_all config.jobs c) all.0 none ∙ all.1

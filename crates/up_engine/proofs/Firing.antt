@@ -10,14 +10,13 @@ use Rattle.up_model.specs.Chronicle.{Chronicle, Entry, Given, Queued, Finished, 
 use Rattle.up_model.specs.Instances as instances
 use Rattle.up_model.specs.Instances.{Instance, is_before, instances_of}
 use Rattle.up_model.specs.Life.{Wait, ForStart, ForEvent, ForAnswer, ForProcess, ForChange, ForMain, wait_in}
-use Rattle.up_model.specs.Moves.{is_over, may_leave, move_of}
+use Rattle.up_model.specs.Moves.{is_over, may_leave, move_of, move_in}
 use Rattle.up_model.specs.Offers.{is_open, offering}
 use Rattle.up_model.specs.Readings.{goal, state_of, was_restarted, blocker, is_awaited, pid_of}
 use Rattle.up_model.specs.Values.{Bytes}
-use Rattle.up_model.proofs.FileLaws.{AreMadeBy}
 use Rattle.up_model.proofs.Places.{older-other, all-without}
 use Rattle.up_engine.specs.Offering.{Asked, open_all}
-use Rattle.up_engine.proofs.JobMoves.{move_in, move_first}
+use Rattle.up_engine.proofs.JobMoves.{move_first}
 use Rattle.up_engine.proofs.Moving.{StayIn, Stay}
 use Rattle.up_book.proofs.One.{IsKnown, known-all}
 use Rattle.up_engine.proofs.Passing.{stays, or-nil-first, or-nil-rest}
@@ -68,15 +67,15 @@ pub leave-same : (job : JobDef) (q i : ℕ) (e : Entry) (c : Chronicle) → Abou
 leave-same job q i e c is apart = ap (λ s. is_over job q (wait_in s) (e ∷ c)) (state-same q i e c is apart) ∙ over-same job q i (wait_in (state_of q c)) e c is apart
 
 -- so it leaves the others where they are
-stayin-same : (i : ℕ) (job : JobDef) (its : List Instance) (e : Entry) (c : Chronicle) → About i e → StayIn i job its c → StayIn i job its (e ∷ c)
-stayin-same i job [] e c is all = tt
-stayin-same i job (x ∷ its) e c is all = ((λ apart. leave-same job x.place i e c is apart ∙ all.0 apart), stayin-same i job its e c is all.1)
+stayin-same : (i : ℕ) (its : List Instance) (e : Entry) (c : Chronicle) → About i e → StayIn i its c → StayIn i its (e ∷ c)
+stayin-same i [] e c is all = tt
+stayin-same i (x ∷ its) e c is all = ((λ apart. leave-same x.file x.place i e c is apart ∙ all.0 apart), stayin-same i its e c is all.1)
 
-stayin-entry : (i : ℕ) (job : JobDef) (e : Entry) (c : Chronicle) → About i e → StayIn i job (instances_of job.name c) c → StayIn i job (instances_of job.name (e ∷ c)) (e ∷ c)
+stayin-entry : (i : ℕ) (job : JobDef) (e : Entry) (c : Chronicle) → About i e → StayIn i (instances_of job.name c) c → StayIn i (instances_of job.name (e ∷ c)) (e ∷ c)
 stayin-entry i job (Made file name) c is all = absurd is
 stayin-entry i job (Entered j state.Waiting) c is all =
-    all-without (λ x. (x.place == i) ≡ false → may_leave job x.place (Entered j state.Waiting ∷ c) ≡ false) j (instances_of job.name c) (stayin-same i job (instances_of job.name c) (Entered j state.Waiting) c is all)
-stayin-entry i job e c is all = stayin-same i job (instances_of job.name c) e c is all
+    all-without (λ x. (x.place == i) ≡ false → may_leave x.file x.place (Entered j state.Waiting ∷ c) ≡ false) j (instances_of job.name c) (stayin-same i (instances_of job.name c) (Entered j state.Waiting) c is all)
+stayin-entry i job e c is all = stayin-same i (instances_of job.name c) e c is all
 
 pub stay-entry : (i : ℕ) (jobs : List JobDef) (e : Entry) (c : Chronicle) → About i e → Stay i jobs c → Stay i jobs (e ∷ c)
 stay-entry i [] e c is stay = tt
@@ -91,26 +90,26 @@ over-made job q (ForProcess its) file name c older = rw (older-other (length c) 
 over-made job q ForChange file name c older = rw (older-other (length c) q older) refl
 over-made job q ForMain file name c older = rw (older-other (length c) q older) refl
 
-stayin-made : (job : JobDef) (its : List Instance) (file : JobDef) (name : Bytes) (c : Chronicle) → AllByRecursion (IsKnown job.name c) its → StayIn (length c) job its c → StayIn (length c) job its (Made file name ∷ c)
+stayin-made : (job : Bytes) (its : List Instance) (file : JobDef) (name : Bytes) (c : Chronicle) → AllByRecursion (IsKnown job c) its → StayIn (length c) its c → StayIn (length c) its (Made file name ∷ c)
 stayin-made job [] file name c known all = tt
 stayin-made job (x ∷ its) file name c known all =
-    ((λ apart. over-made job x.place (wait_in (state_of x.place c)) file name c known.0.0 ∙ all.0 apart), stayin-made job its file name c known.1 all.1)
+    ((λ apart. over-made x.file x.place (wait_in (state_of x.place c)) file name c known.0.0 ∙ all.0 apart), stayin-made job its file name c known.1 all.1)
 
-stayin-with : (job : JobDef) (n : ℕ) (x : Instance) (its : List Instance) (d : Chronicle) → x.place ≡ n → StayIn n job its d → StayIn n job (instances.with_instance x its) d
-stayin-with job n x [] d new all = ((λ apart. absurd (no apart)), tt)
+stayin-with : (n : ℕ) (x : Instance) (its : List Instance) (d : Chronicle) → x.place ≡ n → StayIn n its d → StayIn n (instances.with_instance x its) d
+stayin-with n x [] d new all = ((λ apart. absurd (no apart)), tt)
   where
     no : (x.place == n) ≡ false → ⊥
     no apart =
         let yes : (x.place == n) ≡ true = eq-eqb x.place n new in
         cc
-stayin-with job n x (y ∷ its) d new all = by_case (is_before y x) (stayin-with job n x its d new all.1)
+stayin-with n x (y ∷ its) d new all = by_case (is_before y x) (stayin-with n x its d new all.1)
   where
     no : (x.place == n) ≡ false → ⊥
     no apart =
         let yes : (x.place == n) ≡ true = eq-eqb x.place n new in
         cc
 
-    by_case : (b : Bool) → StayIn n job (instances.with_instance x its) d → StayIn n job (if b then y ∷ instances.with_instance x its else x ∷ y ∷ its) d
+    by_case : (b : Bool) → StayIn n (instances.with_instance x its) d → StayIn n (if b then y ∷ instances.with_instance x its else x ∷ y ∷ its) d
     by_case true ih = (all.0, ih)
     by_case false ih = ((λ apart. absurd (no apart)), all)
 
@@ -121,34 +120,23 @@ stay-made (job ∷ jobs) file name c stay = (by_case (bytes_eq file.name job.nam
     d : Chronicle
     d = Made file name ∷ c
 
-    same : StayIn (length c) job (instances_of job.name c) d
-    same = stayin-made job (instances_of job.name c) file name c (known-all job.name c) stay.0
+    same : StayIn (length c) (instances_of job.name c) d
+    same = stayin-made job.name (instances_of job.name c) file name c (known-all job.name c) stay.0
 
-    by_case : (b : Bool) → StayIn (length c) job (if b then instances.with_instance (record { place = length c; name = name; file = file }) (instances_of job.name c) else instances_of job.name c) d
-    by_case true = stayin-with job (length c) (record { place = length c; name = name; file = file }) (instances_of job.name c) d refl same
+    by_case : (b : Bool) → StayIn (length c) (if b then instances.with_instance (record { place = length c; name = name; file = file }) (instances_of job.name c) else instances_of job.name c) d
+    by_case true = stayin-with (length c) (record { place = length c; name = name; file = file }) (instances_of job.name c) d refl same
     by_case false = same
-
--- an entry about an instance that is there makes none
-about-made : (jobs : List JobDef) (i : ℕ) (e : Entry) (c : Chronicle) → About i e → AreMadeBy jobs c → AreMadeBy jobs (e ∷ c)
-about-made jobs i (Made file name) c is made = absurd is
-about-made jobs i e c is made = made
-
-pub abouts-made : (jobs : List JobDef) (i : ℕ) (es c : List Entry) → AllByRecursion (About i) es → AreMadeBy jobs c → AreMadeBy jobs (es ++ c)
-abouts-made jobs i [] c all made = made
-abouts-made jobs i (e ∷ es) c all made = about-made jobs i e (es ++ c) all.0 (abouts-made jobs i es c all.1 made)
 
 -- nobody may move, and these are still to be offered the event
 pub record IsHandling (jobs : List JobDef) (e : ℕ) (left : List Asked) (c : Chronicle) : Type 0 where
   pub open_left : open_all jobs c ≡ left
   pub handles : offering c ≡ Some e
-  pub made : AreMadeBy jobs c
   pub still : (i : ℕ) → Stay i jobs c
 
 -- nobody but this instance may move, which isn't one of these
 pub record IsAt (i : ℕ) (jobs : List JobDef) (e : ℕ) (left : List Asked) (c : Chronicle) : Type 0 where
   pub open_left : open_all jobs c ≡ left
   pub handles : offering c ≡ Some e
-  pub made : AreMadeBy jobs c
   pub closed : is_open i c ≡ false
   pub stay : Stay i jobs c
 
@@ -159,23 +147,22 @@ at-entries i jobs e left (x ∷ es) c all at =
     record {
       open_left = open-entry i jobs x (es ++ c) all.0 rest.closed ∙ rest.open_left;
       handles = offering-same i x (es ++ c) all.0 ∙ rest.handles;
-      made = about-made jobs i x (es ++ c) all.0 rest.made;
       closed = closed-entry i x (es ++ c) all.0 rest.closed;
       stay = stay-entry i jobs x (es ++ c) all.0 rest.stay;
     }
 
 -- nobody may move if nothing is to be done for any
-stayin-still : (i : ℕ) (job : JobDef) (its : List Instance) (c : Chronicle) → move_in job its c ≡ [] → StayIn i job its c
-stayin-still i job [] c none = tt
-stayin-still i job (x ∷ its) c none =
-    ((λ apart. stays job x c (or-nil-first (move_of job x c) (move_in job its c) none)), stayin-still i job its c (or-nil-rest (move_of job x c) (move_in job its c) none))
+stayin-still : (i : ℕ) (its : List Instance) (c : Chronicle) → move_in its c ≡ [] → StayIn i its c
+stayin-still i [] c none = tt
+stayin-still i (x ∷ its) c none =
+    ((λ apart. stays x.file x c (or-nil-first (move_of x.file x c) (move_in its c) none)), stayin-still i its c (or-nil-rest (move_of x.file x c) (move_in its c) none))
 
 pub stay-still : (i : ℕ) (jobs : List JobDef) (c : Chronicle) → move_first jobs c ≡ [] → Stay i jobs c
 stay-still i [] c none = tt
 stay-still i (job ∷ jobs) c none =
-    (stayin-still i job (instances_of job.name c) c (or-nil-first (move_in job (instances_of job.name c) c) (move_first jobs c) none), stay-still i jobs c (or-nil-rest (move_in job (instances_of job.name c) c) (move_first jobs c) none))
+    (stayin-still i (instances_of job.name c) c (or-nil-first (move_in (instances_of job.name c) c) (move_first jobs c) none), stay-still i jobs c (or-nil-rest (move_in (instances_of job.name c) c) (move_first jobs c) none))
 
-none-in : (job : JobDef) (its : List Instance) (c : Chronicle) → AllByRecursion (IsKnown job.name c) its → StayIn (length c) job its c → move_in job its c ≡ []
+none-in : (job : Bytes) (its : List Instance) (c : Chronicle) → AllByRecursion (IsKnown job c) its → StayIn (length c) its c → move_in its c ≡ []
 none-in job [] c known all = refl
 none-in job (x ∷ its) c known all =
     let apart : (x.place == length c) ≡ false = ne_eqb x.place (length c) (λ same. omega (arith, known.0.0)) in
@@ -184,4 +171,4 @@ none-in job (x ∷ its) c known all =
 -- and the other way
 pub still-stay : (jobs : List JobDef) (c : Chronicle) → Stay (length c) jobs c → move_first jobs c ≡ []
 still-stay [] c stay = refl
-still-stay (job ∷ jobs) c stay = rw (none-in job (instances_of job.name c) c (known-all job.name c) stay.0) (still-stay jobs c stay.1)
+still-stay (job ∷ jobs) c stay = rw (none-in job.name (instances_of job.name c) c (known-all job.name c) stay.0) (still-stay jobs c stay.1)

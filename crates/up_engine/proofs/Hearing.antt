@@ -8,7 +8,7 @@ use Rattle.up_model.specs.declared.state.Goal.TheVariants.{Start}
 use Rattle.up_model.specs.declared.state.State.TheVariants.{Waiting}
 use Rattle.up_model.specs.declared.who.Who.{Who}
 use Rattle.up_model.specs.Chronicle.{Chronicle, Entry, Given, Handled, Offered, Fired, Made, Aimed, Entered, StartOn}
-use Rattle.up_model.specs.Configuration.{Configuration, job_named}
+use Rattle.up_model.specs.Configuration.{Configuration}
 use Rattle.up_model.specs.Answers.{after}
 use Rattle.up_model.specs.Due.{due, effect}
 use Rattle.up_model.specs.Events as events_of
@@ -33,9 +33,7 @@ use Rattle.up_engine.specs.Offering.{Asked, OfStop, OfStart}
 use Rattle.up_engine.specs.Settling.{settle_one, settle_each, settle_all, hear_stops, hear_start, hear, hear_all, ListsAfter}
 use Rattle.up_book.proofs.Keyed.{nth-get}
 use Rattle.up_engine.specs.Unfired.{NoneHolds}
-use Rattle.up_book.proofs.Outgoing.{found-all}
-use Rattle.up_model.proofs.FileLaws.{AreMadeBy}
-use Rattle.up_model.proofs.MadeLaws.{effect-made}
+use Rattle.up_model.proofs.FileLaws.{HasFile, files}
 use Rattle.up_engine.proofs.JobMoves.{move_first, due-by}
 use Rattle.up_engine.proofs.Unfired.{none-stop, none-start, none-one}
 use Rattle.up_engine.proofs.Acts.{Fires, releases, stop-of, start-all}
@@ -92,10 +90,10 @@ KeepsOthers job c d = (other : JobDef) → bytes_eq other.name job.name ≡ fals
 others-then : (job : JobDef) (c d f : Chronicle) → KeepsOthers job c d → KeepsOthers job d f → KeepsOthers job c f
 others-then job c d f first then_ other apart = then_ other apart ∙ first other apart
 
-settle-others : (n : ℕ) (job : JobDef) (x : Instance) (c : Chronicle) → made_at x.place c ≡ Some (called job.name x.name) → KeepsOthers job c (settle_one n job x c)
-settle-others n job x c made other apart =
-    let all = settle-lists n job x c in
-    lists-kept all.stays x c (settle_one n job x c) all.lists other.name (none-of-others other.name c x.place (called job.name x.name) (instances_of other.name c) (known-all other.name c) made apart)
+settle-others : (n : ℕ) (file job : JobDef) (x : Instance) (c : Chronicle) → made_at x.place c ≡ Some (called job.name x.name) → KeepsOthers job c (settle_one n file x c)
+settle-others n file job x c made other apart =
+    let all = settle-lists n file x c in
+    lists-kept all.stays x c (settle_one n file x c) all.lists other.name (none-of-others other.name c x.place (called job.name x.name) (instances_of other.name c) (known-all other.name c) made apart)
 
 known-in : (job : JobDef) (front back : List Instance) (x : Instance) (c : Chronicle) → instances_of job.name c ≡ front ++ x ∷ back → made_at x.place c ≡ Some (called job.name x.name)
 known-in job front back x c list = (all-middle (IsKnown job.name c) front x back (subst (AllByRecursion (IsKnown job.name c)) list (known-all job.name c))).1
@@ -103,8 +101,8 @@ known-in job front back x c list = (all-middle (IsKnown job.name c) front x back
 pub asked-others : (job : JobDef) (jobs : List JobDef) (c d : Chronicle) → AllByRecursion (λ other. bytes_eq other.name job.name ≡ false) jobs → KeepsOthers job c d → all_asked jobs d ≡ all_asked jobs c
 asked-others job [] c d apart keeps = refl
 asked-others job (other ∷ jobs) c d apart keeps =
-    ap (λ its. all_stops other its ++ (OfStart other ∷ all_asked jobs d)) (keeps other apart.0)
-    ∙ ap (λ rest. all_stops other (instances_of other.name c) ++ (OfStart other ∷ rest)) (asked-others job jobs c d apart.1 keeps)
+    ap (λ its. all_stops its ++ (OfStart other ∷ all_asked jobs d)) (keeps other apart.0)
+    ∙ ap (λ rest. all_stops (instances_of other.name c) ++ (OfStart other ∷ rest)) (asked-others job jobs c d apart.1 keeps)
 
 -- places of lists
 pub nth-middle : {X : Type 0} (front : List X) (x : X) (back : List X) → nth (length front) (front ++ x ∷ back) ≡ Some x
@@ -129,57 +127,57 @@ few-moves : (i : ℕ) (c : Chronicle) → moves_at i c ≤ 5
 few-moves i c = omega (arith, moves-few (goal i c) (state_of i c) (is_some (blocker i c)))
 
 stops-heard : (config : Configuration) (e : ℕ) (done : List JobDef) (job : JobDef) (todo : List JobDef) (front its : List Instance) (left : List Asked) (c : Chronicle) → AreDistinct config.jobs
-    → config.jobs ≡ done ++ job ∷ todo → IsHandling config.jobs e (all_stops job its ++ left) c → AreApart (all_stops job its ++ left) → instances_of job.name c ≡ front ++ its
-    → Heard config e job left c (hear_stops config job its e c)
+    → config.jobs ≡ done ++ job ∷ todo → IsHandling config.jobs e (all_stops its ++ left) c → AreApart (all_stops its ++ left) → instances_of job.name c ≡ front ++ its
+    → Heard config e job left c (hear_stops config its e c)
 stops-heard config e done job todo front [] left c distinct split h apart list = record { handling = h; others = λ other apart. refl; same = refl; untrue = λ none. none }
 stops-heard config e done job todo front (x ∷ its) left c distinct split h apart list =
     goes-on stays_or_not (λ front list. stops-heard config e done job todo front its left f distinct split one.0 apart.1 list)
   where
     d : Chronicle
-    d = stop_offer config job x.place e c ++ c
+    d = stop_offer config x.file x.place e c ++ c
 
     f : Chronicle
-    f = settle_one 5 job x d
+    f = settle_one 5 x.file x d
 
     there : nth (length done) config.jobs ≡ Some job
     there = ap (nth (length done)) split ∙ nth-middle done job todo
 
     list_d : instances_of job.name d ≡ front ++ x ∷ its
-    list_d = stop-lists config job x.place e c job.name ∙ list
+    list_d = stop-lists config x.file x.place e c job.name ∙ list
 
-    one : IsHandling config.jobs e (all_stops job its ++ left) f × (rested config f ≡ rested config d)
+    one : IsHandling config.jobs e (all_stops its ++ left) f × (rested config f ≡ rested config d)
     one =
-        settled-one 5 config e (all_stops job its ++ left) (length done) (length front) job x d (after-stop config job x.place (all_stops job its ++ left) e c h apart.0) distinct there
+        settled-one 5 config e (all_stops its ++ left) (length done) (length front) job x d (after-stop config x.file x.place (all_stops its ++ left) e c h apart.0) distinct there
         (ap (nth (length front)) list_d ∙ nth-middle front x its) (few-moves x.place d)
 
     same : rested config f ≡ rested config c
-    same = one.1 ∙ (due-offer config (OfStop job x.place) (all_stops job its ++ left) e c distinct h).1
+    same = one.1 ∙ (due-offer config (OfStop x.file x.place) (all_stops its ++ left) e c h).1
 
     others : KeepsOthers job c f
     others =
-        others-then job c d f (λ other apart. stop-lists config job x.place e c other.name) (settle-others 5 job x d (known-in job front its x d list_d))
+        others-then job c d f (λ other apart. stop-lists config x.file x.place e c other.name) (settle-others 5 x.file job x d (known-in job front its x d list_d))
 
-    known : IsKnown job.name c x
-    known = all-middle (IsKnown job.name c) front x its (subst (AllByRecursion (IsKnown job.name c)) list (known-all job.name c))
+    known : HasFile job.name c x
+    known = all-middle (HasFile job.name c) front x its (subst (AllByRecursion (HasFile job.name c)) list (files job.name c))
 
     untrue : NoneHolds config c → NoneHolds config f
-    untrue none = none-one 5 config job x d (none-stop config job (length done) x.place e x.name c distinct (sym (nth-get (length done) config.jobs) ∙ there) known.0 known.1 none)
+    untrue none = none-one 5 config x.file x d (none-stop config x.file x.place e c known.0 known.1 none)
 
     stays_or_not : (front : List Instance) × (instances_of job.name f ≡ front ++ its)
-    stays_or_not = by_case (settle-lists 5 job x d).stays (settle-lists 5 job x d).lists
+    stays_or_not = by_case (settle-lists 5 x.file x d).stays (settle-lists 5 x.file x d).lists
       where
         by_case : (b : Bool) → ListsAfter b x d f → (front : List Instance) × (instances_of job.name f ≡ front ++ its)
         by_case true lists = (front ++ x ∷ [], lists job.name ∙ list_d ∙ sym (append_assoc front (x ∷ []) its))
         by_case false lists = (front, lists job.name ∙ without-one job.name d front its x list_d)
 
     Later : Type 0
-    Later = Heard config e job left f (hear_stops config job its e f)
+    Later = Heard config e job left f (hear_stops config its e f)
 
     goes-on : (front : List Instance) × (instances_of job.name f ≡ front ++ its) → ((front : List Instance) → instances_of job.name f ≡ front ++ its → Later)
-        → Heard config e job left c (hear_stops config job its e f)
+        → Heard config e job left c (hear_stops config its e f)
     goes-on after again =
         let rest = again after.0 after.1 in
-        record { handling = rest.handling; others = others-then job c f (hear_stops config job its e f) others rest.others; same = rest.same ∙ same; untrue = λ none. rest.untrue (untrue none) }
+        record { handling = rest.handling; others = others-then job c f (hear_stops config its e f) others rest.others; same = rest.same ∙ same; untrue = λ none. rest.untrue (untrue none) }
 
 -- an offer to a `start on` leaves the lists of other jobs
 abbrev MakesOf : Bytes → Entry → Type 0
@@ -290,32 +288,32 @@ started-stands config job e c p some = by_case (holds job.start_on (seen config 
     by_case false some = absurd cc
 
 -- instances that rest settle at once
-pub each-still : (job : JobDef) (its : List Instance) (c : Chronicle) → Rest job its c → settle_each job its c ≡ c
-each-still job [] c rest = refl
-each-still job (x ∷ its) c rest = ap (settle_each job its) (one-stays 5 job x c rest.0) ∙ each-still job its c rest.1
+pub each-still : (its : List Instance) (c : Chronicle) → Rest its c → settle_each its c ≡ c
+each-still [] c rest = refl
+each-still (x ∷ its) c rest = ap (settle_each its) (one-stays 5 x.file x c rest.0) ∙ each-still its c rest.1
 
-pub each-append : (job : JobDef) (xs ys : List Instance) (c : Chronicle) → settle_each job (xs ++ ys) c ≡ settle_each job ys (settle_each job xs c)
-each-append job [] ys c = refl
-each-append job (x ∷ xs) ys c = each-append job xs ys (settle_one 5 job x c)
+pub each-append : (xs ys : List Instance) (c : Chronicle) → settle_each (xs ++ ys) c ≡ settle_each ys (settle_each xs c)
+each-append [] ys c = refl
+each-append (x ∷ xs) ys c = each-append xs ys (settle_one 5 x.file x c)
 
-stay-middle : (i : ℕ) (done : List JobDef) (job : JobDef) (todo : List JobDef) (c : Chronicle) → Stay i (done ++ job ∷ todo) c → StayIn i job (instances_of job.name c) c
+stay-middle : (i : ℕ) (done : List JobDef) (job : JobDef) (todo : List JobDef) (c : Chronicle) → Stay i (done ++ job ∷ todo) c → StayIn i (instances_of job.name c) c
 stay-middle i [] job todo c stay = stay.0
 stay-middle i (first ∷ done) job todo c stay = stay-middle i done job todo c stay.1
 
-pub stay-rest : (i : ℕ) (job : JobDef) (its : List Instance) (c : Chronicle) → StayIn i job its c → count i its ≡ 0 → Rest job its c
-stay-rest i job [] c all none = tt
-stay-rest i job (x ∷ its) c all none = by_case (x.place == i) refl none (stay-rest i job its c all.1)
+pub stay-rest : (i : ℕ) (its : List Instance) (c : Chronicle) → StayIn i its c → count i its ≡ 0 → Rest its c
+stay-rest i [] c all none = tt
+stay-rest i (x ∷ its) c all none = by_case (x.place == i) refl none (stay-rest i its c all.1)
   where
-    by_case : (b : Bool) → (x.place == i) ≡ b → one_if b + count i its ≡ 0 → (count i its ≡ 0 → Rest job its c) → Rest job (x ∷ its) c
+    by_case : (b : Bool) → (x.place == i) ≡ b → one_if b + count i its ≡ 0 → (count i its ≡ 0 → Rest its c) → Rest (x ∷ its) c
     by_case true same none rest = absurd (omega (arith, none))
     by_case false differs none rest = (all.0 differs, rest (omega (arith, none)))
 
 pub handling-rest : (config : Configuration) (e : ℕ) (done : List JobDef) (job : JobDef) (todo : List JobDef) (left : List Asked) (c : Chronicle) → config.jobs ≡ done ++ job ∷ todo
-    → IsHandling config.jobs e left c → Rest job (instances_of job.name c) c
+    → IsHandling config.jobs e left c → Rest (instances_of job.name c) c
 handling-rest config e done job todo left c split h =
     let stay : Stay (length c) (done ++ job ∷ todo) c = subst (λ js. Stay (length c) js c) split (h.still (length c)) in
     let none : count (length c) (instances_of job.name c) ≡ 0 = omega (arith, instances-exist (length c) job.name c, count-older (length c) (length c) (all_instances c) (all_instances-older c) (omega arith)) in
-    stay-rest (length c) job (instances_of job.name c) c (stay-middle (length c) done job todo c stay) none
+    stay-rest (length c) (instances_of job.name c) c (stay-middle (length c) done job todo c stay) none
 
 pub all-front : {X : Type 0} (P : X → Type 0) (xs ys : List X) → AllByRecursion P (xs ++ ys) → AllByRecursion P xs
 all-front P [] ys all = tt
@@ -328,12 +326,8 @@ all-back P (x ∷ xs) ys all = all-back P xs ys all.1
 -- a job's `start on` hears of the event
 start-heard : (config : Configuration) (e : ℕ) (done : List JobDef) (job : JobDef) (todo : List JobDef) (left : List Asked) (c : Chronicle) → AreDistinct config.jobs → config.jobs ≡ done ++ job ∷ todo
     → IsHandling config.jobs e (OfStart job ∷ left) c → IsApart (OfStart job) left → Heard config e job left c (hear_start config job e c)
-start-heard config e done job todo left c distinct split h apart = by_case (started config job e c) refl (after-start config job left e c found h apart)
+start-heard config e done job todo left c distinct split h apart = by_case (started config job e c) refl (after-start config job left e c h apart)
   where
-    found : job_named job.name config.jobs ≡ Some job
-    found = all-middle (λ its. job_named its.name config.jobs ≡ Some its) done job todo
-        (subst (λ js. AllByRecursion (λ its. job_named its.name config.jobs ≡ Some its) js) split (found-all config.jobs distinct))
-
     d : Chronicle
     d = start_offer config job e c ++ c
 
@@ -341,7 +335,7 @@ start-heard config e done job todo left c distinct split h apart = by_case (star
     its = instances_of job.name d
 
     same : rested config d ≡ rested config c
-    same = (due-offer config (OfStart job) left e c distinct h).1
+    same = (due-offer config (OfStart job) left e c h).1
 
     others : KeepsOthers job c d
     others = start-others config job e c
@@ -349,36 +343,36 @@ start-heard config e done job todo left c distinct split h apart = by_case (star
     untrue : NoneHolds config c → NoneHolds config d
     untrue none = none-start config job (length done) e c distinct (sym (nth-get (length done) config.jobs) ∙ ap (nth (length done)) split ∙ nth-middle done job todo) none
 
-    none : IsHandling config.jobs e left d → Heard config e job left c (settle_each job its d)
+    none : IsHandling config.jobs e left d → Heard config e job left c (settle_each its d)
     none handling =
-        let still : settle_each job its d ≡ d = each-still job its d (handling-rest config e done job todo left d split handling) in
+        let still : settle_each its d ≡ d = each-still its d (handling-rest config e done job todo left d split handling) in
         subst (Heard config e job left c) (sym still) (record { handling = handling; others = others; same = same; untrue = untrue })
 
-    one : (front back : List Instance) (x : Instance) → its ≡ front ++ x ∷ back → IsAt x.place config.jobs e left d → Heard config e job left c (settle_each job its d)
+    one : (front back : List Instance) (x : Instance) → its ≡ front ++ x ∷ back → IsAt x.place config.jobs e left d → Heard config e job left c (settle_each its d)
     one front back x list at =
         let there : nth (length done) config.jobs ≡ Some job = ap (nth (length done)) split ∙ nth-middle done job todo in
         let here : nth (length front) its ≡ Some x = ap (nth (length front)) list ∙ nth-middle front x back in
-        let f = settle_one 5 job x d in
+        let f = settle_one 5 x.file x d in
         let moved = settled-one 5 config e left (length done) (length front) job x d at distinct there here (few-moves x.place d) in
-        let stay : StayIn x.place job its d = stay-middle x.place done job todo d (subst (λ js. Stay x.place js d) split at.stay) in
-        let stay_front : StayIn x.place job front d = all-front (λ y. (y.place == x.place) ≡ false → may_leave job y.place d ≡ false) front (x ∷ back) (subst (λ xs. StayIn x.place job xs d) list stay) in
-        let rest_front : Rest job front d = stay-rest x.place job front d stay_front (once job.name d front back x list).before in
-        let rest : Rest job (instances_of job.name f) f = handling-rest config e done job todo left f split moved.0 in
-        let lists = settle-lists 5 job x d in
-        let rest_back : Rest job back f = back-rests lists.stays front back x list lists.lists rest in
-        let whole : settle_each job its d ≡ f =
-        ap (λ xs. settle_each job xs d) list ∙ each-append job front (x ∷ back) d ∙ ap (λ g. settle_each job back (settle_one 5 job x g)) (each-still job front d rest_front) ∙ each-still job back f rest_back in
+        let stay : StayIn x.place its d = stay-middle x.place done job todo d (subst (λ js. Stay x.place js d) split at.stay) in
+        let stay_front : StayIn x.place front d = all-front (λ y. (y.place == x.place) ≡ false → may_leave y.file y.place d ≡ false) front (x ∷ back) (subst (λ xs. StayIn x.place xs d) list stay) in
+        let rest_front : Rest front d = stay-rest x.place front d stay_front (once job.name d front back x list).before in
+        let rest : Rest (instances_of job.name f) f = handling-rest config e done job todo left f split moved.0 in
+        let lists = settle-lists 5 x.file x d in
+        let rest_back : Rest back f = back-rests lists.stays front back x list lists.lists rest in
+        let whole : settle_each its d ≡ f =
+        ap (λ xs. settle_each xs d) list ∙ each-append front (x ∷ back) d ∙ ap (λ g. settle_each back (settle_one 5 x.file x g)) (each-still front d rest_front) ∙ each-still back f rest_back in
         subst (Heard config e job left c) (sym whole)
-        (record { handling = moved.0; others = others-then job c d f others (settle-others 5 job x d (known-in job front back x d list)); same = moved.1 ∙ same; untrue = λ holds. none-one 5 config job x d (untrue holds) })
+        (record { handling = moved.0; others = others-then job c d f others (settle-others 5 x.file job x d (known-in job front back x d list)); same = moved.1 ∙ same; untrue = λ holds. none-one 5 config x.file x d (untrue holds) })
       where
-        back-rests : (b : Bool) (front back : List Instance) (x : Instance) → its ≡ front ++ x ∷ back → ListsAfter b x d (settle_one 5 job x d)
-            → Rest job (instances_of job.name (settle_one 5 job x d)) (settle_one 5 job x d) → Rest job back (settle_one 5 job x d)
+        back-rests : (b : Bool) (front back : List Instance) (x : Instance) → its ≡ front ++ x ∷ back → ListsAfter b x d (settle_one 5 x.file x d)
+            → Rest (instances_of job.name (settle_one 5 x.file x d)) (settle_one 5 x.file x d) → Rest back (settle_one 5 x.file x d)
         back-rests true front back x list lists rest =
-            (all-back (λ y. may_leave job y.place (settle_one 5 job x d) ≡ false) front (x ∷ back) (subst (λ xs. Rest job xs (settle_one 5 job x d)) (lists job.name ∙ list) rest)).1
+            (all-back (λ y. may_leave y.file y.place (settle_one 5 x.file x d) ≡ false) front (x ∷ back) (subst (λ xs. Rest xs (settle_one 5 x.file x d)) (lists job.name ∙ list) rest)).1
         back-rests false front back x list lists rest =
-            all-back (λ y. may_leave job y.place (settle_one 5 job x d) ≡ false) front back (subst (λ xs. Rest job xs (settle_one 5 job x d)) (lists job.name ∙ without-one job.name d front back x list) rest)
+            all-back (λ y. may_leave y.file y.place (settle_one 5 x.file x d) ≡ false) front back (subst (λ xs. Rest xs (settle_one 5 x.file x d)) (lists job.name ∙ without-one job.name d front back x list) rest)
 
-    by_case : (o : Option ℕ) → started config job e c ≡ o → AfterStart o config.jobs e left d → Heard config e job left c (settle_each job its d)
+    by_case : (o : Option ℕ) → started config job e c ≡ o → AfterStart o config.jobs e left d → Heard config e job left c (settle_each its d)
     by_case None is after = none after
     by_case (Some p) is after =
         let in_ = started-stands config job e c p is in
@@ -396,8 +390,8 @@ job-heard config e done job todo c distinct split h apart =
     let its = instances_of job.name c in
     let left : List Asked = OfStart job ∷ all_asked todo c in
     let stops = stops-heard config e done job todo [] its left c distinct split h apart refl in
-    let d = hear_stops config job its e c in
-    let start = start-heard config e done job todo (all_asked todo c) d distinct split stops.handling (apart-back-part (all_stops job its) left apart).0 in
+    let d = hear_stops config its e c in
+    let start = start-heard config e done job todo (all_asked todo c) d distinct split stops.handling (apart-back-part (all_stops its) left apart).0 in
     record { handling = start.handling; others = others-then job c d (hear_start config job e d) stops.others start.others; same = start.same ∙ stops.same; untrue = λ none. start.untrue (stops.untrue none) }
 
 pub distinct-after : (done jobs : List JobDef) → AreDistinct (done ++ jobs) → AreDistinct jobs
@@ -431,52 +425,52 @@ asked-about : (i : ℕ) (e : Entry) (c : Chronicle) → About i e → asked (e �
 asked-about i (Given given) c is = absurd is
 asked-about i e c is = refl
 
-asked-stops : (config : Configuration) (job : JobDef) (its : List Instance) (e : ℕ) (c : Chronicle) → asked (hear_stops config job its e c) ≡ asked c
-asked-stops config job [] e c = refl
-asked-stops config job (x ∷ its) e c =
-    let d = stop_offer config job x.place e c ++ c in
-    asked-stops config job its e (settle_one 5 job x d) ∙ one-same asked asked-about 5 job x d
-    ∙ same-append asked GivesNone asked-same (stop_offer config job x.place e c) c (stop-of GivesNone gives-fires config job x.place e c)
+asked-stops : (config : Configuration) (its : List Instance) (e : ℕ) (c : Chronicle) → asked (hear_stops config its e c) ≡ asked c
+asked-stops config [] e c = refl
+asked-stops config (x ∷ its) e c =
+    let d = stop_offer config x.file x.place e c ++ c in
+    asked-stops config its e (settle_one 5 x.file x d) ∙ one-same asked asked-about 5 x.file x d
+    ∙ same-append asked GivesNone asked-same (stop_offer config x.file x.place e c) c (stop-of GivesNone gives-fires config x.file x.place e c)
 
 asked-heard : (config : Configuration) (jobs : List JobDef) (e : ℕ) (c : Chronicle) → asked (hear_all config jobs e c) ≡ asked c
 asked-heard config [] e c = refl
 asked-heard config (job ∷ jobs) e c =
-    let d = hear_stops config job (instances_of job.name c) e c in
+    let d = hear_stops config (instances_of job.name c) e c in
     let f = start_offer config job e d ++ d in
-    asked-heard config jobs e (hear config job e c) ∙ each-same asked asked-about job (instances_of job.name f) f
-    ∙ same-append asked GivesNone asked-same (start_offer config job e d) d (start-all GivesNone gives-fires config job (λ name. tt) e d) ∙ asked-stops config job (instances_of job.name c) e c
+    asked-heard config jobs e (hear config job e c) ∙ each-same asked asked-about (instances_of job.name f) f
+    ∙ same-append asked GivesNone asked-same (start_offer config job e d) d (start-all GivesNone gives-fires config job (λ name. tt) e d) ∙ asked-stops config (instances_of job.name c) e c
 
 asked-taken : (jobs : List JobDef) (e : ℕ) (c : Chronicle) → all_asked jobs (Handled e ∷ Given Turn ∷ c) ≡ all_asked jobs c
 asked-taken [] e c = refl
-asked-taken (job ∷ jobs) e c = ap (λ rest. all_stops job (instances_of job.name c) ++ (OfStart job ∷ rest)) (asked-taken jobs e c)
+asked-taken (job ∷ jobs) e c = ap (λ rest. all_stops (instances_of job.name c) ++ (OfStart job ∷ rest)) (asked-taken jobs e c)
 
-pub none-moves : (config : Configuration) (c : Chronicle) → AreDistinct config.jobs → AreMadeBy config.jobs c → due config c ≡ [] → move_first config.jobs c ≡ []
-none-moves config c distinct made none = or-nil-first (move_first config.jobs c) (or_else (offer_next config (offering c) c) (answering_last c)) (sym (due-by config c distinct made) ∙ none)
+pub none-moves : (config : Configuration) (c : Chronicle) → due config c ≡ [] → move_first config.jobs c ≡ []
+none-moves config c none = or-nil-first (move_first config.jobs c) (or_else (offer_next config (offering c) c) (answering_last c)) (sym (due-by config c) ∙ none)
 
 -- what is left to hear of an event that was just taken up: all
-pub all-left : (config : Configuration) (e : ℕ) (c : Chronicle) → AreDistinct config.jobs → AreMadeBy config.jobs c → due config c ≡ [] → IsHandling config.jobs e (all_asked config.jobs (Handled e ∷ Given Turn ∷ c)) (Handled e ∷ Given Turn ∷ c)
-all-left config e c distinct made none =
-    subst (λ left. IsHandling config.jobs e left (Handled e ∷ Given Turn ∷ c)) (sym (asked-taken config.jobs e c)) (taken-up config.jobs e c made (none-moves config c distinct made none))
+pub all-left : (config : Configuration) (e : ℕ) (c : Chronicle) → due config c ≡ [] → IsHandling config.jobs e (all_asked config.jobs (Handled e ∷ Given Turn ∷ c)) (Handled e ∷ Given Turn ∷ c)
+all-left config e c none =
+    subst (λ left. IsHandling config.jobs e left (Handled e ∷ Given Turn ∷ c)) (sym (asked-taken config.jobs e c)) (taken-up config.jobs e c (none-moves config c none))
 
 -- so the step is done when all have heard of it
-pub heard-rested : (config : Configuration) (e : ℕ) (c : Chronicle) → AreDistinct config.jobs → AreMadeBy config.jobs c → due config c ≡ []
+pub heard-rested : (config : Configuration) (e : ℕ) (c : Chronicle) → AreDistinct config.jobs → due config c ≡ []
     → (hear_all config config.jobs e (Handled e ∷ Given Turn ∷ c) ≡ rested config (Handled e ∷ Given Turn ∷ c))
     × (NoneHolds config (Handled e ∷ Given Turn ∷ c) → NoneHolds config (hear_all config config.jobs e (Handled e ∷ Given Turn ∷ c)))
-heard-rested config e c distinct made none =
+heard-rested config e c distinct none =
     let d : Chronicle = Handled e ∷ Given Turn ∷ c in
     let f = hear_all config config.jobs e d in
-    let all = jobs-heard config e [] config.jobs d distinct refl (all-left config e c distinct made none) in
+    let all = jobs-heard config e [] config.jobs d distinct refl (all-left config e c none) in
     let unasked : asked f ≡ None = asked-heard config config.jobs e d in
     let quiet : answering_last f ≡ [] = ap (λ o. answering_hurried (unless_answered o f) f) unasked in
-    (sym (handled-all config e f distinct all.0 quiet).1 ∙ all.1, all.2)
+    (sym (handled-all config e f all.0 quiet).1 ∙ all.1, all.2)
 
 -- what is after an input that takes an event up, and after any other
-pub after-taken : (config : Configuration) (given : Input) (c : Chronicle) (e : ℕ) → AreDistinct config.jobs → AreMadeBy config.jobs c → due config c ≡ [] → effect config given c ++ c ≡ Handled e ∷ Given Turn ∷ c
+pub after-taken : (config : Configuration) (given : Input) (c : Chronicle) (e : ℕ) → AreDistinct config.jobs → due config c ≡ [] → effect config given c ++ c ≡ Handled e ∷ Given Turn ∷ c
     → hear_all config config.jobs e (Handled e ∷ Given Turn ∷ c) ≡ after config c given
 unfolding after
-after-taken config given c e distinct made none same = (heard-rested config e c distinct made none).0 ∙ ap (rested config) (sym same)
+after-taken config given c e distinct none same = (heard-rested config e c distinct none).0 ∙ ap (rested config) (sym same)
 
-pub after-other : (config : Configuration) (given : Input) (c : Chronicle) → AreDistinct config.jobs → AreMadeBy config.jobs c → offering (effect config given c ++ c) ≡ None
+pub after-other : (config : Configuration) (given : Input) (c : Chronicle) → AreDistinct config.jobs → offering (effect config given c ++ c) ≡ None
     → answering_last (settle_all config.jobs (effect config given c ++ c)) ++ settle_all config.jobs (effect config given c ++ c) ≡ after config c given
 unfolding after
-after-other config given c distinct made none = settled-rested config (effect config given c ++ c) distinct (effect-made config given c made) none
+after-other config given c distinct none = settled-rested config (effect config given c ++ c) distinct none

@@ -9,14 +9,12 @@ use Rattle.up_model.specs.Due.{due, turn_event, effect}
 use Rattle.up_model.specs.Outputs.{outputs_of}
 use Rattle.up_model.specs.Queue.{Live, queue}
 use Rattle.up_model.proofs.HeldLaws.{held-given}
-use Rattle.up_book.specs.Keeps.{AreDistinct}
 use Rattle.up_book.specs.Keys.{Resting}
 use Rattle.up_book.proofs.Giving.{forgets-turn}
 use Rattle.up_book.proofs.Ledgers.{stood}
 use Rattle.up_engine.specs.declared.engine.Engine.{Engine}
 use Rattle.up_engine.specs.Stands.{Stands}
 use Rattle.up_engine.proofs.Unfired.{none-entry}
-use Rattle.up_model.proofs.FileLaws.{AreMadeBy}
 use Rattle.up_engine.proofs.Quiet.{idle-due, after-quiet}
 
 turn-same : (config : Configuration) (lives : List Live) (c : Chronicle) → turn_event config lives (Given Turn ∷ c) ≡ turn_event config lives c
@@ -28,15 +26,15 @@ idle-effect : (config : Configuration) (c : Chronicle) → turn_event config (qu
 unfolding effect
 idle-effect config c none = rw none refl
 
-idle-after : (config : Configuration) (c : Chronicle) → AreDistinct config.jobs → AreMadeBy config.jobs c → turn_event config (queue c) c ≡ None → due config c ≡ [] → after config c Turn ≡ Given Turn ∷ c
-idle-after config c distinct made none rests = sym (after-quiet config Turn c (idle-due config c distinct made none rests)) ∙ idle-effect config c none
+idle-after : (config : Configuration) (c : Chronicle) → turn_event config (queue c) c ≡ None → due config c ≡ [] → after config c Turn ≡ Given Turn ∷ c
+idle-after config c none rests = sym (after-quiet config Turn c (idle-due config c none rests)) ∙ idle-effect config c none
 
 idle-stands : (engine : Engine) (config : Configuration) (c : Chronicle) → Stands engine config c → turn_event config (queue c) c ≡ None → Stands engine config (Given Turn ∷ c)
 idle-stands engine config c s none = record {
   up = s.up;
   setup = s.setup;
   past = stood engine.book Resting config (Given Turn ∷ c) (forgets-turn engine.book.past config c s.past.past) s.past.index tt;
-  rest = record { rested = subst (λ d. due config d ≡ []) (idle-effect config c none) (idle-due config c s.past.past.lives.distinct s.past.past.regular.made none s.rest.rested); untrue = none-entry config (Given Turn) c tt s.rest.untrue };
+  rest = record { rested = subst (λ d. due config d ≡ []) (idle-effect config c none) (idle-due config c none s.rest.rested); untrue = none-entry config (Given Turn) c tt s.rest.untrue };
 }
 
 -- so the engine stands for as many of them as there are, and none asks for anything
@@ -46,7 +44,7 @@ unfolding is_expected answers after_all outputs_of
 idle-turns engine config c zero s none = (s, refl)
 idle-turns engine config c (suc count) s none =
     let d : Chronicle = Given Turn ∷ c in
-    let same = idle-after config c s.past.past.lives.distinct s.past.past.regular.made none s.rest.rested in
+    let same = idle-after config c none s.rest.rested in
     let rest = idle-turns engine config d count (idle-stands engine config c s none) (turn-same config (queue c) c ∙ none) in (
       subst (λ f. Stands engine config (after_all config f (replicate count Turn))) (sym same) rest.0,
       ap (λ f. Gave (outputs_of f) ∷ answers config f (replicate count Turn)) same ∙ ap (λ steps. Gave [] ∷ steps) rest.1,

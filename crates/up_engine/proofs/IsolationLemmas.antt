@@ -8,9 +8,9 @@ use Rattle.up_engine.specs.declared.run.Run.{Run}
 use Rattle.up_engine.specs.Stands.{RunMeans, StepsMean}
 use Rattle.up_engine.proofs.FolderLemmas.{one-named}
 use Rattle.up_image.specs.Compiling.{Compiles}
-use Rattle.up_isolation.specs.Isolation.{IsUnique, MeanTheSame}
+use Rattle.up_isolation.specs.Isolation.{IsUnique, MeanTheSame, jobs_called}
 use Rattle.up_isolation.specs.Steps.{AreStepsOf, deeds_by_step, joined, orders_of, outputs_in}
-use Rattle.up_isolation.specs.Views.{deeds, jobs_called, view}
+use Rattle.up_isolation.specs.Views.{deeds, view}
 use Rattle.up_isolation.proofs.Orders.{orders-run}
 use Rattle.up_isolation.proofs.Runs.{law-isolation}
 use Rattle.up_isolation.proofs.Stepping.{deeds-run, steps-of}
@@ -30,13 +30,13 @@ pub isolated : (files others : List File) (first second : Configuration) (report
     (inputs given : List Input)
     → Compiles files first.jobs report → Compiles others second.jobs told → MeanTheSame job first second
     → view job first (after_all first [] inputs) ≡ view job second (after_all second [] given)
-    → deeds job first (after_all first [] inputs) ≡ deeds job second (after_all second [] given)
+    → deeds job (after_all first [] inputs) ≡ deeds job (after_all second [] given)
 isolated files others first second report told job inputs given compiled also same views =
     law-isolation job first second inputs given (is-unique files first report job compiled) same views
 
 -- equal deeds are equal step by step, joined
 pub joined-same : (job : Bytes) (first second : Configuration) (inputs given : List Input)
-    → deeds job first (after_all first [] inputs) ≡ deeds job second (after_all second [] given)
+    → deeds job (after_all first [] inputs) ≡ deeds job (after_all second [] given)
     → joined (deeds_by_step job first [] inputs) ≡ joined (deeds_by_step job second [] given)
 joined-same job first second inputs given same =
     deeds-run job first inputs ∙ same ∙ sym (deeds-run job second given)

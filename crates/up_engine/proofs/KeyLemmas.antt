@@ -1,5 +1,5 @@
 -- What the keys of instances stand for.
-use Rattle.std.proofs.Common.{◌≡◌, ℕ, zero, suc, ◌<◌, Bool, true, false, List, [], ◌∷◌, ◌++◌, Option, None, Some, length, drop, get_or, slice_get, option_map, refl, sym, ◌∙◌, ap, arith, append_assoc}
+use Rattle.std.proofs.Common.{◌≡◌, ℕ, zero, suc, ◌<◌, ◌≤◌, ◌==◌, Bool, true, false, List, [], ◌∷◌, ◌++◌, Option, None, Some, length, drop, get_or, slice_get, option_map, if◌then◌else◌, refl, sym, ◌∙◌, ap, arith, append_assoc, eqb-true, ne_eqb}
 use Rattle.std.specs.Prelude.{option_and_then}
 use Rattle.std.proofs.lemmas.Option.{slice_get_read}
 use Rattle.up_conf.specs.declared.job.JobDef.{JobDef}
@@ -9,13 +9,14 @@ use Rattle.up_book.specs.Keeps.{is_waiting, AreDistinct}
 use Rattle.up_engine.proofs.HolderLemmas.{past-releasing}
 use Rattle.up_model.specs.declared.state.State.{State}
 use Rattle.up_model.specs.declared.state.State.TheVariants as state
-use Rattle.up_model.specs.Chronicle.{Chronicle, Entered, Signalled}
+use Rattle.up_model.specs.Chronicle.{Chronicle, Entry, Entered, Signalled}
 use Rattle.up_model.specs.Clock.{kill, killing}
 use Rattle.up_model.specs.Configuration.{Configuration, job_named}
 use Rattle.up_model.specs.Instances.{Instance, instances_of}
 use Rattle.up_model.specs.Replies.{releasing}
 use Rattle.up_model.specs.Values.{Bytes}
-use Rattle.up_model.proofs.FileLaws.{AreMadeBy, are_by}
+use Rattle.up_model.specs.Readings.{entry_at, file_in, file_of}
+use Rattle.up_model.proofs.FileLaws.{HasFile, files}
 use Rattle.up_book.proofs.Keyed.{nth-get}
 use Rattle.up_book.proofs.One.{nth-all}
 use Rattle.up_book.proofs.Outgoing.{named-there}
@@ -26,10 +27,7 @@ pub named_there : (config : Configuration) (jobs : List JobDef) (n : ℕ) (job :
 named_there config jobs n job same within here =
     ap (option_map (λ (its : JobDef). its.name)) (ap (λ js. slice_get js n) (sym same) ∙ slice_get_read jobs (length jobs) n job refl within here)
 
--- the job at an index of the table, and its name
-pub job_there : (config : Configuration) (jobs : List JobDef) (n : ℕ) (job : JobDef) → jobs ≡ config.jobs → n < length jobs → job ≡ get_or jobs n job → job_at config n ≡ Some job
-job_there config jobs n job same within here = ap (λ js. slice_get js n) (sym same) ∙ slice_get_read jobs (length jobs) n job refl within here
-
+-- the name of the job at an index of the table
 pub job_name : (config : Configuration) (n : ℕ) (job : JobDef) → job_at config n ≡ Some job → name_at config n ≡ Some job.name
 job_name config n job there = ap (option_map (λ (its : JobDef). its.name)) there
 
@@ -42,14 +40,6 @@ split (x ∷ xs) (suc n) within = let found = split xs n (omega (arith, within))
 -- the same of an index within the table
 pub job-at : (config : Configuration) (jobs : List JobDef) (n : ℕ) → jobs ≡ config.jobs → n < length jobs → (job : JobDef) × ((job_at config n ≡ Some job) × (drop n jobs ≡ job ∷ drop (suc n) jobs))
 job-at config jobs n same inside = let found = split jobs n inside in (found.0, (ap (λ js. slice_get js n) (sym same) ∙ found.1.0, found.1.1))
-
--- what is found in a list is within it
-pub within : {X : Type 0} (xs : List X) (n : ℕ) (x : X) → slice_get xs n ≡ Some x → n < length xs
-within [] n x found = absurd cc
-within (y ∷ xs) zero x found = omega arith
-within (y ∷ xs) (suc n) x found =
-    let rest = within xs n x found in
-    omega (arith, rest)
 
 pub one-some : {X : Type 0} (x y : X) → Some x ≡ Some y → x ≡ y
 one-some x y same = cc
@@ -71,14 +61,32 @@ there config c key job named within =
     let is : instance_at config c key ≡ Some found.0 = ap (option_and_then (λ (name : Bytes). slice_get (instances_of name c) key.at)) named ∙ found.1.0 in
     record { instance = found.0; is = is; place = placed config c key found.0 is; rest = found.1.1 }
 
--- the file of the instance of a key is its job's
-pub filed : (config : Configuration) (c : Chronicle) (key : InstanceKey) (job : JobDef) (x : Instance) → AreDistinct config.jobs → AreMadeBy config.jobs c → job_at config key.job ≡ Some job
-    → instance_at config c key ≡ Some x → x.file ≡ job
-filed config c key job x distinct made in_table there =
-    let at : slice_get (instances_of job.name c) key.at ≡ Some x =
-    sym (ap (option_and_then (λ (name : Bytes). slice_get (instances_of name c) key.at)) (job_name config key.job job in_table)) ∙ there in
-    let by = nth-all (λ y. job_named job.name config.jobs ≡ Some y.file) key.at (instances_of job.name c) x (nth-get key.at (instances_of job.name c) ∙ at) (are_by config.jobs job.name c made) in
-    one-some x.file job (sym by ∙ named-there key.job config.jobs job (nth-get key.job config.jobs ∙ in_table) distinct)
+-- the file of the instance of a key is the one by which it was made
+pub file-there : (config : Configuration) (c : Chronicle) (key : InstanceKey) (x : Instance) → instance_at config c key ≡ Some x → file_of x.place c ≡ Some x.file
+file-there config c key x found = by_name (name_at config key.job) found
+  where
+    by_name : (o : Option Bytes) → option_and_then (λ (name : Bytes). slice_get (instances_of name c) key.at) o ≡ Some x → file_of x.place c ≡ Some x.file
+    by_name None found = absurd cc
+    by_name (Some name) found =
+        let has = nth-all (HasFile name c) key.at (instances_of name c) x (nth-get key.at (instances_of name c) ∙ found) (files name c) in
+        has.1
+
+-- which it keeps
+none-past : (p : ℕ) (c : Chronicle) → length c ≤ p → entry_at p c ≡ None
+none-past p [] past = refl
+none-past p (e ∷ c) past =
+    let apart : (length c == p) ≡ false = ne_eqb (length c) p (λ same. omega (arith, past, same)) in
+    rw apart (none-past p c (omega (arith, past)))
+
+pub file-kept : (i : ℕ) (e : Entry) (c : Chronicle) (job : JobDef) → file_of i c ≡ Some job → file_of i (e ∷ c) ≡ Some job
+file-kept i e c job known = by_case (length c == i) refl
+  where
+    by_case : (b : Bool) → (length c == i) ≡ b → file_in (if b then Some e else entry_at i c) ≡ Some job
+    by_case true same =
+        let none : file_of i c ≡ None = ap file_in (none-past i c (omega (arith, eqb-true (length c) i same))) in
+        let both : None ≡ Some job = sym none ∙ known in
+        absurd cc
+    by_case false apart = known
 
 -- so is that of the job of an index
 pub found-at : (config : Configuration) (n : ℕ) (job : JobDef) → AreDistinct config.jobs → job_at config n ≡ Some job → job_named job.name config.jobs ≡ Some job

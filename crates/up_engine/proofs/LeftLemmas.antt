@@ -25,7 +25,7 @@ use Rattle.up_model.proofs.LeftLaws.{spends}
 pub sound_after : (config : Configuration) (old new : Ledger) (given : Input) → ∥ Rests config old ∥₁
     → ((c : Chronicle) → Stands old Resting config c → IsAtRest config c → Stands new Resting config (after config c given)) → ∥ Rests config new ∥₁
 sound_after config old new given sound steps =
-    ∥∥₁_elim sound squash₁ (λ rests. ∣ (after config rests.0 given, steps rests.0 rests.1 rests.2, rest-after config given rests.0 rests.1.past.lives.distinct rests.1.past.regular.made rests.2) ∣₁)
+    ∥∥₁_elim sound squash₁ (λ rests. ∣ (after config rests.0 given, steps rests.0 rests.1 rests.2, rest-after config given rests.0 rests.1.past.lives.distinct rests.2) ∣₁)
 
 -- what is left by what is kept is what the chronicle says
 pub left_told : (config : Configuration) (book : Ledger) (c : Chronicle) → Stands book Resting config c → left_of_jobs book.past.instances ≡ left c

@@ -8,7 +8,6 @@ pub mod HolderLemmas
 pub mod TurnLemmas
 pub mod KeyLemmas
 pub mod MoveLemmas
-pub mod OutputLemmas
 pub mod SetupLemmas
 pub mod RunLemmas
 pub mod IsolationLemmas

@@ -1,6 +1,5 @@
 -- The offers that are left in a step, and that doing what is due leaves what comes of it.
 use Rattle.std.proofs.Common.{◌≡◌, ℕ, suc, ◌+◌, ◌||◌, Bool, true, false, not, List, [], ◌∷◌, ◌++◌, filter, if◌then◌else◌, refl, ◌∙◌, ap, arith, append_assoc}
-use Rattle.std.specs.List.{AllByRecursion}
 use Rattle.up_conf.specs.declared.job.JobDef.{JobDef}
 use Rattle.up_model.specs.Chronicle.{Chronicle, Entry, Expression, Offered, StartOn, StopOn}
 use Rattle.up_model.specs.Configuration.{Configuration}
@@ -14,7 +13,6 @@ use Rattle.up_model.proofs.JobOffers.{offer_first}
 use Rattle.up_model.proofs.Settling.{settle_enough}
 use Rattle.up_engine.specs.Offering.{Asked, OfStop, OfStart, expression_of, open_stops, open_start, open_all, offer_at, offer_one}
 use Rattle.up_book.proofs.Lists.{cons_same}
-use Rattle.up_engine.proofs.JobMoves.{HaveFiles}
 
 -- what comes of a chronicle once nothing is due
 abbrev pub rested : Configuration → Chronicle → Chronicle
@@ -34,22 +32,20 @@ or_else-cons [] last others = refl
 or_else-cons (entry ∷ entries) last others = refl
 
 pub offer-filled : (config : Configuration) (a : Asked) (event : ℕ) (c : Chronicle) (others : List Entry) → or_else (offer_at config a event c) others ≡ offer_at config a event c
-offer-filled config (OfStop job i) event c others = or_else-cons _ (Offered (StopOn i) event) others
+offer-filled config (OfStop file i) event c others = or_else-cons _ (Offered (StopOn i) event) others
 offer-filled config (OfStart job) event c others = or_else-cons _ (Offered (StartOn job.name) event) others
 
 one-append : (config : Configuration) (xs ys : List Asked) (event : ℕ) (c : Chronicle) → or_else (offer_one config xs event c) (offer_one config ys event c) ≡ offer_one config (xs ++ ys) event c
 one-append config [] ys event c = refl
 one-append config (a ∷ xs) ys event c = offer-filled config a event c (offer_one config ys event c)
 
-stops-one : (config : Configuration) (job : JobDef) (its : List Instance) (event : ℕ) (c : Chronicle) → AllByRecursion (λ x. x.file ≡ job) its → stop_offer_in config its event c ≡ offer_one config (open_stops job its c) event c
-stops-one config job [] event c files = refl
-stops-one config job (x ∷ its) event c files =
-    ap (λ file. or_else (entries_if (is_open x.place c) (stop_offer config file x.place event c)) (stop_offer_in config its event c)) files.0
-    ∙ by_case (is_open x.place c) (stops-one config job its event c files.1)
+stops-one : (config : Configuration) (its : List Instance) (event : ℕ) (c : Chronicle) → stop_offer_in config its event c ≡ offer_one config (open_stops its c) event c
+stops-one config [] event c = refl
+stops-one config (x ∷ its) event c = by_case (is_open x.place c) (stops-one config its event c)
   where
-    by_case : (b : Bool) → stop_offer_in config its event c ≡ offer_one config (open_stops job its c) event c
-        → or_else (entries_if b (stop_offer config job x.place event c)) (stop_offer_in config its event c) ≡ offer_one config (if b then OfStop job x.place ∷ open_stops job its c else open_stops job its c) event c
-    by_case true ih = offer-filled config (OfStop job x.place) event c (stop_offer_in config its event c)
+    by_case : (b : Bool) → stop_offer_in config its event c ≡ offer_one config (open_stops its c) event c
+        → or_else (entries_if b (stop_offer config x.file x.place event c)) (stop_offer_in config its event c) ≡ offer_one config (if b then OfStop x.file x.place ∷ open_stops its c else open_stops its c) event c
+    by_case true ih = offer-filled config (OfStop x.file x.place) event c (stop_offer_in config its event c)
     by_case false ih = ih
 
 start-one : (config : Configuration) (job : JobDef) (event : ℕ) (c : Chronicle) → entries_if (not (was_offered (StartOn job.name) c)) (start_offer config job event c) ≡ offer_one config (open_start job c) event c
@@ -59,11 +55,11 @@ start-one config job event c = by_case (was_offered (StartOn job.name) c)
     by_case true = refl
     by_case false = refl
 
-pub first-offer : (config : Configuration) (jobs : List JobDef) (event : ℕ) (c : Chronicle) → HaveFiles jobs c → offer_first config jobs event c ≡ offer_one config (open_all jobs c) event c
-first-offer config [] event c files = refl
-first-offer config (job ∷ jobs) event c files =
-    let stops = open_stops job (instances_of job.name c) c in
-    rw (stops-one config job (instances_of job.name c) event c files.0, start-one config job event c, first-offer config jobs event c files.1, one-append config stops (open_start job c) event c)
+pub first-offer : (config : Configuration) (jobs : List JobDef) (event : ℕ) (c : Chronicle) → offer_first config jobs event c ≡ offer_one config (open_all jobs c) event c
+first-offer config [] event c = refl
+first-offer config (job ∷ jobs) event c =
+    let stops = open_stops (instances_of job.name c) c in
+    rw (stops-one config (instances_of job.name c) event c, start-one config job event c, first-offer config jobs event c, one-append config stops (open_start job c) event c)
     (one-append config (stops ++ open_start job c) (open_all jobs c) event c ∙ ap (λ xs. offer_one config xs event c) (append_assoc stops (open_start job c) (open_all jobs c)))
 
 -- an offer takes its expression off those that are left, and no other
@@ -78,13 +74,13 @@ filter-append P (x ∷ xs) ys = by_case (P x) (filter-append P xs ys)
     by_case true ih = cons_same refl ih
     by_case false ih = ih
 
-stops-left : (x : Expression) (event : ℕ) (job : JobDef) (its : List Instance) (c : Chronicle) → open_stops job its (Offered x event ∷ c) ≡ filter (is_left x) (open_stops job its c)
-stops-left x event job [] c = refl
-stops-left x event job (y ∷ its) c = by_case (is_newborn y.place c) (same_expression x (StopOn y.place)) (was_offered (StopOn y.place) c) refl (stops-left x event job its c)
+stops-left : (x : Expression) (event : ℕ) (its : List Instance) (c : Chronicle) → open_stops its (Offered x event ∷ c) ≡ filter (is_left x) (open_stops its c)
+stops-left x event [] c = refl
+stops-left x event (y ∷ its) c = by_case (is_newborn y.place c) (same_expression x (StopOn y.place)) (was_offered (StopOn y.place) c) refl (stops-left x event its c)
   where
-    by_case : (newborn same was : Bool) → same_expression x (StopOn y.place) ≡ same → open_stops job its (Offered x event ∷ c) ≡ filter (is_left x) (open_stops job its c)
-        → (if not (newborn || (if same then true else was)) then OfStop job y.place ∷ open_stops job its (Offered x event ∷ c) else open_stops job its (Offered x event ∷ c))
-        ≡ filter (is_left x) (if not (newborn || was) then OfStop job y.place ∷ open_stops job its c else open_stops job its c)
+    by_case : (newborn same was : Bool) → same_expression x (StopOn y.place) ≡ same → open_stops its (Offered x event ∷ c) ≡ filter (is_left x) (open_stops its c)
+        → (if not (newborn || (if same then true else was)) then OfStop y.file y.place ∷ open_stops its (Offered x event ∷ c) else open_stops its (Offered x event ∷ c))
+        ≡ filter (is_left x) (if not (newborn || was) then OfStop y.file y.place ∷ open_stops its c else open_stops its c)
     by_case true same was h ih = ih
     by_case false true true h ih = ih
     by_case false true false h ih = rw h ih
@@ -103,5 +99,5 @@ start-left x event job c = by_case (same_expression x (StartOn job.name)) (was_o
 pub all-left : (x : Expression) (event : ℕ) (jobs : List JobDef) (c : Chronicle) → open_all jobs (Offered x event ∷ c) ≡ filter (is_left x) (open_all jobs c)
 all-left x event [] c = refl
 all-left x event (job ∷ jobs) c =
-    let stops = open_stops job (instances_of job.name c) c in
-    rw (stops-left x event job (instances_of job.name c) c, start-left x event job c, all-left x event jobs c, filter-append (is_left x) stops (open_start job c ++ open_all jobs c), filter-append (is_left x) (open_start job c) (open_all jobs c)) refl
+    let stops = open_stops (instances_of job.name c) c in
+    rw (stops-left x event (instances_of job.name c) c, start-left x event job c, all-left x event jobs c, filter-append (is_left x) stops (open_start job c ++ open_all jobs c), filter-append (is_left x) (open_start job c) (open_all jobs c)) refl

@@ -45,26 +45,26 @@ offering-same i e c is = refl
 open-same : (q i : ℕ) (e : Entry) (c : Chronicle) → About i e → q < length c → is_open q (e ∷ c) ≡ is_open q c
 open-same q i e c is older = rw (newborn-same q i e c is older, was-same (StopOn q) i e c is) refl
 
-stops-same : (i : ℕ) (job : JobDef) (its : List Instance) (e : Entry) (c : Chronicle) → About i e → AllByRecursion (IsKnown job.name c) its → open_stops job its (e ∷ c) ≡ open_stops job its c
+stops-same : (i : ℕ) (job : Bytes) (its : List Instance) (e : Entry) (c : Chronicle) → About i e → AllByRecursion (IsKnown job c) its → open_stops its (e ∷ c) ≡ open_stops its c
 stops-same i job [] e c is known = refl
 stops-same i job (x ∷ its) e c is known = rw (open-same x.place i e c is known.0.0, stops-same i job its e c is known.1) refl
 
 -- one that isn't open may come or go
-stops-with : (job : JobDef) (x : Instance) (its : List Instance) (d : Chronicle) → is_open x.place d ≡ false → open_stops job (with_instance x its) d ≡ open_stops job its d
-stops-with job x [] d closed = rw closed refl
-stops-with job x (y ∷ its) d closed = by_case (is_before y x) (is_open y.place d) (stops-with job x its d closed)
+stops-with : (x : Instance) (its : List Instance) (d : Chronicle) → is_open x.place d ≡ false → open_stops (with_instance x its) d ≡ open_stops its d
+stops-with x [] d closed = rw closed refl
+stops-with x (y ∷ its) d closed = by_case (is_before y x) (is_open y.place d) (stops-with x its d closed)
   where
-    by_case : (b mine : Bool) → open_stops job (with_instance x its) d ≡ open_stops job its d
-        → open_stops job (if b then y ∷ with_instance x its else x ∷ y ∷ its) d ≡ open_stops job (y ∷ its) d
+    by_case : (b mine : Bool) → open_stops (with_instance x its) d ≡ open_stops its d
+        → open_stops (if b then y ∷ with_instance x its else x ∷ y ∷ its) d ≡ open_stops (y ∷ its) d
     by_case true mine ih = rw ih refl
     by_case false mine ih = rw closed refl
 
-stops-without : (job : JobDef) (i : ℕ) (its : List Instance) (d : Chronicle) → is_open i d ≡ false → open_stops job (without_instance i its) d ≡ open_stops job its d
-stops-without job i [] d closed = refl
-stops-without job i (y ∷ its) d closed = by_case (y.place == i) refl (stops-without job i its d closed)
+stops-without : (i : ℕ) (its : List Instance) (d : Chronicle) → is_open i d ≡ false → open_stops (without_instance i its) d ≡ open_stops its d
+stops-without i [] d closed = refl
+stops-without i (y ∷ its) d closed = by_case (y.place == i) refl (stops-without i its d closed)
   where
-    by_case : (b : Bool) → (y.place == i) ≡ b → open_stops job (without_instance i its) d ≡ open_stops job its d
-        → open_stops job (if b then without_instance i its else y ∷ without_instance i its) d ≡ open_stops job (y ∷ its) d
+    by_case : (b : Bool) → (y.place == i) ≡ b → open_stops (without_instance i its) d ≡ open_stops its d
+        → open_stops (if b then without_instance i its else y ∷ without_instance i its) d ≡ open_stops (y ∷ its) d
     by_case true same ih =
         let mine : is_open y.place d ≡ false = ap (λ p. is_open p d) (eqb-true y.place i same) ∙ closed in
         rw mine ih
@@ -74,7 +74,7 @@ stops-without job i (y ∷ its) d closed = by_case (y.place == i) refl (stops-wi
 pub made-closed : (file : JobDef) (name : Bytes) (c : Chronicle) → is_open (length c) (Made file name ∷ c) ≡ false
 made-closed file name c = rw (eq-eqb (length c) (length c) refl) refl
 
-stops-made : (job file : JobDef) (name : Bytes) (c : Chronicle) → open_stops job (instances_of job.name (Made file name ∷ c)) (Made file name ∷ c) ≡ open_stops job (instances_of job.name c) c
+stops-made : (job file : JobDef) (name : Bytes) (c : Chronicle) → open_stops (instances_of job.name (Made file name ∷ c)) (Made file name ∷ c) ≡ open_stops (instances_of job.name c) c
 stops-made job file name c = by_case (bytes_eq file.name job.name)
   where
     d : Chronicle
@@ -83,23 +83,23 @@ stops-made job file name c = by_case (bytes_eq file.name job.name)
     made : Instance
     made = record { place = length c; name = name; file = file }
 
-    older-same : (its : List Instance) → AllByRecursion (IsKnown job.name c) its → open_stops job its d ≡ open_stops job its c
+    older-same : (its : List Instance) → AllByRecursion (IsKnown job.name c) its → open_stops its d ≡ open_stops its c
     older-same [] known = refl
     older-same (x ∷ its) known = rw (older-other (length c) x.place known.0.0, older-same its known.1) refl
 
-    same : open_stops job (instances_of job.name c) d ≡ open_stops job (instances_of job.name c) c
+    same : open_stops (instances_of job.name c) d ≡ open_stops (instances_of job.name c) c
     same = older-same (instances_of job.name c) (known-all job.name c)
 
-    by_case : (b : Bool) → open_stops job (if b then with_instance made (instances_of job.name c) else instances_of job.name c) d ≡ open_stops job (instances_of job.name c) c
-    by_case true = stops-with job made (instances_of job.name c) d (made-closed file name c) ∙ same
+    by_case : (b : Bool) → open_stops (if b then with_instance made (instances_of job.name c) else instances_of job.name c) d ≡ open_stops (instances_of job.name c) c
+    by_case true = stops-with made (instances_of job.name c) d (made-closed file name c) ∙ same
     by_case false = same
 
-stops-entry : (i : ℕ) (job : JobDef) (e : Entry) (c : Chronicle) → About i e → is_open i c ≡ false → open_stops job (instances_of job.name (e ∷ c)) (e ∷ c) ≡ open_stops job (instances_of job.name c) c
+stops-entry : (i : ℕ) (job : JobDef) (e : Entry) (c : Chronicle) → About i e → is_open i c ≡ false → open_stops (instances_of job.name (e ∷ c)) (e ∷ c) ≡ open_stops (instances_of job.name c) c
 stops-entry i job (Made file name) c is closed = absurd is
 stops-entry i job (Entered j state.Waiting) c is closed =
     let gone : is_open j c ≡ false = ap (λ p. is_open p c) is ∙ closed in
-    stops-without job j (instances_of job.name c) (Entered j state.Waiting ∷ c) gone ∙ stops-same i job (instances_of job.name c) (Entered j state.Waiting) c is (known-all job.name c)
-stops-entry i job e c is closed = stops-same i job (instances_of job.name c) e c is (known-all job.name c)
+    stops-without j (instances_of job.name c) (Entered j state.Waiting ∷ c) gone ∙ stops-same i job.name (instances_of job.name c) (Entered j state.Waiting) c is (known-all job.name c)
+stops-entry i job e c is closed = stops-same i job.name (instances_of job.name c) e c is (known-all job.name c)
 
 start-entry : (i : ℕ) (job : JobDef) (e : Entry) (c : Chronicle) → About i e → open_start job (e ∷ c) ≡ open_start job c
 start-entry i job e c is = rw (was-same (StartOn job.name) i e c is) refl
@@ -127,10 +127,10 @@ open-entries i jobs (e ∷ es) c all closed =
     (open-entry i jobs e (es ++ c) all.0 rest.1 ∙ rest.0, closed-entry i e (es ++ c) all.0 rest.1, offering-same i e (es ++ c) all.0 ∙ rest.2)
 
 -- a firing alone leaves open what is open
-stops-fired : (job : JobDef) (its : List Instance) (x : Expression) (taken : List ℕ) (c : Chronicle) → open_stops job its (Fired x taken ∷ c) ≡ open_stops job its c
-stops-fired job [] x taken c = refl
-stops-fired job (y ∷ its) x taken c = rw (stops-fired job its x taken c) refl
+stops-fired : (its : List Instance) (x : Expression) (taken : List ℕ) (c : Chronicle) → open_stops its (Fired x taken ∷ c) ≡ open_stops its c
+stops-fired [] x taken c = refl
+stops-fired (y ∷ its) x taken c = rw (stops-fired its x taken c) refl
 
 pub open-unmoved : (jobs : List JobDef) (x : Expression) (taken : List ℕ) (c : Chronicle) → open_all jobs (Fired x taken ∷ c) ≡ open_all jobs c
 open-unmoved [] x taken c = refl
-open-unmoved (job ∷ jobs) x taken c = rw (stops-fired job (instances_of job.name c) x taken c, open-unmoved jobs x taken c) refl
+open-unmoved (job ∷ jobs) x taken c = rw (stops-fired (instances_of job.name c) x taken c, open-unmoved jobs x taken c) refl

@@ -5,12 +5,12 @@ use Rattle.up_conf.specs.declared.job.JobDef.{JobDef}
 use Rattle.up_model.specs.Life.{Wait, ForStart, ForEvent, ForAnswer, ForProcess, ForChange, ForMain, wait_in}
 use Rattle.up_model.specs.Chronicle.{Chronicle, Entry, Expression, Offered}
 use Rattle.up_model.specs.Instances.{Instance, instances_of}
-use Rattle.up_model.specs.Moves.{is_over, may_leave, move, move_of}
+use Rattle.up_model.specs.Moves.{is_over, may_leave, move, move_of, move_in}
 use Rattle.up_model.specs.Predicates.{entries_if, or_else}
 use Rattle.up_model.specs.Readings.{state_of}
 use Rattle.up_model.specs.Seen.{same_expression}
 use Rattle.up_engine.specs.Offering.{Asked, expression_of}
-use Rattle.up_engine.proofs.JobMoves.{move_in, move_first}
+use Rattle.up_engine.proofs.JobMoves.{move_first}
 use Rattle.up_engine.proofs.MoveLemmas.{filled_move}
 use Rattle.up_text.specs.Scripts.{is_filled}
 
@@ -40,17 +40,17 @@ over-offered job i (ForProcess its) c x event = refl
 over-offered job i ForChange c x event = refl
 over-offered job i ForMain c x event = refl
 
-still-in : (job : JobDef) (its : List Instance) (c : Chronicle) (x : Expression) (event : ℕ) → move_in job its c ≡ [] → move_in job its (Offered x event ∷ c) ≡ []
-still-in job [] c x event none = refl
-still-in job (y ∷ its) c x event none =
-    let here : may_leave job y.place (Offered x event ∷ c) ≡ false = over-offered job y.place (wait_in (state_of y.place c)) c x event ∙ stays job y c (or-nil-first (move_of job y c) (move_in job its c) none) in
-    rw here (still-in job its c x event (or-nil-rest (move_of job y c) (move_in job its c) none))
+still-in : (its : List Instance) (c : Chronicle) (x : Expression) (event : ℕ) → move_in its c ≡ [] → move_in its (Offered x event ∷ c) ≡ []
+still-in [] c x event none = refl
+still-in (y ∷ its) c x event none =
+    let here : may_leave y.file y.place (Offered x event ∷ c) ≡ false = over-offered y.file y.place (wait_in (state_of y.place c)) c x event ∙ stays y.file y c (or-nil-first (move_of y.file y c) (move_in its c) none) in
+    rw here (still-in its c x event (or-nil-rest (move_of y.file y c) (move_in its c) none))
 
 pub still-offered : (jobs : List JobDef) (c : Chronicle) (x : Expression) (event : ℕ) → move_first jobs c ≡ [] → move_first jobs (Offered x event ∷ c) ≡ []
 still-offered [] c x event none = refl
 still-offered (job ∷ jobs) c x event none =
-    rw (still-in job (instances_of job.name c) c x event (or-nil-first (move_in job (instances_of job.name c) c) (move_first jobs c) none))
-    (still-offered jobs c x event (or-nil-rest (move_in job (instances_of job.name c) c) (move_first jobs c) none))
+    rw (still-in (instances_of job.name c) c x event (or-nil-first (move_in (instances_of job.name c) c) (move_first jobs c) none))
+    (still-offered jobs c x event (or-nil-rest (move_in (instances_of job.name c) c) (move_first jobs c) none))
 
 -- each is another expression than those after it
 abbrev pub AreApart : List Asked → Type 0

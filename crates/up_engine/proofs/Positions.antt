@@ -1,7 +1,6 @@
 -- Where the instances of a job stand in its list, before and after one of them has moved.
-use Rattle.std.proofs.Common.{◌≡◌, ℕ, zero, suc, ◌+◌, ◌<◌, ◌≤◌, Bool, true, false, List, [], ◌∷◌, ◌++◌, length, drop, Option, None, Some, slice_get, if◌then◌else◌, refl, sym, ◌∙◌, ap, add-one, arith, get_or, drop-cons}
+use Rattle.std.proofs.Common.{◌≡◌, ℕ, zero, suc, ◌+◌, ◌<◌, ◌≤◌, Bool, true, false, List, [], ◌∷◌, ◌++◌, length, drop, Option, None, Some, slice_get, if◌then◌else◌, refl, sym, ◌∙◌, ap, add-one, arith}
 use Rattle.std.specs.Prelude.{option_and_then}
-use Rattle.up_conf.specs.declared.job.JobDef.{JobDef}
 use Rattle.up_model.specs.declared.event_id.EventId.{EventId}
 use Rattle.up_job.specs.declared.instance_key.InstanceKey.{InstanceKey}
 use Rattle.up_book.specs.Keys.{name_at, instance_at}
@@ -74,18 +73,18 @@ none-left [] n m sum past = refl
 none-left (x ∷ rest) n m sum past = absurd (omega (arith, sum, past))
 
 -- in a loop over the instances of a job that gives each its turn: those from here on are left, and this chronicle has come of those before
-pub record Ahead (stands : Chronicle → Type 0) (run : List Instance → Chronicle → Chronicle) (old : EventId → Option ℕ) (new : Chronicle → EventId → Option ℕ) (job : JobDef) (at turn : ℕ)
+pub record Ahead (stands : Chronicle → Type 0) (run : List Instance → Chronicle → Chronicle) (old : EventId → Option ℕ) (new : Chronicle → EventId → Option ℕ) (job : Bytes) (at turn : ℕ)
     (c : Chronicle) : Type 0 where
   pub d : Chronicle
   pub left : List Instance
   pub stood : stands d
-  pub here : drop at (instances_of job.name d) ≡ left
-  pub count : length left + turn ≡ length (instances_of job.name c)
-  pub same : run (instances_of job.name c) c ≡ run left d
+  pub here : drop at (instances_of job d) ≡ left
+  pub count : length left + turn ≡ length (instances_of job c)
+  pub same : run (instances_of job c) c ≡ run left d
   pub events : (k : EventId) (j : ℕ) → old k ≡ Some j → new d k ≡ Some j
 
 -- the next instance has had its turn, and is still there or has gone
-pub ahead-next : (stands then_ : Chronicle → Type 0) (run : List Instance → Chronicle → Chronicle) (old : EventId → Option ℕ) (new later : Chronicle → EventId → Option ℕ) (job : JobDef) (at turn : ℕ) (c : Chronicle)
+pub ahead-next : (stands then_ : Chronicle → Type 0) (run : List Instance → Chronicle → Chronicle) (old : EventId → Option ℕ) (new later : Chronicle → EventId → Option ℕ) (job : Bytes) (at turn : ℕ) (c : Chronicle)
     → (so_far : Ahead stands run old new job at turn c) → (x : Instance) (rest : List Instance) → so_far.left ≡ x ∷ rest → (stays : Bool) (f : Chronicle) → then_ f → ListsAfter stays x so_far.d f
     → run (x ∷ rest) so_far.d ≡ run rest f → ((k : EventId) (j : ℕ) → new so_far.d k ≡ Some j → later f k ≡ Some j) → (next : ℕ) → next ≡ (if stays then at + 1 else at)
     → Ahead then_ run old later job next (turn + 1) c
@@ -93,20 +92,16 @@ ahead-next stands then_ run old new later job at turn c so_far x rest first stay
   d = f;
   left = rest;
   stood = stood;
-  here = ap (λ n. drop n (instances_of job.name f)) at_next ∙ by_case stays lists;
+  here = ap (λ n. drop n (instances_of job f)) at_next ∙ by_case stays lists;
   count = omega (arith, so_far.count, ap length first);
   same = so_far.same ∙ ap (λ its. run its so_far.d) first ∙ same;
   events = λ k j known. events k j (so_far.events k j known);
 }
   where
-    by_case : (b : Bool) → ListsAfter b x so_far.d f → drop (if b then at + 1 else at) (instances_of job.name f) ≡ rest
-    by_case true lists = rest-here job.name at x rest so_far.d f (so_far.here ∙ first) lists
-    by_case false lists = rest-gone job.name at x rest so_far.d f (so_far.here ∙ first) lists
+    by_case : (b : Bool) → ListsAfter b x so_far.d f → drop (if b then at + 1 else at) (instances_of job f) ≡ rest
+    by_case true lists = rest-here job at x rest so_far.d f (so_far.here ∙ first) lists
+    by_case false lists = rest-gone job at x rest so_far.d f (so_far.here ∙ first) lists
 
 pub few-next : (stays : Bool) (at turn next : ℕ) → next ≡ (if stays then at + 1 else at) → at ≤ turn → next ≤ turn + 1
 few-next true at turn next is few = omega (arith, is, few)
 few-next false at turn next is few = omega (arith, is, few)
-
--- the jobs from one on
-pub jobs-from : (jobs : List JobDef) (n : ℕ) (job : JobDef) → n < length jobs → job ≡ get_or jobs n job → drop n jobs ≡ job ∷ drop (n + 1) jobs
-jobs-from jobs n job within here = rw add-one (drop-cons jobs n job within) ∙ ap (λ j. j ∷ drop (n + 1) jobs) (sym here)

@@ -24,13 +24,11 @@ use Rattle.up_model.specs.Values.{Bytes}
 use Rattle.up_model.specs.Work.{work}
 use Rattle.up_model.proofs.Settling.{settle_still}
 use Rattle.up_model.proofs.Sparing.{same-append, all-append}
-use Rattle.up_model.proofs.FileLaws.{AreMadeBy}
 use Rattle.up_engine.proofs.JobMoves.{move_first}
 use Rattle.up_engine.proofs.Effects.{none-due}
 use Rattle.up_engine.proofs.Firing.{stay-still, still-stay}
 use Rattle.up_engine.proofs.Hearing.{GivesNone, asked-same, none-moves}
 use Rattle.up_engine.proofs.Moving.{StayIn, Stay}
-use Rattle.up_book.specs.Keeps.{AreDistinct}
 
 -- an entry that says nothing of what an instance waits for, and takes no event up
 abbrev pub IsQuiet : Entry → Type 0
@@ -97,14 +95,14 @@ lists-same job (Made file name) c is = absurd is
 lists-same job (Entered j entered) c is = absurd is
 lists-same job e c is = refl
 
-stayin-quiet : (i : ℕ) (job : JobDef) (its : List Instance) (e : Entry) (c : Chronicle) → IsQuiet e → StayIn i job its c → StayIn i job its (e ∷ c)
-stayin-quiet i job [] e c is all = tt
-stayin-quiet i job (x ∷ its) e c is all = ((λ apart. leave-same job x.place e c is ∙ all.0 apart), stayin-quiet i job its e c is all.1)
+stayin-quiet : (i : ℕ) (its : List Instance) (e : Entry) (c : Chronicle) → IsQuiet e → StayIn i its c → StayIn i its (e ∷ c)
+stayin-quiet i [] e c is all = tt
+stayin-quiet i (x ∷ its) e c is all = ((λ apart. leave-same x.file x.place e c is ∙ all.0 apart), stayin-quiet i its e c is all.1)
 
 stay-quiet : (i : ℕ) (jobs : List JobDef) (e : Entry) (c : Chronicle) → IsQuiet e → Stay i jobs c → Stay i jobs (e ∷ c)
 stay-quiet i [] e c is stay = tt
 stay-quiet i (job ∷ jobs) e c is stay =
-    (subst (λ (its : List Instance). StayIn i job its (e ∷ c)) (sym (lists-same job.name e c is)) (stayin-quiet i job (instances_of job.name c) e c is stay.0), stay-quiet i jobs e c is stay.1)
+    (subst (λ (its : List Instance). StayIn i its (e ∷ c)) (sym (lists-same job.name e c is)) (stayin-quiet i (instances_of job.name c) e c is stay.0), stay-quiet i jobs e c is stay.1)
 
 pub stays-quiet : (i : ℕ) (jobs : List JobDef) (es c : List Entry) → AllByRecursion IsQuiet es → Stay i jobs c → Stay i jobs (es ++ c)
 stays-quiet i jobs [] c all stay = stay
@@ -113,26 +111,17 @@ stays-quiet i jobs (e ∷ es) c all stay = stay-quiet i jobs e (es ++ c) all.0 (
 still-quiet : (jobs : List JobDef) (es c : List Entry) → AllByRecursion IsQuiet es → move_first jobs c ≡ [] → move_first jobs (es ++ c) ≡ []
 still-quiet jobs es c all none = still-stay jobs (es ++ c) (stays-quiet (length (es ++ c)) jobs es c all (stay-still (length (es ++ c)) jobs c none))
 
--- and make none
-quiet-made : (jobs : List JobDef) (e : Entry) (c : Chronicle) → IsQuiet e → AreMadeBy jobs c → AreMadeBy jobs (e ∷ c)
-quiet-made jobs (Made file name) c is made = absurd is
-quiet-made jobs e c is made = made
-
-pub quiets-made : (jobs : List JobDef) (es c : List Entry) → AllByRecursion IsQuiet es → AreMadeBy jobs c → AreMadeBy jobs (es ++ c)
-quiets-made jobs [] c all made = made
-quiets-made jobs (e ∷ es) c all made = quiet-made jobs e (es ++ c) all.0 (quiets-made jobs es c all.1 made)
-
 -- so nothing is due, if no event is taken up and no client asks
 pub none-asked : (c : Chronicle) → asked c ≡ None → answering_last c ≡ []
 none-asked c none = ap (λ o. answering_hurried (unless_answered o c) c) none
 
-quiet-due : (config : Configuration) (es c : List Entry) → AreDistinct config.jobs → AreMadeBy config.jobs c → AllByRecursion IsQuiet es → offering (es ++ c) ≡ None → asked (es ++ c) ≡ None → due config c ≡ [] → due config (es ++ c) ≡ []
-quiet-due config es c distinct made all offers none rests =
-    none-due config (es ++ c) distinct (quiets-made config.jobs es c all made) (still-quiet config.jobs es c all (none-moves config c distinct made rests)) offers ∙ none-asked (es ++ c) none
+quiet-due : (config : Configuration) (es c : List Entry) → AllByRecursion IsQuiet es → offering (es ++ c) ≡ None → asked (es ++ c) ≡ None → due config c ≡ [] → due config (es ++ c) ≡ []
+quiet-due config es c all offers none rests =
+    none-due config (es ++ c) (still-quiet config.jobs es c all (none-moves config c rests)) offers ∙ none-asked (es ++ c) none
 
-pub event-due : (config : Configuration) (event : Event) (c : Chronicle) → AreDistinct config.jobs → AreMadeBy config.jobs c → due config c ≡ [] → due config (effect config (input.Emit event) c ++ c) ≡ []
+pub event-due : (config : Configuration) (event : Event) (c : Chronicle) → due config c ≡ [] → due config (effect config (input.Emit event) c ++ c) ≡ []
 unfolding effect
-event-due config event c distinct made rests = quiet-due config (Queued (Outside (length c)) event ∷ Given (input.Emit event) ∷ []) c distinct made (tt, (tt, tt)) refl refl rests
+event-due config event c rests = quiet-due config (Queued (Outside (length c)) event ∷ Given (input.Emit event) ∷ []) c (tt, (tt, tt)) refl refl rests
 
 killing-quiet : (places : List ℕ) → AllByRecursion IsQuiet (killing places)
 killing-quiet [] = tt
@@ -142,18 +131,18 @@ killing-gives : (places : List ℕ) → AllByRecursion GivesNone (killing places
 killing-gives [] = tt
 killing-gives (place ∷ places) = all-append GivesNone (killing places) (Signalled place kill true ∷ []) (killing-gives places) (tt, tt)
 
-pub reading-due : (config : Configuration) (reading : ℕ) (c : Chronicle) → AreDistinct config.jobs → AreMadeBy config.jobs c → offering (effect config (input.Clock reading) c ++ c) ≡ None → due config c ≡ [] → due config (effect config (input.Clock reading) c ++ c) ≡ []
+pub reading-due : (config : Configuration) (reading : ℕ) (c : Chronicle) → offering (effect config (input.Clock reading) c ++ c) ≡ None → due config c ≡ [] → due config (effect config (input.Clock reading) c ++ c) ≡ []
 unfolding effect
-reading-due config reading c distinct made offers rests =
+reading-due config reading c offers rests =
     let given : Entry = Given (input.Clock reading) in
     let kills = killing (all_overdue (names_in_order config c) (given ∷ c)) in
     let unasked : asked (kills ++ given ∷ c) ≡ None = same-append asked GivesNone asked-same kills (given ∷ c) (killing-gives (all_overdue (names_in_order config c) (given ∷ c))) in
-    quiet-due config (kills ++ given ∷ []) c distinct made (all-append IsQuiet kills (given ∷ []) (killing-quiet (all_overdue (names_in_order config c) (given ∷ c))) (tt, tt)) offers (ap asked (append_assoc kills (given ∷ []) c) ∙ unasked) rests
+    quiet-due config (kills ++ given ∷ []) c (all-append IsQuiet kills (given ∷ []) (killing-quiet (all_overdue (names_in_order config c) (given ∷ c))) (tt, tt)) offers (ap asked (append_assoc kills (given ∷ []) c) ∙ unasked) rests
 
 -- nor is it after a turn that finds no event
-pub idle-due : (config : Configuration) (c : Chronicle) → AreDistinct config.jobs → AreMadeBy config.jobs c → turn_event config (queue c) c ≡ None → due config c ≡ [] → due config (effect config input.Turn c ++ c) ≡ []
+pub idle-due : (config : Configuration) (c : Chronicle) → turn_event config (queue c) c ≡ None → due config c ≡ [] → due config (effect config input.Turn c ++ c) ≡ []
 unfolding effect
-idle-due config c distinct made none rests = rw none (quiet-due config (Given input.Turn ∷ []) c distinct made (tt, tt) refl refl rests)
+idle-due config c none rests = rw none (quiet-due config (Given input.Turn ∷ []) c (tt, tt) refl refl rests)
 
 -- so the step is done
 pub after-quiet : (config : Configuration) (given : Input) (c : Chronicle) → due config (effect config given c ++ c) ≡ [] → effect config given c ++ c ≡ after config c given

@@ -9,7 +9,7 @@ use Rattle.up_model.specs.Configuration.{Configuration}
 use Rattle.up_model.specs.Due.{due}
 use Rattle.up_model.specs.Instances.{Instance, without_instance, instances_of}
 use Rattle.up_model.specs.Life.{entering}
-use Rattle.up_model.specs.Moves.{may_leave, next_of, who_of, move, move_of}
+use Rattle.up_model.specs.Moves.{may_leave, next_of, who_of, move, move_of, move_in}
 use Rattle.up_model.specs.Offers.{offering}
 use Rattle.up_model.specs.Predicates.{entries_if, or_else}
 use Rattle.up_model.specs.Readings.{goal, state_of, blocker, made_at}
@@ -23,13 +23,12 @@ use Rattle.up_model.proofs.Sparing.{same-append}
 use Rattle.up_book.specs.Keeps.{AreDistinct}
 use Rattle.up_book.proofs.One.{IsKnown, known-all, called, none-of-others, apart-back}
 use Rattle.up_engine.specs.Settling.{settle_one, settle_each, settle_all, ListsAfter}
-use Rattle.up_model.proofs.FileLaws.{AreMadeBy}
-use Rattle.up_engine.proofs.JobMoves.{move_in, move_first, due-by}
+use Rattle.up_engine.proofs.JobMoves.{move_first, due-by}
 use Rattle.up_engine.proofs.Entries.{or_else-some}
 use Rattle.up_engine.proofs.MoveLemmas.{filled_move}
 use Rattle.up_engine.proofs.Offering.{rested, rested-next}
 use Rattle.up_engine.proofs.Opening.{About}
-use Rattle.up_engine.proofs.Firing.{abouts-made, leave-same}
+use Rattle.up_engine.proofs.Firing.{leave-same}
 use Rattle.up_engine.proofs.Shapes.{enter-about}
 use Rattle.up_engine.proofs.Measure.{move-fewer, move-gone, count-gone}
 use Rattle.up_engine.proofs.Settled.{StandsStill, still-instances, enter-still, gone-stays, one-stays}
@@ -119,52 +118,51 @@ goes-or-stays P p Killed goes stays = stays tt
 goes-or-stays P p PostStop goes stays = stays tt
 
 -- instances that may not move
-abbrev pub Rest : JobDef → List Instance → Chronicle → Type 0
-Rest job its c = AllByRecursion (λ x. may_leave job x.place c ≡ false) its
+abbrev pub Rest : List Instance → Chronicle → Type 0
+Rest its c = AllByRecursion (λ x. may_leave x.file x.place c ≡ false) its
 
 abbrev pub RestAll : List JobDef → Chronicle → Type 0
 RestAll [] c = Unit {0}
-RestAll (job ∷ jobs) c = Rest job (instances_of job.name c) c × RestAll jobs c
+RestAll (job ∷ jobs) c = Rest (instances_of job.name c) c × RestAll jobs c
 
-in-past : (job : JobDef) (xs ys : List Instance) (c : Chronicle) → Rest job xs c → move_in job (xs ++ ys) c ≡ move_in job ys c
-in-past job [] ys c rest = refl
-in-past job (x ∷ xs) ys c rest = ap (λ b. or_else (entries_if b (move job x c)) (move_in job (xs ++ ys) c)) rest.0 ∙ in-past job xs ys c rest.1
+in-past : (xs ys : List Instance) (c : Chronicle) → Rest xs c → move_in (xs ++ ys) c ≡ move_in ys c
+in-past [] ys c rest = refl
+in-past (x ∷ xs) ys c rest = ap (λ b. or_else (entries_if b (move x.file x c)) (move_in (xs ++ ys) c)) rest.0 ∙ in-past xs ys c rest.1
 
-in-rest : (job : JobDef) (xs : List Instance) (c : Chronicle) → Rest job xs c → move_in job xs c ≡ []
-in-rest job [] c rest = refl
-in-rest job (x ∷ xs) c rest = ap (λ b. or_else (entries_if b (move job x c)) (move_in job xs c)) rest.0 ∙ in-rest job xs c rest.1
+in-rest : (xs : List Instance) (c : Chronicle) → Rest xs c → move_in xs c ≡ []
+in-rest [] c rest = refl
+in-rest (x ∷ xs) c rest = ap (λ b. or_else (entries_if b (move x.file x c)) (move_in xs c)) rest.0 ∙ in-rest xs c rest.1
 
 first-past : (done jobs : List JobDef) (c : Chronicle) → RestAll done c → move_first (done ++ jobs) c ≡ move_first jobs c
 first-past [] jobs c rest = refl
-first-past (job ∷ done) jobs c rest = ap (λ es. or_else es (move_first (done ++ jobs) c)) (in-rest job (instances_of job.name c) c rest.0) ∙ first-past done jobs c rest.1
+first-past (job ∷ done) jobs c rest = ap (λ es. or_else es (move_first (done ++ jobs) c)) (in-rest (instances_of job.name c) c rest.0) ∙ first-past done jobs c rest.1
 
 pub first-none : (jobs : List JobDef) (c : Chronicle) → RestAll jobs c → move_first jobs c ≡ []
 first-none [] c rest = refl
-first-none (job ∷ jobs) c rest = ap (λ es. or_else es (move_first jobs c)) (in-rest job (instances_of job.name c) c rest.0) ∙ first-none jobs c rest.1
+first-none (job ∷ jobs) c rest = ap (λ es. or_else es (move_first jobs c)) (in-rest (instances_of job.name c) c rest.0) ∙ first-none jobs c rest.1
 
 -- a place in the order: all before it rest
 pub record Reached (config : Configuration) (done : List JobDef) (job : JobDef) (todo : List JobDef) (passed left : List Instance) (c : Chronicle) : Type 0 where
   pub jobs : config.jobs ≡ done ++ job ∷ todo
-  pub made : AreMadeBy config.jobs c
   pub before : RestAll done c
   pub list : instances_of job.name c ≡ passed ++ left
-  pub rest : Rest job passed c
+  pub rest : Rest passed c
 
 reached-first : (config : Configuration) (done : List JobDef) (job : JobDef) (todo : List JobDef) (passed left : List Instance) (x : Instance) (c : Chronicle)
-    → Reached config done job todo passed (x ∷ left) c → may_leave job x.place c ≡ true → move_first config.jobs c ≡ move job x c
+    → Reached config done job todo passed (x ∷ left) c → may_leave x.file x.place c ≡ true → move_first config.jobs c ≡ move x.file x c
 reached-first config done job todo passed left x c h may =
-    let of : move_of job x c ≡ move job x c = ap (λ b. entries_if b (move job x c)) may in
-    let mine : move_in job (instances_of job.name c) c ≡ move job x c =
-    ap (λ its. move_in job its c) h.list ∙ in-past job passed (x ∷ left) c h.rest ∙ ap (λ es. or_else es (move_in job left c)) of ∙ or_else-some (move job x c) (move_in job left c) (filled_move job x c) in
+    let of : move_of x.file x c ≡ move x.file x c = ap (λ b. entries_if b (move x.file x c)) may in
+    let mine : move_in (instances_of job.name c) c ≡ move x.file x c =
+    ap (λ its. move_in its c) h.list ∙ in-past passed (x ∷ left) c h.rest ∙ ap (λ es. or_else es (move_in left c)) of ∙ or_else-some (move x.file x c) (move_in left c) (filled_move x.file x c) in
     ap (λ js. move_first js c) h.jobs ∙ first-past done (job ∷ todo) c h.before
-    ∙ ap (λ es. or_else es (move_first todo c)) mine ∙ or_else-some (move job x c) (move_first todo c) (filled_move job x c)
+    ∙ ap (λ es. or_else es (move_first todo c)) mine ∙ or_else-some (move x.file x c) (move_first todo c) (filled_move x.file x c)
 
 reached-rested : (config : Configuration) (done : List JobDef) (job : JobDef) (todo : List JobDef) (passed left : List Instance) (x : Instance) (c : Chronicle)
-    → AreDistinct config.jobs → Reached config done job todo passed (x ∷ left) c → may_leave job x.place c ≡ true → rested config (move job x c ++ c) ≡ rested config c
-reached-rested config done job todo passed left x c distinct h may =
+    → Reached config done job todo passed (x ∷ left) c → may_leave x.file x.place c ≡ true → rested config (move x.file x c ++ c) ≡ rested config c
+reached-rested config done job todo passed left x c h may =
     let first = reached-first config done job todo passed left x c h may in
     let other = or_else (offer_next config (offering c) c) (answering_last c) in
-    let one : due config c ≡ move job x c = due-by config c distinct h.made ∙ ap (λ es. or_else es other) first ∙ or_else-some (move job x c) other (filled_move job x c) in
+    let one : due config c ≡ move x.file x c = due-by config c ∙ ap (λ es. or_else es other) first ∙ or_else-some (move x.file x c) other (filled_move x.file x c) in
     ap (λ es. rested config (es ++ c)) (sym one) ∙ rested-next config c
 
 -- the entries of one instance leave the others where they are
@@ -172,13 +170,13 @@ others-rest : (job : JobDef) (q i : ℕ) (es c : List Entry) → AllByRecursion 
 others-rest job q i [] c all apart = refl
 others-rest job q i (e ∷ es) c all apart = leave-same job q i e (es ++ c) all.0 apart ∙ others-rest job q i es c all.1 apart
 
-rest-others : (job : JobDef) (its : List Instance) (i : ℕ) (es c : List Entry) → AllByRecursion (About i) es → count i its ≡ 0 → Rest job its c → Rest job its (es ++ c)
-rest-others job [] i es c all none rest = tt
-rest-others job (x ∷ its) i es c all none rest = by_case (x.place == i) refl none (λ few. rest-others job its i es c all few rest.1)
+rest-others : (its : List Instance) (i : ℕ) (es c : List Entry) → AllByRecursion (About i) es → count i its ≡ 0 → Rest its c → Rest its (es ++ c)
+rest-others [] i es c all none rest = tt
+rest-others (x ∷ its) i es c all none rest = by_case (x.place == i) refl none (λ few. rest-others its i es c all few rest.1)
   where
-    by_case : (b : Bool) → (x.place == i) ≡ b → one_if b + count i its ≡ 0 → (count i its ≡ 0 → Rest job its (es ++ c)) → Rest job (x ∷ its) (es ++ c)
+    by_case : (b : Bool) → (x.place == i) ≡ b → one_if b + count i its ≡ 0 → (count i its ≡ 0 → Rest its (es ++ c)) → Rest (x ∷ its) (es ++ c)
     by_case true same none ih = absurd (omega (arith, none))
-    by_case false differs none ih = (others-rest job x.place i es c all differs ∙ rest.0, ih (omega (arith, none)))
+    by_case false differs none ih = (others-rest x.file x.place i es c all differs ∙ rest.0, ih (omega (arith, none)))
 
 -- the lists in which the instance doesn't stand stay
 abbrev pub KeepsLists : ℕ → Chronicle → Chronicle → Type 0
@@ -193,7 +191,7 @@ rest-jobs : (done : List JobDef) (its : JobDef) (x : Instance) (es c : List Entr
 rest-jobs [] its x es c apart made all lists rest = tt
 rest-jobs (job ∷ done) its x es c apart made all lists rest =
     let none = none-of-others job.name c x.place (called its.name x.name) (instances_of job.name c) (known-all job.name c) made apart.0 in
-    (subst (λ (xs : List Instance). Rest job xs (es ++ c)) (sym (lists job.name none)) (rest-others job (instances_of job.name c) x.place es c all none rest.0), rest-jobs done its x es c apart.1 made all lists rest.1)
+    (subst (λ (xs : List Instance). Rest xs (es ++ c)) (sym (lists job.name none)) (rest-others (instances_of job.name c) x.place es c all none rest.0), rest-jobs done its x es c apart.1 made all lists rest.1)
 
 pub all-middle : {X : Type 0} (P : X → Type 0) (xs : List X) (y : X) (ys : List X) → AllByRecursion P (xs ++ y ∷ ys) → P y
 all-middle P [] y ys all = all.0
@@ -216,23 +214,21 @@ reached-after : (config : Configuration) (done : List JobDef) (job : JobDef) (to
     → Reached config done job todo passed rest (es ++ c)
 reached-after config done job todo passed left rest x es c distinct h all lists list = record {
   jobs = h.jobs;
-  made = abouts-made config.jobs x.place es c all h.made;
   before = rest-jobs done job x es c (distinct-before done job todo (subst AreDistinct h.jobs distinct)) (reached-known config done job todo passed left x c h) all lists h.before;
   list = list;
-  rest = rest-others job passed x.place es c all (once job.name c passed left x h.list).before h.rest;
+  rest = rest-others passed x.place es c all (once job.name c passed left x h.list).before h.rest;
 }
 
 reached-more : (config : Configuration) (done : List JobDef) (job : JobDef) (todo : List JobDef) (passed left : List Instance) (x : Instance) (c : Chronicle)
-    → Reached config done job todo passed (x ∷ left) c → may_leave job x.place c ≡ false → Reached config done job todo (passed ++ x ∷ []) left c
+    → Reached config done job todo passed (x ∷ left) c → may_leave x.file x.place c ≡ false → Reached config done job todo (passed ++ x ∷ []) left c
 reached-more config done job todo passed left x c h stays = record {
   jobs = h.jobs;
-  made = h.made;
   before = h.before;
   list = h.list ∙ sym (append_assoc passed (x ∷ []) left);
   rest = more passed h.rest;
 }
   where
-    more : (xs : List Instance) → Rest job xs c → Rest job (xs ++ x ∷ []) c
+    more : (xs : List Instance) → Rest xs c → Rest (xs ++ x ∷ []) c
     more [] rest = (stays, tt)
     more (y ∷ ys) rest = (rest.0, more ys rest.1)
 
@@ -243,69 +239,69 @@ pub record Further (config : Configuration) (done : List JobDef) (job : JobDef) 
   pub same : rested config d ≡ rested config c
 
 one-further : (n : ℕ) (config : Configuration) (done : List JobDef) (job : JobDef) (todo : List JobDef) (passed left : List Instance) (x : Instance) (c : Chronicle) → AreDistinct config.jobs
-    → Reached config done job todo passed (x ∷ left) c → moves_at x.place c ≤ n → Further config done job todo left c (settle_one n job x c)
-one-further zero config done job todo passed left x c distinct h few = by_case (may_leave job x.place c) refl
+    → Reached config done job todo passed (x ∷ left) c → moves_at x.place c ≤ n → Further config done job todo left c (settle_one n x.file x c)
+one-further zero config done job todo passed left x c distinct h few = by_case (may_leave x.file x.place c) refl
   where
-    by_case : (b : Bool) → may_leave job x.place c ≡ b → Further config done job todo left c c
-    by_case true may = absurd (omega (arith, move-fewer job x c may, few))
+    by_case : (b : Bool) → may_leave x.file x.place c ≡ b → Further config done job todo left c c
+    by_case true may = absurd (omega (arith, move-fewer x.file x c may, few))
     by_case false stays = record { passed = passed ++ x ∷ []; reached = reached-more config done job todo passed left x c h stays; same = refl }
 one-further (suc n) config done job todo passed left x c distinct h few =
-    by_case (may_leave job x.place c) refl (λ d reached fewer. one-further n config done job todo passed left x d distinct reached fewer)
+    by_case (may_leave x.file x.place c) refl (λ d reached fewer. one-further n config done job todo passed left x d distinct reached fewer)
   where
     d : Chronicle
-    d = move job x c ++ c
+    d = move x.file x c ++ c
 
     Again : Type 0
-    Again = (f : Chronicle) → Reached config done job todo passed (x ∷ left) f → moves_at x.place f ≤ n → Further config done job todo left f (settle_one n job x f)
+    Again = (f : Chronicle) → Reached config done job todo passed (x ∷ left) f → moves_at x.place f ≤ n → Further config done job todo left f (settle_one n x.file x f)
 
-    gone : may_leave job x.place c ≡ true → next_of job x.place c ≡ Waiting → Further config done job todo left c (settle_one n job x d)
+    gone : may_leave x.file x.place c ≡ true → next_of x.file x.place c ≡ Waiting → Further config done job todo left c (settle_one n x.file x d)
     gone may goes =
-        let lists = move-leaves job x c goes in
-        subst (Further config done job todo left c) (sym (one-stays n job x d (gone-stays job x c goes)))
+        let lists = move-leaves x.file x c goes in
+        subst (Further config done job todo left c) (sym (one-stays n x.file x d (gone-stays x.file x c goes)))
         (record {
           passed = passed;
-          reached = reached-after config done job todo passed left left x (move job x c) c distinct h (move-about job x c) (lists-kept false x c d lists) (lists job.name ∙ without-one job.name c passed left x h.list);
-          same = reached-rested config done job todo passed left x c distinct h may;
+          reached = reached-after config done job todo passed left left x (move x.file x c) c distinct h (move-about x.file x c) (lists-kept false x c d lists) (lists job.name ∙ without-one job.name c passed left x h.list);
+          same = reached-rested config done job todo passed left x c h may;
         })
 
-    goes_on : Again → may_leave job x.place c ≡ true → StandsStill (Entered x.place (next_of job x.place c)) → Further config done job todo left c (settle_one n job x d)
+    goes_on : Again → may_leave x.file x.place c ≡ true → StandsStill (Entered x.place (next_of x.file x.place c)) → Further config done job todo left c (settle_one n x.file x d)
     goes_on again may still =
-        let lists = move-keeps job x c still in
-        let reached = reached-after config done job todo passed left (x ∷ left) x (move job x c) c distinct h (move-about job x c) (lists-kept true x c d lists) (lists job.name ∙ h.list) in
-        let end = again d reached (omega (arith, move-fewer job x c may, few)) in
-        record { passed = end.passed; reached = end.reached; same = end.same ∙ reached-rested config done job todo passed left x c distinct h may }
+        let lists = move-keeps x.file x c still in
+        let reached = reached-after config done job todo passed left (x ∷ left) x (move x.file x c) c distinct h (move-about x.file x c) (lists-kept true x c d lists) (lists job.name ∙ h.list) in
+        let end = again d reached (omega (arith, move-fewer x.file x c may, few)) in
+        record { passed = end.passed; reached = end.reached; same = end.same ∙ reached-rested config done job todo passed left x c h may }
 
-    by_case : (b : Bool) → may_leave job x.place c ≡ b → Again → Further config done job todo left c (if b then settle_one n job x d else c)
-    by_case true may again = goes-or-stays (Further config done job todo left c (settle_one n job x d)) x.place (next_of job x.place c) (gone may) (goes_on again may)
+    by_case : (b : Bool) → may_leave x.file x.place c ≡ b → Again → Further config done job todo left c (if b then settle_one n x.file x d else c)
+    by_case true may again = goes-or-stays (Further config done job todo left c (settle_one n x.file x d)) x.place (next_of x.file x.place c) (gone may) (goes_on again may)
     by_case false stays again = record { passed = passed ++ x ∷ []; reached = reached-more config done job todo passed left x c h stays; same = refl }
 
 each-further : (config : Configuration) (done : List JobDef) (job : JobDef) (todo : List JobDef) (passed left : List Instance) (c : Chronicle) → AreDistinct config.jobs
-    → Reached config done job todo passed left c → Further config done job todo [] c (settle_each job left c)
+    → Reached config done job todo passed left c → Further config done job todo [] c (settle_each left c)
 each-further config done job todo passed [] c distinct h = record { passed = passed; reached = h; same = refl }
 each-further config done job todo passed (x ∷ left) c distinct h =
     let few : moves_at x.place c ≤ 5 = omega (arith, moves-few (goal x.place c) (state_of x.place c) (is_some (blocker x.place c))) in
     let one = one-further 5 config done job todo passed left x c distinct h few in
-    let rest = each-further config done job todo one.passed left (settle_one 5 job x c) distinct one.reached in
+    let rest = each-further config done job todo one.passed left (settle_one 5 x.file x c) distinct one.reached in
     record { passed = rest.passed; reached = rest.reached; same = rest.same ∙ one.same }
 
 rest-append : (xs ys : List JobDef) (c : Chronicle) → RestAll xs c → RestAll ys c → RestAll (xs ++ ys) c
 rest-append [] ys c rest others = others
 rest-append (x ∷ xs) ys c rest others = (rest.0, rest-append xs ys c rest.1 others)
 
-jobs-further : (config : Configuration) (done jobs : List JobDef) (c : Chronicle) → AreDistinct config.jobs → AreMadeBy config.jobs c → config.jobs ≡ done ++ jobs → RestAll done c
-    → RestAll config.jobs (settle_all jobs c) × (rested config (settle_all jobs c) ≡ rested config c) × AreMadeBy config.jobs (settle_all jobs c)
-jobs-further config done [] c distinct made split rest = (subst (λ js. RestAll js c) (sym (split ∙ append-nil done)) rest, refl, made)
-jobs-further config done (job ∷ jobs) c distinct made split rest =
-    let d = settle_each job (instances_of job.name c) c in
-    let mine = each-further config done job jobs [] (instances_of job.name c) c distinct (record { jobs = split; made = made; before = rest; list = refl; rest = tt }) in
+jobs-further : (config : Configuration) (done jobs : List JobDef) (c : Chronicle) → AreDistinct config.jobs → config.jobs ≡ done ++ jobs → RestAll done c
+    → RestAll config.jobs (settle_all jobs c) × (rested config (settle_all jobs c) ≡ rested config c)
+jobs-further config done [] c distinct split rest = (subst (λ js. RestAll js c) (sym (split ∙ append-nil done)) rest, refl)
+jobs-further config done (job ∷ jobs) c distinct split rest =
+    let d = settle_each (instances_of job.name c) c in
+    let mine = each-further config done job jobs [] (instances_of job.name c) c distinct (record { jobs = split; before = rest; list = refl; rest = tt }) in
     let list : mine.passed ≡ instances_of job.name d = sym (mine.reached.list ∙ append-nil mine.passed) in
-    let here : Rest job (instances_of job.name d) d = subst (λ (xs : List Instance). Rest job xs d) list mine.reached.rest in
-    let others = jobs-further config (done ++ job ∷ []) jobs d distinct mine.reached.made (split ∙ sym (append_assoc done (job ∷ []) jobs)) (rest-append done (job ∷ []) d mine.reached.before (here, tt)) in
-    (others.0, others.1 ∙ mine.same, others.2)
+    let here : Rest (instances_of job.name d) d = subst (λ (xs : List Instance). Rest xs d) list mine.reached.rest in
+    let others = jobs-further config (done ++ job ∷ []) jobs d distinct (split ∙ sym (append_assoc done (job ∷ []) jobs)) (rest-append done (job ∷ []) d mine.reached.before (here, tt)) in
+    (others.0, others.1 ∙ mine.same)
 
 -- when all have settled nobody may move, and what comes of the chronicle is the same
-pub all-settled : (config : Configuration) (c : Chronicle) → AreDistinct config.jobs → AreMadeBy config.jobs c
-    → (move_first config.jobs (settle_all config.jobs c) ≡ []) × (rested config (settle_all config.jobs c) ≡ rested config c) × AreMadeBy config.jobs (settle_all config.jobs c)
-all-settled config c distinct made =
-    let all = jobs-further config [] config.jobs c distinct made refl tt in
-    (first-none config.jobs (settle_all config.jobs c) all.0, all.1, all.2)
+pub all-settled : (config : Configuration) (c : Chronicle) → AreDistinct config.jobs
+    → (move_first config.jobs (settle_all config.jobs c) ≡ []) × (rested config (settle_all config.jobs c) ≡ rested config c)
+all-settled config c distinct =
+    let all = jobs-further config [] config.jobs c distinct refl tt in
+    (first-none config.jobs (settle_all config.jobs c) all.0, all.1)

@@ -116,42 +116,42 @@ one-stays (suc n) job x c stays = rw stays refl
 -- after all its moves nobody may move, the same is to be offered, and the step ends alike
 pub settled-one : (n : ℕ) (config : Configuration) (e : ℕ) (left : List Asked) (place at : ℕ) (job : JobDef) (x : Instance) (c : Chronicle) → IsAt x.place config.jobs e left c → AreDistinct config.jobs
     → nth place config.jobs ≡ Some job → nth at (instances_of job.name c) ≡ Some x → moves_at x.place c ≤ n
-    → IsHandling config.jobs e left (settle_one n job x c) × (rested config (settle_one n job x c) ≡ rested config c)
-settled-one zero config e left place at job x c h distinct there here few = by_case (may_leave job x.place c) refl
+    → IsHandling config.jobs e left (settle_one n x.file x c) × (rested config (settle_one n x.file x c) ≡ rested config c)
+settled-one zero config e left place at job x c h distinct there here few = by_case (may_leave x.file x.place c) refl
   where
-    by_case : (b : Bool) → may_leave job x.place c ≡ b → IsHandling config.jobs e left c × (rested config c ≡ rested config c)
-    by_case true may = absurd (omega (arith, move-fewer job x c may, few))
+    by_case : (b : Bool) → may_leave x.file x.place c ≡ b → IsHandling config.jobs e left c × (rested config c ≡ rested config c)
+    by_case true may = absurd (omega (arith, move-fewer x.file x c may, few))
     by_case false stays = (moves-done config e left place at job x c h distinct there here stays, refl)
-settled-one (suc n) config e left place at job x c h distinct there here few = by_case (may_leave job x.place c) refl (λ d at_d here_d few_d. settled-one n config e left place at job x d at_d distinct there here_d few_d)
+settled-one (suc n) config e left place at job x c h distinct there here few = by_case (may_leave x.file x.place c) refl (λ d at_d here_d few_d. settled-one n config e left place at job x d at_d distinct there here_d few_d)
   where
     d : Chronicle
-    d = move job x c ++ c
+    d = move x.file x c ++ c
 
     to : State
-    to = next_of job x.place c
+    to = next_of x.file x.place c
 
     Ends : Chronicle → Type 0
     Ends f = IsHandling config.jobs e left f × (rested config f ≡ rested config c)
 
-    gone : next_of job x.place c ≡ Waiting → may_leave job x.place c ≡ true → Ends (settle_one n job x d)
+    gone : next_of x.file x.place c ≡ Waiting → may_leave x.file x.place c ≡ true → Ends (settle_one n x.file x d)
     gone goes may =
         let due_so = due-move config e left place at job x c h distinct there here may in
-        subst Ends (sym (one-stays n job x d (gone-stays job x c goes)))
-        (moves-gone x.place config.jobs e left d (after-move config.jobs e left job x c h) (move-gone job x c goes), due_so.1)
+        subst Ends (sym (one-stays n x.file x d (gone-stays x.file x c goes)))
+        (moves-gone x.place config.jobs e left d (after-move config.jobs e left x.file x c h) (move-gone x.file x c goes), due_so.1)
 
     Rest : Type 0
     Rest = (f : Chronicle) → IsAt x.place config.jobs e left f → nth at (instances_of job.name f) ≡ Some x → moves_at x.place f ≤ n
-        → IsHandling config.jobs e left (settle_one n job x f) × (rested config (settle_one n job x f) ≡ rested config f)
+        → IsHandling config.jobs e left (settle_one n x.file x f) × (rested config (settle_one n x.file x f) ≡ rested config f)
 
-    goes_on : Rest → StandsStill (Entered x.place to) → may_leave job x.place c ≡ true → Ends (settle_one n job x d)
+    goes_on : Rest → StandsStill (Entered x.place to) → may_leave x.file x.place c ≡ true → Ends (settle_one n x.file x d)
     goes_on rest still may =
         let due_so = due-move config e left place at job x c h distinct there here may in
-        let list : instances_of job.name d ≡ instances_of job.name c = same-append (instances_of job.name) StandsStill (still-instances job.name) (move job x c) c
-        (enter-still job (who_of job x) x.place to (entering to (state_of x.place c) job.task) c still) in
-        let ih = rest d (after-move config.jobs e left job x c h) (ap (nth at) list ∙ here) (omega (arith, move-fewer job x c may, few)) in
+        let list : instances_of job.name d ≡ instances_of job.name c = same-append (instances_of job.name) StandsStill (still-instances job.name) (move x.file x c) c
+        (enter-still x.file (who_of x.file x) x.place to (entering to (state_of x.place c) x.file.task) c still) in
+        let ih = rest d (after-move config.jobs e left x.file x c h) (ap (nth at) list ∙ here) (omega (arith, move-fewer x.file x c may, few)) in
         (ih.0, ih.1 ∙ due_so.1)
 
-    by_state : Rest → (s : State) → to ≡ s → (StandsStill (Entered x.place s) → StandsStill (Entered x.place to)) → may_leave job x.place c ≡ true → Ends (settle_one n job x d)
+    by_state : Rest → (s : State) → to ≡ s → (StandsStill (Entered x.place s) → StandsStill (Entered x.place to)) → may_leave x.file x.place c ≡ true → Ends (settle_one n x.file x d)
     by_state rest Waiting is back may = gone is may
     by_state rest Starting is back may = goes_on rest (back tt) may
     by_state rest PreStart is back may = goes_on rest (back tt) may
@@ -163,6 +163,6 @@ settled-one (suc n) config e left place at job x c h distinct there here few = b
     by_state rest Killed is back may = goes_on rest (back tt) may
     by_state rest PostStop is back may = goes_on rest (back tt) may
 
-    by_case : (b : Bool) → may_leave job x.place c ≡ b → Rest → Ends (if b then settle_one n job x d else c)
+    by_case : (b : Bool) → may_leave x.file x.place c ≡ b → Rest → Ends (if b then settle_one n x.file x d else c)
     by_case true may rest = by_state rest to refl (λ same. same) may
     by_case false stays rest = (moves-done config e left place at job x c h distinct there here stays, refl)

@@ -1,5 +1,5 @@
 -- The environments of jobs.
-use Rattle.std.proofs.Common.{◌≡◌, ℕ, ◌+◌, ◌<◌, true, Bool, List, ◌∷◌, length, map, drop, get_or, slice_get, unwrap_or, None, Some, option_map, if◌then◌else◌, bytes_eq, inl, inr, Ok, Err, refl, sym, ◌∙◌, ap, add-one, drop-cons}
+use Rattle.std.proofs.Common.{◌≡◌, ℕ, ◌+◌, ◌<◌, ◌≤◌, true, false, List, [], ◌∷◌, length, map, drop, get_or, slice_get, unwrap_or, None, Some, option_map, if◌then◌else◌, bytes_eq, inl, inr, Ok, Err, refl, sym, ◌∙◌, ap, add-one, drop-cons}
 use Rattle.std.proofs.lemmas.Option.{slice_get-map, slice_get-get_or}
 use Rattle.std.proofs.lemmas.Slice.Eq.{bytes_eq-Decides}
 use Rattle.up_conf.specs.declared.job.JobDef.{JobDef}
@@ -15,8 +15,16 @@ use Rattle.up_text.specs.Expanding.{Gives}
 use Rattle.up_text.specs.Expansion.{Expansion, Expands, Lacks, Malformed}
 use Rattle.up_book.specs.Keeps.{AreDistinct}
 use Rattle.up_book.proofs.Keyed.{nth-get}
+use Rattle.up_book.proofs.One.{apart-back}
 use Rattle.up_book.proofs.Outgoing.{named-there}
-use Rattle.up_engine.proofs.OutputLemmas.{jobs_left}
+use Rattle.up_book.proofs.Tables.{names-rise}
+use Rattle.up_engine.specs.Naming.{name_of}
+use Rattle.up_image.specs.Giving.{IsTable}
+use Rattle.up_job.specs.JobLists.{job_of, new_job}
+use Rattle.up_job.specs.Named.{named, position, AreInOrder, IsBelowAll}
+use Rattle.up_job.proofs.JobLemmas.{order-ascending}
+use Rattle.up_job.proofs.NamedLemmas.{below_not_same, present_here, absent_here, absent_beyond, named_here}
+use Rattle.std.specs.List.{AllByRecursion}
 use Rattle.up_model.proofs.FileLaws.{target_as_one}
 
 -- the settings from one on
@@ -27,26 +35,48 @@ settings_left base settings i d environment within =
     let one : drop i settings ≡ get_or settings i d ∷ drop (i + 1) settings = rw add-one (drop-cons settings i d within) in
     ap (λ left. with_settings base left environment) one
 
--- the job that was found
-pub job_there : (jobs : List JobDef) (name : Bytes) (i : ℕ) (job : JobDef) → i < length jobs → job ≡ get_or jobs i job → bytes_eq job.name name ≡ true
-    → job_named name (drop i jobs) ≡ job_named name jobs → (job_named name jobs ≡ Some job) × ((slice_get jobs i ≡ Some job) × (job.name ≡ name))
-job_there jobs name i job within here called left =
-    let named : job_named name jobs ≡ Some job =
-    sym left ∙ jobs_left jobs name i job within ∙ ap (λ j. if bytes_eq j.name name then Some j else job_named name (drop (i + 1) jobs)) (sym here)
-    ∙ ap (λ (b : Bool). if b then Some job else job_named name (drop (i + 1) jobs)) called in
-    (named, (slice_get-get_or jobs i job within ∙ ap Some (sym here), (bytes_eq-Decides job.name name).0 called))
+-- a name finds the same among jobs in order
+named-job : (name : Bytes) (jobs : List JobDef) → named name_of name jobs ≡ job_named name jobs
+named-job name [] = refl
+named-job name (job ∷ jobs) = ap (λ o. if bytes_eq job.name name then Some job else o) (named-job name jobs)
 
--- the environment of the job that was found
-pub environment_there : (base : Bindings) (environments : List Bindings) (jobs : List JobDef) (name : Bytes) (i : ℕ) (job : JobDef) → i < length jobs
-    → job ≡ get_or jobs i job → bytes_eq job.name name ≡ true → job_named name (drop i jobs) ≡ job_named name jobs → environments ≡ map (job_env base) jobs
-    → unwrap_or (slice_get environments i) base ≡ env_by_job base (job_named name jobs)
-environment_there base environments jobs name i job within here called left are =
-    let found : slice_get environments i ≡ Some (job_env base job) =
-    ap (λ xs. slice_get xs i) are ∙ slice_get-map (job_env base) jobs i ∙ ap (option_map (job_env base)) (slice_get-get_or jobs i job within ∙ ap Some (sym here)) in
-    let named : job_named name jobs ≡ Some job =
-    sym left ∙ jobs_left jobs name i job within ∙ ap (λ j. if bytes_eq j.name name then Some j else job_named name (drop (i + 1) jobs)) (sym here)
-    ∙ ap (λ (b : Bool). if b then Some job else job_named name (drop (i + 1) jobs)) called in
-    ap (λ x. unwrap_or x base) found ∙ sym (ap (env_by_job base) named)
+-- the job that was found where the name belongs
+pub found-there : (jobs : List JobDef) (name : Bytes) (n : ℕ) (job : JobDef) → AreInOrder name_of jobs → n ≡ position name_of name jobs → n < length jobs → job ≡ get_or jobs n job
+    → bytes_eq job.name name ≡ true → (job_named name jobs ≡ Some job) × ((slice_get jobs n ≡ Some job) × (job.name ≡ name))
+found-there jobs name n job order at within here called =
+    let there = present_here name_of name jobs n job at within (ap (λ (j : JobDef). bytes_eq j.name name) (sym here) ∙ called) in
+    let found : job_named name jobs ≡ Some job = sym (named-job name jobs) ∙ named_here name_of name jobs n job at order there ∙ ap Some (sym here) in
+    (found, (slice_get-get_or jobs n job within ∙ ap Some (sym here), (bytes_eq-Decides job.name name).0 called))
+
+-- none has the name, if the one there hasn't
+pub none-there : (jobs : List JobDef) (name : Bytes) (n : ℕ) (job : JobDef) → AreInOrder name_of jobs → n ≡ position name_of name jobs → n < length jobs → job ≡ get_or jobs n job
+    → bytes_eq job.name name ≡ false → job_named name jobs ≡ None
+none-there jobs name n job order at within here differs =
+    sym (named-job name jobs) ∙ absent_here name_of name jobs n job at order within (ap (λ (j : JobDef). bytes_eq j.name name) (sym here) ∙ differs)
+
+pub none-beyond : (jobs : List JobDef) (name : Bytes) (n : ℕ) → n ≡ position name_of name jobs → length jobs ≤ n → job_named name jobs ≡ None
+none-beyond jobs name n at past = sym (named-job name jobs) ∙ absent_beyond name_of name jobs n at past
+
+-- the jobs of a table are in order
+below-all : (name : Bytes) (jobs : List JobDef) → IsBelowAll job_of name (map new_job jobs) → IsBelowAll name_of name jobs
+below-all name [] below = tt
+below-all name (job ∷ jobs) below = (below.0, below-all name jobs below.1)
+
+in-order : (jobs : List JobDef) → AreInOrder job_of (map new_job jobs) → AreInOrder name_of jobs
+in-order [] order = tt
+in-order (job ∷ jobs) order = (below-all job.name jobs order.0, in-order jobs order.1)
+
+pub table-order : (jobs : List JobDef) → IsTable jobs → AreInOrder name_of jobs
+table-order jobs table = in-order jobs (order-ascending jobs (names-rise jobs table))
+
+-- so no two have one name
+apart-all : (name : Bytes) (jobs : List JobDef) → IsBelowAll name_of name jobs → AllByRecursion (λ other. bytes_eq other.name name ≡ false) jobs
+apart-all name [] below = tt
+apart-all name (job ∷ jobs) below = (apart-back name job.name (below_not_same name job.name below.0), apart-all name jobs below.1)
+
+pub order-distinct : (jobs : List JobDef) → AreInOrder name_of jobs → AreDistinct jobs
+order-distinct [] order = tt
+order-distinct (job ∷ jobs) order = (apart-all job.name jobs order.0, order-distinct jobs order.1)
 
 -- the environment of the job at an index
 pub environment_by_index : (base : Bindings) (environments : List Bindings) (jobs : List JobDef) (i : ℕ) (job : JobDef) → environments ≡ map (job_env base) jobs → AreDistinct jobs → slice_get jobs i ≡ Some job

@@ -10,7 +10,7 @@ use Rattle.up_model.specs.declared.state.Goal.TheVariants.{Start}
 use Rattle.up_model.specs.declared.state.State.{State}
 use Rattle.up_model.specs.declared.who.Who.{Who}
 use Rattle.up_model.specs.Chronicle.{Chronicle, Entry, Expression, Offered, Fired, Made, Aimed, Entered, Ordered, Signalled, StartOn, StopOn}
-use Rattle.up_model.specs.Configuration.{Configuration, job_named}
+use Rattle.up_model.specs.Configuration.{Configuration}
 use Rattle.up_model.specs.Due.{due}
 use Rattle.up_model.specs.Environments.{env_of_job, instance_name}
 use Rattle.up_model.specs.Events.{events_at, events_env, with_instance, stopped_by}
@@ -31,7 +31,7 @@ use Rattle.up_job.specs.Lists.{nth}
 use Rattle.up_book.specs.Keeps.{AreDistinct}
 use Rattle.up_engine.specs.Offering.{Asked, OfStop, OfStart, expression_of, open_stops, open_start, open_all, offer_at}
 use Rattle.up_book.proofs.Lists.{cons_same}
-use Rattle.up_engine.proofs.JobMoves.{move_first, due-by, have-files}
+use Rattle.up_engine.proofs.JobMoves.{move_first, due-by}
 use Rattle.up_engine.proofs.Moving.{first-moves}
 use Rattle.up_engine.proofs.Offering.{rested, rested-next, first-offer, offer-filled, all-left, is_left}
 use Rattle.up_engine.proofs.Entries.{or_else-some}
@@ -48,7 +48,7 @@ all-kept a [] apart = refl
 all-kept a (x ∷ xs) apart = rw apart.0 (cons_same refl (all-kept a xs apart.1))
 
 same-refl : (a : Asked) → same_expression (expression_of a) (expression_of a) ≡ true
-same-refl (OfStop job i) = eq-eqb i i refl
+same-refl (OfStop file i) = eq-eqb i i refl
 same-refl (OfStart job) = bytes_refl job.name
 
 next-open : (jobs : List JobDef) (a : Asked) (xs : List Asked) (event : ℕ) (c : Chronicle) → open_all jobs c ≡ a ∷ xs → IsApart a xs → open_all jobs (Offered (expression_of a) event ∷ c) ≡ xs
@@ -63,7 +63,6 @@ pub after-offer : (jobs : List JobDef) (a : Asked) (left : List Asked) (e : ℕ)
 after-offer jobs a left e c h apart = record {
   open_left = next-open jobs a left e c h.open_left apart;
   handles = h.handles;
-  made = h.made;
   still = λ i. stay-still i jobs (Offered (expression_of a) e ∷ c) (still-offered jobs c (expression_of a) e (still-stay jobs c (h.still (length c))));
 }
 
@@ -85,7 +84,7 @@ pub after-stop : (config : Configuration) (job : JobDef) (i : ℕ) (left : List 
 after-stop config job i left e c h apart =
     let d : Chronicle = Offered (StopOn i) e ∷ c in
     let offered = after-offer config.jobs (OfStop job i) left e c h apart in
-    let at_d : IsAt i config.jobs e left d = record { open_left = offered.open_left; handles = offered.handles; made = offered.made; closed = closed-offered i e c; stay = offered.still i } in
+    let at_d : IsAt i config.jobs e left d = record { open_left = offered.open_left; handles = offered.handles; closed = closed-offered i e c; stay = offered.still i } in
     subst (IsAt i config.jobs e left) (sym (append_assoc es (Offered (StopOn i) e ∷ []) c)) (at-entries i config.jobs e left es d all at_d)
   where
     events : List ℕ
@@ -105,12 +104,12 @@ after-stop config job i left e c h apart =
 abbrev AreClosed : List Instance → Chronicle → Type 0
 AreClosed its c = AllByRecursion (λ x. is_open x.place c ≡ false) its
 
-stops-closed : (job other : JobDef) (its : List Instance) (c : Chronicle) (tail left : List Asked) → open_stops job its c ++ tail ≡ OfStart other ∷ left → AreClosed its c × (tail ≡ OfStart other ∷ left)
-stops-closed job other [] c tail left first = (tt, first)
-stops-closed job other (x ∷ its) c tail left first = by_case (is_open x.place c) refl first (stops-closed job other its c tail left)
+stops-closed : (other : JobDef) (its : List Instance) (c : Chronicle) (tail left : List Asked) → open_stops its c ++ tail ≡ OfStart other ∷ left → AreClosed its c × (tail ≡ OfStart other ∷ left)
+stops-closed other [] c tail left first = (tt, first)
+stops-closed other (x ∷ its) c tail left first = by_case (is_open x.place c) refl first (stops-closed other its c tail left)
   where
-    by_case : (b : Bool) → is_open x.place c ≡ b → (if b then OfStop job x.place ∷ open_stops job its c else open_stops job its c) ++ tail ≡ OfStart other ∷ left
-        → (open_stops job its c ++ tail ≡ OfStart other ∷ left → AreClosed its c × (tail ≡ OfStart other ∷ left))
+    by_case : (b : Bool) → is_open x.place c ≡ b → (if b then OfStop x.file x.place ∷ open_stops its c else open_stops its c) ++ tail ≡ OfStart other ∷ left
+        → (open_stops its c ++ tail ≡ OfStart other ∷ left → AreClosed its c × (tail ≡ OfStart other ∷ left))
         → AreClosed (x ∷ its) c × (tail ≡ OfStart other ∷ left)
     by_case true is first ih = absurd cc
     by_case false is first ih =
@@ -120,7 +119,7 @@ stops-closed job other (x ∷ its) c tail left first = by_case (is_open x.place 
 first-closed : (jobs : List JobDef) (other : JobDef) (left : List Asked) (c : Chronicle) → open_all jobs c ≡ OfStart other ∷ left → AreClosed (instances_of other.name c) c
 first-closed [] other left c first = absurd cc
 first-closed (job ∷ jobs) other left c first =
-    let both = stops-closed job other (instances_of job.name c) c (open_start job c ++ open_all jobs c) left first in
+    let both = stops-closed other (instances_of job.name c) c (open_start job c ++ open_all jobs c) left first in
     by_case (was_offered (StartOn job.name) c) both.0 both.1 (first-closed jobs other left c)
   where
     by_case : (b : Bool) → AreClosed (instances_of job.name c) c → (if b then [] else OfStart job ∷ []) ++ open_all jobs c ≡ OfStart other ∷ left
@@ -153,9 +152,9 @@ abbrev pub AfterStart : Option ℕ → List JobDef → (e : ℕ) → List Asked 
 AfterStart None jobs e left c = IsHandling jobs e left c
 AfterStart (Some i) jobs e left c = IsAt i jobs e left c
 
-started-of : (jobs : List JobDef) (e : ℕ) (left : List Asked) (job : JobDef) (who : Who) (environment : Bindings) (its : List ℕ) (o : Option ℕ) (f : Chronicle) → job_named job.name jobs ≡ Some job → IsHandling jobs e left f
+started-of : (jobs : List JobDef) (e : ℕ) (left : List Asked) (job : JobDef) (who : Who) (environment : Bindings) (its : List ℕ) (o : Option ℕ) (f : Chronicle) → IsHandling jobs e left f
     → ((p : ℕ) → o ≡ Some p → is_open p f ≡ false) → AfterStart (started_at who o f) jobs e left (start_of job who environment its o f ++ f)
-started-of jobs e left job who environment its None f found h closed = by_case (nat_lt (length (instances_of who.job f)) max_instances)
+started-of jobs e left job who environment its None f h closed = by_case (nat_lt (length (instances_of who.job f)) max_instances)
   where
     made : Chronicle
     made = Made job who.instance ∷ f
@@ -164,7 +163,6 @@ started-of jobs e left job who environment its None f found h closed = by_case (
     at_made = record {
       open_left = open-made jobs job who.instance f ∙ h.open_left;
       handles = h.handles;
-      made = (found, h.made);
       closed = made-closed job who.instance f;
       stay = stay-made jobs job who.instance f (h.still (length f));
     }
@@ -172,21 +170,21 @@ started-of jobs e left job who environment its None f found h closed = by_case (
     by_case : (b : Bool) → AfterStart (if b then Some (length f) else None) jobs e left (entries_if b (Aimed (length f) Start environment its ∷ Made job who.instance ∷ []) ++ f)
     by_case true = at-entries (length f) jobs e left (Aimed (length f) Start environment its ∷ []) made (refl, tt) at_made
     by_case false = h
-started-of jobs e left job who environment its (Some p) f found h closed = by_case (not (is_start (goal p f)))
+started-of jobs e left job who environment its (Some p) f h closed = by_case (not (is_start (goal p f)))
   where
     at_f : IsAt p jobs e left f
-    at_f = record { open_left = h.open_left; handles = h.handles; made = h.made; closed = closed p refl; stay = h.still p }
+    at_f = record { open_left = h.open_left; handles = h.handles; closed = closed p refl; stay = h.still p }
 
     by_case : (b : Bool) → AfterStart (if b then Some p else None) jobs e left (entries_if b (Aimed p Start environment its ∷ releasing p false f) ++ f)
     by_case true = at-entries p jobs e left (Aimed p Start environment its ∷ releasing p false f) f (refl, releasing-all (About p) (λ request answer. tt) p false tt f) at_f
     by_case false = h
 
-started-who : (jobs : List JobDef) (e : ℕ) (left : List Asked) (job : JobDef) (name : Option Bytes) (environment : Bindings) (its : List ℕ) (f : Chronicle) → job_named job.name jobs ≡ Some job → IsHandling jobs e left f
+started-who : (jobs : List JobDef) (e : ℕ) (left : List Asked) (job : JobDef) (name : Option Bytes) (environment : Bindings) (its : List ℕ) (f : Chronicle) → IsHandling jobs e left f
     → AreClosed (instances_of job.name f) f → AfterStart (started_who (who_called job.name name) f) jobs e left (start_who job environment its (who_called job.name name) f ++ f)
-started-who jobs e left job None environment its f in_table h closed = h
-started-who jobs e left job (Some name) environment its f in_table h closed =
+started-who jobs e left job None environment its f h closed = h
+started-who jobs e left job (Some name) environment its f h closed =
     let who : Who = record { job = job.name; instance = name } in
-    started-of jobs e left job who (with_instance who environment) its (place_named name (instances_of job.name f)) f in_table h
+    started-of jobs e left job who (with_instance who environment) its (place_named name (instances_of job.name f)) f h
     (λ p found. named-closed name p (instances_of job.name f) f closed found)
 
 -- the name of the instance that a start by events concerns
@@ -205,14 +203,13 @@ still-fired : (jobs : List JobDef) (e : ℕ) (left : List Asked) (x : Expression
 still-fired jobs e left x events c h = record {
   open_left = Rattle.up_engine.proofs.Opening.open-unmoved jobs x events c ∙ h.open_left;
   handles = h.handles;
-  made = h.made;
   still = λ i. stay-entry i jobs (Fired x events) c tt (h.still i);
 }
 
 -- one of a `start on` that fires leaves the rest, and the instance that it concerns alone may move
-pub after-start : (config : Configuration) (job : JobDef) (left : List Asked) (e : ℕ) (c : Chronicle) → job_named job.name config.jobs ≡ Some job → IsHandling config.jobs e (OfStart job ∷ left) c → IsApart (OfStart job) left
+pub after-start : (config : Configuration) (job : JobDef) (left : List Asked) (e : ℕ) (c : Chronicle) → IsHandling config.jobs e (OfStart job ∷ left) c → IsApart (OfStart job) left
     → AfterStart (started config job e c) config.jobs e left (start_offer config job e c ++ c)
-after-start config job left e c found h apart = by_case (holds job.start_on (seen config (StartOn job.name) d))
+after-start config job left e c h apart = by_case (holds job.start_on (seen config (StartOn job.name) d))
   where
     d : Chronicle
     d = Offered (StartOn job.name) e ∷ c
@@ -237,7 +234,7 @@ after-start config job left e c found h apart = by_case (holds job.start_on (see
     effect = start_by config job events f
 
     fired : AfterStart (started_who (who_called job.name (start_name config job events f)) f) config.jobs e left (effect ++ f)
-    fired = started-who config.jobs e left job (start_name config job events f) (start_env config (who_called job.name (start_name config job events f)) (events_at events f) f) events f found (still-fired config.jobs e left (StartOn job.name) events d offered) (same-closed (instances_of job.name c) closed)
+    fired = started-who config.jobs e left job (start_name config job events f) (start_env config (who_called job.name (start_name config job events f)) (events_at events f) f) events f (still-fired config.jobs e left (StartOn job.name) events d offered) (same-closed (instances_of job.name c) closed)
 
     order : ((effect ++ Fired (StartOn job.name) events ∷ []) ++ Offered (StartOn job.name) e ∷ []) ++ c ≡ effect ++ f
     order = append_assoc (effect ++ Fired (StartOn job.name) events ∷ []) (Offered (StartOn job.name) e ∷ []) c ∙ append_assoc effect (Fired (StartOn job.name) events ∷ []) d
@@ -248,12 +245,12 @@ after-start config job left e c found h apart = by_case (holds job.start_on (see
     by_case false = offered
 
 -- what is due is the first of these offers, and the step ends alike after it
-pub due-offer : (config : Configuration) (a : Asked) (left : List Asked) (e : ℕ) (c : Chronicle) → AreDistinct config.jobs → IsHandling config.jobs e (a ∷ left) c
+pub due-offer : (config : Configuration) (a : Asked) (left : List Asked) (e : ℕ) (c : Chronicle) → IsHandling config.jobs e (a ∷ left) c
     → (due config c ≡ offer_at config a e c) × (rested config (offer_at config a e c ++ c) ≡ rested config c)
-due-offer config a left e c distinct h =
+due-offer config a left e c h =
     let parts : or_else (move_first config.jobs c) (or_else (offer_next config (offering c) c) (answering_last c)) ≡ offer_at config a e c =
-    rw (still-stay config.jobs c (h.still (length c)), h.handles, first-offer config config.jobs e c (have-files config c distinct h.made), h.open_left) (offer-filled config a e c (answering_last c)) in
-    let one : due config c ≡ offer_at config a e c = due-by config c distinct h.made ∙ parts in
+    rw (still-stay config.jobs c (h.still (length c)), h.handles, first-offer config config.jobs e c, h.open_left) (offer-filled config a e c (answering_last c)) in
+    let one : due config c ≡ offer_at config a e c = due-by config c ∙ parts in
     (one, ap (λ es. rested config (es ++ c)) (sym one) ∙ rested-next config c)
 
 -- a move of the instance leaves the rest to be offered, and the others where they are
@@ -284,17 +281,17 @@ after-move jobs e left job x c at =
 
 -- what is due is its move, if it may, and the step ends alike after it
 pub due-move : (config : Configuration) (e : ℕ) (left : List Asked) (place at : ℕ) (job : JobDef) (x : Instance) (c : Chronicle) → IsAt x.place config.jobs e left c → AreDistinct config.jobs
-    → nth place config.jobs ≡ Some job → nth at (instances_of job.name c) ≡ Some x → may_leave job x.place c ≡ true
-    → (due config c ≡ move job x c) × (rested config (move job x c ++ c) ≡ rested config c)
+    → nth place config.jobs ≡ Some job → nth at (instances_of job.name c) ≡ Some x → may_leave x.file x.place c ≡ true
+    → (due config c ≡ move x.file x c) × (rested config (move x.file x c ++ c) ≡ rested config c)
 due-move config e left place at job x c h distinct there here may =
-    let first : move_first config.jobs c ≡ move job x c = first-moves config.jobs place at job x c there here distinct h.stay ∙ ap (λ b. entries_if b (move job x c)) may in
+    let first : move_first config.jobs c ≡ move x.file x c = first-moves config.jobs place at job x c there here distinct h.stay ∙ ap (λ b. entries_if b (move x.file x c)) may in
     let other = or_else (offer_next config (offering c) c) (answering_last c) in
-    let one : due config c ≡ move job x c = due-by config c distinct h.made ∙ ap (λ es. or_else es other) first ∙ or_else-some (move job x c) other (filled_move job x c) in
+    let one : due config c ≡ move x.file x c = due-by config c ∙ ap (λ es. or_else es other) first ∙ or_else-some (move x.file x c) other (filled_move x.file x c) in
     (one, ap (λ es. rested config (es ++ c)) (sym one) ∙ rested-next config c)
 
 -- when it may move no more, the next expression is offered the event
 pub moves-done : (config : Configuration) (e : ℕ) (left : List Asked) (place at : ℕ) (job : JobDef) (x : Instance) (c : Chronicle) → IsAt x.place config.jobs e left c → AreDistinct config.jobs
-    → nth place config.jobs ≡ Some job → nth at (instances_of job.name c) ≡ Some x → may_leave job x.place c ≡ false → IsHandling config.jobs e left c
+    → nth place config.jobs ≡ Some job → nth at (instances_of job.name c) ≡ Some x → may_leave x.file x.place c ≡ false → IsHandling config.jobs e left c
 moves-done config e left place at job x c h distinct there here stays =
-    let none : move_first config.jobs c ≡ [] = first-moves config.jobs place at job x c there here distinct h.stay ∙ ap (λ b. entries_if b (move job x c)) stays in
-    record { open_left = h.open_left; handles = h.handles; made = h.made; still = λ i. stay-still i config.jobs c none }
+    let none : move_first config.jobs c ≡ [] = first-moves config.jobs place at job x c there here distinct h.stay ∙ ap (λ b. entries_if b (move x.file x c)) stays in
+    record { open_left = h.open_left; handles = h.handles; still = λ i. stay-still i config.jobs c none }

@@ -27,7 +27,6 @@ use Rattle.up_book.specs.Keeps.{AreDistinct}
 use Rattle.up_book.specs.Keys.{instance_place}
 use Rattle.up_book.specs.Unblocking.{IsBlockedBy}
 use Rattle.up_book.proofs.Keyed.{nth-get, job-there}
-use Rattle.up_model.proofs.FileLaws.{AreMadeBy}
 use Rattle.up_engine.specs.Effects.{IsAlone, Concerns, unblocked_concern}
 use Rattle.up_engine.proofs.Alone.{here, one-settles}
 use Rattle.up_engine.proofs.Effects.{none-due, turn-finishes}
@@ -36,7 +35,7 @@ use Rattle.up_engine.proofs.Firing.{stay-still, still-stay}
 use Rattle.up_engine.proofs.Hearing.{GivesNone, asked-same, none-moves}
 use Rattle.up_engine.proofs.Moving.{StayIn, Stay}
 use Rattle.up_engine.proofs.Positions.{same-instance}
-use Rattle.up_engine.proofs.Quiet.{quiets-made, IsQuiet, lists-same, stays-quiet, none-asked}
+use Rattle.up_engine.proofs.Quiet.{IsQuiet, lists-same, stays-quiet, none-asked}
 
 -- what waits for an event once another has finished waited for it before
 waited : (event : ℕ) (o : Option ℕ) (e : ℕ) → without event o ≡ Some e → o ≡ Some e
@@ -96,16 +95,16 @@ over-finished job q (ForProcess its) e c free = refl
 over-finished job q ForChange e c free = refl
 over-finished job q ForMain e c free = refl
 
-stayin-finished : (i : ℕ) (job : JobDef) (e : ℕ) (c : Chronicle) (its : List Instance) → ((at : ℕ) (y : Instance) → nth at its ≡ Some y → (y.place == i) ≡ false → blocker y.place c ≡ Some e → ⊥) → StayIn i job its c → StayIn i job its (Finished e ∷ c)
-stayin-finished i job e c [] free stay = tt
-stayin-finished i job e c (y ∷ its) free stay =
-    ((λ apart. over-finished job y.place (wait_in (state_of y.place c)) e c (free 0 y refl apart) ∙ stay.0 apart), stayin-finished i job e c its (λ at z there. free (suc at) z there) stay.1)
+stayin-finished : (i e : ℕ) (c : Chronicle) (its : List Instance) → ((at : ℕ) (y : Instance) → nth at its ≡ Some y → (y.place == i) ≡ false → blocker y.place c ≡ Some e → ⊥) → StayIn i its c → StayIn i its (Finished e ∷ c)
+stayin-finished i e c [] free stay = tt
+stayin-finished i e c (y ∷ its) free stay =
+    ((λ apart. over-finished y.file y.place (wait_in (state_of y.place c)) e c (free 0 y refl apart) ∙ stay.0 apart), stayin-finished i e c its (λ at z there. free (suc at) z there) stay.1)
 
 stay-finished : (i e : ℕ) (c : Chronicle) (jobs : List JobDef) → ((n at : ℕ) (job : JobDef) (y : Instance) → nth n jobs ≡ Some job → nth at (instances_of job.name c) ≡ Some y → (y.place == i) ≡ false → blocker y.place c ≡ Some e → ⊥)
     → Stay i jobs c → Stay i jobs (Finished e ∷ c)
 stay-finished i e c [] free stay = tt
 stay-finished i e c (job ∷ jobs) free stay =
-    (stayin-finished i job e c (instances_of job.name c) (λ at y there. free 0 at job y refl there) stay.0, stay-finished i e c jobs (λ n at j y listed there. free (suc n) at j y listed there) stay.1)
+    (stayin-finished i e c (instances_of job.name c) (λ at y there. free 0 at job y refl there) stay.0, stay-finished i e c jobs (λ n at j y listed there. free (suc n) at j y listed there) stay.1)
 
 key-there : (config : Configuration) (c : Chronicle) (n at : ℕ) (job : JobDef) (y : Instance) → nth n config.jobs ≡ Some job → nth at (instances_of job.name c) ≡ Some y
     → instance_place config c (record { job = n; at = at }) ≡ Some y.place
@@ -144,44 +143,42 @@ finishes config c e found =
     ap (λ o. (turn_of o d ++ Given Turn ∷ []) ++ c) found ∙ append_assoc (finishing e d) (Given Turn ∷ []) c ∙ finishing_last tells answers (Finished e) d ∙ sym (append_assoc tells answers (Finished e ∷ d))
 
 -- nobody may move, if nobody waited for it
-finished-nobody : (config : Configuration) (c : Chronicle) (e : ℕ) → AreDistinct config.jobs → AreMadeBy config.jobs c → IsBlockedBy config e (Given Turn ∷ c) None → due config c ≡ [] → offering (told e (Given Turn ∷ c) ++ Finished e ∷ Given Turn ∷ c) ≡ None
+finished-nobody : (config : Configuration) (c : Chronicle) (e : ℕ) → IsBlockedBy config e (Given Turn ∷ c) None → due config c ≡ [] → offering (told e (Given Turn ∷ c) ++ Finished e ∷ Given Turn ∷ c) ≡ None
     → due config (told e (Given Turn ∷ c) ++ Finished e ∷ Given Turn ∷ c) ≡ []
-finished-nobody config c e distinct made none rests offers =
+finished-nobody config c e none rests offers =
     let d : Chronicle = Given Turn ∷ c in
     let f : Chronicle = Finished e ∷ d in
     let w : Chronicle = told e d ++ f in
     let i = length w in
-    let before : Stay i config.jobs d = stays-quiet i config.jobs (Given Turn ∷ []) c (tt, tt) (stay-still i config.jobs c (none-moves config c distinct made rests)) in
+    let before : Stay i config.jobs d = stays-quiet i config.jobs (Given Turn ∷ []) c (tt, tt) (stay-still i config.jobs c (none-moves config c rests)) in
     let after = stay-finished i e d config.jobs (λ n at job y listed there apart waits. none (record { job = n; at = at }) y.place (key-there config d n at job y listed there) waits) before in
     let unasked : asked w ≡ None = same-append asked GivesNone asked-same (told e d) f (told-gives e d) in
-    none-due config w distinct (quiets-made config.jobs (told e d) f (told-quiet e d) made) (still-stay config.jobs w (stays-quiet i config.jobs (told e d) f (told-quiet e d) after)) offers ∙ none-asked w unasked
+    none-due config w (still-stay config.jobs w (stays-quiet i config.jobs (told e d) f (told-quiet e d) after)) offers ∙ none-asked w unasked
 
 -- or the one that did
-finished-alone : (config : Configuration) (c : Chronicle) (e i : ℕ) (key : InstanceKey) → AreDistinct config.jobs → AreMadeBy config.jobs c → instance_place config (Given Turn ∷ c) key ≡ Some i → blocker i (Given Turn ∷ c) ≡ Some e → due config c ≡ []
+finished-alone : (config : Configuration) (c : Chronicle) (e i : ℕ) (key : InstanceKey) → AreDistinct config.jobs → instance_place config (Given Turn ∷ c) key ≡ Some i → blocker i (Given Turn ∷ c) ≡ Some e → due config c ≡ []
     → offering (told e (Given Turn ∷ c) ++ Finished e ∷ Given Turn ∷ c) ≡ None → IsAlone key config (told e (Given Turn ∷ c) ++ Finished e ∷ Given Turn ∷ c)
-finished-alone config c e i key distinct made found waits rests offers =
+finished-alone config c e i key distinct found waits rests offers =
     let d : Chronicle = Given Turn ∷ c in
     let f : Chronicle = Finished e ∷ d in
     let w : Chronicle = told e d ++ f in
     let it = here config f key i found in
-    let before : Stay i config.jobs d = stays-quiet i config.jobs (Given Turn ∷ []) c (tt, tt) (stay-still i config.jobs c (none-moves config c distinct made rests)) in
+    let before : Stay i config.jobs d = stays-quiet i config.jobs (Given Turn ∷ []) c (tt, tt) (stay-still i config.jobs c (none-moves config c rests)) in
     let after = stay-finished i e d config.jobs (λ n at job y listed there apart its. eqb-false y.place i apart (waits-once y.place i d e its waits)) before in
     let still : (name : Bytes) → instances_of name w ≡ instances_of name f = λ name. same-append (instances_of name) IsQuiet (lists-same name) (told e d) f (told-quiet e d) in
     let stays : Stay it.its.place config.jobs w = subst (λ p. Stay p config.jobs w) (sym it.place) (stays-quiet i config.jobs (told e d) f (told-quiet e d) after) in
     record {
-      job = it.job;
       its = it.its;
-      in_table = it.in_table;
       there = same-instance config f w key still ∙ it.there;
       settles = one-settles config.jobs key.job key.at it.job it.its w (job-there config key.job it.job it.in_table) (ap (nth key.at) (still it.job.name) ∙ it.listed) distinct stays;
       unasked = offers;
     }
 
-pub finished-concerns : (places : Chronicle → EventId → Option ℕ) (config : Configuration) (c : Chronicle) (e : ℕ) (on : Option InstanceKey) → AreDistinct config.jobs → AreMadeBy config.jobs c → IsBlockedBy config e (Given Turn ∷ c) on
+pub finished-concerns : (places : Chronicle → EventId → Option ℕ) (config : Configuration) (c : Chronicle) (e : ℕ) (on : Option InstanceKey) → AreDistinct config.jobs → IsBlockedBy config e (Given Turn ∷ c) on
     → turn_event config (queue.queue c) c ≡ Some (queue.live_at e true) → Concerns places (unblocked_concern on) config Turn c
-finished-concerns places config c e None distinct made none found = λ rests.
+finished-concerns places config c e None distinct none found = λ rests.
     let whole = finishes config c e found in
-    ap (due config) whole ∙ finished-nobody config c e distinct made none rests (ap offering (sym whole) ∙ turn-finishes config c e true found refl)
-finished-concerns places config c e (Some key) distinct made on found = λ rests.
+    ap (due config) whole ∙ finished-nobody config c e none rests (ap offering (sym whole) ∙ turn-finishes config c e true found refl)
+finished-concerns places config c e (Some key) distinct on found = λ rests.
     let whole = finishes config c e found in
-    subst (IsAlone key config) (sym whole) (finished-alone config c e on.0 key distinct made on.1 on.2 rests (ap offering (sym whole) ∙ turn-finishes config c e true found refl))
+    subst (IsAlone key config) (sym whole) (finished-alone config c e on.0 key distinct on.1 on.2 rests (ap offering (sym whole) ∙ turn-finishes config c e true found refl))

@@ -4,20 +4,17 @@ use Rattle.std.specs.List.{AllByRecursion}
 use Rattle.up_conf.specs.declared.job.JobDef.{JobDef}
 use Rattle.up_expr.specs.Trees.{Tree, One, Both, Either}
 use Rattle.up_expr.specs.Truth as truth
-use Rattle.up_model.specs.declared.who.Who.{Who}
-use Rattle.up_model.specs.Chronicle.{Chronicle, Entry, Expression, Offered, Fired, StartOn, StopOn}
+use Rattle.up_model.specs.Chronicle.{Chronicle, Entry, Expression, Offered, Fired, Made, StartOn, StopOn}
 use Rattle.up_model.specs.Configuration.{Configuration}
-use Rattle.up_model.specs.Instances.{Instance}
+use Rattle.up_model.specs.Instances.{Instance, instances_of}
 use Rattle.up_model.specs.Moves.{may_leave, move}
 use Rattle.up_model.specs.Offers.{stop_by, stop_offer, start_by, start_offer}
 use Rattle.up_model.specs.Predicates.{entries_if}
-use Rattle.up_model.specs.Readings.{entry_at, made_at}
+use Rattle.up_model.specs.Readings.{entry_at, file_in, file_of}
 use Rattle.up_model.specs.Seen.{same_expression, seen, holds, taken}
 use Rattle.up_model.specs.Values.{Bytes}
-use Rattle.up_model.proofs.Places.{bytes_refl}
 use Rattle.up_book.specs.Keeps.{AreDistinct}
 use Rattle.up_book.specs.Keys.{job_at}
-use Rattle.up_book.specs.Regular.{called}
 use Rattle.up_book.proofs.Keyed.{job-there}
 use Rattle.up_book.proofs.One.{apart-back, nth-apart}
 use Rattle.up_job.specs.Lists.{nth}
@@ -62,31 +59,49 @@ unseen-entry config x (Fired other its) c is none = by_case (same_expression oth
     by_case false = none
 unseen-entry config x e c is none = none
 
--- an instance was made before an entry, or by it
-made-before : (i : ℕ) (name job : Bytes) (e : Entry) (c : Chronicle) → (length c == i) ≡ false → made_at i (e ∷ c) ≡ Some (called job name) → made_at i c ≡ Some (called job name)
-made-before i name job e c apart made = sym (ap (λ (b : Bool). Rattle.up_model.specs.Readings.made_of (if b then Some e else entry_at i c)) apart) ∙ made
+-- the file of an instance that was made before an entry
+file-before : (i : ℕ) (file : JobDef) (e : Entry) (c : Chronicle) → (length c == i) ≡ false → file_of i (e ∷ c) ≡ Some file → file_of i c ≡ Some file
+file-before i file e c apart known = sym (ap (λ (b : Bool). file_in (if b then Some e else entry_at i c)) apart) ∙ known
+
+-- an entry that makes none leaves it
+abbrev MakesNone : Entry → Type 0
+MakesNone (Made file name) = ⊥
+MakesNone entry = Unit {0}
+
+none-made : (e : Entry) → MakesNone e → file_in (Some e) ≡ None
+none-made (Made file name) is = absurd is
+none-made e is = refl
+
+file-unmade : (i : ℕ) (file : JobDef) (e : Entry) (c : Chronicle) → MakesNone e → file_of i (e ∷ c) ≡ Some file → file_of i c ≡ Some file
+file-unmade i file e c is known = by_case (length c == i) refl
+  where
+    by_case : (b : Bool) → (length c == i) ≡ b → file_of i c ≡ Some file
+    by_case true same =
+        let no : None ≡ Some file = sym (none-made e is) ∙ sym (ap (λ (b : Bool). file_in (if b then Some e else entry_at i c)) same) ∙ known in
+        absurd cc
+    by_case false apart = file-before i file e c apart known
 
 pub none-entry : (config : Configuration) (e : Entry) (c : Chronicle) → IsUnoffered e → NoneHolds config c → NoneHolds config (e ∷ c)
 none-entry config e c is none = record {
   starts = λ n job there. unheld-entry config job.start_on (StartOn job.name) e c is (none.starts n job there);
-  stops = λ n i job name there made. by_case n i job name there made (length c == i) refl;
+  stops = λ i file known. by_case i file known (length c == i) refl;
   unborn = λ i later. unseen-entry config (StopOn i) e c is (none.unborn i (omega (arith, later)));
 }
   where
-    by_case : (n i : ℕ) (job : JobDef) (name : Bytes) → job_at config n ≡ Some job → made_at i (e ∷ c) ≡ Some (called job.name name) → (b : Bool) → (length c == i) ≡ b → holds job.stop_on (seen config (StopOn i) (e ∷ c)) ≡ false
-    by_case n i job name there made true same =
+    by_case : (i : ℕ) (file : JobDef) → file_of i (e ∷ c) ≡ Some file → (b : Bool) → (length c == i) ≡ b → holds file.stop_on (seen config (StopOn i) (e ∷ c)) ≡ false
+    by_case i file known true same =
         let first : length c ≤ i = omega (arith, eqb-true (length c) i same) in
-        ap (holds job.stop_on) (unseen-entry config (StopOn i) e c is (none.unborn i first)) ∙ unseen job.stop_on
-    by_case n i job name there made false apart = unheld-entry config job.stop_on (StopOn i) e c is (none.stops n i job name there (made-before i name job.name e c apart made))
+        ap (holds file.stop_on) (unseen-entry config (StopOn i) e c is (none.unborn i first)) ∙ unseen file.stop_on
+    by_case i file known false apart = unheld-entry config file.stop_on (StopOn i) e c is (none.stops i file (file-before i file e c apart known))
 
 pub none-entries : (config : Configuration) (es c : List Entry) → AllByRecursion IsUnoffered es → NoneHolds config c → NoneHolds config (es ++ c)
 none-entries config [] c all none = none
 none-entries config (e ∷ es) c all none = none-entry config e (es ++ c) all.0 (none-entries config es c all.1 none)
 
--- two jobs of one name are one
 some-same : {X : Type 0} {x y : X} → Some x ≡ Some y → x ≡ y
 some-same e = cc
 
+-- two jobs of one name are one
 one-job : (jobs : List JobDef) (n m : ℕ) (a b : JobDef) → AreDistinct jobs → nth n jobs ≡ Some a → nth m jobs ≡ Some b → bytes_eq a.name b.name ≡ true → a ≡ b
 one-job [] n m a b distinct first other same = absurd cc
 one-job (j ∷ jobs) zero zero a b distinct first other same = sym (some-same first) ∙ some-same other
@@ -102,49 +117,30 @@ one-job (j ∷ jobs) (suc n) zero a b distinct first other same =
     absurd cc
 one-job (j ∷ jobs) (suc n) (suc m) a b distinct first other same = one-job jobs n m a b distinct.1 first other same
 
-abbrev who-job : Option Who → Option Bytes
-who-job None = None
-who-job (Some who) = Some who.job
-
-one-name : (job name other called_ : Bytes) → Some (called other called_) ≡ Some (called job name) → other ≡ job
-one-name job name other called_ same = some-same (ap who-job same)
-
 -- an offer that doesn't make its expression true
-pub none-stop-offered : (config : Configuration) (job : JobDef) (n i e : ℕ) (name : Bytes) (c : Chronicle) → AreDistinct config.jobs → job_at config n ≡ Some job → i < length c → made_at i c ≡ Some (called job.name name)
-    → holds job.stop_on (seen config (StopOn i) (Offered (StopOn i) e ∷ c)) ≡ false → NoneHolds config c → NoneHolds config (Offered (StopOn i) e ∷ c)
-none-stop-offered config job n i e name c distinct there older made untrue none = record {
+pub none-stop-offered : (config : Configuration) (file : JobDef) (i e : ℕ) (c : Chronicle) → i < length c → file_of i c ≡ Some file
+    → holds file.stop_on (seen config (StopOn i) (Offered (StopOn i) e ∷ c)) ≡ false → NoneHolds config c → NoneHolds config (Offered (StopOn i) e ∷ c)
+none-stop-offered config file i e c older known untrue none = record {
   starts = λ m other in_table. none.starts m other in_table;
-  stops = λ m j other called_ in_table made_j. by_case m j other called_ in_table made_j (i == j) refl;
+  stops = λ j other known_j. by_case j other (file-unmade j other (Offered (StopOn i) e) c tt known_j) (i == j) refl;
   unborn = λ j later. seen_other config (StopOn j) (StopOn i) e c (ne_eqb i j (λ same. omega (arith, same, later, older))) ∙ none.unborn j (omega (arith, later));
 }
   where
     d : Chronicle
     d = Offered (StopOn i) e ∷ c
 
-    made_d : made_at i d ≡ Some (called job.name name)
-    made_d = ap (λ (b : Bool). Rattle.up_model.specs.Readings.made_of (if b then Some (Offered (StopOn i) e) else entry_at i c)) (ne_eqb (length c) i (λ same. omega (arith, same, older))) ∙ made
-
-    by_case : (m j : ℕ) (other : JobDef) (called_ : Bytes) → job_at config m ≡ Some other → made_at j d ≡ Some (called other.name called_) → (b : Bool) → (i == j) ≡ b → holds other.stop_on (seen config (StopOn j) d) ≡ false
-    by_case m j other called_ in_table made_j true same =
+    by_case : (j : ℕ) (other : JobDef) → file_of j c ≡ Some other → (b : Bool) → (i == j) ≡ b → holds other.stop_on (seen config (StopOn j) d) ≡ false
+    by_case j other known_j true same =
         let is : i ≡ j = eqb-true i j same in
-        let both : Some (called other.name called_) ≡ Some (called job.name name) = sym made_j ∙ ap (λ k. made_at k d) (sym is) ∙ made_d in
-        let names : other.name ≡ job.name = one-name job.name name other.name called_ both in
-        let own : other ≡ job = one-job config.jobs m n other job distinct (job-there config m other in_table) (job-there config n job there) (ap (λ b. bytes_eq other.name b) (sym names) ∙ bytes_refl other.name) in
-        ap (λ (k : JobDef). holds k.stop_on (seen config (StopOn j) d)) own ∙ ap (λ k. holds job.stop_on (seen config (StopOn k) d)) (sym is) ∙ untrue
-    by_case m j other called_ in_table made_j false apart =
-        ap (holds other.stop_on) (seen_other config (StopOn j) (StopOn i) e c apart) ∙ none.stops m j other called_ in_table (earlier (length c == j) refl)
-      where
-        earlier : (b : Bool) → (length c == j) ≡ b → made_at j c ≡ Some (called other.name called_)
-        earlier true same =
-            let no : None ≡ Some (called other.name called_) = sym (ap (λ (b : Bool). Rattle.up_model.specs.Readings.made_of (if b then Some (Offered (StopOn i) e) else entry_at j c)) same) ∙ made_j in
-            absurd cc
-        earlier false differs = made-before j called_ other.name (Offered (StopOn i) e) c differs made_j
+        let own : other ≡ file = some-same (sym known_j ∙ ap (λ k. file_of k c) (sym is) ∙ known) in
+        ap (λ (k : JobDef). holds k.stop_on (seen config (StopOn j) d)) own ∙ ap (λ k. holds file.stop_on (seen config (StopOn k) d)) (sym is) ∙ untrue
+    by_case j other known_j false apart = ap (holds other.stop_on) (seen_other config (StopOn j) (StopOn i) e c apart) ∙ none.stops j other known_j
 
 pub none-start-offered : (config : Configuration) (job : JobDef) (n e : ℕ) (c : Chronicle) → AreDistinct config.jobs → job_at config n ≡ Some job
     → holds job.start_on (seen config (StartOn job.name) (Offered (StartOn job.name) e ∷ c)) ≡ false → NoneHolds config c → NoneHolds config (Offered (StartOn job.name) e ∷ c)
 none-start-offered config job n e c distinct there untrue none = record {
   starts = λ m other in_table. by_case m other in_table (bytes_eq job.name other.name) refl;
-  stops = λ m j other called_ in_table made_j. none.stops m j other called_ in_table (earlier j other called_ made_j (length c == j) refl);
+  stops = λ j file known. none.stops j file (file-unmade j file (Offered (StartOn job.name) e) c tt known);
   unborn = λ j later. none.unborn j (omega (arith, later));
 }
   where
@@ -157,78 +153,30 @@ none-start-offered config job n e c distinct there untrue none = record {
         subst (λ (k : JobDef). holds k.start_on (seen config (StartOn k.name) d) ≡ false) own untrue
     by_case m other in_table false apart = ap (holds other.start_on) (seen_other config (StartOn other.name) (StartOn job.name) e c apart) ∙ none.starts m other in_table
 
-    earlier : (j : ℕ) (other : JobDef) (called_ : Bytes) → made_at j d ≡ Some (called other.name called_) → (b : Bool) → (length c == j) ≡ b → made_at j c ≡ Some (called other.name called_)
-    earlier j other called_ made_j true same =
-        let no : None ≡ Some (called other.name called_) = sym (ap (λ (b : Bool). Rattle.up_model.specs.Readings.made_of (if b then Some (Offered (StartOn job.name) e) else entry_at j c)) same) ∙ made_j in
-        absurd cc
-    earlier j other called_ made_j false differs = made-before j called_ other.name (Offered (StartOn job.name) e) c differs made_j
-
 -- an offer that does, and the firing
-none-stop-fired : (config : Configuration) (i e : ℕ) (ts : List ℕ) (c : Chronicle) → i < length c → NoneHolds config c → NoneHolds config (Fired (StopOn i) ts ∷ Offered (StopOn i) e ∷ c)
-none-stop-fired config i e ts c older none = record {
+none-stop-fired : (config : Configuration) (i e : ℕ) (ts : List ℕ) (c : Chronicle) → NoneHolds config c → NoneHolds config (Fired (StopOn i) ts ∷ Offered (StopOn i) e ∷ c)
+none-stop-fired config i e ts c none = record {
   starts = λ m other in_table. none.starts m other in_table;
-  stops = λ m j other called_ in_table made_j. by_case m j other called_ in_table (earlier j other called_ made_j) (i == j) refl;
-  unborn = λ j later. seen-none j (omega (arith, later)) (i == j) refl;
+  stops = λ j file known. by_case j file (file-unmade j file (Offered (StopOn i) e) c tt (file-unmade j file (Fired (StopOn i) ts) (Offered (StopOn i) e ∷ c) tt known)) (i == j);
+  unborn = λ j later. seen-none j (omega (arith, later)) (i == j);
 }
   where
-    d : Chronicle
-    d = Offered (StopOn i) e ∷ c
+    seen-none : (j : ℕ) → length c ≤ j → (b : Bool) → (if b then [] else (if b then seen config (StopOn j) c ++ Rattle.up_model.specs.Seen.sight_of e (Rattle.up_model.specs.Readings.event_at e c) (Rattle.up_model.specs.Seen.env_of config (StopOn j) c) else seen config (StopOn j) c)) ≡ []
+    seen-none j later true = refl
+    seen-none j later false = none.unborn j later
 
-    f : Chronicle
-    f = Fired (StopOn i) ts ∷ d
-
-    seen-none : (j : ℕ) → length c ≤ j → (b : Bool) → (i == j) ≡ b → (if b then [] else (if b then seen config (StopOn j) c ++ Rattle.up_model.specs.Seen.sight_of e (Rattle.up_model.specs.Readings.event_at e c) (Rattle.up_model.specs.Seen.env_of config (StopOn j) c) else seen config (StopOn j) c)) ≡ []
-    seen-none j later true same = refl
-    seen-none j later false apart = none.unborn j later
-
-    earlier : (j : ℕ) (other : JobDef) (called_ : Bytes) → made_at j f ≡ Some (called other.name called_) → made_at j c ≡ Some (called other.name called_)
-    earlier j other called_ made_j = by_last (length d == j) refl
-      where
-        by_first : made_at j d ≡ Some (called other.name called_) → (b : Bool) → (length c == j) ≡ b → made_at j c ≡ Some (called other.name called_)
-        by_first made_d true same =
-            let no : None ≡ Some (called other.name called_) = sym (ap (λ (b : Bool). Rattle.up_model.specs.Readings.made_of (if b then Some (Offered (StopOn i) e) else entry_at j c)) same) ∙ made_d in
-            absurd cc
-        by_first made_d false differs = made-before j called_ other.name (Offered (StopOn i) e) c differs made_d
-
-        by_last : (b : Bool) → (length d == j) ≡ b → made_at j c ≡ Some (called other.name called_)
-        by_last true same =
-            let no : None ≡ Some (called other.name called_) = sym (ap (λ (b : Bool). Rattle.up_model.specs.Readings.made_of (if b then Some (Fired (StopOn i) ts) else entry_at j d)) same) ∙ made_j in
-            absurd cc
-        by_last false differs = by_first (made-before j called_ other.name (Fired (StopOn i) ts) d differs made_j) (length c == j) refl
-
-    by_case : (m j : ℕ) (other : JobDef) (called_ : Bytes) → job_at config m ≡ Some other → made_at j c ≡ Some (called other.name called_) → (b : Bool) → (i == j) ≡ b
-        → holds other.stop_on (if b then [] else (if b then seen config (StopOn j) c ++ Rattle.up_model.specs.Seen.sight_of e (Rattle.up_model.specs.Readings.event_at e c) (Rattle.up_model.specs.Seen.env_of config (StopOn j) c) else seen config (StopOn j) c)) ≡ false
-    by_case m j other called_ in_table made_j true same = unseen other.stop_on
-    by_case m j other called_ in_table made_j false apart = none.stops m j other called_ in_table made_j
+    by_case : (j : ℕ) (file : JobDef) → file_of j c ≡ Some file → (b : Bool)
+        → holds file.stop_on (if b then [] else (if b then seen config (StopOn j) c ++ Rattle.up_model.specs.Seen.sight_of e (Rattle.up_model.specs.Readings.event_at e c) (Rattle.up_model.specs.Seen.env_of config (StopOn j) c) else seen config (StopOn j) c)) ≡ false
+    by_case j file known true = unseen file.stop_on
+    by_case j file known false = none.stops j file known
 
 none-start-fired : (config : Configuration) (name : Bytes) (e : ℕ) (ts : List ℕ) (c : Chronicle) → NoneHolds config c → NoneHolds config (Fired (StartOn name) ts ∷ Offered (StartOn name) e ∷ c)
 none-start-fired config name e ts c none = record {
   starts = λ m other in_table. by_case m other in_table (bytes_eq name other.name);
-  stops = λ m j other called_ in_table made_j. none.stops m j other called_ in_table (earlier j other called_ made_j);
+  stops = λ j file known. none.stops j file (file-unmade j file (Offered (StartOn name) e) c tt (file-unmade j file (Fired (StartOn name) ts) (Offered (StartOn name) e ∷ c) tt known));
   unborn = λ j later. none.unborn j (omega (arith, later));
 }
   where
-    d : Chronicle
-    d = Offered (StartOn name) e ∷ c
-
-    f : Chronicle
-    f = Fired (StartOn name) ts ∷ d
-
-    earlier : (j : ℕ) (other : JobDef) (called_ : Bytes) → made_at j f ≡ Some (called other.name called_) → made_at j c ≡ Some (called other.name called_)
-    earlier j other called_ made_j = by_last (length d == j) refl
-      where
-        by_first : made_at j d ≡ Some (called other.name called_) → (b : Bool) → (length c == j) ≡ b → made_at j c ≡ Some (called other.name called_)
-        by_first made_d true same =
-            let no : None ≡ Some (called other.name called_) = sym (ap (λ (b : Bool). Rattle.up_model.specs.Readings.made_of (if b then Some (Offered (StartOn name) e) else entry_at j c)) same) ∙ made_d in
-            absurd cc
-        by_first made_d false differs = made-before j called_ other.name (Offered (StartOn name) e) c differs made_d
-
-        by_last : (b : Bool) → (length d == j) ≡ b → made_at j c ≡ Some (called other.name called_)
-        by_last true same =
-            let no : None ≡ Some (called other.name called_) = sym (ap (λ (b : Bool). Rattle.up_model.specs.Readings.made_of (if b then Some (Fired (StartOn name) ts) else entry_at j d)) same) ∙ made_j in
-            absurd cc
-        by_last false differs = by_first (made-before j called_ other.name (Fired (StartOn name) ts) d differs made_j) (length c == j) refl
-
     by_case : (m : ℕ) (other : JobDef) → job_at config m ≡ Some other → (b : Bool)
         → holds other.start_on (if b then [] else (if b then seen config (StartOn other.name) c ++ Rattle.up_model.specs.Seen.sight_of e (Rattle.up_model.specs.Readings.event_at e c) (Rattle.up_model.specs.Seen.env_of config (StartOn other.name) c) else seen config (StartOn other.name) c)) ≡ false
     by_case m other in_table true = unseen other.start_on
@@ -238,9 +186,8 @@ none-start-fired config name e ts c none = record {
 unoffered-acts : Acts IsUnoffered
 unoffered-acts = record { fired = λ x its. tt; aimed = λ i aim environment its. tt; released = λ i failed. tt; replied = λ request answer. tt }
 
-pub none-stop : (config : Configuration) (job : JobDef) (n i e : ℕ) (name : Bytes) (c : Chronicle) → AreDistinct config.jobs → job_at config n ≡ Some job → i < length c → made_at i c ≡ Some (called job.name name) → NoneHolds config c
-    → NoneHolds config (stop_offer config job i e c ++ c)
-none-stop config job n i e name c distinct there older made none = by_case (holds job.stop_on (seen config (StopOn i) d)) refl
+pub none-stop : (config : Configuration) (job : JobDef) (i e : ℕ) (c : Chronicle) → i < length c → file_of i c ≡ Some job → NoneHolds config c → NoneHolds config (stop_offer config job i e c ++ c)
+none-stop config job i e c older known none = by_case (holds job.stop_on (seen config (StopOn i) d)) refl
   where
     d : Chronicle
     d = Offered (StopOn i) e ∷ c
@@ -255,8 +202,8 @@ none-stop config job n i e name c distinct there older made none = by_case (hold
     order = append_assoc (stop_by i events f ++ Fired (StopOn i) events ∷ []) (Offered (StopOn i) e ∷ []) c ∙ append_assoc (stop_by i events f) (Fired (StopOn i) events ∷ []) d
 
     by_case : (b : Bool) → holds job.stop_on (seen config (StopOn i) d) ≡ b → NoneHolds config ((entries_if b (stop_by i events f ++ Fired (StopOn i) events ∷ []) ++ Offered (StopOn i) e ∷ []) ++ c)
-    by_case true fires = subst (NoneHolds config) (sym order) (none-entries config (stop_by i events f) f (stop-by IsUnoffered unoffered-acts i events f) (none-stop-fired config i e events c older none))
-    by_case false untrue = none-stop-offered config job n i e name c distinct there older made untrue none
+    by_case true fires = subst (NoneHolds config) (sym order) (none-entries config (stop_by i events f) f (stop-by IsUnoffered unoffered-acts i events f) (none-stop-fired config i e events c none))
+    by_case false untrue = none-stop-offered config job i e c older known untrue none
 
 pub none-start : (config : Configuration) (job : JobDef) (n e : ℕ) (c : Chronicle) → AreDistinct config.jobs → job_at config n ≡ Some job → NoneHolds config c → NoneHolds config (start_offer config job e c ++ c)
 none-start config job n e c distinct there none = by_case (holds job.start_on (seen config x d)) refl
@@ -300,18 +247,18 @@ none-one (suc n) config job x c none = by_case (may_leave job x.place c) (none-o
     by_case true moved = moved
     by_case false moved = none
 
-pub none-each : (config : Configuration) (job : JobDef) (its : List Instance) (c : Chronicle) → NoneHolds config c → NoneHolds config (settle_each job its c)
-none-each config job [] c none = none
-none-each config job (x ∷ its) c none = none-each config job its (settle_one 5 job x c) (none-one 5 config job x c none)
+pub none-each : (config : Configuration) (its : List Instance) (c : Chronicle) → NoneHolds config c → NoneHolds config (settle_each its c)
+none-each config [] c none = none
+none-each config (x ∷ its) c none = none-each config its (settle_one 5 x.file x c) (none-one 5 config x.file x c none)
 
 pub none-all : (config : Configuration) (jobs : List JobDef) (c : Chronicle) → NoneHolds config c → NoneHolds config (settle_all jobs c)
 none-all config [] c none = none
-none-all config (job ∷ jobs) c none = none-all config jobs (settle_each job (Rattle.up_model.specs.Instances.instances_of job.name c) c) (none-each config job (Rattle.up_model.specs.Instances.instances_of job.name c) c none)
+none-all config (job ∷ jobs) c none = none-all config jobs (settle_each (instances_of job.name c) c) (none-each config (instances_of job.name c) c none)
 
 -- before anything has happened
 pub none-first : (config : Configuration) → NoneHolds config []
 none-first config = record {
   starts = λ n job there. unseen job.start_on;
-  stops = λ n i job name there made. unseen job.stop_on;
+  stops = λ i file known. unseen file.stop_on;
   unborn = λ i later. refl;
 }

@@ -10,26 +10,26 @@ use Rattle.up_marks.proofs.Ruled.{unheard-offer, holds-unheard}
 use Rattle.up_model.specs.declared.event_id.EventId.{EventId}
 use Rattle.up_model.specs.declared.input.Input.TheVariants.{Turn}
 use Rattle.up_model.specs.Chronicle.{Chronicle, Expression, Given, Handled, Offered, StartOn, StopOn}
-use Rattle.up_model.specs.Configuration.{Configuration}
+use Rattle.up_model.specs.Configuration.{Configuration, job_named}
 use Rattle.up_model.specs.Due.{due}
 use Rattle.up_model.specs.Instances.{Instance, instances_of}
 use Rattle.up_model.specs.Life.{wait_in}
 use Rattle.up_model.specs.Moves.{may_leave}
 use Rattle.up_model.specs.Offers.{stop_offer, start_offer}
-use Rattle.up_model.specs.Readings.{state_of, entry_at, event_of, event_at}
+use Rattle.up_model.specs.Readings.{state_of, entry_at, event_of, event_at, file_of}
+use Rattle.up_model.specs.Seen.{seen, holds}
 use Rattle.up_book.specs.Hearers.{hears}
 use Rattle.up_book.specs.Keeps.{AreDistinct}
 use Rattle.up_book.specs.Keys.{job_at, instance_at, instance_place}
 use Rattle.up_book.proofs.Keyed.{nth-get, job-there}
-use Rattle.up_book.proofs.One.{IsKnown, known-all}
-use Rattle.up_model.proofs.FileLaws.{AreMadeBy}
+use Rattle.up_model.proofs.FileLaws.{AreMadeBy, HasFile, files, are_by}
 use Rattle.up_engine.specs.Settling.{settle_one, settle_each, hear_stops, hear, hear_all}
 use Rattle.up_engine.specs.Unfired.{NoneHolds}
 use Rattle.up_engine.specs.Unheard.{AreUnheard}
 use Rattle.up_engine.proofs.Firing.{IsHandling}
 use Rattle.up_engine.proofs.Handling.{all_asked, all-apart}
 use Rattle.up_engine.proofs.Hearing.{Heard, nth-middle, asked-others, job-heard, distinct-after, each-still, handling-rest, all-left}
-use Rattle.up_engine.proofs.KeyLemmas.{job_name, placed}
+use Rattle.up_engine.proofs.KeyLemmas.{job_name, placed, found-at}
 use Rattle.up_engine.proofs.Passing.{over-offered}
 use Rattle.up_engine.proofs.Positions.{instance-here, drop-front}
 use Rattle.up_engine.proofs.Resting.{Rest, all-middle}
@@ -39,9 +39,10 @@ use Rattle.up_engine.proofs.Unfired.{none-entry, none-stop-offered}
 -- what an offer that changes nothing leaves to a book
 pub record PassesBy (stands : Chronicle → Type 0) (places : Chronicle → EventId → Option ℕ) (config : Configuration) : Type 0 where
   pub start : (c : Chronicle) (n : ℕ) (job : JobDef) (e : ℕ) → stands c → job_at config n ≡ Some job → may_hear job.start_on (event_at e c) ≡ false → stands (Offered (StartOn job.name) e ∷ c)
-  pub stop : (c : Chronicle) (key : InstanceKey) (job : JobDef) (i e : ℕ) → stands c → instance_place config c key ≡ Some i → job_at config key.job ≡ Some job → may_hear job.stop_on (event_at e c) ≡ false
+  pub stop : (c : Chronicle) (key : InstanceKey) (job : JobDef) (i e : ℕ) → stands c → instance_place config c key ≡ Some i → file_of i c ≡ Some job → may_hear job.stop_on (event_at e c) ≡ false
       → stands (Offered (StopOn i) e ∷ c)
   pub events : (c : Chronicle) (x : Expression) (e : ℕ) (k : EventId) → places (Offered x e ∷ c) k ≡ places c k
+  pub made : (c : Chronicle) → stands c → AreMadeBy config.jobs c
 
 -- an offer isn't what was queued at a place
 pub none-later : (place : ℕ) (c : Chronicle) → length c ≤ place → entry_at place c ≡ None
@@ -60,9 +61,9 @@ event-same x p e c = by_case (length c == e) refl
 stays-offered : (job : JobDef) (i : ℕ) (c : Chronicle) (x : Expression) (e : ℕ) → may_leave job i c ≡ false → may_leave job i (Offered x e ∷ c) ≡ false
 stays-offered job i c x e stays = over-offered job i (wait_in (state_of i c)) c x e ∙ stays
 
-rest-offered : (job : JobDef) (its : List Instance) (c : Chronicle) (x : Expression) (e : ℕ) → Rest job its c → Rest job its (Offered x e ∷ c)
-rest-offered job [] c x e rest = tt
-rest-offered job (y ∷ its) c x e rest = (stays-offered job y.place c x e rest.0, rest-offered job its c x e rest.1)
+rest-offered : (its : List Instance) (c : Chronicle) (x : Expression) (e : ℕ) → Rest its c → Rest its (Offered x e ∷ c)
+rest-offered [] c x e rest = tt
+rest-offered (y ∷ its) c x e rest = (stays-offered y.file y.place c x e rest.0, rest-offered its c x e rest.1)
 
 -- a book stands for what came of a chronicle by offers to a job that change nothing
 record Passed (stands : Chronicle → Type 0) (places : Chronicle → EventId → Option ℕ) (config : Configuration) (e : ℕ) (event : EventId) (job : JobDef) (c f : Chronicle) : Type 0 where
@@ -70,38 +71,52 @@ record Passed (stands : Chronicle → Type 0) (places : Chronicle → EventId �
   pub known : places f event ≡ Some e
   pub told : event_at e f ≡ event_at e c
   pub lists : instances_of job.name f ≡ instances_of job.name c
-  pub rest : Rest job (instances_of job.name f) f
+  pub rest : Rest (instances_of job.name f) f
   pub untrue : NoneHolds config f
 
 passed-then : (stands : Chronicle → Type 0) (places : Chronicle → EventId → Option ℕ) (config : Configuration) (e : ℕ) (event : EventId) (job : JobDef) (c d f : Chronicle) → event_at e d ≡ event_at e c → instances_of job.name d ≡ instances_of job.name c
     → Passed stands places config e event job d f → Passed stands places config e event job c f
 passed-then stands places config e event job c d f told lists p = record { stood = p.stood; known = p.known; told = p.told ∙ told; lists = p.lists ∙ lists; rest = p.rest; untrue = p.untrue }
 
-passed-stops : (stands : Chronicle → Type 0) (places : Chronicle → EventId → Option ℕ) (config : Configuration) → PassesBy stands places config → AreDistinct config.jobs → (e : ℕ) (event : EventId) (n : ℕ) (job : JobDef) → job_at config n ≡ Some job
-    → (front its : List Instance) (c : Chronicle) → instances_of job.name c ≡ front ++ its → stands c → places c event ≡ Some e → may_hear job.stop_on (event_at e c) ≡ false → Rest job (instances_of job.name c) c → NoneHolds config c
-    → Passed stands places config e event job c (hear_stops config job its e c)
-passed-stops stands places config by distinct e event n job there front [] c list stood known deaf rest untrue =
+some-same : {X : Type 0} {x y : X} → Some x ≡ Some y → x ≡ y
+some-same e = cc
+
+-- no instance's file has a `stop on` that hears of the event
+abbrev AreDeaf : ℕ → List Instance → Chronicle → Type 0
+AreDeaf e its c = AllByRecursion (λ x. may_hear x.file.stop_on (event_at e c) ≡ false) its
+
+deaf-offered : (e : ℕ) (its : List Instance) (c : Chronicle) (x : Expression) (p : ℕ) → AreDeaf e its c → AreDeaf e its (Offered x p ∷ c)
+deaf-offered e [] c x p deaf = tt
+deaf-offered e (y ∷ its) c x p deaf = (ap (may_hear y.file.stop_on) (event-same x p e c) ∙ deaf.0, deaf-offered e its c x p deaf.1)
+
+passed-stops : (stands : Chronicle → Type 0) (places : Chronicle → EventId → Option ℕ) (config : Configuration) → PassesBy stands places config → (e : ℕ) (event : EventId) (n : ℕ) (job : JobDef) → job_at config n ≡ Some job
+    → (front its : List Instance) (c : Chronicle) → instances_of job.name c ≡ front ++ its → stands c → places c event ≡ Some e → AreDeaf e its c → Rest (instances_of job.name c) c → NoneHolds config c
+    → Passed stands places config e event job c (hear_stops config its e c)
+passed-stops stands places config by e event n job there front [] c list stood known deaf rest untrue =
     record { stood = stood; known = known; told = refl; lists = refl; rest = rest; untrue = untrue }
-passed-stops stands places config by distinct e event n job there front (x ∷ its) c list stood known deaf rest untrue =
-    subst (λ f. Passed stands places config e event job c (hear_stops config job its e f)) (sym step)
-    (passed-then stands places config e event job c d (hear_stops config job its e d) (event-same (StopOn x.place) e e c) refl
-    (passed-stops stands places config by distinct e event n job there (front ++ x ∷ []) its d (list ∙ sym (append_assoc front (x ∷ []) its)) stood_d (by.events c (StopOn x.place) e event ∙ known)
-    (ap (may_hear job.stop_on) (event-same (StopOn x.place) e e c) ∙ deaf) (rest-offered job (instances_of job.name c) c (StopOn x.place) e rest) untrue_d))
+passed-stops stands places config by e event n job there front (x ∷ its) c list stood known deaf rest untrue =
+    subst (λ f. Passed stands places config e event job c (hear_stops config its e f)) (sym step)
+    (passed-then stands places config e event job c d (hear_stops config its e d) (event-same (StopOn x.place) e e c) refl
+    (passed-stops stands places config by e event n job there (front ++ x ∷ []) its d (list ∙ sym (append_assoc front (x ∷ []) its)) stood_d (by.events c (StopOn x.place) e event ∙ known)
+    (deaf-offered e its c (StopOn x.place) e deaf.1) (rest-offered (instances_of job.name c) c (StopOn x.place) e rest) untrue_d))
   where
     d : Chronicle
     d = Offered (StopOn x.place) e ∷ c
 
-    its_own : IsKnown job.name c x
-    its_own = all-middle (IsKnown job.name c) front x its (subst (AllByRecursion (IsKnown job.name c)) list (known-all job.name c))
+    its_own : HasFile job.name c x
+    its_own = all-middle (HasFile job.name c) front x its (subst (AllByRecursion (HasFile job.name c)) list (files job.name c))
 
-    stays : may_leave job x.place c ≡ false
-    stays = all-middle (λ y. may_leave job y.place c ≡ false) front x its (subst (λ xs. Rest job xs c) list rest)
+    false_yet : holds x.file.stop_on (seen config (StopOn x.place) c) ≡ false
+    false_yet = untrue.stops x.place x.file its_own.1
 
-    offer : stop_offer config job x.place e c ≡ Offered (StopOn x.place) e ∷ []
-    offer = unheard-offer config (Stops job x.place) e c deaf (untrue.stops n x.place job x.name there its_own.1)
+    stays : may_leave x.file x.place c ≡ false
+    stays = all-middle (λ y. may_leave y.file y.place c ≡ false) front x its (subst (λ xs. Rest xs c) list rest)
 
-    step : settle_one 5 job x (stop_offer config job x.place e c ++ c) ≡ d
-    step = ap (λ es. settle_one 5 job x (es ++ c)) offer ∙ one-stays 5 job x d (stays-offered job x.place c (StopOn x.place) e stays)
+    offer : stop_offer config x.file x.place e c ≡ Offered (StopOn x.place) e ∷ []
+    offer = unheard-offer config (Stops x.file x.place) e c deaf.0 false_yet
+
+    step : settle_one 5 x.file x (stop_offer config x.file x.place e c ++ c) ≡ d
+    step = ap (λ es. settle_one 5 x.file x (es ++ c)) offer ∙ one-stays 5 x.file x d (stays-offered x.file x.place c (StopOn x.place) e stays)
 
     key : InstanceKey
     key = record { job = n; at = length front }
@@ -110,12 +125,17 @@ passed-stops stands places config by distinct e event n job there front (x ∷ i
     found = instance-here config c key job.name x its (job_name config n job there) (ap (drop (length front)) list ∙ drop-front front (x ∷ its))
 
     stood_d : stands d
-    stood_d = by.stop c key job x.place e stood (placed config c key x found) there deaf
+    stood_d = by.stop c key x.file x.place e stood (placed config c key x found) its_own.1 deaf.0
 
     untrue_d : NoneHolds config d
     untrue_d =
-        none-stop-offered config job n x.place e x.name c distinct there its_own.0 its_own.1
-        (holds-unheard config job.stop_on (StopOn x.place) (StopOn x.place) e c deaf ∙ untrue.stops n x.place job x.name there its_own.1) untrue
+        none-stop-offered config x.file x.place e c its_own.0 its_own.1 (holds-unheard config x.file.stop_on (StopOn x.place) (StopOn x.place) e c deaf.0 ∙ false_yet) untrue
+
+-- each instance goes by the file that the table has of its job, so if that doesn't hear of an event none of them does
+deaf-by : (e : ℕ) (file : Option JobDef) (job : JobDef) (its : List Instance) (c : Chronicle) → file ≡ Some job → may_hear job.stop_on (event_at e c) ≡ false → AllByRecursion (λ x. file ≡ Some x.file) its → AreDeaf e its c
+deaf-by e file job [] c named deaf by = tt
+deaf-by e file job (x ∷ its) c named deaf by =
+    (ap (λ (its_file : JobDef). may_hear its_file.stop_on (event_at e c)) (some-same (sym by.0 ∙ named)) ∙ deaf, deaf-by e file job its c named deaf by.1)
 
 or-first : (a b : Bool) → (a || b) ≡ false → a ≡ false
 or-first true b none = absurd cc
@@ -127,18 +147,19 @@ or-rest false b none = none
 
 -- so it stands for what the job makes of it
 passed-job : (stands : Chronicle → Type 0) (places : Chronicle → EventId → Option ℕ) (config : Configuration) → PassesBy stands places config → AreDistinct config.jobs → (e : ℕ) (event : EventId) (n : ℕ) (job : JobDef) → job_at config n ≡ Some job
-    → (c : Chronicle) → stands c → places c event ≡ Some e → hears job (event_at e c) ≡ false → Rest job (instances_of job.name c) c → NoneHolds config c
+    → (c : Chronicle) → stands c → places c event ≡ Some e → hears job (event_at e c) ≡ false → Rest (instances_of job.name c) c → NoneHolds config c
     → stands (hear config job e c) × (places (hear config job e c) event ≡ Some e) × (event_at e (hear config job e c) ≡ event_at e c)
 passed-job stands places config by distinct e event n job there c stood known deaf rest untrue =
     let unnamed : may_hear job.stop_on (event_at e c) ≡ false = or-rest (may_hear job.start_on (event_at e c)) (may_hear job.stop_on (event_at e c)) deaf in
-    let f = hear_stops config job (instances_of job.name c) e c in
-    let p = passed-stops stands places config by distinct e event n job there [] (instances_of job.name c) c refl stood known unnamed rest untrue in
+    let f = hear_stops config (instances_of job.name c) e c in
+    let stops = deaf-by e (job_named job.name config.jobs) job (instances_of job.name c) c (found-at config n job distinct there) unnamed (are_by config.jobs job.name c (by.made c stood)) in
+    let p = passed-stops stands places config by e event n job there [] (instances_of job.name c) c refl stood known stops rest untrue in
     let x : Expression = StartOn job.name in
     let g : Chronicle = Offered x e ∷ f in
     let quiet : may_hear job.start_on (event_at e f) ≡ false = ap (may_hear job.start_on) p.told ∙ or-first (may_hear job.start_on (event_at e c)) (may_hear job.stop_on (event_at e c)) deaf in
     let offer : start_offer config job e f ≡ Offered x e ∷ [] = unheard-offer config (Starts job) e f quiet (p.untrue.starts n job there) in
     let step : hear config job e c ≡ g =
-    ap (λ es. settle_each job (instances_of job.name (es ++ f)) (es ++ f)) offer ∙ each-still job (instances_of job.name f) g (rest-offered job (instances_of job.name f) f x e p.rest) in (
+    ap (λ es. settle_each (instances_of job.name (es ++ f)) (es ++ f)) offer ∙ each-still (instances_of job.name f) g (rest-offered (instances_of job.name f) f x e p.rest) in (
       subst stands (sym step) (by.start f n job e p.stood there quiet),
       ap (λ h. places h event) step ∙ by.events f x e event ∙ p.known,
       ap (event_at e) step ∙ event-same x e e f ∙ p.told,
@@ -158,9 +179,9 @@ pub record HeardTo (stands : Chronicle → Type 0) (places : Chronicle → Event
   pub untrue : NoneHolds config d
 
 -- at first that is none of them
-pub heard-none : (stands : Chronicle → Type 0) (places : Chronicle → EventId → Option ℕ) (config : Configuration) (e : ℕ) (event : EventId) (c : Chronicle) → AreDistinct config.jobs → AreMadeBy config.jobs c → due config c ≡ [] → NoneHolds config c → stands (Handled e ∷ Given Turn ∷ c)
+pub heard-none : (stands : Chronicle → Type 0) (places : Chronicle → EventId → Option ℕ) (config : Configuration) (e : ℕ) (event : EventId) (c : Chronicle) → due config c ≡ [] → NoneHolds config c → stands (Handled e ∷ Given Turn ∷ c)
     → places (Handled e ∷ Given Turn ∷ c) event ≡ Some e → HeardTo stands places config e event 0 (Handled e ∷ Given Turn ∷ c)
-heard-none stands places config e event c distinct made none untrue stood known = record {
+heard-none stands places config e event c none untrue stood known = record {
   d = Handled e ∷ Given Turn ∷ c;
   done = [];
   todo = config.jobs;
@@ -169,12 +190,9 @@ heard-none stands places config e event c distinct made none untrue stood known 
   stood = stood;
   known = known;
   same = refl;
-  handling = all-left config e c distinct made none;
+  handling = all-left config e c none;
   untrue = none-entry config (Handled e) (Given Turn ∷ c) tt (none-entry config (Given Turn) c tt untrue);
 }
-
-some-same : {X : Type 0} {x y : X} → Some x ≡ Some y → x ≡ y
-some-same e = cc
 
 record Next (n : ℕ) (done todo : List JobDef) (job : JobDef) : Type 0 where
   pub rest : List JobDef

@@ -1,7 +1,6 @@
 -- What the effect of an input hands on.
 use Rattle.std.specs.Prelude.{◌≡◌, ℕ, List, [], ◌∷◌, ◌++◌, Option, None, Some}
-use Rattle.up_book.specs.Keys.{job_at, instance_at, instance_place}
-use Rattle.up_conf.specs.declared.job.JobDef.{JobDef}
+use Rattle.up_book.specs.Keys.{instance_at, instance_place}
 use Rattle.up_engine.specs.declared.due.Concern.{Concern}
 use Rattle.up_engine.specs.declared.due.Concern.TheVariants.{Nobody, Instance as Instance', Event, Anybody}
 use Rattle.up_engine.specs.Settling.{settle_one, settle_all}
@@ -26,11 +25,9 @@ Judges config (Some found) does c = (i : ℕ) × ((instance_place config c found
 
 -- the instance of a key alone may move, and no event is taken up
 pub record IsAlone (key : InstanceKey) (config : Configuration) (c : Chronicle) : Type 0 where
-  pub job : JobDef
   pub its : Instance
-  pub in_table : job_at config key.job ≡ Some job
   pub there : instance_at config c key ≡ Some its
-  pub settles : settle_all config.jobs c ≡ settle_one 5 job its c
+  pub settles : settle_all config.jobs c ≡ settle_one 5 its.file its c
   pub unasked : offering c ≡ None
 
 -- whom the effect of an input concerns, if nothing was due before it: nobody, so that nothing is due after it; an instance; those that

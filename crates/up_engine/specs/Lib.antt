@@ -18,3 +18,5 @@ pub mod Offering
 pub mod Settling
 -- What the book of an engine is at rest.
 pub mod Sound
+-- Jobs by their names.
+pub mod Naming

@@ -7,19 +7,19 @@ use Rattle.up_model.specs.Instances.{Instance, instances_of}
 use Rattle.up_model.specs.Offers.{is_open, stop_offer, start_offer}
 use Rattle.up_model.specs.Seen.{was_offered}
 
--- the `stop on` of an instance of a job, or the job's `start on`
+-- the `stop on` of an instance, by its file, or a job's `start on`
 pub data Asked : Type 0 where
-  OfStop : (job : JobDef) → (instance : ℕ) → Asked
+  OfStop : (file : JobDef) → (instance : ℕ) → Asked
   OfStart : (job : JobDef) → Asked
 
 abbrev pub expression_of : Asked → Expression
-expression_of (OfStop job instance) = StopOn instance
+expression_of (OfStop file instance) = StopOn instance
 expression_of (OfStart job) = StartOn job.name
 
-abbrev pub open_stops : JobDef → List Instance → Chronicle → List Asked
-open_stops job [] c = []
-open_stops job (its ∷ instances) c = if is_open its.place c then OfStop job its.place ∷ open_stops job instances c
-    else open_stops job instances c
+abbrev pub open_stops : List Instance → Chronicle → List Asked
+open_stops [] c = []
+open_stops (its ∷ instances) c = if is_open its.place c then OfStop its.file its.place ∷ open_stops instances c
+    else open_stops instances c
 
 abbrev pub open_start : JobDef → Chronicle → List Asked
 open_start job c = if was_offered (StartOn job.name) c then [] else OfStart job ∷ []
@@ -27,10 +27,10 @@ open_start job c = if was_offered (StartOn job.name) c then [] else OfStart job 
 -- all that are left, in the order in which they are offered the event
 abbrev pub open_all : List JobDef → Chronicle → List Asked
 open_all [] c = []
-open_all (job ∷ jobs) c = open_stops job (instances_of job.name c) c ++ (open_start job c ++ open_all jobs c)
+open_all (job ∷ jobs) c = open_stops (instances_of job.name c) c ++ (open_start job c ++ open_all jobs c)
 
 abbrev pub offer_at : Configuration → Asked → (event : ℕ) → Chronicle → List Entry
-offer_at config (OfStop job instance) event c = stop_offer config job instance event c
+offer_at config (OfStop file instance) event c = stop_offer config file instance event c
 offer_at config (OfStart job) event c = start_offer config job event c
 
 abbrev pub offer_one : Configuration → List Asked → (event : ℕ) → Chronicle → List Entry

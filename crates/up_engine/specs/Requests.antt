@@ -11,13 +11,13 @@ use Rattle.up_model.specs.Values.{Bytes}
 -- whom a request names, as the model says it
 abbrev pub target_of : Target → model.Target
 target_of (target.Nobody text) = model.Nobody text
-target_of (target.Concerns index job who environment) = model.Concerns job.now who environment
+target_of (target.Concerns index file who environment) = model.Concerns file.now who environment
 
 -- whom a request names has the index of its job, which is the one that it names
 abbrev pub IsIndexed : Configuration → Target → Type 0
 IsIndexed config (target.Nobody text) = ⊤
-IsIndexed config (target.Concerns index job who environment) =
-    (name_at config index ≡ Some who.job) × (job_at config index ≡ Some job.now)
+IsIndexed config (target.Concerns index file who environment) =
+    (name_at config index ≡ Some who.job) × (job_at config index ≡ Some file.now)
 
 -- an outcome, unless it is refused with a text
 abbrev pub unless : Option Bytes → model.Outcome → model.Outcome

@@ -13,36 +13,36 @@ abbrev pub settle_one : ℕ → JobDef → Instance → Chronicle → Chronicle
 settle_one zero job x c = c
 settle_one (suc n) job x c = if may_leave job x.place c then settle_one n job x (move job x c ++ c) else c
 
--- these instances of a job do, one after another; none moves more than five times
-abbrev pub settle_each : JobDef → List Instance → Chronicle → Chronicle
-settle_each job [] c = c
-settle_each job (x ∷ its) c = settle_each job its (settle_one 5 job x c)
+-- these instances do, one after another, each by its own file; none moves more than five times
+abbrev pub settle_each : List Instance → Chronicle → Chronicle
+settle_each [] c = c
+settle_each (x ∷ its) c = settle_each its (settle_one 5 x.file x c)
 
 -- all instances do, job by job
 abbrev pub settle_all : List JobDef → Chronicle → Chronicle
 settle_all [] c = c
-settle_all (job ∷ jobs) c = settle_all jobs (settle_each job (instances_of job.name c) c)
+settle_all (job ∷ jobs) c = settle_all jobs (settle_each (instances_of job.name c) c)
 
 -- the instances after the moves of one, which is still there, or has gone
 abbrev pub ListsAfter : (stays : Bool) → Instance → Chronicle → Chronicle → Type 0
 ListsAfter true x c d = (job : Bytes) → instances_of job d ≡ instances_of job c
 ListsAfter false x c d = (job : Bytes) → instances_of job d ≡ without_instance x.place (instances_of job c)
 
--- the event is offered to the `stop on` of each of these instances of a job, which then moves as long as it may
-abbrev pub hear_stops : Configuration → JobDef → List Instance → (event : ℕ) → Chronicle → Chronicle
-hear_stops config job [] event c = c
-hear_stops config job (x ∷ its) event c =
-    hear_stops config job its event (settle_one 5 job x (stop_offer config job x.place event c ++ c))
+-- the event is offered to the `stop on` of each of these instances, by its own file, and it then moves as long as it may
+abbrev pub hear_stops : Configuration → List Instance → (event : ℕ) → Chronicle → Chronicle
+hear_stops config [] event c = c
+hear_stops config (x ∷ its) event c =
+    hear_stops config its event (settle_one 5 x.file x (stop_offer config x.file x.place event c ++ c))
 
 -- it is offered to the job's `start on`, and the job's instances move as long as they may
 abbrev pub hear_start : Configuration → JobDef → (event : ℕ) → Chronicle → Chronicle
 hear_start config job event c =
     let d = start_offer config job event c ++ c in
-    settle_each job (instances_of job.name d) d
+    settle_each (instances_of job.name d) d
 
 abbrev pub hear : Configuration → JobDef → (event : ℕ) → Chronicle → Chronicle
 hear config job event c =
-    hear_start config job event (hear_stops config job (instances_of job.name c) event c)
+    hear_start config job event (hear_stops config (instances_of job.name c) event c)
 
 -- each job hears of the event
 abbrev pub hear_all : Configuration → List JobDef → (event : ℕ) → Chronicle → Chronicle

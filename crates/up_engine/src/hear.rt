@@ -2,7 +2,7 @@
 ghost use Rattle.std.specs.Prelude.{◌≡◌, ◌≤◌, ◌<◌, ℕ, true, ◌++◌, ◌∷◌, [], length, Some, IsOk, IfOk, IfSome, MatchOption, OnOk};
 ghost use Rattle.up_book.specs.Hearers.{hears};
 ghost use Rattle.up_model.specs.declared.event_id.EventId.{EventId as EventIdValue};
-ghost use Rattle.up_book.specs.Keys.{Mode, Stepping, job_at, instance_at};
+ghost use Rattle.up_book.specs.Keys.{Stepping, job_at, name_at, instance_at};
 ghost use Rattle.up_engine.specs.Free.{NoneHears};
 ghost use Rattle.up_engine.specs.Settling.{settle_one, ListsAfter};
 ghost use Rattle.up_engine.specs.Settling as settling;
@@ -15,18 +15,20 @@ ghost use Rattle.up_model.specs.Due.{due};
 ghost use Rattle.up_model.specs.Readings.{event_at};
 ghost use Rattle.up_model.specs.Instances.{Instance, instances_of};
 ghost use Rattle.up_model.specs.Offers as model;
+ghost use Rattle.up_model.specs.Values.{Bytes};
 
-use crate::moves::moves;
+use crate::moves::{file_of, moves};
 use crate::offers::{offer_start, offer_stop};
 use crate::settle::settle_each;
 use crate::setup::Setup;
 use std::alloc::{AllocError, Global};
 use up_book::Book;
+use up_image::JobFile;
 use up_job::InstanceKey;
 use up_model::{EventId, JobDef};
 
-// Offers the event to an instance's `stop on`, and moves the instance on as long as it may; returns whether it is still there.
-fn hear_stop<B: Book>(
+// Offers the event to the `stop on` of an instance's file, and moves the instance on as long as it may; returns whether it is still there.
+fn hear_by<B: Book>(
     alloc: Global,
     setup: &Setup,
     book: &mut B,
@@ -37,19 +39,19 @@ fn hear_stop<B: Book>(
     ensures after { OnOk result ((c : Chronicle) (its : Instance) (e : ℕ)
         → B.stands book.old Stepping setup.now c
         → instance_at setup.now c key ≡ Some its
-        → job_at setup.now key.job ≡ Some job.now → B.event_place book.old c event ≡ Some e
+        → its.file ≡ job.now → B.event_place book.old c event ≡ Some e
         → B.stands book.new Stepping setup.now
         (settle_one 5 job.now its (model.stop_offer setup.now job.now its.place e c ++ c))) }
     ensures lists { IfOk result (λ stays. (c : Chronicle) (its : Instance) (e : ℕ)
         → B.stands book.old Stepping setup.now c
         → instance_at setup.now c key ≡ Some its
-        → job_at setup.now key.job ≡ Some job.now → B.event_place book.old c event ≡ Some e
+        → its.file ≡ job.now → B.event_place book.old c event ≡ Some e
         → ListsAfter stays its c
         (settle_one 5 job.now its (model.stop_offer setup.now job.now its.place e c ++ c))) }
     ensures events { OnOk result ((c : Chronicle) (its : Instance) (e : ℕ) (k : EventIdValue) (j : ℕ)
         → B.stands book.old Stepping setup.now c
         → instance_at setup.now c key ≡ Some its
-        → job_at setup.now key.job ≡ Some job.now → B.event_place book.old c event ≡ Some e
+        → its.file ≡ job.now → B.event_place book.old c event ≡ Some e
         → B.event_place book.old c k ≡ Some j
         → B.event_place book.new
         (settle_one 5 job.now its (model.stop_offer setup.now job.now its.place e c ++ c)) k ≡ Some j) }
@@ -59,29 +61,61 @@ fn hear_stop<B: Book>(
     Ok(stays)
 }
 
-// Each instance of a job hears of the event by its `stop on`.
+// An instance hears of the event by its `stop on`; returns whether it is still there.
+fn hear_stop<B: Book>(
+    alloc: Global,
+    setup: &Setup,
+    book: &mut B,
+    key: InstanceKey,
+    event: EventId,
+) -> Result<bool, AllocError>
+    ensures after { OnOk result ((c : Chronicle) (its : Instance) (e : ℕ)
+        → B.stands book.old Stepping setup.now c
+        → instance_at setup.now c key ≡ Some its → B.event_place book.old c event ≡ Some e
+        → B.stands book.new Stepping setup.now
+        (settle_one 5 its.file its (model.stop_offer setup.now its.file its.place e c ++ c))) }
+    ensures lists { IfOk result (λ stays. (c : Chronicle) (its : Instance) (e : ℕ)
+        → B.stands book.old Stepping setup.now c
+        → instance_at setup.now c key ≡ Some its → B.event_place book.old c event ≡ Some e
+        → ListsAfter stays its c
+        (settle_one 5 its.file its (model.stop_offer setup.now its.file its.place e c ++ c))) }
+    ensures events { OnOk result ((c : Chronicle) (its : Instance) (e : ℕ) (k : EventIdValue) (j : ℕ)
+        → B.stands book.old Stepping setup.now c
+        → instance_at setup.now c key ≡ Some its → B.event_place book.old c event ≡ Some e
+        → B.event_place book.old c k ≡ Some j
+        → B.event_place book.new
+        (settle_one 5 its.file its (model.stop_offer setup.now its.file its.place e c ++ c)) k ≡ Some j) }
+{
+    match file_of(book, key)? {
+        Some(file) => {
+            let stays = hear_by(alloc, setup, book, file.job(), key, event)?;
+            Ok(stays)
+        }
+        None => Ok(false),
+    }
+}
+
+// Each instance of the job of an index hears of the event by its `stop on`.
 fn hear_stops<B: Book>(
     alloc: Global,
     setup: &Setup,
     book: &mut B,
     index: usize,
-    job: &JobDef,
     event: EventId,
 ) -> Result<(), AllocError>
-    ensures after { OnOk result ((c : Chronicle) (e : ℕ) → B.stands book.old Stepping setup.now c
-        → job_at setup.now index ≡ Some job.now → B.event_place book.old c event ≡ Some e
-        → B.stands book.new Stepping setup.now
-        (settling.hear_stops setup.now job.now (instances_of job.now.name c) e c)) }
-    ensures events { OnOk result ((c : Chronicle) (e : ℕ) (k : EventIdValue) (j : ℕ) → B.stands book.old Stepping setup.now c
-        → job_at setup.now index ≡ Some job.now → B.event_place book.old c event ≡ Some e
+    ensures after { OnOk result ((c : Chronicle) (name : Bytes) (e : ℕ) → B.stands book.old Stepping setup.now c
+        → name_at setup.now index ≡ Some name → B.event_place book.old c event ≡ Some e
+        → B.stands book.new Stepping setup.now (settling.hear_stops setup.now (instances_of name c) e c)) }
+    ensures events { OnOk result ((c : Chronicle) (name : Bytes) (e : ℕ) (k : EventIdValue) (j : ℕ)
+        → B.stands book.old Stepping setup.now c
+        → name_at setup.now index ≡ Some name → B.event_place book.old c event ≡ Some e
         → B.event_place book.old c k ≡ Some j
-        → B.event_place book.new
-        (settling.hear_stops setup.now job.now (instances_of job.now.name c) e c) k ≡ Some j) }
+        → B.event_place book.new (settling.hear_stops setup.now (instances_of name c) e c) k ≡ Some j) }
 {
     let mut at = 0;
     for turn in 0..book.count(index) {
         let key = InstanceKey { job: index, at };
-        if hear_stop(alloc, setup, book, job, key, event)? {
+        if hear_stop(alloc, setup, book, key, event)? {
             at += 1;
         }
     }
@@ -94,19 +128,19 @@ fn hear_start<B: Book>(
     setup: &Setup,
     book: &mut B,
     index: usize,
-    job: &JobDef,
+    file: &JobFile,
     event: EventId,
 ) -> Result<(), AllocError>
     ensures after { OnOk result ((c : Chronicle) (e : ℕ) → B.stands book.old Stepping setup.now c
-        → job_at setup.now index ≡ Some job.now → B.event_place book.old c event ≡ Some e
-        → B.stands book.new Stepping setup.now (settling.hear_start setup.now job.now e c)) }
+        → job_at setup.now index ≡ Some file.now → B.event_place book.old c event ≡ Some e
+        → B.stands book.new Stepping setup.now (settling.hear_start setup.now file.now e c)) }
     ensures events { OnOk result ((c : Chronicle) (e : ℕ) (k : EventIdValue) (j : ℕ) → B.stands book.old Stepping setup.now c
-        → job_at setup.now index ≡ Some job.now → B.event_place book.old c event ≡ Some e
+        → job_at setup.now index ≡ Some file.now → B.event_place book.old c event ≡ Some e
         → B.event_place book.old c k ≡ Some j
-        → B.event_place book.new (settling.hear_start setup.now job.now e c) k ≡ Some j) }
+        → B.event_place book.new (settling.hear_start setup.now file.now e c) k ≡ Some j) }
 {
-    offer_start(alloc, setup, book, index, job, event)?;
-    settle_each(alloc, setup, book, index, job)?;
+    offer_start(alloc, setup, book, index, file, event)?;
+    settle_each(alloc, setup, book, index)?;
     Ok(())
 }
 
@@ -116,19 +150,19 @@ fn hear<B: Book>(
     setup: &Setup,
     book: &mut B,
     index: usize,
-    job: &JobDef,
+    file: &JobFile,
     event: EventId,
 ) -> Result<(), AllocError>
     ensures after { OnOk result ((c : Chronicle) (e : ℕ) → B.stands book.old Stepping setup.now c
-        → job_at setup.now index ≡ Some job.now → B.event_place book.old c event ≡ Some e
-        → B.stands book.new Stepping setup.now (settling.hear setup.now job.now e c)) }
+        → job_at setup.now index ≡ Some file.now → B.event_place book.old c event ≡ Some e
+        → B.stands book.new Stepping setup.now (settling.hear setup.now file.now e c)) }
     ensures events { OnOk result ((c : Chronicle) (e : ℕ) (k : EventIdValue) (j : ℕ) → B.stands book.old Stepping setup.now c
-        → job_at setup.now index ≡ Some job.now → B.event_place book.old c event ≡ Some e
+        → job_at setup.now index ≡ Some file.now → B.event_place book.old c event ≡ Some e
         → B.event_place book.old c k ≡ Some j
-        → B.event_place book.new (settling.hear setup.now job.now e c) k ≡ Some j) }
+        → B.event_place book.new (settling.hear setup.now file.now e c) k ≡ Some j) }
 {
-    hear_stops(alloc, setup, book, index, job, event)?;
-    hear_start(alloc, setup, book, index, job, event)?;
+    hear_stops(alloc, setup, book, index, event)?;
+    hear_start(alloc, setup, book, index, file, event)?;
     Ok(())
 }
 
@@ -138,7 +172,7 @@ fn next_hearer<'a, B: Book>(
     book: &B,
     event: EventId,
     from: usize,
-) -> Option<(usize, &'a JobDef)>
+) -> Option<(usize, &'a JobFile)>
     ensures next { (c : Chronicle) (e : ℕ) → B.stands book.now Stepping setup.now c
         → B.event_place book.now c event ≡ Some e
         → MatchOption result (AreUnheard setup.now (event_at e c) from (length setup.now.jobs))
@@ -182,9 +216,9 @@ pub(crate) fn hear_all<B: Book>(
 {
     setup.names_differ();
     let mut from = 0;
-    'hearers: while let Some((index, job)) = next_hearer(setup, book, event, from) {
+    'hearers: while let Some((index, file)) = next_hearer(setup, book, event, from) {
         book.passes_by();
-        hear(alloc, setup, book, index, job, event)?;
+        hear(alloc, setup, book, index, file, event)?;
         from = index + 1;
     }
     book.passes_by();

@@ -1,6 +1,6 @@
 //! What the end or the refusal of a process does to its instance.
 ghost use Rattle.std.specs.Prelude.{◌≡◌, ℕ, List, ◌++◌, map, Option, None, Some, IfOk, OnOk};
-ghost use Rattle.up_book.specs.Keys.{job_at, Mode, Stepping, name_at, instance_place};
+ghost use Rattle.up_book.specs.Keys.{Mode, Stepping, name_at, instance_place};
 ghost use Rattle.up_engine.specs.Effects.{Judges};
 ghost use Rattle.std.specs.List.{list_any};
 ghost use Rattle.up_conf.specs.Jobs.{same_exit};
@@ -8,6 +8,7 @@ ghost use Rattle.up_model.specs.Chronicle.{Chronicle, Entry as EntryValue};
 ghost use Rattle.up_model.specs.Configuration.{Configuration, job_named};
 ghost use Rattle.up_model.specs.Due.{end_of, end_by};
 ghost use Rattle.up_model.specs.Instances.{instance_named};
+ghost use Rattle.up_model.specs.Readings as read;
 ghost use Rattle.up_model.specs.Judgement as model;
 
 use crate::life::is_start;
@@ -101,13 +102,13 @@ fn verdict_on_end<B: Book>(
     end: End,
 ) -> Verdict
     ensures { (mode : Mode) (config : Configuration) (c : Chronicle) (i : ℕ) → B.stands book.now mode config c
-        → instance_place config c key ≡ Some i → job_at config key.job ≡ Some job.now
+        → instance_place config c key ≡ Some i → read.file_of i c ≡ Some job.now
         → result ≡ model.verdict_on_end job.now i process end c }
 {
     let goal = book.goal(key);
     let state = book.state_of(key);
     let normal = is_normal(job.normal.as_slice(), end);
-    let may = book.may_respawn(key, job);
+    let may = book.may_respawn(key);
     judge_end(
         goal,
         state,
@@ -120,21 +121,36 @@ fn verdict_on_end<B: Book>(
     )
 }
 
+// What an end does to an instance by its file, if it is there.
+fn verdict_by<B: Book>(
+    book: &B,
+    key: InstanceKey,
+    process: Process,
+    end: End,
+) -> Option<(InstanceKey, Verdict)>
+    ensures { (mode : Mode) (config : Configuration) (c : Chronicle) (i : ℕ) → B.stands book.now mode config c
+        → instance_place config c key ≡ Some i
+        → Judges config result (end_of (read.file_of i c) (Some i) process end c) c }
+{
+    match book.file(key) {
+        Some(file) => Some((key, verdict_on_end(book, file.job(), key, process, end))),
+        None => None,
+    }
+}
+
 // What the end of a process does to which instance of a job, if that exists.
 fn verdict_in<B: Book>(
     book: &B,
     index: usize,
-    job: &JobDef,
     who: &Who,
     process: Process,
     end: End,
 ) -> Option<(InstanceKey, Verdict)>
     ensures { (mode : Mode) (config : Configuration) (c : Chronicle) → B.stands book.now mode config c
-        → name_at config index ≡ Some who.now.job → job_at config index ≡ Some job.now
-        → Judges config result (end_of (Some job.now) (instance_named who.now c) process end c) c }
+        → name_at config index ≡ Some who.now.job → Judges config result (end_by who.now process end c) c }
 {
     match book.find(index, who.instance.as_str()) {
-        Some(key) => Some((key, verdict_on_end(book, job, key, process, end))),
+        Some(key) => verdict_by(book, key, process, end),
         None => None,
     }
 }
@@ -151,7 +167,7 @@ pub(crate) fn verdict_on<B: Book>(
         → Judges setup.now result (end_by who.now process end c) c }
 {
     match setup.job_named(who.job.as_str()) {
-        Some((index, job)) => verdict_in(book, index, job, who, process, end),
+        Some((index, _)) => verdict_in(book, index, who, process, end),
         None => None,
     }
 }

@@ -57,7 +57,7 @@ pub fn isolation()
         (inputs given : List Input)
         → Compiles files first.jobs report → Compiles others second.jobs told → MeanTheSame job first second
         → view job first (after_all first [] inputs) ≡ view job second (after_all second [] given)
-        → deeds job first (after_all first [] inputs) ≡ deeds job second (after_all second [] given) }
+        → deeds job (after_all first [] inputs) ≡ deeds job (after_all second [] given) }
 {}
 
 /// The same of the steps of two engines, neither of which ran out of memory: what the job does in each step is among the outputs

@@ -1,7 +1,7 @@
 //! The moves of instances from state to state.
-ghost use Rattle.std.specs.Prelude.{◌≡◌, ℕ, false, not, ◌&&◌, ◌||◌, List, ◌∷◌, [], ◌++◌, map, Option, Some, IfOk, OnOk};
+ghost use Rattle.std.specs.Prelude.{◌≡◌, ℕ, false, not, ◌&&◌, ◌||◌, ◌∷◌, [], ◌++◌, Option, Some, IfOk, OnOk};
 ghost use Rattle.up_model.specs.declared.event_id.EventId.{EventId as EventIdValue};
-ghost use Rattle.up_book.specs.Keys.{job_at, Mode, Stepping, name_at, instance_at, instance_place};
+ghost use Rattle.up_book.specs.Keys.{Mode, Stepping, instance_at, instance_place};
 ghost use Rattle.up_book.specs.Keeps.{is_waiting};
 ghost use Rattle.up_engine.specs.Settling.{settle_one, ListsAfter};
 ghost use Rattle.up_model.specs.declared.state.State.TheVariants as entered;
@@ -9,20 +9,19 @@ ghost use Rattle.up_model.specs.Chronicle.{Chronicle};
 ghost use Rattle.up_model.specs.Chronicle as entry;
 ghost use Rattle.up_model.specs.Configuration.{Configuration};
 ghost use Rattle.up_model.specs.Instances.{Instance};
-ghost use Rattle.up_model.specs.Instances as model_instances;
 ghost use Rattle.up_model.specs.Life as life;
 ghost use Rattle.up_model.specs.Moves as model;
 ghost use Rattle.up_model.specs.Readings as read;
 ghost use Rattle.up_model.specs.Replies as replies;
 ghost use Rattle.up_model.specs.Predicates.{entries_if};
 ghost use Rattle.up_stanza.specs.declared.process.Process.TheVariants as process;
-ghost use Rattle.up_text.specs.Scripts.{is_filled};
 
 use crate::events::job_event;
 use crate::life::{has_process, is_start, is_waiting};
 use crate::setup::Setup;
 use std::alloc::{AllocError, Global};
 use up_book::Book;
+use up_image::JobFile;
 use up_job::{InstanceKey, entering, next_state};
 use up_model::{Entry, Goal, JobDef, JobEvent, Process, State};
 
@@ -126,11 +125,11 @@ fn order<B: Book>(
 ) -> Result<(), AllocError>
     ensures after { OnOk result ((c : Chronicle) (i : ℕ) → B.stands book.old Stepping setup.now c
         → instance_place setup.now c key ≡ Some i
-        → job_at setup.now key.job ≡ Some job.now
+        → read.file_of i c ≡ Some job.now
         → B.stands book.new Stepping setup.now (model.ordering job.now i orders ++ c)) }
     ensures events { OnOk result ((c : Chronicle) (i : ℕ) (k : EventIdValue) (j : ℕ)
         → B.stands book.old Stepping setup.now c → instance_place setup.now c key ≡ Some i
-        → job_at setup.now key.job ≡ Some job.now
+        → read.file_of i c ≡ Some job.now
         → B.event_place book.old c k ≡ Some j
         → B.event_place book.new (model.ordering job.now i orders ++ c) k ≡ Some j) }
     ensures stays { OnOk result ((c : Chronicle) (i : ℕ)
@@ -226,21 +225,21 @@ fn enter_with<B: Book>(
 ) -> Result<(), AllocError>
     ensures after { OnOk result ((c : Chronicle) (its : Instance) → B.stands book.old Stepping setup.now c
         → instance_at setup.now c key ≡ Some its
-        → job_at setup.now key.job ≡ Some job.now → is_waiting to ≡ false
+        → its.file ≡ job.now → is_waiting to ≡ false
         → B.stands book.new Stepping setup.now
         (model.emitting job.now (model.who_of job.now its) its.place to table.emits
         (model.ordering job.now its.place table.orders ++ entry.Entered its.place to ∷ c)
         ++ (model.ordering job.now its.place table.orders ++ entry.Entered its.place to ∷ c))) }
     ensures events { OnOk result ((c : Chronicle) (its : Instance) (k : EventIdValue) (j : ℕ)
         → B.stands book.old Stepping setup.now c → instance_at setup.now c key ≡ Some its
-        → job_at setup.now key.job ≡ Some job.now
+        → its.file ≡ job.now
         → is_waiting to ≡ false → B.event_place book.old c k ≡ Some j
         → B.event_place book.new (model.emitting job.now (model.who_of job.now its) its.place to table.emits
         (model.ordering job.now its.place table.orders ++ entry.Entered its.place to ∷ c) ++ (model.ordering
         job.now its.place table.orders ++ entry.Entered its.place to ∷ c)) k ≡ Some j) }
     ensures stays { OnOk result ((c : Chronicle) (its : Instance) → B.stands book.old Stepping setup.now c
         → instance_at setup.now c key ≡ Some its
-        → job_at setup.now key.job ≡ Some job.now → is_waiting to ≡ false
+        → its.file ≡ job.now → is_waiting to ≡ false
         → instance_at setup.now
         (model.emitting job.now (model.who_of job.now its) its.place to table.emits
         (model.ordering job.now its.place table.orders ++ entry.Entered its.place to ∷ c)
@@ -264,12 +263,12 @@ fn enter_other<B: Book>(
 ) -> Result<(), AllocError>
     ensures after { OnOk result ((c : Chronicle) (its : Instance) → B.stands book.old Stepping setup.now c
         → instance_at setup.now c key ≡ Some its
-        → job_at setup.now key.job ≡ Some job.now → is_waiting to ≡ false
+        → its.file ≡ job.now → is_waiting to ≡ false
         → B.stands book.new Stepping setup.now
         (model.enter_whole job.now (model.who_of job.now its) its.place to table c ++ c)) }
     ensures events { OnOk result ((c : Chronicle) (its : Instance) (k : EventIdValue) (j : ℕ)
         → B.stands book.old Stepping setup.now c → instance_at setup.now c key ≡ Some its
-        → job_at setup.now key.job ≡ Some job.now
+        → its.file ≡ job.now
         → is_waiting to ≡ false → B.event_place book.old c k ≡ Some j
         → B.event_place book.new (model.enter_whole job.now (model.who_of job.now its) its.place to table c ++
         c) k ≡ Some j) }
@@ -316,16 +315,16 @@ fn move_on<B: Book>(
 ) -> Result<bool, AllocError>
     ensures after { OnOk result ((c : Chronicle) (its : Instance) → B.stands book.old Stepping setup.now c
         → instance_at setup.now c key ≡ Some its
-        → job_at setup.now key.job ≡ Some job.now
+        → its.file ≡ job.now
         → B.stands book.new Stepping setup.now (model.move job.now its c ++ c)) }
     ensures events { OnOk result ((c : Chronicle) (its : Instance) (k : EventIdValue) (j : ℕ)
         → B.stands book.old Stepping setup.now c → instance_at setup.now c key ≡ Some its
-        → job_at setup.now key.job ≡ Some job.now
+        → its.file ≡ job.now
         → B.event_place book.old c k ≡ Some j
         → B.event_place book.new (model.move job.now its c ++ c) k ≡ Some j) }
     ensures stays { IfOk result (λ stays. (c : Chronicle) (its : Instance) → B.stands book.old Stepping setup.now c
         → instance_at setup.now c key ≡ Some its
-        → job_at setup.now key.job ≡ Some job.now
+        → its.file ≡ job.now
         → stays ≡ not (is_waiting (model.next_of job.now its.place c))) }
 {
     let from = book.state_of(key);
@@ -346,7 +345,7 @@ fn move_on<B: Book>(
     Ok(true)
 }
 
-/// Moves an instance on as long as it may leave its state; returns whether it is still there.
+/// Moves an instance on by its file as long as it may leave its state; returns whether it is still there.
 pub(crate) fn moves<B: Book>(
     alloc: Global,
     setup: &Setup,
@@ -356,16 +355,16 @@ pub(crate) fn moves<B: Book>(
 ) -> Result<bool, AllocError>
     ensures after { OnOk result ((c : Chronicle) (its : Instance) → B.stands book.old Stepping setup.now c
         → instance_at setup.now c key ≡ Some its
-        → job_at setup.now key.job ≡ Some job.now
+        → its.file ≡ job.now
         → B.stands book.new Stepping setup.now (settle_one 5 job.now its c)) }
     ensures events { OnOk result ((c : Chronicle) (its : Instance) (k : EventIdValue) (j : ℕ)
         → B.stands book.old Stepping setup.now c → instance_at setup.now c key ≡ Some its
-        → job_at setup.now key.job ≡ Some job.now
+        → its.file ≡ job.now
         → B.event_place book.old c k ≡ Some j
         → B.event_place book.new (settle_one 5 job.now its c) k ≡ Some j) }
     ensures lists { IfOk result (λ stays. (c : Chronicle) (its : Instance) → B.stands book.old Stepping setup.now c
         → instance_at setup.now c key ≡ Some its
-        → job_at setup.now key.job ≡ Some job.now
+        → its.file ≡ job.now
         → ListsAfter stays its c (settle_one 5 job.now its c)) }
 {
     // No instance moves more than five times before it waits.
@@ -378,4 +377,42 @@ pub(crate) fn moves<B: Book>(
         }
     }
     Ok(true)
+}
+
+/// The job file by which an instance was made, for one more owner.
+pub(crate) fn file_of<B: Book>(book: &B, key: InstanceKey) -> Result<Option<JobFile>, AllocError>
+    ensures { IfOk result (λ file. (mode : Mode) (config : Configuration) (c : Chronicle) (its : Instance)
+        → B.stands book.now mode config c → instance_at config c key ≡ Some its → file ≡ Some its.file) }
+{
+    match book.file(key) {
+        Some(file) => Ok(Some(file.share()?)),
+        None => Ok(None),
+    }
+}
+
+/// Moves an instance on as long as it may leave its state; returns whether it is still there.
+pub(crate) fn moves_on<B: Book>(
+    alloc: Global,
+    setup: &Setup,
+    book: &mut B,
+    key: InstanceKey,
+) -> Result<bool, AllocError>
+    ensures after { OnOk result ((c : Chronicle) (its : Instance) → B.stands book.old Stepping setup.now c
+        → instance_at setup.now c key ≡ Some its
+        → B.stands book.new Stepping setup.now (settle_one 5 its.file its c)) }
+    ensures events { OnOk result ((c : Chronicle) (its : Instance) (k : EventIdValue) (j : ℕ)
+        → B.stands book.old Stepping setup.now c → instance_at setup.now c key ≡ Some its
+        → B.event_place book.old c k ≡ Some j
+        → B.event_place book.new (settle_one 5 its.file its c) k ≡ Some j) }
+    ensures lists { IfOk result (λ stays. (c : Chronicle) (its : Instance) → B.stands book.old Stepping setup.now c
+        → instance_at setup.now c key ≡ Some its
+        → ListsAfter stays its c (settle_one 5 its.file its c)) }
+{
+    match file_of(book, key)? {
+        Some(file) => {
+            let stays = moves(alloc, setup, book, file.job(), key)?;
+            Ok(stays)
+        }
+        None => Ok(false),
+    }
 }

@@ -11,6 +11,7 @@ ghost use Rattle.up_model.specs.Environments as environments;
 ghost use Rattle.up_model.specs.Instances as model_instances;
 ghost use Rattle.up_model.specs.Offers as model;
 ghost use Rattle.up_model.specs.Seen.{seen, taken};
+ghost use Rattle.up_model.specs.Readings as read;
 ghost use Rattle.up_model.specs.Values.{Bytes};
 ghost use Rattle.up_text.specs.Scripts.{is_filled};
 
@@ -19,6 +20,7 @@ use crate::life::is_start;
 use crate::setup::Setup;
 use std::alloc::{AllocError, Global};
 use up_book::{Book, Holders};
+use up_image::JobFile;
 use up_job::InstanceKey;
 use up_model::{EventId, Goal, JobDef, MAX_INSTANCES};
 use up_text::{Env, Expanded, Items, Name, Text, TextFault, expand};
@@ -81,14 +83,14 @@ fn stop_fires<B: Book>(
 ) -> Result<(), AllocError>
     ensures after { OnOk result ((c : Chronicle) (i : ℕ) → B.stands book.old Stepping setup.now c
         → instance_place setup.now c key ≡ Some i
-        → job_at setup.now key.job ≡ Some job.now
+        → read.file_of i c ≡ Some job.now
         → B.stands book.new Stepping setup.now
         (model.stop_by i (taken job.now.stop_on (seen setup.now (entry.StopOn i) c))
         (entry.Fired (entry.StopOn i) (taken job.now.stop_on (seen setup.now (entry.StopOn i) c)) ∷ c)
         ++ entry.Fired (entry.StopOn i) (taken job.now.stop_on (seen setup.now (entry.StopOn i) c)) ∷ c)) }
     ensures events { OnOk result ((c : Chronicle) (i : ℕ) (k : EventIdValue) (j : ℕ)
         → B.stands book.old Stepping setup.now c → instance_place setup.now c key ≡ Some i
-        → job_at setup.now key.job ≡ Some job.now
+        → read.file_of i c ≡ Some job.now
         → B.event_place book.old c k ≡ Some j
         → B.event_place book.new (model.stop_by i (taken job.now.stop_on (seen setup.now (entry.StopOn i) c))
         (entry.Fired (entry.StopOn i) (taken job.now.stop_on (seen setup.now (entry.StopOn i) c)) ∷ c) ++
@@ -110,11 +112,11 @@ pub(crate) fn offer_stop<B: Book>(
 ) -> Result<(), AllocError>
     ensures after { OnOk result ((c : Chronicle) (i e : ℕ) → B.stands book.old Stepping setup.now c
         → instance_place setup.now c key ≡ Some i
-        → job_at setup.now key.job ≡ Some job.now → B.event_place book.old c event ≡ Some e
+        → read.file_of i c ≡ Some job.now → B.event_place book.old c event ≡ Some e
         → B.stands book.new Stepping setup.now (model.stop_offer setup.now job.now i e c ++ c)) }
     ensures events { OnOk result ((c : Chronicle) (i e : ℕ) (k : EventIdValue) (j : ℕ)
         → B.stands book.old Stepping setup.now c → instance_place setup.now c key ≡ Some i
-        → job_at setup.now key.job ≡ Some job.now
+        → read.file_of i c ≡ Some job.now
         → B.event_place book.old c event ≡ Some e → B.event_place book.old c k ≡ Some j
         → B.event_place book.new (model.stop_offer setup.now job.now i e c ++ c) k ≡ Some j) }
 {
@@ -164,28 +166,28 @@ pub(crate) fn has_room<B: Book>(book: &B, job: usize) -> bool
 fn start_new<B: Book>(
     book: &mut B,
     index: usize,
-    job: &JobDef,
+    file: &JobFile,
     name: &str,
     environment: Env,
     holders: Holders,
 ) -> Result<(), AllocError>
     ensures after { OnOk result ((config : Configuration) (c : Chronicle) (places : List ℕ)
-        → B.stands book.old Stepping config c → job_at config index ≡ Some job.now
-        → model_instances.instance_named (record { job = job.now.name; instance = name.now }) c ≡ None
+        → B.stands book.old Stepping config c → job_at config index ≡ Some file.now
+        → model_instances.instance_named (record { job = file.now.name; instance = name.now }) c ≡ None
         → held_as (B.event_place book.old c) (request_place c) holders ≡ map Some places
-        → B.stands book.new Stepping config (model.start_of job.now
-        (record { job = job.now.name; instance = name.now }) environment places None c ++ c)) }
+        → B.stands book.new Stepping config (model.start_of file.now
+        (record { job = file.now.name; instance = name.now }) environment places None c ++ c)) }
     ensures events { OnOk result ((config : Configuration) (c : Chronicle) (places : List ℕ)
         (k : EventIdValue) (j : ℕ)
-        → B.stands book.old Stepping config c → job_at config index ≡ Some job.now
-        → model_instances.instance_named (record { job = job.now.name; instance = name.now }) c ≡ None
+        → B.stands book.old Stepping config c → job_at config index ≡ Some file.now
+        → model_instances.instance_named (record { job = file.now.name; instance = name.now }) c ≡ None
         → held_as (B.event_place book.old c) (request_place c) holders ≡ map Some places
         → B.event_place book.old c k ≡ Some j
-        → B.event_place book.new (model.start_of job.now (record { job = job.now.name; instance = name.now }) environment places
+        → B.event_place book.new (model.start_of file.now (record { job = file.now.name; instance = name.now }) environment places
         None c ++ c) k ≡ Some j) }
 {
     if has_room(book, index) {
-        let key = book.make(index, job, name)?;
+        let key = book.make(index, file, name)?;
         book.aim(key, Goal::Start, environment, holders)?;
     }
     Ok(())
@@ -195,28 +197,28 @@ fn start_new<B: Book>(
 fn start_of<B: Book>(
     book: &mut B,
     index: usize,
-    job: &JobDef,
+    file: &JobFile,
     name: &str,
     environment: Env,
     holders: Holders,
 ) -> Result<(), AllocError>
     ensures after { OnOk result ((config : Configuration) (c : Chronicle) (places : List ℕ)
-        → B.stands book.old Stepping config c → job_at config index ≡ Some job.now
+        → B.stands book.old Stepping config c → job_at config index ≡ Some file.now
         → held_as (B.event_place book.old c) (request_place c) holders ≡ map Some places
         → B.stands book.new Stepping config
-        (model.start_of job.now (record { job = job.now.name; instance = name.now }) environment places
-        (model_instances.instance_named (record { job = job.now.name; instance = name.now }) c) c ++ c)) }
+        (model.start_of file.now (record { job = file.now.name; instance = name.now }) environment places
+        (model_instances.instance_named (record { job = file.now.name; instance = name.now }) c) c ++ c)) }
     ensures events { OnOk result ((config : Configuration) (c : Chronicle) (places : List ℕ)
         (k : EventIdValue) (j : ℕ)
-        → B.stands book.old Stepping config c → job_at config index ≡ Some job.now
+        → B.stands book.old Stepping config c → job_at config index ≡ Some file.now
         → held_as (B.event_place book.old c) (request_place c) holders ≡ map Some places
         → B.event_place book.old c k ≡ Some j
-        → B.event_place book.new (model.start_of job.now (record { job = job.now.name; instance = name.now }) environment places
-        (model_instances.instance_named (record { job = job.now.name; instance = name.now }) c) c ++ c) k ≡ Some j) }
+        → B.event_place book.new (model.start_of file.now (record { job = file.now.name; instance = name.now }) environment places
+        (model_instances.instance_named (record { job = file.now.name; instance = name.now }) c) c ++ c) k ≡ Some j) }
 {
     match book.find(index, name) {
         Some(key) => start_old(book, key, environment, holders)?,
-        None => start_new(book, index, job, name, environment, holders)?,
+        None => start_new(book, index, file, name, environment, holders)?,
     }
     Ok(())
 }
@@ -225,26 +227,26 @@ fn start_of<B: Book>(
 pub(crate) fn start_called<B: Book>(
     book: &mut B,
     index: usize,
-    job: &JobDef,
+    file: &JobFile,
     name: &str,
     mut environment: Env,
     holders: Holders,
 ) -> Result<(), AllocError>
     ensures after { OnOk result ((config : Configuration) (c : Chronicle) (places : List ℕ)
-        → B.stands book.old Stepping config c → job_at config index ≡ Some job.now
+        → B.stands book.old Stepping config c → job_at config index ≡ Some file.now
         → held_as (B.event_place book.old c) (request_place c) holders ≡ map Some places
-        → B.stands book.new Stepping config (model.start_who job.now environment places
-        (model.who_called job.now.name (Some name.now)) c ++ c)) }
+        → B.stands book.new Stepping config (model.start_who file.now environment places
+        (model.who_called file.now.name (Some name.now)) c ++ c)) }
     ensures events { OnOk result ((config : Configuration) (c : Chronicle) (places : List ℕ)
         (k : EventIdValue) (j : ℕ)
-        → B.stands book.old Stepping config c → job_at config index ≡ Some job.now
+        → B.stands book.old Stepping config c → job_at config index ≡ Some file.now
         → held_as (B.event_place book.old c) (request_place c) holders ≡ map Some places
         → B.event_place book.old c k ≡ Some j
-        → B.event_place book.new (model.start_who job.now environment places (model.who_called job.now.name (Some name.now))
+        → B.event_place book.new (model.start_who file.now environment places (model.who_called file.now.name (Some name.now))
         c ++ c) k ≡ Some j) }
 {
-    add_instance(&mut environment, &job.name, name)?;
-    start_of(book, index, job, name, environment, holders)?;
+    add_instance(&mut environment, &file.job().name, name)?;
+    start_of(book, index, file, name, environment, holders)?;
     Ok(())
 }
 
@@ -267,24 +269,24 @@ fn start_by<B: Book>(
     setup: &Setup,
     book: &mut B,
     index: usize,
-    job: &JobDef,
+    file: &JobFile,
     holders: Items<EventId>,
 ) -> Result<(), AllocError>
     ensures after { OnOk result ((c : Chronicle) (events : List ℕ) → B.stands book.old Stepping setup.now c
-        → job_at setup.now index ≡ Some job.now
+        → job_at setup.now index ≡ Some file.now
         → map (B.event_place book.old c) holders ≡ map Some events
-        → B.stands book.new Stepping setup.now (model.start_by setup.now job.now events c ++ c)) }
+        → B.stands book.new Stepping setup.now (model.start_by setup.now file.now events c ++ c)) }
     ensures events { OnOk result ((c : Chronicle) (events : List ℕ) (k : EventIdValue) (j : ℕ)
-        → B.stands book.old Stepping setup.now c → job_at setup.now index ≡ Some job.now
+        → B.stands book.old Stepping setup.now c → job_at setup.now index ≡ Some file.now
         → map (B.event_place book.old c) holders ≡ map Some events → B.event_place book.old c k ≡ Some j
-        → B.event_place book.new (model.start_by setup.now job.now events c ++ c) k ≡ Some j) }
+        → B.event_place book.new (model.start_by setup.now file.now events c ++ c) k ≡ Some j) }
 {
     let base = setup.environment_at(index);
     let environment = events_env(alloc, base, book, holders.as_slice())?;
-    match instance_name(alloc, job, &environment)? {
+    match instance_name(alloc, file.job(), &environment)? {
         Some(name) => {
             let holders = Holders::Taken(holders);
-            start_called(book, index, job, name.as_str(), environment, holders)?;
+            start_called(book, index, file, name.as_str(), environment, holders)?;
         }
         None => {}
     }
@@ -297,27 +299,27 @@ fn start_fires<B: Book>(
     setup: &Setup,
     book: &mut B,
     index: usize,
-    job: &JobDef,
+    file: &JobFile,
 ) -> Result<(), AllocError>
     ensures after { OnOk result ((c : Chronicle) → B.stands book.old Stepping setup.now c
-        → job_at setup.now index ≡ Some job.now
+        → job_at setup.now index ≡ Some file.now
         → B.stands book.new Stepping setup.now
-        (model.start_by setup.now job.now
-        (taken job.now.start_on (seen setup.now (entry.StartOn job.now.name) c))
-        (entry.Fired (entry.StartOn job.now.name)
-        (taken job.now.start_on (seen setup.now (entry.StartOn job.now.name) c)) ∷ c)
-        ++ entry.Fired (entry.StartOn job.now.name)
-        (taken job.now.start_on (seen setup.now (entry.StartOn job.now.name) c)) ∷ c)) }
+        (model.start_by setup.now file.now
+        (taken file.now.start_on (seen setup.now (entry.StartOn file.now.name) c))
+        (entry.Fired (entry.StartOn file.now.name)
+        (taken file.now.start_on (seen setup.now (entry.StartOn file.now.name) c)) ∷ c)
+        ++ entry.Fired (entry.StartOn file.now.name)
+        (taken file.now.start_on (seen setup.now (entry.StartOn file.now.name) c)) ∷ c)) }
     ensures events { OnOk result ((c : Chronicle) (k : EventIdValue) (j : ℕ)
-        → B.stands book.old Stepping setup.now c → job_at setup.now index ≡ Some job.now
+        → B.stands book.old Stepping setup.now c → job_at setup.now index ≡ Some file.now
         → B.event_place book.old c k ≡ Some j
-        → B.event_place book.new (model.start_by setup.now job.now (taken job.now.start_on (seen setup.now
-        (entry.StartOn job.now.name) c)) (entry.Fired (entry.StartOn job.now.name) (taken job.now.start_on
-        (seen setup.now (entry.StartOn job.now.name) c)) ∷ c) ++ entry.Fired (entry.StartOn job.now.name)
-        (taken job.now.start_on (seen setup.now (entry.StartOn job.now.name) c)) ∷ c) k ≡ Some j) }
+        → B.event_place book.new (model.start_by setup.now file.now (taken file.now.start_on (seen setup.now
+        (entry.StartOn file.now.name) c)) (entry.Fired (entry.StartOn file.now.name) (taken file.now.start_on
+        (seen setup.now (entry.StartOn file.now.name) c)) ∷ c) ++ entry.Fired (entry.StartOn file.now.name)
+        (taken file.now.start_on (seen setup.now (entry.StartOn file.now.name) c)) ∷ c) k ≡ Some j) }
 {
-    let holders = book.fire_start(index, job)?;
-    start_by(alloc, setup, book, index, job, holders)?;
+    let holders = book.fire_start(index, file.job())?;
+    start_by(alloc, setup, book, index, file, holders)?;
     Ok(())
 }
 
@@ -327,21 +329,21 @@ pub(crate) fn offer_start<B: Book>(
     setup: &Setup,
     book: &mut B,
     index: usize,
-    job: &JobDef,
+    file: &JobFile,
     event: EventId,
 ) -> Result<(), AllocError>
     ensures after { OnOk result ((c : Chronicle) (e : ℕ) → B.stands book.old Stepping setup.now c
-        → job_at setup.now index ≡ Some job.now
+        → job_at setup.now index ≡ Some file.now
         → B.event_place book.old c event ≡ Some e
-        → B.stands book.new Stepping setup.now (model.start_offer setup.now job.now e c ++ c)) }
+        → B.stands book.new Stepping setup.now (model.start_offer setup.now file.now e c ++ c)) }
     ensures events { OnOk result ((c : Chronicle) (e : ℕ) (k : EventIdValue) (j : ℕ)
-        → B.stands book.old Stepping setup.now c → job_at setup.now index ≡ Some job.now
+        → B.stands book.old Stepping setup.now c → job_at setup.now index ≡ Some file.now
         → B.event_place book.old c event ≡ Some e → B.event_place book.old c k ≡ Some j
-        → B.event_place book.new (model.start_offer setup.now job.now e c ++ c) k ≡ Some j) }
+        → B.event_place book.new (model.start_offer setup.now file.now e c ++ c) k ≡ Some j) }
 {
-    let holds = book.offer_start(index, job, setup.environment_at(index), event)?;
+    let holds = book.offer_start(index, file.job(), setup.environment_at(index), event)?;
     if holds {
-        start_fires(alloc, setup, book, index, job)?;
+        start_fires(alloc, setup, book, index, file)?;
     }
     Ok(())
 }

@@ -1,5 +1,5 @@
 //! What the requests of clients do (initctl(8)).
-ghost use Rattle.std.specs.Prelude.{◌≡◌, ◌&&◌, ℕ, true, false, List, length, ◌∷◌, [], ◌++◌, map, Option, None, Some, if◌then◌else◌, IfOk, OnOk};
+ghost use Rattle.std.specs.Prelude.{option_map, ◌≡◌, ◌&&◌, ℕ, true, false, List, length, ◌∷◌, [], ◌++◌, map, Option, None, Some, if◌then◌else◌, IfOk, OnOk};
 ghost use Rattle.up_conf.specs.declared.job.JobDef.{JobDef as JobValue};
 ghost use Rattle.up_model.specs.declared.event_id.EventId.{EventId as EventIdValue};
 ghost use Rattle.up_book.specs.Asking.{given_place};
@@ -14,6 +14,7 @@ ghost use Rattle.up_model.specs.Commands as model;
 ghost use Rattle.up_model.specs.Configuration.{Configuration};
 ghost use Rattle.up_model.specs.Due.{effect};
 ghost use Rattle.up_model.specs.Events.{with_instance};
+ghost use Rattle.up_model.specs.Files.{own_file};
 ghost use Rattle.up_model.specs.Instances as model_instances;
 ghost use Rattle.up_model.specs.Offers as offer;
 ghost use Rattle.up_model.specs.Readings as read;
@@ -34,6 +35,7 @@ use crate::texts::{
 };
 use std::alloc::{AllocError, Global};
 use up_book::{Book, Holders};
+use up_image::JobFile;
 use up_job::InstanceKey;
 use up_model::{Answer, Command, Input, JobDef, MAX_EVENTS, Process, Request, Who};
 use up_text::{Env, Text};
@@ -142,17 +144,17 @@ fn start_who<B: Book>(
     book: &mut B,
     holders: Holders,
     index: usize,
-    job: &JobDef,
+    file: &JobFile,
     who: &Who,
     environment: Env,
 ) -> Result<(), AllocError>
     ensures { OnOk result ((config : Configuration) (c : Chronicle) (input : InputValue) (places : List ℕ)
         → B.stands book.old Stepping config (entry.Given input ∷ c)
-        → name_at config index ≡ Some who.now.job → job_at config index ≡ Some job.now
+        → name_at config index ≡ Some who.now.job → job_at config index ≡ Some file.now
         → held_as (B.event_place book.old (entry.Given input ∷ c)) (request_place (entry.Given input ∷ c)) holders
         ≡ map Some places
         → B.stands book.new Stepping config
-        (model.entries_of (length c) (model.start_at places job.now who.now (with_instance who.now environment)
+        (model.entries_of (length c) (model.start_at places file.now who.now (with_instance who.now environment)
         (model_instances.instance_named who.now (entry.Given input ∷ c)) (entry.Given input ∷ c))
         ++ entry.Given input ∷ c)) }
 {
@@ -165,7 +167,7 @@ fn start_who<B: Book>(
         None => start_called(
             book,
             index,
-            job,
+            file,
             who.instance.as_str(),
             environment,
             holders,
@@ -215,11 +217,11 @@ fn start<B: Book>(
         }
         Target::Concerns {
             index,
-            job,
+            file,
             who,
             environment,
         } => {
-            start_who(alloc, book, holders, index, job, &who, environment)?;
+            start_who(alloc, book, holders, index, file, &who, environment)?;
             Ok(concern_of(book, index, &who))
         }
     }
@@ -316,7 +318,7 @@ fn stop<B: Book>(
         }
         Target::Concerns {
             index,
-            job: _,
+            file: _,
             who,
             environment,
         } => {
@@ -354,11 +356,46 @@ fn signal_and_reply<B: Book>(
     Ok(())
 }
 
-// Main of an instance that exists is sent the job's reload signal, if it runs.
+// The reload signal of an instance's file (init(5), `reload signal`).
+fn reload_signal<B: Book>(book: &B, key: InstanceKey) -> Option<u8>
+    ensures { (mode : Mode) (config : Configuration) (c : Chronicle) (i : ℕ)
+        → B.stands book.now mode config c → instance_place config c key ≡ Some i
+        → result ≡ option_map (λ job. job.reload_signal) (read.file_of i c) }
+{
+    match book.file(key) {
+        Some(file) => Some(file.job().reload_signal.number()),
+        None => None,
+    }
+}
+
+// Main of an instance that exists is sent this reload signal of its file, if it runs.
+fn reload_by<B: Book>(
+    alloc: Global,
+    book: &mut B,
+    who: &Who,
+    key: InstanceKey,
+    signal: u8,
+) -> Result<(), AllocError>
+    ensures { OnOk result ((config : Configuration) (c : Chronicle) (input : InputValue) (i : ℕ) (job : JobValue)
+        → B.stands book.old Stepping config (entry.Given input ∷ c)
+        → instance_place config (entry.Given input ∷ c) key ≡ Some i → signal ≡ job.reload_signal
+        → B.stands book.new Stepping config
+        (model.entries_of (length c) (model.reload_at (length c) (Some job) who.now (Some i)
+        (entry.Given input ∷ c))
+        ++ entry.Given input ∷ c)) }
+{
+    if can_reload(book, key) {
+        signal_and_reply(alloc, book, key, signal)?;
+    } else {
+        let text = not_running(alloc, who)?;
+        refuse(book, text)?;
+    }
+    Ok(())
+}
+
 fn reload_found<B: Book>(
     alloc: Global,
     book: &mut B,
-    job: &JobDef,
     who: &Who,
     key: InstanceKey,
 ) -> Result<(), AllocError>
@@ -366,15 +403,16 @@ fn reload_found<B: Book>(
         → B.stands book.old Stepping config (entry.Given input ∷ c)
         → instance_place config (entry.Given input ∷ c) key ≡ Some i
         → B.stands book.new Stepping config
-        (model.entries_of (length c) (model.reload_at (length c) (Some job.now) who.now (Some i)
-        (entry.Given input ∷ c))
+        (model.entries_of (length c) (model.reload_at (length c) (read.file_of i (entry.Given input ∷ c)) who.now
+        (Some i) (entry.Given input ∷ c))
         ++ entry.Given input ∷ c)) }
 {
-    if can_reload(book, key) {
-        signal_and_reply(alloc, book, key, job.reload_signal.number())?;
-    } else {
-        let text = not_running(alloc, who)?;
-        refuse(book, text)?;
+    match reload_signal(book, key) {
+        Some(signal) => reload_by(alloc, book, who, key, signal)?,
+        None => {
+            let text = unknown_instance(alloc, who)?;
+            refuse(book, text)?;
+        }
     }
     Ok(())
 }
@@ -383,19 +421,18 @@ fn reload_who<B: Book>(
     alloc: Global,
     book: &mut B,
     index: usize,
-    job: &JobDef,
     who: &Who,
 ) -> Result<(), AllocError>
     ensures { OnOk result ((config : Configuration) (c : Chronicle) (input : InputValue)
         → B.stands book.old Stepping config (entry.Given input ∷ c)
         → name_at config index ≡ Some who.now.job
         → B.stands book.new Stepping config
-        (model.entries_of (length c) (model.reload_at (length c) (Some job.now) who.now
+        (model.entries_of (length c) (model.reload_at (length c) (own_file who.now (entry.Given input ∷ c)) who.now
         (model_instances.instance_named who.now (entry.Given input ∷ c)) (entry.Given input ∷ c))
         ++ entry.Given input ∷ c)) }
 {
     match book.find(index, who.instance.as_str()) {
-        Some(key) => reload_found(alloc, book, job, who, key)?,
+        Some(key) => reload_found(alloc, book, who, key)?,
         None => {
             let text = unknown_instance(alloc, who)?;
             refuse(book, text)?;
@@ -415,12 +452,12 @@ fn reload<B: Book>(alloc: Global, book: &mut B, target: Target) -> Result<(), Al
         Target::Nobody(text) => refuse(book, text)?,
         Target::Concerns {
             index,
-            job,
+            file: _,
             who,
             environment,
         } => {
             drop(environment);
-            reload_who(alloc, book, index, job, &who)?;
+            reload_who(alloc, book, index, &who)?;
         }
     }
     Ok(())
@@ -512,7 +549,7 @@ fn restart<B: Book>(
         }
         Target::Concerns {
             index,
-            job: _,
+            file: _,
             who,
             environment,
         } => {

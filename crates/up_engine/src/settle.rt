@@ -1,47 +1,45 @@
 //! What is due is done until nothing is.
-ghost use Rattle.std.specs.Prelude.{◌≡◌, ℕ, [], ◌++◌, Some, IsOk, OnOk};
+ghost use Rattle.std.specs.Prelude.{◌≡◌, ℕ, ◌++◌, Some, IsOk, OnOk};
 ghost use Rattle.up_model.specs.declared.event_id.EventId.{EventId as EventIdValue};
-ghost use Rattle.up_book.specs.Keys.{Mode, Resting, Stepping, job_at, instance_at};
+ghost use Rattle.up_book.specs.Keys.{Resting, Stepping, name_at, instance_at};
 ghost use Rattle.up_engine.specs.Free.{IsFree};
 ghost use Rattle.up_engine.specs.Settling as settling;
 ghost use Rattle.up_engine.specs.Unfired.{IsAtRest};
 ghost use Rattle.up_model.specs.Answers as answer;
 ghost use Rattle.up_model.specs.Chronicle.{Chronicle};
 ghost use Rattle.up_model.specs.Due.{effect};
-ghost use Rattle.up_conf.specs.declared.job.JobDef.{JobDef as JobValue};
 ghost use Rattle.up_model.specs.Instances.{Instance, instances_of};
 ghost use Rattle.up_model.specs.Replies.{answering_last};
+ghost use Rattle.up_model.specs.Values.{Bytes};
 
 use crate::due::{Concern, act};
 use crate::hear::hear_all;
-use crate::moves::moves;
+use crate::moves::moves_on;
 use crate::setup::Setup;
 use std::alloc::{AllocError, Global};
 use up_book::Book;
 use up_job::InstanceKey;
-use up_model::{Input, JobDef};
+use up_model::Input;
 
-/// Moves each instance of a job on, as long as it may.
+/// Moves each instance of the job of an index on, as long as it may.
 pub(crate) fn settle_each<B: Book>(
     alloc: Global,
     setup: &Setup,
     book: &mut B,
     index: usize,
-    job: &JobDef,
 ) -> Result<(), AllocError>
-    ensures after { OnOk result ((c : Chronicle) → B.stands book.old Stepping setup.now c
-        → job_at setup.now index ≡ Some job.now
-        → B.stands book.new Stepping setup.now
-        (settling.settle_each job.now (instances_of job.now.name c) c)) }
-    ensures events { OnOk result ((c : Chronicle) (k : EventIdValue) (j : ℕ)
-        → B.stands book.old Stepping setup.now c → job_at setup.now index ≡ Some job.now
+    ensures after { OnOk result ((c : Chronicle) (name : Bytes) → B.stands book.old Stepping setup.now c
+        → name_at setup.now index ≡ Some name
+        → B.stands book.new Stepping setup.now (settling.settle_each (instances_of name c) c)) }
+    ensures events { OnOk result ((c : Chronicle) (name : Bytes) (k : EventIdValue) (j : ℕ)
+        → B.stands book.old Stepping setup.now c → name_at setup.now index ≡ Some name
         → B.event_place book.old c k ≡ Some j
-        → B.event_place book.new (settling.settle_each job.now (instances_of job.now.name c) c) k ≡ Some j) }
+        → B.event_place book.new (settling.settle_each (instances_of name c) c) k ≡ Some j) }
 {
     let mut at = 0;
     for turn in 0..book.count(index) {
         let key = InstanceKey { job: index, at };
-        if moves(alloc, setup, book, job, key)? {
+        if moves_on(alloc, setup, book, key)? {
             at += 1;
         }
     }
@@ -49,18 +47,13 @@ pub(crate) fn settle_each<B: Book>(
 }
 
 // Moves all instances on, job by job.
-fn settle_all<B: Book>(
-    alloc: Global,
-    setup: &Setup,
-    book: &mut B,
-    jobs: &[JobDef],
-) -> Result<(), AllocError>
-    ensures { OnOk result ((c : Chronicle) → jobs.now ≡ setup.now.jobs
-        → B.stands book.old Stepping setup.now c
-        → B.stands book.new Stepping setup.now (settling.settle_all jobs.now c)) }
+fn settle_all<B: Book>(alloc: Global, setup: &Setup, book: &mut B) -> Result<(), AllocError>
+    ensures { OnOk result ((c : Chronicle) → B.stands book.old Stepping setup.now c
+        → B.stands book.new Stepping setup.now (settling.settle_all setup.now.jobs c)) }
 {
-    for (index, job) in jobs.iter().enumerate() {
-        settle_each(alloc, setup, book, index, job)?;
+    let jobs = setup.jobs();
+    for index in 0..jobs.len() {
+        settle_each(alloc, setup, book, index)?;
     }
     Ok(())
 }
@@ -71,7 +64,7 @@ fn settle<B: Book>(alloc: Global, setup: &Setup, book: &mut B) -> Result<(), All
         → B.stands book.new Stepping setup.now (answering_last (settling.settle_all setup.now.jobs c)
         ++ settling.settle_all setup.now.jobs c)) }
 {
-    settle_all(alloc, setup, book, setup.jobs())?;
+    settle_all(alloc, setup, book)?;
     book.reply_last()?;
     Ok(())
 }
@@ -83,16 +76,12 @@ fn settle_alone<B: Book>(
     book: &mut B,
     key: InstanceKey,
 ) -> Result<(), AllocError>
-    ensures { OnOk result ((c : Chronicle) (job : JobValue) (its : Instance) → B.stands book.old Stepping setup.now c
-        → job_at setup.now key.job ≡ Some job → instance_at setup.now c key ≡ Some its
-        → B.stands book.new Stepping setup.now (answering_last (settling.settle_one 5 job its c)
-        ++ settling.settle_one 5 job its c)) }
+    ensures { OnOk result ((c : Chronicle) (its : Instance) → B.stands book.old Stepping setup.now c
+        → instance_at setup.now c key ≡ Some its
+        → B.stands book.new Stepping setup.now (answering_last (settling.settle_one 5 its.file its c)
+        ++ settling.settle_one 5 its.file its c)) }
 {
-    let jobs = setup.jobs();
-    if key.job >= jobs.len() {
-        return Ok(());
-    }
-    moves(alloc, setup, book, &jobs[key.job], key)?;
+    moves_on(alloc, setup, book, key)?;
     book.reply_last()?;
     Ok(())
 }

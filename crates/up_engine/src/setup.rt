@@ -5,21 +5,25 @@ ghost use Rattle.std.specs.Str.{bytes_eq};
 ghost use Rattle.up_book.specs.Keeps.{AreDistinct};
 ghost use Rattle.up_conf.specs.declared.job.JobDef.{JobDef as JobDefValue};
 ghost use Rattle.up_book.specs.Keys.{job_at, name_at};
+ghost use Rattle.up_conf.specs.Order.{is_below};
+ghost use Rattle.up_engine.specs.Naming.{name_of};
+ghost use Rattle.up_job.specs.Named.{AreInOrder};
+ghost use Rattle.up_job.specs.Named as by_name;
 ghost use Rattle.up_model.specs.Configuration.{job_named};
 ghost use Rattle.up_model.specs.Environments.{with_value, setting_value, with_settings, job_env, env_by_job, env_of_job};
 
 use std::alloc::{AllocError, Global};
 use std::marker::Model;
 use up_conf::{JobDef, Setting};
-use up_image::Table;
-use up_text::{Env, Name, Text};
+use up_image::{JobFile, Table};
+use up_text::{Env, Text};
 
 /// The jobs, the environment that init was started with, and on top of that the one of each job, made once. Contracts see what a run
 /// stands on.
 #[derive(Drop)]
 pub struct Setup {
     base: Env,
-    table: Table,
+    files: Vec<JobFile>,
     environments: Vec<Env>,
 }
 
@@ -27,6 +31,8 @@ impl Model for Setup {
     ghost use Rattle.std.specs.Prelude.{◌≡◌, map};
     ghost use Rattle.std.specs.Coded.{codes, coded_list};
     ghost use Rattle.up_conf.specs.contracts.job.JobDef as job;
+    ghost use Rattle.up_engine.specs.Naming.{name_of};
+    ghost use Rattle.up_job.specs.Named.{AreInOrder};
     ghost use Rattle.up_model.specs.Configuration.{Configuration};
     ghost use Rattle.up_model.specs.Environments.{job_env};
 
@@ -34,9 +40,9 @@ impl Model for Setup {
 
     ghost coded = { Prim.hlevel (codes, job.the_row.coded) };
 
-    ghost view = { λ s. record { base = s.base; jobs = s.table } };
+    ghost view = { λ s. record { base = s.base; jobs = s.files.items } };
 
-    ghost invariant = { λ s. s.environments.items ≡ map (job_env s.base) s.table };
+    ghost invariant = { λ s. (s.environments.items ≡ map (job_env s.base) s.files.items) × AreInOrder name_of s.files.items };
 }
 
 // The value that a setting gives its key, if it gives one.
@@ -94,14 +100,24 @@ fn environment_of(base: &Env, job: &JobDef) -> Result<Env, AllocError>
     environment(base, job.env.as_slice())
 }
 
-fn environments_of(alloc: Global, base: &Env, jobs: &[JobDef]) -> Result<Vec<Env>, AllocError>
+fn environments_of(alloc: Global, base: &Env, jobs: &[JobFile]) -> Result<Vec<Env>, AllocError>
     ensures { IfOk result (λ all. all.items ≡ map (job_env base.now) jobs.now) }
 {
     let mut all = Vec::with_capacity(alloc, jobs.len())?;
-    for job in jobs {
-        all.push(environment_of(base, job)?)?;
+    for file in jobs {
+        all.push(environment_of(base, file.job())?)?;
     }
     Ok(all)
+}
+
+fn files_of(alloc: Global, table: Table) -> Result<Vec<JobFile>, AllocError>
+    ensures { IfOk result (λ files. files.items ≡ table) }
+{
+    let mut files = Vec::with_capacity(alloc, table.len())?;
+    for job in table.into_jobs() {
+        files.push(JobFile::new(alloc, job)?)?;
+    }
+    Ok(files)
 }
 
 // The one of these environments that is at a place, or the base.
@@ -114,73 +130,80 @@ fn environment_at<'a>(base: &'a Env, environments: &'a [Env], place: usize) -> &
     }
 }
 
-#[tactic(auto, using(crate::proofs::OutputLemmas::jobs_left, crate::proofs::SetupLemmas::environment_there))]
-fn find<'a>(base: &'a Env, environments: &'a [Env], jobs: &[JobDef], name: &Name) -> &'a Env
-    ensures { environments.now ≡ map (job_env base.now) jobs.now
-        → result.now ≡ env_by_job base.now (job_named name.now jobs.now) }
+fn is_before(file: &JobFile, name: &str) -> bool
+    ensures { result ≡ is_below file.now.name name.now }
 {
-    for (place, job) in jobs.iter().enumerate() {
-        if job.name.is(name) {
-            return environment_at(base, environments, place);
-        }
-    }
-    base
+    file.job().name.as_str().cmp(name).is_lt()
 }
 
-fn is_called(job: &JobDef, name: &str) -> bool
-    ensures { result ≡ bytes_eq job.now.name name.now }
+fn is_called(file: &JobFile, name: &str) -> bool
+    ensures { result ≡ bytes_eq file.now.name name.now }
 {
-    job.name.as_str() == name
+    file.job().name.as_str() == name
 }
 
-// The job of this name among these, and its index.
-#[tactic(auto, using(crate::proofs::OutputLemmas::jobs_left))]
-fn find_job<'a>(jobs: &'a [JobDef], name: &str) -> Option<(usize, &'a JobDef)>
+// Where a name belongs among jobs in order.
+fn position(jobs: &[JobFile], name: &str) -> usize
+    requires { AreInOrder name_of jobs.now }
+    ensures { result ≡ by_name.position name_of name.now jobs.now }
+{
+    jobs.partition_point(|file| is_before(file, name))
+}
+
+// The job of this name among jobs in order, and its index.
+fn find_job<'a>(jobs: &'a [JobFile], name: &str) -> Option<(usize, &'a JobFile)>
+    requires { AreInOrder name_of jobs.now }
     ensures some { IfSome result (λ found. (job_named name.now jobs.now ≡ Some found.1.now)
         × (slice_get jobs.now found.0 ≡ Some found.1.now) × (found.1.now.name ≡ name.now)) }
     ensures none { IfNone result (job_named name.now jobs.now ≡ None) }
 {
-    for (index, job) in jobs.iter().enumerate() {
-        if is_called(job, name) {
-            return Some((index, job));
-        }
+    let at = position(jobs, name);
+    if at >= jobs.len() {
+        return None;
     }
-    None
+    let file = &jobs[at];
+    if is_called(file, name) {
+        Some((at, file))
+    } else {
+        None
+    }
 }
 
 impl Setup {
     pub(crate) fn new(alloc: Global, table: Table, base: Env) -> Result<Self, AllocError>
         ensures { IfOk result (λ setup. setup ≡ record { base = base; jobs = table }) }
     {
-        let environments = environments_of(alloc, &base, table.as_slice())?;
+        table.is_given();
+        let files = files_of(alloc, table)?;
+        let environments = environments_of(alloc, &base, files.as_slice())?;
         Ok(Setup {
             base,
-            table,
+            files,
             environments,
         })
     }
 
     /// The jobs, in byte order of names.
-    pub(crate) fn jobs(&self) -> &[JobDef]
+    pub(crate) fn jobs(&self) -> &[JobFile]
         ensures { result.now ≡ self.now.jobs }
     {
-        self.table.as_slice()
+        self.files.as_slice()
     }
 
     /// No two jobs have one name.
     pub(crate) fn names_differ(&self)
         ensures { AreDistinct self.now.jobs }
     {
-        self.table.is_given();
+        let _files = &self.files;
     }
 
     /// The job of this name, and its index.
-    pub(crate) fn job_named(&self, name: &str) -> Option<(usize, &JobDef)>
+    pub(crate) fn job_named(&self, name: &str) -> Option<(usize, &JobFile)>
         ensures some { IfSome result (λ found. (job_named name.now self.now.jobs ≡ Some found.1.now)
             × (name_at self.now found.0 ≡ Some name.now) × (job_at self.now found.0 ≡ Some found.1.now) × (found.1.now.name ≡ name.now)) }
         ensures none { IfNone result (job_named name.now self.now.jobs ≡ None) }
     {
-        find_job(self.table.as_slice(), name)
+        find_job(self.files.as_slice(), name)
     }
 
     /// The environment of the job at this index.
@@ -190,17 +213,5 @@ impl Setup {
     {
         self.names_differ();
         environment_at(&self.base, self.environments.as_slice(), index)
-    }
-
-    /// The environment of the job of this name.
-    pub(crate) fn environment(&self, name: &Name) -> &Env
-        ensures { result.now ≡ env_of_job self.now name.now }
-    {
-        find(
-            &self.base,
-            self.environments.as_slice(),
-            self.table.as_slice(),
-            name,
-        )
     }
 }

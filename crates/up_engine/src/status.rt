@@ -15,6 +15,7 @@ use crate::target::Target;
 use crate::texts::{stopped, unknown_instance};
 use std::alloc::{AllocError, Global};
 use up_book::Book;
+use up_image::JobFile;
 use up_job::InstanceKey;
 use up_model::{Answer, JobDef, Who};
 use up_text::Text;
@@ -65,12 +66,12 @@ pub(crate) fn status<B: Book>(alloc: Global, book: &B, target: Target) -> Result
         Target::Nobody(text) => Ok(Answer { ok: false, text }),
         Target::Concerns {
             index,
-            job,
+            file,
             who,
             environment,
         } => {
             drop(environment);
-            let answer = status_at(alloc, book, index, job, &who)?;
+            let answer = status_at(alloc, book, index, file.job(), &who)?;
             Ok(answer)
         }
     }
@@ -134,14 +135,14 @@ fn add_job<B: Book>(
 }
 
 // The lines about these jobs.
-fn lines_of<B: Book>(alloc: Global, book: &B, jobs: &[JobDef]) -> Result<Vec<Text>, AllocError>
+fn lines_of<B: Book>(alloc: Global, book: &B, jobs: &[JobFile]) -> Result<Vec<Text>, AllocError>
     ensures { IfOk result (λ lines. (mode : Mode) (config : Configuration) (c : Chronicle)
         → B.stands book.now mode config c → jobs.now ≡ config.jobs
         → lines.items ≡ model.list_lines (job_names jobs.now) c) }
 {
     let mut lines = Vec::new(alloc);
-    for (index, job) in jobs.iter().enumerate() {
-        add_job(alloc, book, index, job, &mut lines)?;
+    for (index, file) in jobs.iter().enumerate() {
+        add_job(alloc, book, index, file.job(), &mut lines)?;
     }
     Ok(lines)
 }

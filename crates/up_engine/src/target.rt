@@ -1,6 +1,7 @@
 //! Whom a request names.
 ghost use Rattle.std.specs.Prelude.{◌≡◌, Some, IfOk};
 ghost use Rattle.up_book.specs.Keys.{job_at};
+ghost use Rattle.up_conf.specs.declared.job.JobDef.{JobDef as JobValue};
 ghost use Rattle.up_engine.specs.Requests.{target_of as said_of, IsIndexed};
 ghost use Rattle.up_model.specs.Chronicle.{Chronicle};
 ghost use Rattle.up_model.specs.Commands as model;
@@ -12,6 +13,7 @@ ghost use Rattle.up_text.specs.Expansion.{expand as expansion};
 use crate::setup::Setup;
 use crate::texts::{unknown_job, unknown_parameter};
 use std::alloc::{AllocError, Global};
+use up_image::JobFile;
 use up_model::{JobDef, Who};
 use up_text::{Env, Expanded, Text, TextFault, expand};
 
@@ -23,16 +25,17 @@ pub(crate) enum Target<'a> {
     /// An instance that there may be of a job, which has this index, and the environment that a start would give it.
     Concerns {
         index: usize,
-        job: &'a JobDef,
+        file: &'a JobFile,
         who: Who,
         environment: Env,
     },
 }
 
-fn request_env(setup: &Setup, job: &JobDef, vars: &Env) -> Result<Env, AllocError>
-    ensures { IfOk result (λ environment. environment ≡ model.request_env setup.now job.now vars.now) }
+fn request_env(setup: &Setup, index: usize, vars: &Env) -> Result<Env, AllocError>
+    ensures { IfOk result (λ environment. (job : JobValue) → job_at setup.now index ≡ Some job
+        → environment ≡ model.request_env setup.now job vars.now) }
 {
-    let mut environment = setup.environment(&job.name).copy()?;
+    let mut environment = setup.environment_at(index).copy()?;
     environment.append(vars)?;
     Ok(environment)
 }
@@ -48,21 +51,22 @@ fn who_of(job: &JobDef, instance: Text) -> Result<Who, AllocError>
 fn target_in<'a>(
     alloc: Global,
     index: usize,
-    job: &'a JobDef,
+    file: &'a JobFile,
     environment: Env,
 ) -> Result<Target<'a>, AllocError>
     ensures target { IfOk result (λ target. (config : Configuration) (vars : Bindings) (c : Chronicle)
-        → environment ≡ model.request_env config job.now vars → AreMadeBy config.jobs c
-        → said_of target ≡ model.target_as config job.now vars (expansion job.now.instance environment) c) }
+        → environment ≡ model.request_env config file.now vars → AreMadeBy config.jobs c
+        → said_of target ≡ model.target_as config file.now vars (expansion file.now.instance environment) c) }
     ensures index { IfOk result (λ target. (config : Configuration)
-        → job_at config index ≡ Some job.now → IsIndexed config target) }
+        → job_at config index ≡ Some file.now → IsIndexed config target) }
 {
+    let job = file.job();
     match expand(alloc, job.instance.as_str(), &environment) {
         Ok(Expanded::Text(name)) => {
             let who = who_of(job, name)?;
             Ok(Target::Concerns {
                 index,
-                job,
+                file,
                 who,
                 environment,
             })
@@ -87,9 +91,9 @@ pub(crate) fn target_of<'a>(
     ensures index { IfOk result (λ target. IsIndexed setup.now target) }
 {
     match setup.job_named(name) {
-        Some((index, job)) => {
-            let environment = request_env(setup, job, vars)?;
-            let target = target_in(alloc, index, job, environment)?;
+        Some((index, file)) => {
+            let environment = request_env(setup, index, vars)?;
+            let target = target_in(alloc, index, file, environment)?;
             Ok(target)
         }
         None => Ok(Target::Nobody(unknown_job(alloc, name)?)),

@@ -1,6 +1,6 @@
 //! What the timer does.
 ghost use Rattle.std.specs.Prelude.{◌≡◌, ℕ, false, List, ◌∷◌, ◌++◌, [], map, Some, IsOk, IfOk, OnOk};
-ghost use Rattle.up_book.specs.Keys.{job_at, Mode, Stepping, instance_place};
+ghost use Rattle.up_book.specs.Keys.{name_at, Mode, Stepping, instance_place};
 ghost use Rattle.up_conf.specs.declared.job.JobDef.{JobDef as JobValue};
 ghost use Rattle.up_model.specs.Chronicle.{Chronicle};
 ghost use Rattle.up_model.specs.Clock as clock;
@@ -8,11 +8,13 @@ ghost use Rattle.up_model.specs.Configuration.{Configuration};
 ghost use Rattle.up_model.specs.Files.{names_in_order};
 ghost use Rattle.up_model.specs.Instances.{instances_of};
 ghost use Rattle.up_model.specs.Predicates.{entries_if};
+ghost use Rattle.up_model.specs.Readings as read;
+ghost use Rattle.up_model.specs.Values.{Bytes};
 
 use std::alloc::{AllocError, Global};
 use up_book::Book;
+use up_image::JobFile;
 use up_job::InstanceKey;
-use up_model::JobDef;
 
 // Adds an instance, if the timer is to kill its main process.
 fn add_if_due<B: Book>(
@@ -22,13 +24,13 @@ fn add_if_due<B: Book>(
 ) -> Result<(), AllocError>
     ensures after { OnOk result ((mode : Mode) (config : Configuration) (c : Chronicle) (i : ℕ) (job : JobValue) (done : List ℕ)
         → B.stands book.now mode config c
-        → instance_place config c key ≡ Some i → job_at config key.job ≡ Some job
+        → instance_place config c key ≡ Some i → read.file_of i c ≡ Some job
         → map (instance_place config c) keys.old.items ≡ map Some done
         → map (instance_place config c) keys.new.items
         ≡ map Some (done ++ entries_if (clock.kill_due job i c) (i ∷ []))) }
     ensures free { (mode : Mode) (config : Configuration) (c : Chronicle) (i : ℕ) (job : JobValue)
         → B.stands book.now mode config c
-        → instance_place config c key ≡ Some i → job_at config key.job ≡ Some job
+        → instance_place config c key ≡ Some i → read.file_of i c ≡ Some job
         → clock.kill_due job i c ≡ false → IsOk result }
 {
     if book.is_overdue(key) {
@@ -43,14 +45,14 @@ fn add_overdue<B: Book>(
     index: usize,
     keys: &mut Vec<InstanceKey>,
 ) -> Result<(), AllocError>
-    ensures after { OnOk result ((mode : Mode) (config : Configuration) (c : Chronicle) (job : JobValue) (done : List ℕ)
-        → B.stands book.now mode config c → job_at config index ≡ Some job
+    ensures after { OnOk result ((mode : Mode) (config : Configuration) (c : Chronicle) (name : Bytes) (done : List ℕ)
+        → B.stands book.now mode config c → name_at config index ≡ Some name
         → map (instance_place config c) keys.old.items ≡ map Some done
         → map (instance_place config c) keys.new.items
-        ≡ map Some (done ++ clock.overdue (instances_of job.name c) c)) }
-    ensures free { (mode : Mode) (config : Configuration) (c : Chronicle) (job : JobValue)
-        → B.stands book.now mode config c → job_at config index ≡ Some job
-        → clock.overdue (instances_of job.name c) c ≡ [] → IsOk result }
+        ≡ map Some (done ++ clock.overdue (instances_of name c) c)) }
+    ensures free { (mode : Mode) (config : Configuration) (c : Chronicle) (name : Bytes)
+        → B.stands book.now mode config c → name_at config index ≡ Some name
+        → clock.overdue (instances_of name c) c ≡ [] → IsOk result }
 {
     for at in 0..book.count(index) {
         add_if_due(book, InstanceKey { job: index, at }, keys)?;
@@ -67,7 +69,7 @@ fn no_keys(alloc: Global) -> Vec<InstanceKey>
 fn all_overdue<B: Book>(
     alloc: Global,
     book: &B,
-    jobs: &[JobDef],
+    jobs: &[JobFile],
 ) -> Result<Vec<InstanceKey>, AllocError>
     ensures after { IfOk result (λ keys. (mode : Mode) (config : Configuration) (c : Chronicle)
         → B.stands book.now mode config c → jobs.now ≡ config.jobs
@@ -102,7 +104,7 @@ fn kill_each<B: Book>(book: &mut B, keys: &[InstanceKey]) -> Result<(), AllocErr
 pub(crate) fn kill_overdue<B: Book>(
     alloc: Global,
     book: &mut B,
-    jobs: &[JobDef],
+    jobs: &[JobFile],
 ) -> Result<(), AllocError>
     ensures after { OnOk result ((config : Configuration) (c : Chronicle) → B.stands book.old Stepping config c
         → jobs.now ≡ config.jobs

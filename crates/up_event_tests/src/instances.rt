@@ -1,11 +1,12 @@
 //! Instances of a few jobs.
 use std::alloc::{AllocError, Global};
 use std::test::Fail;
-use up_conf::Limit;
-use up_job::{Change, InstanceKey, Instances, JobFault, Limits, Moments};
+use up_conf::{Folder, Limit};
+use up_image::{JobFile, compile};
+use up_job::{Change, InstanceKey, Instances, JobFault, Moments};
 use up_marks::Trigger;
 use up_model::State;
-use up_text::Name;
+use up_text::{Items, Name, Text};
 
 const MAX: u32 = 1024;
 
@@ -15,19 +16,28 @@ const LIMIT: Limit = Limit {
     interval: 5,
 };
 
-const LIMITS: Limits = Limits {
-    respawn: LIMIT,
-    kill_timeout: 5,
-};
-
 const UNLIMITED: Limit = Limit {
     count: 0,
     interval: 5,
 };
 
-// Makes an instance that isn't there yet, and returns the number of its refusal, or 0.
+// A job file whose main process is killed after seven seconds.
+fn job_file(alloc: Global) -> Result<JobFile, Fail> {
+    let mut folder = Folder::new(alloc);
+    let path = Text::from_str(alloc, "job.conf")?;
+    let bytes = format!(in alloc; "exec /bin/d\nkill timeout 7\n")?;
+    folder.add(path, Items::new(bytes.into_bytes()))?;
+    let (table, _report) = compile(alloc, &folder)?;
+    match table.into_jobs().pop() {
+        Some(job) => Ok(JobFile::new(alloc, job)?),
+        None => Err(Fail::from("no job")),
+    }
+}
+
+// Makes an instance by a file, if it isn't there yet, and returns the number of its refusal, or 0.
 fn make(
     alloc: Global,
+    file: &JobFile,
     instances: &mut Instances,
     job: &Name,
     name: &str,
@@ -37,7 +47,7 @@ fn make(
         return Ok(1);
     }
     let stop_on = Trigger::new(alloc, &None)?;
-    match instances.add(job, name, LIMITS, stop_on) {
+    match instances.add(job, name, file.share()?, stop_on) {
         Ok(()) => Ok(0),
         Err(fault) => Ok(fault.number()),
     }
@@ -77,36 +87,38 @@ fn are_named(instances: &Instances, job: &Name, names: &[&str]) -> bool {
 }
 
 // As many instances of a job as it may have.
-fn full(alloc: Global, job: &Name) -> Result<Instances, Fail> {
+fn full(alloc: Global, file: &JobFile, job: &Name) -> Result<Instances, Fail> {
     let mut instances = Instances::new(alloc);
     for number in 0..MAX {
         let name = format!(in alloc; "{number}")?;
-        make(alloc, &mut instances, job, name.as_str())?;
+        make(alloc, file, &mut instances, job, name.as_str())?;
     }
     Ok(instances)
 }
 
 #[test]
 fn instances_stand_in_byte_order(rt: HostRuntime) -> Result<(), Fail> {
+    let file = job_file(rt.alloc())?;
     let job = Name::new(rt.alloc(), "job")?;
     let mut instances = Instances::new(rt.alloc());
-    make(rt.alloc(), &mut instances, &job, "b")?;
-    make(rt.alloc(), &mut instances, &job, "a")?;
-    make(rt.alloc(), &mut instances, &job, "c")?;
-    make(rt.alloc(), &mut instances, &job, "ab")?;
-    make(rt.alloc(), &mut instances, &job, "")?;
+    make(rt.alloc(), &file, &mut instances, &job, "b")?;
+    make(rt.alloc(), &file, &mut instances, &job, "a")?;
+    make(rt.alloc(), &file, &mut instances, &job, "c")?;
+    make(rt.alloc(), &file, &mut instances, &job, "ab")?;
+    make(rt.alloc(), &file, &mut instances, &job, "")?;
     assert!(rt; are_named(&instances, &job, &["", "a", "ab", "b", "c"]));
     Ok(())
 }
 
 #[test]
 fn a_full_job_leaves_others_room(rt: HostRuntime) -> Result<(), Fail> {
+    let file = job_file(rt.alloc())?;
     let job = Name::new(rt.alloc(), "job")?;
     let other = Name::new(rt.alloc(), "other")?;
-    let mut instances = full(rt.alloc(), &job)?;
+    let mut instances = full(rt.alloc(), &file, &job)?;
     let count = instances.of(&job).len();
-    let refused = make(rt.alloc(), &mut instances, &job, "one more")?;
-    let made = make(rt.alloc(), &mut instances, &other, "one more")?;
+    let refused = make(rt.alloc(), &file, &mut instances, &job, "one more")?;
+    let made = make(rt.alloc(), &file, &mut instances, &other, "one more")?;
     let counts = (instances.of(&job).len(), instances.of(&other).len());
     assert_eq!(rt; (count, refused, made, counts), (1024, 43, 0, (1024, 1)));
     Ok(())
@@ -114,12 +126,13 @@ fn a_full_job_leaves_others_room(rt: HostRuntime) -> Result<(), Fail> {
 
 #[test]
 fn a_removed_one_is_not_found(rt: HostRuntime) -> Result<(), Fail> {
+    let file = job_file(rt.alloc())?;
     let job = Name::new(rt.alloc(), "job")?;
     let other = Name::new(rt.alloc(), "other")?;
     let mut instances = Instances::new(rt.alloc());
-    make(rt.alloc(), &mut instances, &job, "a")?;
-    make(rt.alloc(), &mut instances, &job, "b")?;
-    make(rt.alloc(), &mut instances, &other, "a")?;
+    make(rt.alloc(), &file, &mut instances, &job, "a")?;
+    make(rt.alloc(), &file, &mut instances, &job, "b")?;
+    make(rt.alloc(), &file, &mut instances, &other, "a")?;
     let removed = remove(&mut instances, &job, "a");
     let found = (
         state_of(&instances, &job, "a"),
@@ -133,10 +146,11 @@ fn a_removed_one_is_not_found(rt: HostRuntime) -> Result<(), Fail> {
 
 #[test]
 fn a_changed_one_is_found_so(rt: HostRuntime) -> Result<(), Fail> {
+    let file = job_file(rt.alloc())?;
     let job = Name::new(rt.alloc(), "job")?;
     let mut instances = Instances::new(rt.alloc());
-    make(rt.alloc(), &mut instances, &job, "a")?;
-    make(rt.alloc(), &mut instances, &job, "b")?;
+    make(rt.alloc(), &file, &mut instances, &job, "a")?;
+    make(rt.alloc(), &file, &mut instances, &job, "b")?;
     let changed = run(&mut instances, &job, "b");
     let found = (
         state_of(&instances, &job, "a"),
@@ -157,12 +171,13 @@ fn place(instances: &Instances, name: &str) -> Option<usize> {
 
 #[test]
 fn keys_are_places_in_order(rt: HostRuntime) -> Result<(), Fail> {
+    let file = job_file(rt.alloc())?;
     let job = Name::new(rt.alloc(), "job")?;
     let mut instances = Instances::new(rt.alloc());
-    make(rt.alloc(), &mut instances, &job, "a")?;
-    make(rt.alloc(), &mut instances, &job, "c")?;
+    make(rt.alloc(), &file, &mut instances, &job, "a")?;
+    make(rt.alloc(), &file, &mut instances, &job, "c")?;
     let before = place(&instances, "c");
-    make(rt.alloc(), &mut instances, &job, "b")?;
+    make(rt.alloc(), &file, &mut instances, &job, "b")?;
     let after = place(&instances, "c");
     drop(instances.remove_at(InstanceKey { job: 0, at: 0 }));
     let last = place(&instances, "c");
@@ -184,16 +199,32 @@ fn alarms(instances: &mut Instances, moments: &[u64]) -> (u128, u128) {
 
 #[test]
 fn the_alarm_is_the_first_kill(rt: HostRuntime) -> Result<(), Fail> {
+    let file = job_file(rt.alloc())?;
     let job = Name::new(rt.alloc(), "job")?;
     let mut instances = Instances::new(rt.alloc());
-    make(rt.alloc(), &mut instances, &job, "a")?;
-    make(rt.alloc(), &mut instances, &job, "b")?;
+    make(rt.alloc(), &file, &mut instances, &job, "a")?;
+    make(rt.alloc(), &file, &mut instances, &job, "b")?;
     instances.set_alarm();
     assert_eq!(rt; instances.alarm(), u128::MAX);
-    // Each is killed five seconds after its signal.
-    assert_eq!(rt; alarms(&mut instances, &[2000, 1000]), (1000, 6000));
+    // Each is killed seven seconds after its signal, as its file says.
+    assert_eq!(rt; alarms(&mut instances, &[2000, 1000]), (1000, 8000));
     drop(instances.remove_at(InstanceKey { job: 0, at: 1 }));
-    assert_eq!(rt; alarms(&mut instances, &[]), (6000, 7000));
+    assert_eq!(rt; alarms(&mut instances, &[]), (8000, 9000));
+    Ok(())
+}
+
+#[test]
+fn a_shared_file_outlives_its_owners(rt: HostRuntime) -> Result<(), Fail> {
+    let file = job_file(rt.alloc())?;
+    let job = Name::new(rt.alloc(), "job")?;
+    let mut instances = Instances::new(rt.alloc());
+    make(rt.alloc(), &file, &mut instances, &job, "a")?;
+    drop(file);
+    let timeout = match instances.find(&job, "a") {
+        Some(instance) => instance.file.job().kill_timeout,
+        None => 0,
+    };
+    assert_eq!(rt; timeout, 7);
     Ok(())
 }
 

@@ -77,6 +77,14 @@ impl Table {
         self.jobs.as_slice()
     }
 
+    /// The jobs, in byte order of names, each with its memory.
+    pub fn into_jobs(self) -> Vec<JobDef>
+        ensures { result.items ≡ self }
+    {
+        let Table { jobs } = self;
+        jobs.into_vec()
+    }
+
     /// The leaves of the jobs' expressions, in byte order of the events that they name; those of one event job by job, first what stops
     /// the job and then what starts it, from left to right.
     pub fn places(&self, alloc: Global) -> Result<Vec<Place>, AllocError>

@@ -13,9 +13,8 @@ use Rattle.up_model.specs.Instances.{Instance, instances_of}
 use Rattle.up_model.specs.Readings.{entry_at, event_at}
 use Rattle.up_model.specs.Seen.{seen}
 use Rattle.up_model.specs.Values.{Bytes, Bindings}
-use Rattle.up_model.proofs.JobOffers.{offer_first, first-by-jobs}
+use Rattle.up_model.proofs.FileLaws.{named-name}
 use Rattle.up_model.proofs.Places.{bytes_refl}
-use Rattle.up_isolation.specs.Views.{jobs_called}
 use Rattle.up_isolation.specs.Parts.{content}
 use Rattle.up_isolation.proofs.Twins.{Twins, Match}
 use Rattle.up_isolation.proofs.Known.{IsKnown}
@@ -25,7 +24,7 @@ use Rattle.std.proofs.Common.{append_assoc, not, ◌||◌, zero, suc}
 use Rattle.up_model.specs.Due.{due}
 use Rattle.up_model.specs.Moves.{move, move_first}
 use Rattle.up_model.specs.Offers.{is_newborn, is_open, stop_of, stop_by, stop_offer, start_of, start_who, start_env}
-use Rattle.up_model.specs.Offers.{start_by, who_called, start_offer, offering, offer_next}
+use Rattle.up_model.specs.Offers.{start_by, who_called, start_offer, offering, offer_first, offer_next}
 use Rattle.up_model.specs.Events.{events_at, events_env, stopped_by}
 use Rattle.up_model.specs.Environments.{env_of_job, instance_name}
 use Rattle.up_model.specs.Files.{names_in_order}
@@ -43,7 +42,7 @@ use Rattle.up_isolation.proofs.Twins.{At, twins_map}
 use Rattle.up_isolation.proofs.Known.{known}
 use Rattle.up_isolation.proofs.Likes.{instances-same}
 use Rattle.up_isolation.proofs.Releases.{entry-append}
-use Rattle.up_isolation.proofs.Offering.{AreCovered, pair-at, pair_stop_offer, like_start_offer}
+use Rattle.up_isolation.proofs.Offering.{pair-at, pair_stop_offer, like_start_offer}
 use Rattle.up_isolation.proofs.Moving.{pair_move}
 use Rattle.up_isolation.proofs.Foreign.{IsStrange, AreStrange, strange-foreign, like-strange}
 use Rattle.up_isolation.proofs.Movers as movers
@@ -442,28 +441,6 @@ pub data Did (job : Bytes) (config : Configuration) (c d : Chronicle) : Type 0 w
 last-none : (c : Chronicle) → unanswered c ≡ None → answering_last c ≡ []
 last-none c none = ap (λ o. answering_hurried o c) none
 
--- what the jobs' expressions name is named
-abbrev pub IsCovered : List JobDef → JobDef → Type 0
-IsCovered jobs def = AreCovered jobs def.start_on × AreCovered jobs def.stop_on
-
-covered-of : (job : Bytes) (own js : List JobDef) (def : JobDef)
-    → AllByRecursion (IsCovered own) (jobs_called job js) → job_named job js ≡ Some def → IsCovered own def
-covered-of job own [] def all some = absurd (cc)
-covered-of job own (its ∷ js) def all some =
-    by_case (bytes_eq its.name job) refl some all (covered-of job own js def)
-  where
-    by_case : (b : Bool) → bytes_eq its.name job ≡ b → (if b then Some its else job_named job js) ≡ Some def
-        → AllByRecursion (IsCovered own) (if b then its ∷ jobs_called job js else jobs_called job js)
-        → (AllByRecursion (IsCovered own) (jobs_called job js) → job_named job js ≡ Some def
-        → IsCovered own def) → IsCovered own def
-    by_case true is some all ih = let same : its ≡ def = cc in subst (IsCovered own) same all.0
-    by_case false is some all ih = ih all some
-
--- the facts about the job's file
-pub record Facts (job : Bytes) (config : Configuration) : Type 0 where
-  pub twice : jobs_called job (jobs_called job config.jobs) ≡ jobs_called job config.jobs
-  pub covered : AllByRecursion (IsCovered (jobs_called job config.jobs)) (jobs_called job config.jobs)
-
 plain-strange : (job : Bytes) (config : Configuration) (es : List Entry) (c d : Chronicle)
     → AreStrange job es c → Plain job config c d → Plain job config (es ++ c) d
 plain-strange job config es c d are plain = record {
@@ -489,20 +466,17 @@ plain-moved job config def c d x y at plain = record {
     carries = pair_move job config def c d x y (pair-at job config c d x y at plain.like)
 
 start-like : (job : Bytes) (config : Configuration) (def : JobDef) (p q : ℕ) (c d : Chronicle)
-    → def.name ≡ job → job_named job config.jobs ≡ Some def → SameEvent c d p q
-    → AreCovered (jobs_called job config.jobs) def.start_on
-    → jobs_called job (jobs_called job config.jobs) ≡ jobs_called job config.jobs → Like job config c d
+    → def.name ≡ job → job_named job config.jobs ≡ Some def → SameEvent c d p q → Like job config c d
     → Like job config (start_offer config def p c ++ c) (start_offer (only job config) def q d ++ d)
 start-like job config def p q c d name in_force event =
-    subst (λ its. job_named its config.jobs ≡ Some def → AreCovered (jobs_called its config.jobs) def.start_on
-    → jobs_called its (jobs_called its config.jobs) ≡ jobs_called its config.jobs → Like its config c d
+    subst (λ its. job_named its config.jobs ≡ Some def → Like its config c d
     → Like its config (start_offer config def p c ++ c) (start_offer (only its config) def q d ++ d)) name
-    (λ found covered twice like. like_start_offer config def c d p q found covered event.event event.content twice like) in_force
+    (λ found like. like_start_offer config def c d p q found event.event event.content like) in_force
 
-pub plain-due : (job : Bytes) (config : Configuration) (c d : Chronicle) → Facts job config
+pub plain-due : (job : Bytes) (config : Configuration) (c d : Chronicle)
     → Plain job config c d → Did job config c d
 unfolding due
-plain-due job config c d facts plain = by_moves (moves-first job config config.jobs c d plain.like)
+plain-due job config c d plain = by_moves (moves-first job config config.jobs c d plain.like)
   where
     rest : List Entry
     rest = or_else (offer_next config (offering c) c) (answering_last c)
@@ -545,29 +519,26 @@ plain-due job config c d facts plain = by_moves (moves-first job config config.j
         by_offers (offers-first job config p q config.jobs c d plain.like twins left right)
       where
         es : List Entry
-        es = offer_first config config.jobs p c
+        es = offer_first config (names_in_order config c) p c
 
         fs : List Entry
-        fs = offer_first (only job config) (jobs_called job config.jobs) q d
+        fs = offer_first (only job config) (names_in_order (only job config) d) q d
 
         here : due config c ≡ or_else es (answering_last c)
         here = one ∙ ap (λ o. or_else (offer_next config o c) (answering_last c)) some
-            ∙ ap (λ xs. or_else xs (answering_last c)) (first-by-jobs config p c)
 
         there : due (only job config) d ≡ or_else fs (answering_last d)
         there = other ∙ ap (λ o. or_else (offer_next (only job config) o d) (answering_last d)) same
-            ∙ ap (λ xs. or_else xs (answering_last d)) (first-by-jobs (only job config) q d)
 
-        by_offers : Offers job config p q c d config.jobs es fs → Did job config c d
+        by_offers : Offers job config p q c d es fs → Did job config c d
         by_offers (offers.Idle none void) =
             Rest (here ∙ or_else-second es (answering_last c) none ∙ last-none c plain.silent)
             (there ∙ or_else-second fs (answering_last d) void ∙ last-none d plain.silent_there)
         by_offers (offers.Away something are) =
             far es (here ∙ or_else-first es (answering_last c) something) something are
-        by_offers (offers.Stop def x y at named is are) =
-            let carries = pair_stop_offer job config def c d x y p q
-            (covered-of job (jobs_called job config.jobs) config.jobs def facts.covered named).1
-            event.event event.content facts.twice
+        by_offers (offers.Stop x y at is are) =
+            let def = x.file in
+            let carries = pair_stop_offer job config c d x y p q event.event event.content
             (pair-at job config c d x y at plain.like) in
             near (stop_offer config def x.place p c) (stop_offer (only job config) def y.place q d)
             (here ∙ or_else-first es (answering_last c)
@@ -584,7 +555,8 @@ plain-due job config c d facts plain = by_moves (moves-first job config config.j
               silent_there = silent-more (stop_offer (only job config) def y.place q d) d
                   (stop-given (only job config) def y.place q d) plain.silent_there;
             })
-        by_offers (offers.Start def name named shut closed is are) =
+        by_offers (offers.Start def found shut closed is are) =
+            let name = named-name job config.jobs def found in
             near (start_offer config def p c) (start_offer (only job config) def q d)
             (here ∙ or_else-first es (answering_last c) (λ none. start-some config def p c (sym is ∙ none))
             ∙ is)
@@ -592,9 +564,7 @@ plain-due job config c d facts plain = by_moves (moves-first job config config.j
             (λ none. start-some (only job config) def q d (sym are ∙ none)) ∙ are)
             (start-some config def p c) (start-some (only job config) def q d)
             (record {
-              like = start-like job config def p q c d name named event
-                  (covered-of job (jobs_called job config.jobs) config.jobs def facts.covered named).0
-                  facts.twice plain.like;
+              like = start-like job config def p q c d name found event plain.like;
               offers = offering-started job config def p q c d name some same shut closed;
               silent = silent-more (start_offer config def p c) c (start-given config def p c) plain.silent;
               silent_there = silent-more (start_offer (only job config) def q d) d
@@ -604,22 +574,19 @@ plain-due job config c d facts plain = by_moves (moves-first job config config.j
         by_spent (offers-shut job config p q config.jobs c d plain.like.fair shut closed)
       where
         es : List Entry
-        es = offer_first config config.jobs p c
+        es = offer_first config (names_in_order config c) p c
 
         fs : List Entry
-        fs = offer_first (only job config) (jobs_called job config.jobs) q d
+        fs = offer_first (only job config) (names_in_order (only job config) d) q d
 
         by_spent : Spent job c es fs → Did job config c d
         by_spent (offers.Nothing none void) =
             Rest (one ∙ ap (λ o. or_else (offer_next config o c) (answering_last c)) some
-            ∙ ap (λ xs. or_else xs (answering_last c)) (first-by-jobs config p c)
             ∙ or_else-second es (answering_last c) none ∙ last-none c plain.silent)
             (other ∙ ap (λ o. or_else (offer_next (only job config) o d) (answering_last d)) same
-            ∙ ap (λ xs. or_else xs (answering_last d)) (first-by-jobs (only job config) q d)
             ∙ or_else-second fs (answering_last d) void ∙ last-none d plain.silent_there)
         by_spent (offers.Something something are) =
             far es (one ∙ ap (λ o. or_else (offer_next config o c) (answering_last c)) some
-            ∙ ap (λ xs. or_else xs (answering_last c)) (first-by-jobs config p c)
             ∙ or_else-first es (answering_last c) something) something are
 
     by_moves : Moves job c d (move_first (names_in_order config c) c) (move_first (names_in_order (only job config) d) d)
@@ -633,10 +600,10 @@ plain-due job config c d facts plain = by_moves (moves-first job config config.j
         (plain-moved job config def c d x y at plain)
 
 -- so both come to rest alike
-pub rested : (job : Bytes) (config : Configuration) (c d : Chronicle) → Facts job config
+pub rested : (job : Bytes) (config : Configuration) (c d : Chronicle)
     → Plain job config c d → due config c ≡ []
     → (due (only job config) d ≡ [])
-rested job config c d facts plain none = by_did (plain-due job config c d facts plain)
+rested job config c d plain none = by_did (plain-due job config c d plain)
   where
     by_did : Did job config c d → due (only job config) d ≡ []
     by_did (Rest one other) = other
@@ -661,17 +628,17 @@ settle-near config d some = by_sum (falls config d)
     by_sum (inr less) = by_work (work config d) refl less
 
 -- where the chronicle comes to rest, the job is alike in that which comes to rest of its own
-pub plain-settle : (n : ℕ) (job : Bytes) (config : Configuration) (c d : Chronicle) → Facts job config
+pub plain-settle : (n : ℕ) (job : Bytes) (config : Configuration) (c d : Chronicle)
     → Plain job config c d → due config (settle n config c) ≡ []
     → Like job config (settle n config c) (settle (work (only job config) d) (only job config) d)
 unfolding settle
-plain-settle zero job config c d facts plain none =
+plain-settle zero job config c d plain none =
     subst (λ (t : Chronicle). Like job config c t)
     (sym (settle_still (work (only job config) d) (only job config) d
-    (rested job config c d facts plain none))) plain.like
-plain-settle (suc n) job config c d facts plain none =
-    by_did (plain-due job config c d facts plain) (λ e next. plain-settle n job config (due config c ++ c) e
-    facts next none)
+    (rested job config c d plain none))) plain.like
+plain-settle (suc n) job config c d plain none =
+    by_did (plain-due job config c d plain) (λ e next. plain-settle n job config (due config c ++ c) e
+    next none)
   where
     by_did : Did job config c d
         → ((e : Chronicle) → Plain job config (due config c ++ c) e

@@ -1,5 +1,5 @@
 -- The job alone: what it does by what comes to its notice, and nothing else.
-use Rattle.std.proofs.Common.{◌≡◌, ℕ, ◌<◌, Bool, true, false, List, [], ◌∷◌, ◌++◌, Option, None, Some, length, subst₂}
+use Rattle.std.proofs.Common.{◌≡◌, ℕ, ◌<◌, Bool, true, false, List, [], ◌∷◌, ◌++◌, Option, None, Some, length}
 use Rattle.std.proofs.Common.{bytes_eq, refl, sym, ◌∙◌, ap, subst, arith, eq-eqb}
 use Rattle.std.specs.List.{AllByRecursion}
 use Rattle.up_conf.specs.declared.job.JobDef.{JobDef}
@@ -7,14 +7,13 @@ use Rattle.up_stanza.specs.declared.process.Process.{Process}
 use Rattle.up_model.specs.declared.event.Event.{Event}
 use Rattle.up_model.specs.declared.who.Who.{Who}
 use Rattle.up_model.specs.Chronicle.{Chronicle, Entry, Given, Queued, Handled, Finished, Outside}
-use Rattle.up_model.specs.Configuration.{Configuration, job_named}
+use Rattle.up_model.specs.Configuration.{Configuration}
 use Rattle.up_model.specs.Instances.{Instance, instances_of}
 use Rattle.up_model.specs.Replies.{request_at}
 use Rattle.up_model.specs.Values.{Bytes}
-use Rattle.up_model.proofs.FileLaws.{AreBy, end_of-named}
 use Rattle.up_model.proofs.Places.{bytes_same}
 use Rattle.up_model.proofs.NameLaws.{called}
-use Rattle.up_isolation.specs.Views.{Notice, jobs_called, is_of, was_asked}
+use Rattle.up_isolation.specs.Views.{Notice, is_of, was_asked}
 use Rattle.up_isolation.proofs.Likes.{only, Like, fair_more}
 use Rattle.std.proofs.Common.{append_assoc, suc}
 use Rattle.up_model.specs.declared.input.Input.{Input}
@@ -24,7 +23,7 @@ use Rattle.up_model.specs.declared.failure.End.TheVariants as end
 use Rattle.up_model.specs.declared.process.How.{How}
 use Rattle.up_model.specs.Due.{due, effect, end_of, end_by}
 use Rattle.up_model.specs.Files.{own_file, names_in_order}
-use Rattle.up_model.specs.Instances.{place_named, instance_named}
+use Rattle.up_model.specs.Instances.{instance_named}
 use Rattle.up_model.specs.Moves.{move_first}
 use Rattle.up_model.specs.Offers.{offering}
 use Rattle.up_model.specs.Predicates.{or_else}
@@ -35,14 +34,13 @@ use Rattle.up_model.proofs.NameLaws.{made-named}
 use Rattle.up_model.proofs.Sparing.{all-weaker}
 use Rattle.up_isolation.specs.Views.{Received, Arrived, Unblocked, concerns, view}
 use Rattle.up_isolation.proofs.Likes.{IsOther, foreign, owns-later}
-use Rattle.up_isolation.proofs.Likes.{named-only, like-files, like-files-there}
 use Rattle.up_isolation.proofs.Locals.{NotGiven, silent-more}
 use Rattle.up_isolation.proofs.Steps.{like_given}
-use Rattle.up_isolation.proofs.Offering.{pair-at, found, Found, Neither, Two}
+use Rattle.up_isolation.proofs.Offering.{pair-at, found, Found, Neither, Two, own_file-same}
 use Rattle.up_isolation.proofs.Ends.{IsMute, pair_end, apart-end, mute-end}
 use Rattle.up_isolation.proofs.Resting.{IsCalm, Resting, AreApart, like-apart}
 use Rattle.up_isolation.proofs.Hurry.{Waits}
-use Rattle.up_isolation.proofs.Acting.{Plain, Facts, None'}
+use Rattle.up_isolation.proofs.Acting.{Plain, None'}
 
 -- the entries with which a notice begins a step of the job alone
 abbrev pub freeing : Option ℕ → Chronicle → Chronicle
@@ -78,8 +76,7 @@ pub data Effected (job : Bytes) (config : Configuration) (c d e : Chronicle) : T
 pub record Base (job : Bytes) (config : Configuration) (c d : Chronicle) : Type 0 where
   pub like : Like job config c d
   pub rest : due (only job config) d ≡ []
-  pub calm : AllByRecursion (IsCalm job config d) (jobs_called job config.jobs)
-  pub facts : Facts job config
+  pub calm : IsCalm job config d
 
 or-none : (es others : List Entry) → or_else es others ≡ [] → es ≡ []
 or-none [] others none = refl
@@ -191,69 +188,47 @@ effect-spawned job config who its pid c d base = by_case (bytes_eq who.job job) 
         unnoticed job config g [] c d base other tt tt (no-asks job (Given g ∷ c) (Given g ∷ c) refl)
 
 -- an end or a refusal of one
-end-named : (job : Bytes) (config : Configuration) (given : Input) (who : Who) (its : Process) (how : End)
-    (c d : Chronicle) → bytes_eq who.job job ≡ true → Like job config c d
-    → Like job config (end_of (job_named who.job config.jobs) (instance_named who c) its how (Given given ∷ c)
-    ++ Given given ∷ c)
-    (end_of (job_named who.job (jobs_called job config.jobs)) (instance_named who d) its how (Given given ∷ d)
-    ++ Given given ∷ d)
-end-named job config given who its how c d is like =
-    by_found (found job config c d who.instance (instances_of job c) (instances_of job d) like.twins)
+end-named : (job : Bytes) (config : Configuration) (given : Input) (name : Bytes) (its : Process) (how : End)
+    (c d : Chronicle) → Like job config c d
+    → Like job config (end_by (called job name) its how (Given given ∷ c) ++ Given given ∷ c)
+    (end_by (called job name) its how (Given given ∷ d) ++ Given given ∷ d)
+end-named job config given name its how c d like =
+    subst (λ def. Like job config (end_by who its how e ++ e) (end_of def (instance_named who f) its how f ++ f))
+    (own_file-same job config e f name next)
+    (by_found (own_file who e) (found job config c d name (instances_of job c) (instances_of job d) like.twins))
   where
-    name : who.job ≡ job
-    name = bytes_same who.job job is
+    who : Who
+    who = called job name
 
-    defs : job_named who.job config.jobs ≡ job_named who.job (jobs_called job config.jobs)
-    defs = ap (λ k. job_named k config.jobs) name ∙ named-only job config.jobs
-        ∙ ap (λ k. job_named k (jobs_called job config.jobs)) (sym name)
+    e : Chronicle
+    e = Given given ∷ c
 
-    def : Option JobDef
-    def = job_named who.job config.jobs
+    f : Chronicle
+    f = Given given ∷ d
 
-    next : Like job config (Given given ∷ c) (Given given ∷ d)
+    next : Like job config e f
     next = like_given job config given c d like
 
-    whole : (o u : Option ℕ) → instance_named who c ≡ o → instance_named who d ≡ u
-        → Like job config (end_of def o its how (Given given ∷ c) ++ Given given ∷ c)
-        (end_of def u its how (Given given ∷ d) ++ Given given ∷ d)
-        → Like job config (end_of def (instance_named who c) its how (Given given ∷ c) ++ Given given ∷ c)
-        (end_of (job_named who.job (jobs_called job config.jobs)) (instance_named who d) its how
-        (Given given ∷ d) ++ Given given ∷ d)
-    whole o u left right done = rw (left, right, ← defs) done
-
-    none-like : (o : Option JobDef)
-        → Like job config (end_of o None its how (Given given ∷ c) ++ Given given ∷ c)
-        (end_of o None its how (Given given ∷ d) ++ Given given ∷ d)
+    none-like : (def : Option JobDef) → Like job config (end_of def None its how e ++ e) (end_of def None its how f ++ f)
     none-like None = next
-    none-like (Some its) = next
+    none-like (Some file) = next
 
-    by_found : Found who.instance (instances_of job c) (instances_of job d)
-        → Like job config (end_of def (instance_named who c) its how (Given given ∷ c) ++ Given given ∷ c)
-        (end_of (job_named who.job (jobs_called job config.jobs)) (instance_named who d) its how
-        (Given given ∷ d) ++ Given given ∷ d)
-    by_found (Neither none void) =
-        whole None None (ap (λ k. place_named who.instance (instances_of k c)) name ∙ none)
-        (ap (λ k. place_named who.instance (instances_of k d)) name ∙ void) (none-like def)
-    by_found (Two x y at left right) =
-        whole (Some x.place) (Some y.place) (ap (λ k. place_named who.instance (instances_of k c)) name
-        ∙ left) (ap (λ k. place_named who.instance (instances_of k d)) name ∙ right)
-        (pair_end job config def (Given given ∷ c) (Given given ∷ d) x y its how
-        (pair-at job config (Given given ∷ c) (Given given ∷ d) x y at next))
+    by_found : (def : Option JobDef) → Found name (instances_of job c) (instances_of job d)
+        → Like job config (end_of def (instance_named who e) its how e ++ e)
+        (end_of def (instance_named who f) its how f ++ f)
+    by_found def (Neither none void) = rw (none, void) (none-like def)
+    by_found def (Two x y at left right) =
+        rw (left, right) (pair_end job config def e f x y its how (pair-at job config e f x y at next))
 
 end-like : (job : Bytes) (config : Configuration) (given : Input) (who : Who) (its : Process) (how : End)
     (c d : Chronicle) → bytes_eq who.job job ≡ true → Like job config c d
     → Like job config (end_by who its how (Given given ∷ c) ++ Given given ∷ c)
     (end_by who its how (Given given ∷ d) ++ Given given ∷ d)
 end-like job config given who its how c d is like =
-    subst₂ (λ es fs. Like job config (es ++ Given given ∷ c) (fs ++ Given given ∷ d))
-    (sym (end_of-named config.jobs who its how (Given given ∷ c)
-    (subst (λ k. AreBy config.jobs k c) (sym name) (like-files job config c d like))))
-    (sym (end_of-named (jobs_called job config.jobs) who its how (Given given ∷ d)
-    (subst (λ k. AreBy (jobs_called job config.jobs) k d) (sym name) (like-files-there job config c d like))))
-    (end-named job config given who its how c d is like)
-  where
-    name : who.job ≡ job
-    name = bytes_same who.job job is
+    subst (λ (w : Who). Like job config (end_by w its how (Given given ∷ c) ++ Given given ∷ c)
+    (end_by w its how (Given given ∷ d) ++ Given given ∷ d))
+    (ap (λ k. called k who.instance) (sym (bytes_same who.job job is)))
+    (end-named job config given who.instance its how c d like)
 
 other-end : (job : Bytes) (given : Input) (who : Who) (c : Chronicle) → bytes_eq who.job job ≡ false → (i : ℕ)
     → instance_named who c ≡ Some i → IsOther job i (Given given ∷ c)

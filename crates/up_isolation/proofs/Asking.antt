@@ -11,10 +11,11 @@ use Rattle.up_model.specs.Configuration.{Configuration, job_named}
 use Rattle.up_model.specs.Instances.{Instance, instances_of}
 use Rattle.up_model.specs.Readings.{entry_at, holders}
 use Rattle.up_model.specs.Values.{Bytes, Bindings}
-use Rattle.up_model.proofs.FileLaws.{named-name, AreBy, reload_at-named, target_as-one, target_as_one}
+use Rattle.up_model.proofs.FileLaws.{named-name}
 use Rattle.up_model.proofs.Places.{bytes_same}
 use Rattle.up_model.proofs.NameLaws.{called}
-use Rattle.up_isolation.specs.Views.{jobs_called, was_asked}
+use Rattle.up_isolation.specs.Isolation.{jobs_called}
+use Rattle.up_isolation.specs.Views.{was_asked}
 use Rattle.up_isolation.specs.Parts.{contents}
 use Rattle.up_isolation.proofs.Lives.{Life}
 use Rattle.up_isolation.proofs.Twins.{Twins}
@@ -31,25 +32,25 @@ use Rattle.up_model.specs.Predicates.{entries_if}
 use Rattle.up_model.specs.Replies.{asked, unanswered}
 use Rattle.up_isolation.specs.Views.{Received, view}
 use Rattle.up_isolation.proofs.Twins.{At}
-use Rattle.up_isolation.proofs.Likes.{named-only, like-files, like-files-there}
+use Rattle.up_isolation.proofs.Likes.{named-only}
 use Rattle.up_isolation.proofs.Steps.{like_given}
-use Rattle.up_isolation.proofs.Offering.{pair-at, found, Found, Neither, Two}
+use Rattle.up_isolation.proofs.Offering.{pair-at, found, Found, Neither, Two, own_file-same, start_base-same}
 use Rattle.up_isolation.proofs.Ends.{IsMute}
 use Rattle.up_isolation.proofs.Hurry.{Waits}
 use Rattle.up_isolation.proofs.Acting.{Plain, None'}
 use Rattle.std.proofs.Common.{nat_lt, codes, lt-ltb}
 use Rattle.up_model.specs.Status.{who_name}
-use Rattle.up_text.specs.Expansion.{expand}
+use Rattle.up_text.specs.Expansion.{Expansion, Expands, Lacks, Malformed, expand}
 use Rattle.up_text.specs.Scripts.{is_filled}
 use Rattle.up_model.specs.declared.request.Command.{Command}
 use Rattle.up_model.specs.declared.request.Command.TheVariants as command
 use Rattle.up_model.specs.declared.state.Goal.TheVariants.{Start, Stop}
-use Rattle.up_model.specs.Commands.{Refused, Told as Said, Done, Target, Nobody, Concerns, request_env}
+use Rattle.up_model.specs.Commands.{Refused, Told as Said, Done, Target, Nobody, Concerns, target_as, request_env}
 use Rattle.up_model.specs.Commands.{target_in, target_of, start_at, start, stop_at, stop, is_running}
 use Rattle.up_model.specs.Commands.{restart_at, restart, reloading, reload_at, reload, status_at, status}
 use Rattle.up_model.specs.Commands.{holders_of, outcome_by}
 use Rattle.up_model.specs.Commands.{outcome_of, entries_of}
-use Rattle.up_model.specs.Environments.{env_of_job}
+use Rattle.up_model.specs.Environments.{env_of_job, start_base}
 use Rattle.up_model.specs.Events.{with_instance}
 use Rattle.up_model.specs.Files.{own_file}
 use Rattle.up_model.specs.Offers.{max_instances, start_of, stop_of}
@@ -76,13 +77,13 @@ use Rattle.up_isolation.proofs.Changing.{Acts, Does, Reply, Signal, Act, act-aim
 
 -- `start`
 does-start : (job : Bytes) (config : Configuration) (r q : ℕ) (its hers : List ℕ) (c d : Chronicle)
-    (def : JobDef) (name : Bytes) (environment : Bindings) → def.name ≡ job → job_named job config.jobs ≡ Some def
+    (def : JobDef) (name : Bytes) (environment : Bindings) → def.name ≡ job
     → contents its c ≡ contents hers d → AreOlder (length c) its → AreOlder (length d) hers
     → Acts job config r q c d
     → Does job config r q its hers c d
     (entries_of r (start_at its def (called job name) environment (instance_named (called job name) c) c))
     (entries_of q (start_at hers def (called job name) environment (instance_named (called job name) d) d))
-does-start job config r q its hers c d def name environment named in_force same older there acts =
+does-start job config r q its hers c d def name environment named same older there acts =
     by_found (found job config c d name (instances_of job c) (instances_of job d) acts.like.twins)
   where
     who : Who
@@ -100,7 +101,7 @@ does-start job config r q its hers c d def name environment named in_force same 
         subst₂ (λ (es fs : List Entry). Does job config r q its hers c d es fs)
         (ap (λ b. entries_if b (Aimed (length c) Start environment its ∷ Made def name ∷ [])) (sym left))
         (ap (λ b. entries_if b (Aimed (length d) Start environment hers ∷ Made def name ∷ [])) (sym right))
-        (act-new job config r q its hers c d def name environment named in_force none same older there acts)
+        (act-new job config r q its hers c d def name environment named none same older there acts)
     by_room none false false left right equal = Reply _ refl refl
     by_room none true false left right equal = absurd (cc)
     by_room none false true left right equal = absurd (cc)
@@ -258,7 +259,7 @@ does-reload-by job config def r q its hers c d name acts =
         (is_running (state_of y.place d) && lives y.place Main d)
         (ap (λ (l : Life). is_running l.state && is_some (l.pid Main)) pair.twin.bond.alike))
 
--- by the files that the instances have
+-- by the file that the instance has
 does-reload : (job : Bytes) (config : Configuration) (r q : ℕ) (its hers : List ℕ) (c d : Chronicle)
     (name : Bytes) → Acts job config r q c d
     → Does job config r q its hers c d
@@ -267,11 +268,11 @@ does-reload : (job : Bytes) (config : Configuration) (r q : ℕ) (its hers : Lis
     (entries_of q (reload_at q (own_file (called job name) d) (called job name)
     (instance_named (called job name) d) d))
 does-reload job config r q its hers c d name acts =
-    subst₂ (λ one other. Does job config r q its hers c d (entries_of r one) (entries_of q other))
-    (sym (reload_at-named config.jobs r who c (like-files job config c d acts.like)))
-    (sym (reload_at-named (jobs_called job config.jobs) q who d (like-files-there job config c d acts.like)
-    ∙ ap (λ file. reload_at q file who (instance_named who d) d) (sym (named-only job config.jobs))))
-    (by_file (job_named job config.jobs))
+    subst (λ file. Does job config r q its hers c d
+    (entries_of r (reload_at r (own_file who c) who (instance_named who c) c))
+    (entries_of q (reload_at q file who (instance_named who d) d)))
+    (own_file-same job config c d name acts.like)
+    (by_file (own_file who c))
   where
     who : Who
     who = called job name
@@ -327,30 +328,34 @@ does-status job config def r q its hers c d name acts =
 
 -- whom it names is the same
 target-same : (job : Bytes) (config : Configuration) (name : Bytes) (vars : Bindings) (c d : Chronicle)
-    → name ≡ job → AreBy config.jobs job c → AreBy (jobs_called job config.jobs) job d
-    → target_of config name vars c ≡ target_of (only job config) name vars d
-target-same job config name vars c d is by by_there =
+    → name ≡ job → Like job config c d → target_of config name vars c ≡ target_of (only job config) name vars d
+target-same job config name vars c d is like =
     by_job (job_named name config.jobs) refl ∙ ap (λ o. target_in (only job config) name o vars d) defs
   where
     defs : job_named name config.jobs ≡ job_named name (jobs_called job config.jobs)
     defs = ap (λ k. job_named k config.jobs) is ∙ named-only job config.jobs
         ∙ ap (λ k. job_named k (jobs_called job config.jobs)) (sym is)
 
+    by_text : (def : JobDef) → def.name ≡ job → (x : Expansion)
+        → target_as config def vars x c ≡ target_as (only job config) def vars x d
+    by_text def own (Expands text) =
+        ap (λ base. Concerns def (called def.name text) (set_all base vars))
+        (subst (λ k. start_base config (called k text) c ≡ start_base (only job config) (called k text) d) (sym own)
+        (start_base-same job config c d text like))
+    by_text def own (Lacks key) = refl
+    by_text def own Malformed = refl
+
     by_job : (o : Option JobDef) → job_named name config.jobs ≡ o
         → target_in config name o vars c ≡ target_in (only job config) name o vars d
     by_job None some = refl
     by_job (Some def) some =
-        let called : def.name ≡ job = named-name name config.jobs def some ∙ is in
+        let own : def.name ≡ job = named-name name config.jobs def some ∙ is in
         let same : env_of_job config def.name ≡ env_of_job (only job config) def.name =
-        ap (λ k. env_of_job config k) called ∙ env-only job config ∙ ap (λ k. env_of_job (only job config) k)
-        (sym called) in
-        target_as-one config def vars (expand def.instance (request_env config def vars)) c
-        (subst (λ k. AreBy config.jobs k c) (sym called) by)
-        ∙ ap (λ (environment : Bindings). target_as_one def (set_all environment vars)
-        (expand def.instance (set_all environment vars))) same
-        ∙ sym (target_as-one (only job config) def vars
-        (expand def.instance (request_env (only job config) def vars)) d
-        (subst (λ k. AreBy (jobs_called job config.jobs) k d) (sym called) by_there))
+        ap (λ k. env_of_job config k) own ∙ env-only job config ∙ ap (λ k. env_of_job (only job config) k)
+        (sym own) in
+        by_text def own (expand def.instance (request_env config def vars))
+        ∙ ap (λ (environment : Bindings). target_as (only job config) def vars
+        (expand def.instance (set_all environment vars)) d) same
 
 whom : (job : Bytes) (who : Who) → who.job ≡ job → called job who.instance ≡ who
 whom job who is = ap (λ (k : Bytes). called k who.instance) (sym is)
@@ -382,8 +387,7 @@ does-outcome job config r q request c d asks same older there acts = by_command 
     target = target_of config request.name request.vars c
 
     target_there : target ≡ target_of (only job config) request.name request.vars d
-    target_there = target-same job config request.name request.vars c d name (like-files job config c d acts.like)
-        (like-files-there job config c d acts.like)
+    target_there = target-same job config request.name request.vars c d name acts.like
 
     whose : (t : Target) → target ≡ t → (def : JobDef) (who : Who) (environment : Bindings)
         → t ≡ Concerns def who environment → who.job ≡ job
@@ -400,12 +404,8 @@ does-outcome job config r q request c d asks same older there acts = by_command 
         (whom job who (whose (Concerns def who environment) is def who environment refl))
         (does-start job config r q its hers c d def who.instance
         (with_instance (called job who.instance) environment)
-        (named-name request.name config.jobs def (file is def who environment refl) ∙ name)
-        (ap (λ k. job_named k config.jobs) (sym name) ∙ file is def who environment refl) same older there acts)
-      where
-        file : target ≡ Concerns def who environment → (its : JobDef) (w : Who) (env : Bindings)
-            → Concerns def who environment ≡ Concerns its w env → job_named request.name config.jobs ≡ Some its
-        file is its w env some = target-file config request.name request.vars c its w env (is ∙ some)
+        (named-name request.name config.jobs def
+        (target-file config request.name request.vars c def who environment is) ∙ name) same older there acts)
 
     stops : (t : Target) → target ≡ t
         → Does job config r q its hers c d (entries_of r (stop its request.vars t c))

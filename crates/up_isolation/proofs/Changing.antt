@@ -7,7 +7,7 @@ use Rattle.up_conf.specs.declared.job.JobDef.{JobDef}
 use Rattle.up_model.specs.declared.request.Answer.{Answer}
 use Rattle.up_model.specs.declared.state.Goal.{Goal}
 use Rattle.up_model.specs.Chronicle.{Chronicle, Entry, Made, Aimed, Restarted, Replied}
-use Rattle.up_model.specs.Configuration.{Configuration, job_named}
+use Rattle.up_model.specs.Configuration.{Configuration}
 use Rattle.up_model.specs.Instances.{Instance, instances_of}
 use Rattle.up_model.specs.Readings.{holders}
 use Rattle.up_model.specs.Values.{Bytes, Bindings}
@@ -181,15 +181,15 @@ act-restarted job config r q its hers c d x y at same older there acts =
         (later-older hers d (releasing y.place false d) there) next)
 
 pub act-new : (job : Bytes) (config : Configuration) (r q : ℕ) (its hers : List ℕ) (c d : Chronicle)
-    (def : JobDef) (name : Bytes) (environment : Bindings) → def.name ≡ job → job_named job config.jobs ≡ Some def
+    (def : JobDef) (name : Bytes) (environment : Bindings) → def.name ≡ job
     → instance_named (called job name) c ≡ None
     → contents its c ≡ contents hers d → AreOlder (length c) its → AreOlder (length d) hers
     → Acts job config r q c d
     → Does job config r q its hers c d (Aimed (length c) Start environment its ∷ Made def name ∷ [])
     (Aimed (length d) Start environment hers ∷ Made def name ∷ [])
-act-new job config r q its hers c d def name environment named in_force none same older there acts =
+act-new job config r q its hers c d def name environment named none same older there acts =
     Act (instance-at (length c) name def) (instance-at (length d) name def)
-    (pair_start_new job config c d def name environment its hers named in_force same older there none acts.like) refl refl
+    (pair_start_new job config c d def name environment its hers named same older there none acts.like) refl refl
     acts.unsaid acts.unsaid_there
     (λ empty. subst (λ (ps : List ℕ). Held job r (Aimed (length c) Start environment ps ∷ Made def name ∷ c)
     (Aimed (length d) Start environment hers ∷ Made def name ∷ d)) (sym empty)

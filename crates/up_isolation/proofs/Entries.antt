@@ -21,7 +21,7 @@ use Rattle.up_model.specs.Values.{Bytes, Bindings}
 use Rattle.up_model.proofs.NameLaws.{called}
 use Rattle.up_isolation.specs.Views.{owns}
 use Rattle.up_isolation.specs.Parts as parts
-use Rattle.up_isolation.specs.Parts.{Content, contents, content, Item, items, items_if, is_named_event}
+use Rattle.up_isolation.specs.Parts.{Content, contents, content, Item, items, items_if}
 use Rattle.up_isolation.specs.Parts.{name_at}
 use Rattle.up_isolation.proofs.Lives.{Life, life}
 use Rattle.up_isolation.proofs.Lives as lives
@@ -38,7 +38,7 @@ pair_queued job config c d x y to event other same pair =
     pair_more job config (Queued (Entering x.place to) event) (Queued (Entering y.place to) other) c d x y
     pair refl refl tt tt pair.left.0 pair.right.0 tt
     (bond-life job config (Queued (Entering x.place to) event) (Queued (Entering y.place to) other) c d
-    x.place y.place pair.twin.bond
+    x.file x.place y.place pair.twin.bond
     (lives.queued x.place y.place c d to event other pair.twin.bond.alike) refl refl refl refl)
     (record {
       notices = refl;
@@ -69,7 +69,7 @@ pub pair_ordered : (job : Bytes) (config : Configuration) (c d : Chronicle) (x y
 pair_ordered job config c d x y its pair =
     pair_more job config (Ordered x.place its) (Ordered y.place its) c d x y pair refl refl tt tt pair.left.0
     pair.right.0 tt
-    (bond-life job config (Ordered x.place its) (Ordered y.place its) c d x.place y.place pair.twin.bond
+    (bond-life job config (Ordered x.place its) (Ordered y.place its) c d x.file x.place y.place pair.twin.bond
     (lives.ordered x.place y.place c d its pair.twin.bond.alike) refl refl refl refl)
     (shows-item job config (Ordered x.place its) (Ordered y.place its) c d x y
     (λ name. parts.Ordered name its) pair refl
@@ -77,7 +77,7 @@ pair_ordered job config c d x y its pair =
     (order_of x.place its c) (order_of y.place its d)
     (own-true job c x pair.left) (own-true job d y pair.right)
     (order-same its x.file (file_of x.place c) (file_of y.place d) (called job x.name) (made_at x.place c) (made_at y.place d)
-    (process_env x.place its c) (process_env y.place its d) pair.left.2 (pair.right.2 ∙ ap Some (sym pair.twin.file.1)) pair.left.1
+    (process_env x.place its c) (process_env y.place its d) pair.left.2 (pair.right.2 ∙ ap Some (sym pair.twin.file)) pair.left.1
     (sym (made-same job config c d x y pair) ∙ pair.left.1)
     (env-same its x.place y.place c d pair.twin.bond.alike)))
     refl refl)
@@ -90,7 +90,7 @@ pub pair_signalled : (job : Bytes) (config : Configuration) (c d : Chronicle) (x
 pair_signalled job config c d x y signal by_timer pair =
     pair_more job config (Signalled x.place signal by_timer) (Signalled y.place signal by_timer) c d x y pair
     refl refl tt tt pair.left.0 pair.right.0 tt
-    (bond-life job config (Signalled x.place signal by_timer) (Signalled y.place signal by_timer) c d x.place
+    (bond-life job config (Signalled x.place signal by_timer) (Signalled y.place signal by_timer) c d x.file x.place
     y.place pair.twin.bond
     (lives.signalled x.place y.place c d signal by_timer pair.like.today pair.twin.bond.alike) refl refl refl
     refl)
@@ -199,7 +199,7 @@ pub pair_entered : (job : Bytes) (config : Configuration) (c d : Chronicle) (x y
 pair_entered job config c d x y to plain pair =
     pair_more job config (Entered x.place to) (Entered y.place to) c d x y pair refl refl
     (is_plain to plain x.place) (is_plain to plain y.place) pair.left.0 pair.right.0 tt
-    (bond-life job config (Entered x.place to) (Entered y.place to) c d x.place y.place pair.twin.bond
+    (bond-life job config (Entered x.place to) (Entered y.place to) c d x.file x.place y.place pair.twin.bond
     (lives.entered x.place y.place c d to pair.twin.bond.alike) refl refl refl refl)
     (shows-item job config (Entered x.place to) (Entered y.place to) c d x y (λ name. parts.Entered name to)
     pair refl refl refl refl)

@@ -8,6 +8,8 @@ use Rattle.up_model.specs.declared.event.Event.{Event}
 use Rattle.up_model.specs.declared.input.Input.{Input}
 use Rattle.up_model.specs.declared.input.Input.TheVariants as input
 use Rattle.up_model.specs.declared.output.Output.TheVariants as output
+use Rattle.up_model.specs.declared.request.Command.TheVariants.{Start}
+use Rattle.up_model.specs.Requests.{RequestValue}
 use Rattle.up_model.specs.Answers.{after, after_all, is_expected}
 use Rattle.up_model.specs.Configuration.{Configuration}
 use Rattle.up_model.specs.Due.{due, effect}
@@ -78,7 +80,30 @@ alone_noticed : view (codes "a") alone_jobs
 unfolding view after_all after is_expected due effect work settle expansion.expand
 alone_noticed = refl
 
-start_it : deeds (codes "a") two_jobs (after_all two_jobs [] (input.Emit go ∷ input.Turn ∷ []))
+-- `stop on go`, `exec /bin/d`
+abbrev job_off_go : Bytes → JobDef
+job_off_go name = record (job_on_go name) { start_on = None; stop_on = Some (One (record { event = codes "go"; values = [] })) }
+
+abbrev off_jobs : Configuration
+off_jobs = record { base = []; jobs = job_off_go (codes "c") ∷ [] }
+
+-- an event that a `stop on` alone names comes to no notice of a job without an instance
+unheard : view (codes "c") off_jobs (after_all off_jobs [] (input.Emit go ∷ input.Turn ∷ [])) ≡ []
+unfolding view after_all after is_expected due effect work settle expansion.expand
+unheard = refl
+
+abbrev start_c : RequestValue
+start_c = record { command = Start; name = codes "c"; vars = []; wait = false }
+
+-- but of one that has an instance
+heard : view (codes "c") off_jobs
+    (after_all off_jobs [] (input.Request 1 start_c ∷ input.Emit go ∷ input.Turn ∷ input.Turn ∷ input.Turn ∷ []))
+    ≡ Arrived go ∷ Unblocked [] ∷ Received (input.Request 1 start_c) ∷ []
+unfolding view after_all after is_expected due effect work settle expansion.expand
+heard = refl
+
+-- the event of its start is its deed
+start_it : deeds (codes "a") (after_all two_jobs [] (input.Emit go ∷ input.Turn ∷ []))
     ≡ output.Emitted of_a ∷ []
 unfolding deeds after_all after is_expected due effect work settle expansion.expand
 start_it = refl

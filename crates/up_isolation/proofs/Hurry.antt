@@ -1,5 +1,5 @@
 -- A step of a request that names the job and doesn't wait: its answer comes last, and says the same.
-use Rattle.std.proofs.Common.{◌≡◌, ℕ, ◌<◌, ◌==◌, Bool, true, false, ◌&&◌, List, [], ◌∷◌, ◌++◌, Option, None}
+use Rattle.std.proofs.Common.{◌≡◌, ℕ, ◌<◌, ◌==◌, inl, Bool, true, false, ◌&&◌, List, [], ◌∷◌, ◌++◌, Option, None}
 use Rattle.std.proofs.Common.{Some, length, if◌then◌else◌, refl, sym, ◌∙◌, ap, subst, subst₂, arith, eq-eqb}
 use Rattle.std.proofs.Common.{ne_eqb}
 use Rattle.std.specs.List.{AllByRecursion}
@@ -9,8 +9,8 @@ use Rattle.up_stanza.specs.declared.process.Process.TheVariants.{Main}
 use Rattle.up_model.specs.declared.request.Answer.{Answer}
 use Rattle.up_model.specs.declared.state.State.{State}
 use Rattle.up_model.specs.declared.who.Who.{Who}
-use Rattle.up_model.specs.Chronicle.{Chronicle, Entry, Given, Queued, Finished, Aimed, Restarted, Released}
-use Rattle.up_model.specs.Chronicle.{Entered, Ordered, Signalled, Replied}
+use Rattle.up_model.specs.Chronicle.{Chronicle, Entry, Given, Queued, Offered, Finished, Aimed, Restarted, Released}
+use Rattle.up_model.specs.Chronicle.{Entered, Ordered, Signalled, Replied, StopOn}
 use Rattle.up_model.specs.Configuration.{Configuration}
 use Rattle.up_model.specs.Instances.{Instance, instances_of}
 use Rattle.up_model.specs.Readings.{entry_at, holders}
@@ -51,10 +51,10 @@ use Rattle.up_model.specs.Moves.{next_of}
 use Rattle.up_model.specs.Readings.{state_of, lives}
 use Rattle.up_model.specs.Replies.{status_of, answering_one, answering}
 use Rattle.up_model.specs.Requests.{RequestValue}
-use Rattle.up_isolation.proofs.Likes.{Spares, spares, FreesNot, twin-spared}
+use Rattle.up_isolation.proofs.Likes.{Spares, spares, PassesBy, twin-spared}
 use Rattle.up_isolation.proofs.Others.{like_replied}
 use Rattle.up_isolation.proofs.Releases.{status-same}
-use Rattle.up_isolation.proofs.Acting.{Plain, None', Facts, plain-settle, settle-near}
+use Rattle.up_isolation.proofs.Acting.{Plain, None', plain-settle, settle-near}
 
 -- places below one
 abbrev pub below : ℕ → List ℕ → Bool
@@ -289,14 +289,15 @@ waits-moved job config def c d r q x y u v at waits = record {
     flip same = same
 
 -- and by moves of others
-strange-frees : (job : Bytes) (e : Entry) (c : Chronicle) (x : Instance) → IsStrange job e c → FreesNot e c x
-strange-frees job (Finished event) c x is = absurd is
-strange-frees job e c x is = tt
+strange-passes : (job : Bytes) (e : Entry) (c : Chronicle) (x : Instance) → IsStrange job e c → PassesBy job e c x
+strange-passes job (Finished event) c x is = absurd is
+strange-passes job (Offered (StopOn i) event) c x is = inl is.0
+strange-passes job e c x is = tt
 
 spares-of : (job : Bytes) (config : Configuration) (e : Entry) (c : Chronicle) (x : Instance)
     → IsKnown job c x → IsStrange job e c → Spares job config e c x
 spares-of job config e c x known is =
-    spares job config e c x known (strange-foreign job config e c is) (strange-frees job e c x is)
+    spares job config e c x known (strange-foreign job config e c is) (strange-passes job e c x is)
 
 guest-strange : (job : Bytes) (config : Configuration) (e : Entry) (c d : Chronicle) (x y : Instance)
     → IsStrange job e c → Guest job config c d x y → Guest job config (e ∷ c) d x y
@@ -473,19 +474,19 @@ waits-due job config c d r q x y waits = by_moves (moves-first job config config
 
 -- so it comes to rest
 pub waits-settle : (n : ℕ) (job : Bytes) (config : Configuration) (c d : Chronicle) (r q : ℕ) (x y : Instance)
-    → Facts job config → Waits job config c d r q x y → due config (settle n config c) ≡ []
+    → Waits job config c d r q x y → due config (settle n config c) ≡ []
     → Like job config (settle n config c) (settle (work (only job config) d) (only job config) d)
 unfolding settle
-waits-settle zero job config c d r q x y facts waits none = by_went (waits-due job config c d r q x y waits)
+waits-settle zero job config c d r q x y waits none = by_went (waits-due job config c d r q x y waits)
   where
     by_went : Went job config c d r q x y
         → Like job config c (settle (work (only job config) d) (only job config) d)
     by_went (Away some next) = absurd (some none)
     by_went (Together some other next) = absurd (some none)
     by_went (Last some other next) = absurd (some none)
-waits-settle (suc n) job config c d r q x y facts waits none =
+waits-settle (suc n) job config c d r q x y waits none =
     by_went (waits-due job config c d r q x y waits)
-    (λ e next. waits-settle n job config (due config c ++ c) e r q x y facts next none)
+    (λ e next. waits-settle n job config (due config c ++ c) e r q x y next none)
   where
     by_went : Went job config c d r q x y
         → ((e : Chronicle) → Waits job config (due config c ++ c) e r q x y
@@ -500,4 +501,4 @@ waits-settle (suc n) job config c d r q x y facts waits none =
     by_went (Last some other after) next =
         subst (λ (t : Chronicle). Like job config (settle n config (due config c ++ c)) t)
         (settle-near (only job config) d other)
-        (plain-settle n job config (due config c ++ c) (due (only job config) d ++ d) facts after none)
+        (plain-settle n job config (due config c ++ c) (due (only job config) d ++ d) after none)

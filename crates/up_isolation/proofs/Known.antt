@@ -3,6 +3,7 @@ use Rattle.std.proofs.Common.{◌≡◌, ℕ, ◌<◌, ◌≤◌, ◌==◌, Bool
 use Rattle.std.proofs.Common.{Some, length, if◌then◌else◌, bytes_eq, refl, ◌∙◌, ap, subst, arith, eq-eqb}
 use Rattle.std.proofs.Common.{eqb-true}
 use Rattle.std.specs.List.{AllByRecursion}
+use Rattle.up_conf.specs.declared.job.JobDef.{JobDef}
 use Rattle.up_model.specs.declared.event.Event.{Event}
 use Rattle.up_model.specs.declared.state.State.TheVariants as state
 use Rattle.up_model.specs.Chronicle.{Chronicle, Entry, Offered, Fired, Made, Entered, Expression}
@@ -20,6 +21,10 @@ use Rattle.up_isolation.proofs.Sights.{AreKnown, event_of_sight}
 -- an instance that was made at its place, under its name and by its file
 abbrev pub IsKnown : Bytes → Chronicle → Instance → Type 0
 IsKnown job c x = (x.place < length c) × (made_at x.place c ≡ Some (called job x.name)) × (file_of x.place c ≡ Some x.file)
+
+-- an instance has one file
+pub one-file : (o : Option JobDef) (file other : JobDef) → o ≡ Some file → o ≡ Some other → file ≡ other
+one-file o file other is are = cc
 
 pub known-later : (job : Bytes) (e : Entry) (c : Chronicle) (xs : List Instance)
     → AllByRecursion (IsKnown job c) xs → AllByRecursion (IsKnown job (e ∷ c)) xs

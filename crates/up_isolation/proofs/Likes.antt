@@ -1,10 +1,11 @@
 -- A chronicle and one of the job alone, in which the job is alike; an entry that isn't about the job leaves
 -- that so.
-use Rattle.std.proofs.Common.{◌≡◌, ℕ, ◌<◌, ◌≤◌, ◌==◌, ◌⊎◌, inl, inr, Bool, true, false, List, [], ◌∷◌, ◌++◌}
+use Rattle.std.proofs.Common.{◌≡◌, ℕ, ◌<◌, ◌≤◌, ◌==◌, ◌||◌, ◌⊎◌, inl, inr, Bool, true, false, List, [], ◌∷◌, ◌++◌}
 use Rattle.std.proofs.Common.{Option, None, Some, is_some, length, if◌then◌else◌, bytes_eq, refl, sym, ◌∙◌}
-use Rattle.std.proofs.Common.{ap, subst, arith, ne_eqb, append-nil}
+use Rattle.std.proofs.Common.{ap, ap₂, subst, arith, ne_eqb, append-nil}
 use Rattle.std.specs.List.{AllByRecursion}
 use Rattle.up_conf.specs.declared.job.JobDef.{JobDef}
+use Rattle.up_expr.specs.Trees.{Tree}
 use Rattle.up_expr.specs.Truth.{Sight}
 use Rattle.up_stanza.specs.declared.process.Process.{Process}
 use Rattle.up_model.specs.declared.event.Event.{Event}
@@ -16,18 +17,20 @@ use Rattle.up_model.specs.Chronicle.{Aimed, Restarted, Released, Failed, Respawn
 use Rattle.up_model.specs.Chronicle.{Signalled, Replied, Entering, Outside, Spoilt, StartOn, StopOn}
 use Rattle.up_model.specs.Clock.{now}
 use Rattle.up_model.specs.Configuration.{Configuration, job_named}
+use Rattle.up_model.specs.Held.{start_on_of}
 use Rattle.up_model.specs.Instances.{Instance, without_instance, instances_of, instance_named}
 use Rattle.up_model.specs.Readings.{entry_at, made_at, event_at, blocker, without, holders, speaks_of}
 use Rattle.up_model.specs.Replies.{request_at}
 use Rattle.up_model.specs.Seen.{seen, sight_of, env_of}
 use Rattle.up_model.specs.Values.{Bytes, Bindings}
-use Rattle.up_model.proofs.FileLaws.{AreBy}
+use Rattle.up_model.proofs.FileLaws.{all-weaker}
 use Rattle.up_model.proofs.Places.{bytes_refl, older-other}
 use Rattle.up_model.proofs.NameLaws.{called, Singles, entered-singles, made-singles}
-use Rattle.up_isolation.specs.Views.{Unblocked, jobs_called, is_named, concerns, is_blocked_by, unblocked}
-use Rattle.up_isolation.specs.Views.{arrivals, is_of, owns, was_asked, deeds}
+use Rattle.up_isolation.specs.Isolation.{jobs_called}
+use Rattle.up_isolation.specs.Views.{Arrived, Unblocked, stands_in, stands_in_stops, hears, concerns}
+use Rattle.up_isolation.specs.Views.{is_blocked_by, unblocked, arrivals, is_of, owns, was_asked, deeds}
 use Rattle.up_isolation.specs.Parts as parts
-use Rattle.up_isolation.specs.Parts.{Content, contents, content, Item, items, items_if, is_named_event}
+use Rattle.up_isolation.specs.Parts.{Content, contents, content, Item, items, items_if, hears_event}
 use Rattle.up_isolation.specs.Parts.{owns_expression, part, noticed}
 use Rattle.up_isolation.proofs.Lives.{Life, life, IsAside, aside, IsOld}
 use Rattle.up_isolation.proofs.Lives as lives
@@ -39,20 +42,19 @@ use Rattle.up_isolation.proofs.Known.{IsKnown, known, AreOlder, contents-later, 
 abbrev pub only : Bytes → Configuration → Configuration
 only job config = record { base = config.base; jobs = jobs_called job config.jobs }
 
--- two instances, by their places, that are alike
-pub record Bond (job : Bytes) (config : Configuration) (c d : Chronicle) (i j : ℕ) : Type 0 where
+-- two instances of this file, by their places, that are alike
+pub record Bond (job : Bytes) (config : Configuration) (c d : Chronicle) (file : JobDef) (i j : ℕ) : Type 0 where
   pub alike : life i c ≡ life j d
   pub held : contents (holders i c) c ≡ contents (holders j d) d
   pub older : AreOlder (length c) (holders i c)
   pub older_there : AreOlder (length d) (holders j d)
-  pub sights : told (jobs_called job config.jobs) (seen config (StopOn i) c)
-      ≡ told (jobs_called job config.jobs) (seen (only job config) (StopOn j) d)
+  pub sights : told file.stop_on (seen config (StopOn i) c) ≡ told file.stop_on (seen (only job config) (StopOn j) d)
 
--- and have one name, and one file, which is the job's
+-- and have one name and one file
 pub record Twin (job : Bytes) (config : Configuration) (c d : Chronicle) (x y : Instance) : Type 0 where
   pub name : x.name ≡ y.name
-  pub file : (job_named job config.jobs ≡ Some x.file) × (x.file ≡ y.file)
-  pub bond : Bond job config c d x.place y.place
+  pub file : x.file ≡ y.file
+  pub bond : Bond job config c d x.file x.place y.place
 
 -- nothing is read of what isn't made yet
 pub record BlankAt (config : Configuration) (p : ℕ) (c : Chronicle) : Type 0 where
@@ -78,17 +80,21 @@ pub record Fair (job : Bytes) (c : Chronicle) : Type 0 where
   pub holders : (i : ℕ) → owns job i c ≡ false → AreForeign job c (holders i c)
   pub outer : (p : ℕ) → IsOuter job (entry_at p c) c
 
+-- the `start on` of the job's file in force
+abbrev pub start_tree : Bytes → Configuration → Option Tree
+start_tree job config = start_on_of (job_named job config.jobs)
+
 pub record Like (job : Bytes) (config : Configuration) (c d : Chronicle) : Type 0 where
   pub twins : Twins (Twin job config c d) (instances_of job c) (instances_of job d)
-  pub starts : told (jobs_called job config.jobs) (seen config (StartOn job) c)
-      ≡ told (jobs_called job config.jobs) (seen (only job config) (StartOn job) d)
+  pub starts : told (start_tree job config) (seen config (StartOn job) c)
+      ≡ told (start_tree job config) (seen (only job config) (StartOn job) d)
   pub today : now c ≡ now d
   pub blank : Blank config c
   pub empty : Blank (only job config) d
   pub fair : Fair job c
   pub singles : Singles c
   pub part : part job config c ≡ part job (only job config) d
-  pub deeds : deeds job config c ≡ deeds job (only job config) d
+  pub deeds : deeds job c ≡ deeds job d
 
 -- the job has the same file alone
 pub named-only : (job : Bytes) (jobs : List JobDef)
@@ -103,30 +109,44 @@ named-only job (its ∷ jobs) = by_case (bytes_eq its.name job) refl (named-only
     by_case true is ih = rw is refl
     by_case false is ih = ih
 
--- so the instances have that file
-pub files-of : (job : Bytes) (config : Configuration) (s t : Chronicle) (xs ys : List Instance) → Twins (Twin job config s t) xs ys
-    → AllByRecursion (λ x. job_named job config.jobs ≡ Some x.file) xs
-files-of job config s t [] [] twins = tt
-files-of job config s t (x ∷ xs) (y ∷ ys) twins = (twins.0.file.0, files-of job config s t xs ys twins.1)
-files-of job config s t [] (y ∷ ys) twins = absurd twins
-files-of job config s t (x ∷ xs) [] twins = absurd twins
+-- so it hears the same in both
+stops-same : (job : Bytes) (config : Configuration) (s t : Chronicle) (event : Bytes) (xs ys : List Instance)
+    → Twins (Twin job config s t) xs ys → stands_in_stops event xs ≡ stands_in_stops event ys
+stops-same job config s t event [] [] twins = refl
+stops-same job config s t event (x ∷ xs) (y ∷ ys) twins =
+    ap₂ (λ (file : JobDef) b. stands_in event file.stop_on || b) twins.0.file
+    (stops-same job config s t event xs ys twins.1)
+stops-same job config s t event [] (y ∷ ys) twins = absurd twins
+stops-same job config s t event (x ∷ xs) [] twins = absurd twins
 
-pub files-there : (job : Bytes) (config : Configuration) (s t : Chronicle) (xs ys : List Instance) → Twins (Twin job config s t) xs ys
-    → AllByRecursion (λ y. job_named job (jobs_called job config.jobs) ≡ Some y.file) ys
-files-there job config s t [] [] twins = tt
-files-there job config s t (x ∷ xs) (y ∷ ys) twins = (
-  sym (named-only job config.jobs) ∙ twins.0.file.0 ∙ ap Some twins.0.file.1,
-  files-there job config s t xs ys twins.1,
-)
-files-there job config s t [] (y ∷ ys) twins = absurd twins
-files-there job config s t (x ∷ xs) [] twins = absurd twins
+hears-same : (job : Bytes) (config : Configuration) (c d : Chronicle) (event : Bytes) → Like job config c d
+    → hears job config event c ≡ hears job (only job config) event d
+hears-same job config c d event like =
+    ap₂ (λ file b. stands_in event (start_on_of file) || b) (named-only job config.jobs)
+    (stops-same job config c d event (instances_of job c) (instances_of job d) like.twins)
 
-pub like-files : (job : Bytes) (config : Configuration) (c d : Chronicle) → Like job config c d → AreBy config.jobs job c
-like-files job config c d like = files-of job config c d (instances_of job c) (instances_of job d) like.twins
+pub hears_event-same : (job : Bytes) (config : Configuration) (c d : Chronicle) (o u : Option Event) → o ≡ u
+    → Like job config c d → hears_event job config o c ≡ hears_event job (only job config) u d
+hears_event-same job config c d o u same like = by_event o ∙ ap (λ its. hears_event job (only job config) its d) same
+  where
+    by_event : (its : Option Event) → hears_event job config its c ≡ hears_event job (only job config) its d
+    by_event None = refl
+    by_event (Some event) = hears-same job config c d event.name like
 
-pub like-files-there : (job : Bytes) (config : Configuration) (c d : Chronicle) → Like job config c d
-    → AreBy (jobs_called job config.jobs) job d
-like-files-there job config c d like = files-there job config c d (instances_of job c) (instances_of job d) like.twins
+pub arrivals-same : (job : Bytes) (config : Configuration) (c d : Chronicle) (o u : Option Event) → o ≡ u
+    → Like job config c d → arrivals job config o c ≡ arrivals job (only job config) u d
+arrivals-same job config c d o u same like = by_event o ∙ ap (λ its. arrivals job (only job config) its d) same
+  where
+    by_event : (its : Option Event) → arrivals job config its c ≡ arrivals job (only job config) its d
+    by_event None = refl
+    by_event (Some event) = ap (λ b. if b then Arrived event ∷ [] else []) (hears-same job config c d event.name like)
+
+-- what it hears depends on its instances
+pub hears_event-kept : (job : Bytes) (config : Configuration) (o : Option Event) (c e : Chronicle)
+    → instances_of job e ≡ instances_of job c → hears_event job config o e ≡ hears_event job config o c
+hears_event-kept job config None c e same = refl
+hears_event-kept job config (Some event) c e same =
+    ap (λ xs. stands_in event.name (start_tree job config) || stands_in_stops event.name xs) same
 
 -- an instance that isn't the job's
 abbrev pub IsOther : Bytes → ℕ → Chronicle → Type 0
@@ -139,12 +159,12 @@ IsForeign job config (Queued (Entering i to) event) c = IsOther job i c
 IsForeign job config (Queued (Outside given) event) c =
     (given < length c) × (was_asked job (request_at given c) ≡ false)
 IsForeign job config (Queued (Spoilt spoilt) event) c = Unit {0}
-IsForeign job config (Handled event) c = arrivals (jobs_called job config.jobs) (event_at event c) ≡ []
+IsForeign job config (Handled event) c = arrivals job config (event_at event c) c ≡ []
 IsForeign job config (Finished event) c = unblocked event (instances_of job c) c ≡ []
 IsForeign job config (Offered (StartOn other) event) c =
-    (bytes_eq other job ≡ false) ⊎ (is_named_event (jobs_called job config.jobs) (event_at event c) ≡ false)
+    (bytes_eq other job ≡ false) ⊎ (hears_event job config (event_at event c) c ≡ false)
 IsForeign job config (Offered (StopOn i) event) c = (i < length c)
-    × ((owns job i c ≡ false) ⊎ (is_named_event (jobs_called job config.jobs) (event_at event c) ≡ false))
+    × ((owns job i c ≡ false) ⊎ (hears_event job config (event_at event c) c ≡ false))
 IsForeign job config (Fired (StartOn other) taken) c = bytes_eq other job ≡ false
 IsForeign job config (Fired (StopOn i) taken) c = owns job i c ≡ false
 IsForeign job config (Made file name) c =
@@ -171,44 +191,84 @@ pub record Spares (job : Bytes) (config : Configuration) (e : Entry) (c : Chroni
   where
     pub aside : IsAside x.place e c
     pub holders : holders x.place (e ∷ c) ≡ holders x.place c
-    pub seen : told (jobs_called job config.jobs) (seen config (StopOn x.place) (e ∷ c))
-        ≡ told (jobs_called job config.jobs) (seen config (StopOn x.place) c)
+    pub seen : told x.file.stop_on (seen config (StopOn x.place) (e ∷ c))
+        ≡ told x.file.stop_on (seen config (StopOn x.place) c)
 
-abbrev pub FreesNot : Entry → Chronicle → Instance → Type 0
-FreesNot (Finished event) c x = is_blocked_by event (blocker x.place c) ≡ false
-FreesNot e c x = Unit {0}
+-- whether the name of an event stands in an expression
+abbrev pub event_stands_in : Option Event → Option Tree → Bool
+event_stands_in None tree = false
+event_stands_in (Some event) tree = stands_in event.name tree
+
+-- an entry doesn't unblock an instance, and offers its `stop on` no event whose name stands there
+abbrev pub PassesBy : Bytes → Entry → Chronicle → Instance → Type 0
+PassesBy job (Finished event) c x = is_blocked_by event (blocker x.place c) ≡ false
+PassesBy job (Offered (StopOn i) event) c x =
+    (owns job i c ≡ false) ⊎ (event_stands_in (event_at event c) x.file.stop_on ≡ false)
+PassesBy job e c x = Unit {0}
+
+or-left : (a b : Bool) → (a || b) ≡ false → a ≡ false
+or-left true b none = absurd (cc)
+or-left false b none = refl
+
+or-right : (a b : Bool) → (a || b) ≡ false → b ≡ false
+or-right true b none = absurd (cc)
+or-right false b none = none
+
+-- what a job doesn't hear stands in no expression of it
+pub unheard-start : (job : Bytes) (config : Configuration) (o : Option Event) (c : Chronicle)
+    → hears_event job config o c ≡ false → event_stands_in o (start_tree job config) ≡ false
+unheard-start job config None c unheard = refl
+unheard-start job config (Some event) c unheard = or-left (stands_in event.name (start_tree job config)) _ unheard
+
+unheard-in : (event : Bytes) (xs : List Instance) → stands_in_stops event xs ≡ false
+    → AllByRecursion (λ x. stands_in event x.file.stop_on ≡ false) xs
+unheard-in event [] unheard = tt
+unheard-in event (x ∷ xs) unheard = (
+  or-left (stands_in event x.file.stop_on) _ unheard,
+  unheard-in event xs (or-right (stands_in event x.file.stop_on) _ unheard),
+)
+
+unheard-nothing : (xs : List Instance) → AllByRecursion (λ x. event_stands_in None x.file.stop_on ≡ false) xs
+unheard-nothing [] = tt
+unheard-nothing (x ∷ xs) = (refl, unheard-nothing xs)
+
+pub unheard-stops : (job : Bytes) (config : Configuration) (o : Option Event) (c : Chronicle)
+    → hears_event job config o c ≡ false
+    → AllByRecursion (λ x. event_stands_in o x.file.stop_on ≡ false) (instances_of job c)
+unheard-stops job config None c unheard = unheard-nothing (instances_of job c)
+unheard-stops job config (Some event) c unheard = unheard-in event.name (instances_of job c)
+    (or-right (stands_in event.name (start_tree job config)) _ unheard)
 
 same-blocked : (event : ℕ) (o : Option ℕ) → is_blocked_by event o ≡ false
     → is_some (without event o) ≡ is_some o
 same-blocked event None h = refl
 same-blocked event (Some other) h = rw h refl
 
-pub told-append : (jobs : List JobDef) (xs ys : List Sight)
-    → told jobs (xs ++ ys) ≡ told jobs xs ++ told jobs ys
-told-append jobs [] ys = refl
-told-append jobs (x ∷ xs) ys = by_case (is_named x.name jobs) (told-append jobs xs ys)
+pub told-append : (tree : Option Tree) (xs ys : List Sight) → told tree (xs ++ ys) ≡ told tree xs ++ told tree ys
+told-append tree [] ys = refl
+told-append tree (x ∷ xs) ys = by_case (stands_in x.name tree) (told-append tree xs ys)
   where
     blind : Sight
     blind = record { event = 0; name = x.name; vars = x.vars; env = x.env }
 
-    by_case : (b : Bool) → told jobs (xs ++ ys) ≡ told jobs xs ++ told jobs ys
-        → (if b then blind ∷ told jobs (xs ++ ys) else told jobs (xs ++ ys))
-        ≡ (if b then blind ∷ told jobs xs else told jobs xs) ++ told jobs ys
+    by_case : (b : Bool) → told tree (xs ++ ys) ≡ told tree xs ++ told tree ys
+        → (if b then blind ∷ told tree (xs ++ ys) else told tree (xs ++ ys))
+        ≡ (if b then blind ∷ told tree xs else told tree xs) ++ told tree ys
     by_case true ih = ap (λ rest. blind ∷ rest) ih
     by_case false ih = ih
 
--- an event that isn't named isn't told
-pub unnamed-told : (jobs : List JobDef) (place : ℕ) (o : Option Event) (environment : Bindings)
-    → is_named_event jobs o ≡ false → told jobs (sight_of place o environment) ≡ []
-unnamed-told jobs place None environment h = refl
-unnamed-told jobs place (Some event) environment h = rw h refl
+-- an event whose name doesn't stand there isn't told
+absent-told : (tree : Option Tree) (place : ℕ) (o : Option Event) (environment : Bindings)
+    → event_stands_in o tree ≡ false → told tree (sight_of place o environment) ≡ []
+absent-told tree place None environment absent = refl
+absent-told tree place (Some event) environment absent = rw absent refl
 
-pub unnamed-seen : (jobs : List JobDef) (place : ℕ) (o : Option Event) (environment : Bindings)
-    (ss : List Sight) → is_named_event jobs o ≡ false
-    → told jobs (ss ++ sight_of place o environment) ≡ told jobs ss
-unnamed-seen jobs place o environment ss h =
-    told-append jobs ss (sight_of place o environment) ∙ ap (λ rest. told jobs ss ++ rest)
-    (unnamed-told jobs place o environment h) ∙ append-nil (told jobs ss)
+pub absent-seen : (tree : Option Tree) (place : ℕ) (o : Option Event) (environment : Bindings)
+    (ss : List Sight) → event_stands_in o tree ≡ false
+    → told tree (ss ++ sight_of place o environment) ≡ told tree ss
+absent-seen tree place o environment ss absent =
+    told-append tree ss (sight_of place o environment) ∙ ap (λ rest. told tree ss ++ rest)
+    (absent-told tree place o environment absent) ∙ append-nil (told tree ss)
 
 speaks-not : (job : Bytes) (c : Chronicle) (x : Instance) (who : Who) (named : Process) → IsKnown job c x
     → bytes_eq who.job job ≡ false
@@ -216,108 +276,116 @@ speaks-not : (job : Bytes) (c : Chronicle) (x : Instance) (who : Who) (named : P
 speaks-not job c x who named known other process = rw known.1 (rw other refl)
 
 pub spares : (job : Bytes) (config : Configuration) (e : Entry) (c : Chronicle) (x : Instance)
-    → IsKnown job c x → IsForeign job config e c → FreesNot e c x
+    → IsKnown job c x → IsForeign job config e c → PassesBy job e c x
     → Spares job config e c x
-spares job config (Given (input.Spawned who its pid)) c x known is frees =
+spares job config (Given (input.Spawned who its pid)) c x known is passes =
     record { aside = speaks-not job c x who its known is; holders = refl; seen = refl }
-spares job config (Given (input.Refused who its)) c x known is frees =
+spares job config (Given (input.Refused who its)) c x known is passes =
     record { aside = speaks-not job c x who its known is; holders = refl; seen = refl }
-spares job config (Given (input.Ended who its how)) c x known is frees =
+spares job config (Given (input.Ended who its how)) c x known is passes =
     record { aside = speaks-not job c x who its known is; holders = refl; seen = refl }
-spares job config (Given given) c x known is frees = record { aside = tt; holders = refl; seen = refl }
-spares job config (Queued (Entering i to) event) c x known is frees =
+spares job config (Given given) c x known is passes = record { aside = tt; holders = refl; seen = refl }
+spares job config (Queued (Entering i to) event) c x known is passes =
     record { aside = apart job i c x known is.0; holders = refl; seen = refl }
-spares job config (Queued origin event) c x known is frees =
+spares job config (Queued origin event) c x known is passes =
     record { aside = tt; holders = refl; seen = refl }
-spares job config (Handled event) c x known is frees = record { aside = tt; holders = refl; seen = refl }
-spares job config (Finished event) c x known is frees =
-    record { aside = same-blocked event (blocker x.place c) frees; holders = refl; seen = refl }
-spares job config (Offered (StartOn other) event) c x known is frees =
+spares job config (Handled event) c x known is passes = record { aside = tt; holders = refl; seen = refl }
+spares job config (Finished event) c x known is passes =
+    record { aside = same-blocked event (blocker x.place c) passes; holders = refl; seen = refl }
+spares job config (Offered (StartOn other) event) c x known is passes =
     record { aside = tt; holders = refl; seen = refl }
-spares job config (Offered (StopOn i) event) c x known is frees =
-    record { aside = tt; holders = refl; seen = by_sum is.1 }
+spares job config (Offered (StopOn i) event) c x known is passes =
+    record { aside = tt; holders = refl; seen = by_sum passes }
   where
-    own : List JobDef
-    own = jobs_called job config.jobs
+    own : Option Tree
+    own = x.file.stop_on
 
-    by_case : (b : Bool) → is_named_event own (event_at event c) ≡ false
+    by_case : (b : Bool) → event_stands_in (event_at event c) own ≡ false
         → told own (if b then seen config (StopOn x.place) c ++ sight_of event (event_at event c)
         (env_of config (StopOn x.place) c) else seen config (StopOn x.place) c)
         ≡ told own (seen config (StopOn x.place) c)
-    by_case true h = unnamed-seen own event (event_at event c) (env_of config (StopOn x.place) c)
+    by_case true h = absent-seen own event (event_at event c) (env_of config (StopOn x.place) c)
         (seen config (StopOn x.place) c) h
     by_case false h = refl
 
-    by_sum : (owns job i c ≡ false) ⊎ (is_named_event own (event_at event c) ≡ false)
+    by_sum : (owns job i c ≡ false) ⊎ (event_stands_in (event_at event c) own ≡ false)
         → told own (seen config (StopOn x.place) (Offered (StopOn i) event ∷ c))
         ≡ told own (seen config (StopOn x.place) c)
     by_sum (inl other) = rw (apart job i c x known other) refl
-    by_sum (inr unnamed) = by_case (i == x.place) unnamed
-spares job config (Fired (StartOn other) taken) c x known is frees =
+    by_sum (inr absent) = by_case (i == x.place) absent
+spares job config (Fired (StartOn other) taken) c x known is passes =
     record { aside = tt; holders = refl; seen = refl }
-spares job config (Fired (StopOn i) taken) c x known is frees =
+spares job config (Fired (StopOn i) taken) c x known is passes =
     record { aside = tt; holders = refl; seen = rw (apart job i c x known is) refl }
-spares job config (Made file name) c x known is frees =
+spares job config (Made file name) c x known is passes =
     record { aside = older-other (length c) x.place known.0; holders = refl; seen = refl }
-spares job config (Aimed i aim environment its) c x known is frees =
+spares job config (Aimed i aim environment its) c x known is passes =
     record {
       aside = apart job i c x known is.0.0;
       holders = rw (apart job i c x known is.0.0) refl;
       seen =
           refl;
     }
-spares job config (Restarted i its) c x known is frees =
+spares job config (Restarted i its) c x known is passes =
     record {
       aside = apart job i c x known is.0.0;
       holders = rw (apart job i c x known is.0.0) refl;
       seen =
           refl;
     }
-spares job config (Released i failed) c x known is frees =
+spares job config (Released i failed) c x known is passes =
     record { aside = tt; holders = rw (apart job i c x known is) refl; seen = refl }
-spares job config (Failed i its) c x known is frees =
+spares job config (Failed i its) c x known is passes =
     record { aside = apart job i c x known is.0; holders = refl; seen = refl }
-spares job config (Respawned i moment) c x known is frees =
+spares job config (Respawned i moment) c x known is passes =
     record { aside = apart job i c x known is.0; holders = refl; seen = refl }
-spares job config (Entered i to) c x known is frees =
+spares job config (Entered i to) c x known is passes =
     record { aside = apart job i c x known is.0; holders = refl; seen = refl }
-spares job config (Ordered i its) c x known is frees =
+spares job config (Ordered i its) c x known is passes =
     record { aside = apart job i c x known is.0; holders = refl; seen = refl }
-spares job config (Signalled i signal by_timer) c x known is frees =
+spares job config (Signalled i signal by_timer) c x known is passes =
     record { aside = apart job i c x known is.0; holders = refl; seen = refl }
-spares job config (Replied request answer) c x known is frees =
+spares job config (Replied request answer) c x known is passes =
     record { aside = tt; holders = refl; seen = refl }
 
 -- all of them are spared
 all-spared : (job : Bytes) (config : Configuration) (e : Entry) (c : Chronicle) (xs : List Instance)
     → AllByRecursion (IsKnown job c) xs → IsForeign job config e c
-    → AllByRecursion (FreesNot e c) xs → AllByRecursion (Spares job config e c) xs
-all-spared job config e c [] known is frees = tt
-all-spared job config e c (x ∷ xs) known is frees =
-    (spares job config e c x known.0 is frees.0, all-spared job config e c xs known.1 is frees.1)
+    → AllByRecursion (PassesBy job e c) xs → AllByRecursion (Spares job config e c) xs
+all-spared job config e c [] known is passes = tt
+all-spared job config e c (x ∷ xs) known is passes =
+    (spares job config e c x known.0 is passes.0, all-spared job config e c xs known.1 is passes.1)
 
-none-freed : (event : ℕ) (c : Chronicle) (xs : List Instance) → unblocked event xs c ≡ []
-    → AllByRecursion (FreesNot (Finished event) c) xs
-none-freed event c [] none = tt
-none-freed event c (x ∷ xs) none =
-    by_case (is_blocked_by event (blocker x.place c)) refl none (none-freed event c xs)
+none-freed : (job : Bytes) (event : ℕ) (c : Chronicle) (xs : List Instance) → unblocked event xs c ≡ []
+    → AllByRecursion (PassesBy job (Finished event) c) xs
+none-freed job event c [] none = tt
+none-freed job event c (x ∷ xs) none =
+    by_case (is_blocked_by event (blocker x.place c)) refl none (none-freed job event c xs)
   where
     by_case : (b : Bool) → is_blocked_by event (blocker x.place c) ≡ b
         → (if b then Unblocked x.name ∷ unblocked event xs c else unblocked event xs c) ≡ []
-        → (unblocked event xs c ≡ [] → AllByRecursion (FreesNot (Finished event) c) xs)
-        → AllByRecursion (FreesNot (Finished event) c) (x ∷ xs)
+        → (unblocked event xs c ≡ [] → AllByRecursion (PassesBy job (Finished event) c) xs)
+        → AllByRecursion (PassesBy job (Finished event) c) (x ∷ xs)
     by_case true is none ih = absurd (cc)
     by_case false is none ih = (is, ih none)
 
-none-else : (e : Entry) (c : Chronicle) (xs : List Instance) → ((x : Instance) → FreesNot e c x)
-    → AllByRecursion (FreesNot e c) xs
-none-else e c [] h = tt
-none-else e c (x ∷ xs) h = (h x, none-else e c xs h)
+passes-each : (job : Bytes) (e : Entry) (c : Chronicle) (xs : List Instance) → ((x : Instance) → PassesBy job e c x)
+    → AllByRecursion (PassesBy job e c) xs
+passes-each job e c [] h = tt
+passes-each job e c (x ∷ xs) h = (h x, passes-each job e c xs h)
 
-frees-none : (job : Bytes) (config : Configuration) (e : Entry) (c : Chronicle) → IsForeign job config e c
-    → AllByRecursion (FreesNot e c) (instances_of job c)
-frees-none job config (Finished event) c is = none-freed event c (instances_of job c) is
-frees-none job config e c is = none-else e c (instances_of job c) (λ x. tt)
+passes-all : (job : Bytes) (config : Configuration) (e : Entry) (c : Chronicle) → IsForeign job config e c
+    → AllByRecursion (PassesBy job e c) (instances_of job c)
+passes-all job config (Finished event) c is = none-freed job event c (instances_of job c) is
+passes-all job config (Offered (StopOn i) event) c is = by_sum is.1
+  where
+    by_sum : (owns job i c ≡ false) ⊎ (hears_event job config (event_at event c) c ≡ false)
+        → AllByRecursion (PassesBy job (Offered (StopOn i) event) c) (instances_of job c)
+    by_sum (inl other) = passes-each job (Offered (StopOn i) event) c (instances_of job c) (λ x. inl other)
+    by_sum (inr unheard) = all-weaker (λ x. event_stands_in (event_at event c) x.file.stop_on ≡ false)
+        (PassesBy job (Offered (StopOn i) event) c) (λ x absent. inr absent) (instances_of job c)
+        (unheard-stops job config (event_at event c) c unheard)
+passes-all job config e c is = passes-each job e c (instances_of job c) (λ x. tt)
 
 -- twins stay twins
 pub twin-spared : (job : Bytes) (config : Configuration) (e : Entry) (c d : Chronicle) (x y : Instance)
@@ -371,26 +439,26 @@ instances-same job config (Entered i state.Waiting) c is =
 instances-same job config e c is = refl
 
 starts-same : (job : Bytes) (config : Configuration) (e : Entry) (c : Chronicle) → IsForeign job config e c
-    → told (jobs_called job config.jobs) (seen config (StartOn job) (e ∷ c))
-    ≡ told (jobs_called job config.jobs) (seen config (StartOn job) c)
+    → told (start_tree job config) (seen config (StartOn job) (e ∷ c))
+    ≡ told (start_tree job config) (seen config (StartOn job) c)
 starts-same job config (Offered (StartOn other) event) c is = by_sum is
   where
-    own : List JobDef
-    own = jobs_called job config.jobs
+    own : Option Tree
+    own = start_tree job config
 
-    by_case : (b : Bool) → is_named_event own (event_at event c) ≡ false
+    by_case : (b : Bool) → event_stands_in (event_at event c) own ≡ false
         → told own (if b then seen config (StartOn job) c ++ sight_of event (event_at event c)
         (env_of config (StartOn job) c) else seen config (StartOn job) c)
         ≡ told own (seen config (StartOn job) c)
-    by_case true h = unnamed-seen own event (event_at event c) (env_of config (StartOn job) c)
+    by_case true h = absent-seen own event (event_at event c) (env_of config (StartOn job) c)
         (seen config (StartOn job) c) h
     by_case false h = refl
 
-    by_sum : (bytes_eq other job ≡ false) ⊎ (is_named_event own (event_at event c) ≡ false)
+    by_sum : (bytes_eq other job ≡ false) ⊎ (hears_event job config (event_at event c) c ≡ false)
         → told own (seen config (StartOn job) (Offered (StartOn other) event ∷ c))
         ≡ told own (seen config (StartOn job) c)
     by_sum (inl differs) = rw differs refl
-    by_sum (inr unnamed) = by_case (bytes_eq other job) unnamed
+    by_sum (inr unheard) = by_case (bytes_eq other job) (unheard-start job config (event_at event c) c unheard)
 starts-same job config (Offered (StopOn i) event) c is = refl
 starts-same job config (Fired (StartOn other) taken) c is = rw is refl
 starts-same job config (Fired (StopOn i) taken) c is = refl
@@ -416,13 +484,13 @@ part-same job config (Offered (StartOn other) event) c is = by_sum is
     e : Entry
     e = Offered (StartOn other) event
 
-    by_sum : (bytes_eq other job ≡ false) ⊎ (is_named_event (jobs_called job config.jobs) (event_at event c)
-        ≡ false) → items job config e c ++ part job config c ≡ part job config c
+    by_sum : (bytes_eq other job ≡ false) ⊎ (hears_event job config (event_at event c) c ≡ false)
+        → items job config e c ++ part job config c ≡ part job config c
     by_sum (inl differs) = rw differs refl
-    by_sum (inr unnamed) = by_case (bytes_eq other job) unnamed
+    by_sum (inr unheard) = by_case (bytes_eq other job) unheard
       where
-        by_case : (b : Bool) → is_named_event (jobs_called job config.jobs) (event_at event c) ≡ false
-            → (if b then items_if (is_named_event (jobs_called job config.jobs) (event_at event c))
+        by_case : (b : Bool) → hears_event job config (event_at event c) c ≡ false
+            → (if b then items_if (hears_event job config (event_at event c) c)
             (parts.Offered (parts.StartOn) (content event c)) else []) ++ part job config c
             ≡ part job config c
         by_case true h = rw h refl
@@ -432,13 +500,13 @@ part-same job config (Offered (StopOn i) event) c is = by_sum is.1
     e : Entry
     e = Offered (StopOn i) event
 
-    by_sum : (owns job i c ≡ false) ⊎ (is_named_event (jobs_called job config.jobs) (event_at event c)
-        ≡ false) → items job config e c ++ part job config c ≡ part job config c
+    by_sum : (owns job i c ≡ false) ⊎ (hears_event job config (event_at event c) c ≡ false)
+        → items job config e c ++ part job config c ≡ part job config c
     by_sum (inl other) = rw other refl
-    by_sum (inr unnamed) = by_case (owns job i c) unnamed
+    by_sum (inr unheard) = by_case (owns job i c) unheard
       where
-        by_case : (b : Bool) → is_named_event (jobs_called job config.jobs) (event_at event c) ≡ false
-            → (if b then items_if (is_named_event (jobs_called job config.jobs) (event_at event c))
+        by_case : (b : Bool) → hears_event job config (event_at event c) c ≡ false
+            → (if b then items_if (hears_event job config (event_at event c) c)
             (parts.Offered (parts.StopOn (parts.name_at i c)) (content event c)) else []) ++ part job config c
             ≡ part job config c
         by_case true h = rw h refl
@@ -458,13 +526,13 @@ part-same job config (Replied request answer) c is = rw is refl
 
 -- nor is it a deed
 deeds-same : (job : Bytes) (config : Configuration) (e : Entry) (c : Chronicle) → IsForeign job config e c
-    → deeds job config (e ∷ c) ≡ deeds job config c
+    → deeds job (e ∷ c) ≡ deeds job c
 unfolding deeds
-deeds-same job config (Queued (Entering i to) event) c is = rw is.0 (append-nil (deeds job config c))
-deeds-same job config (Ordered i its) c is = rw is.0 (append-nil (deeds job config c))
-deeds-same job config (Signalled i signal by_timer) c is = rw is.0 (append-nil (deeds job config c))
-deeds-same job config (Replied request answer) c is = rw is (append-nil (deeds job config c))
-deeds-same job config e c is = append-nil (deeds job config c)
+deeds-same job config (Queued (Entering i to) event) c is = rw is.0 (append-nil (deeds job c))
+deeds-same job config (Ordered i its) c is = rw is.0 (append-nil (deeds job c))
+deeds-same job config (Signalled i signal by_timer) c is = rw is.0 (append-nil (deeds job c))
+deeds-same job config (Replied request answer) c is = rw is (append-nil (deeds job c))
+deeds-same job config e c is = append-nil (deeds job c)
 
 -- entries about instances that were made
 abbrev pub IsPast : Entry → Chronicle → Type 0
@@ -632,7 +700,7 @@ foreign job config e c d is like = record {
   twins = subst (λ xs. Twins (Twin job config (e ∷ c) d) xs (instances_of job d))
       (sym (instances-same job config e c is))
       (twins-spared job config e c d (instances_of job c) (instances_of job d)
-      (all-spared job config e c (instances_of job c) (known job c) is (frees-none job config e c is))
+      (all-spared job config e c (instances_of job c) (known job c) is (passes-all job config e c is))
       like.twins);
   starts = starts-same job config e c is ∙ like.starts;
   today = today-same job config e c is ∙ like.today;

@@ -4,12 +4,11 @@ use Rattle.std.proofs.Common.{sym, ◌∙◌, ap, subst, arith, eq-eqb, ne_eqb}
 use Rattle.std.specs.List.{AllByRecursion}
 use Rattle.up_conf.specs.declared.job.JobDef.{JobDef}
 use Rattle.up_model.specs.Chronicle.{Chronicle, Entry, Made}
-use Rattle.up_model.specs.Configuration.{Configuration, job_named}
+use Rattle.up_model.specs.Configuration.{Configuration}
 use Rattle.up_model.specs.Instances.{Instance, instances_of}
 use Rattle.up_model.specs.Values.{Bytes}
 use Rattle.up_model.proofs.Places.{bytes_refl, older-other}
 use Rattle.up_model.proofs.NameLaws.{called, made-singles}
-use Rattle.up_isolation.specs.Views.{jobs_called}
 use Rattle.up_isolation.specs.Parts.{contents}
 use Rattle.up_isolation.proofs.Lives.{Life, life}
 use Rattle.up_isolation.proofs.Lives as lives
@@ -59,7 +58,7 @@ twins-made job config file name c d (x ∷ xs) (y ∷ ys) known knowns twins = (
   record {
     name = twins.0.name;
     file = twins.0.file;
-    bond = bond-missed job config (Made file name) (Made file name) c d x.place y.place
+    bond = bond-missed job config (Made file name) (Made file name) c d x.file x.place y.place
         (record { aside = older-other (length c) x.place known.0.0; holders = refl; seen = refl })
         (record { aside = older-other (length d) y.place knowns.0.0; holders = refl; seen = refl })
         twins.0.bond;
@@ -86,10 +85,10 @@ abbrev pub instance-at : ℕ → Bytes → JobDef → Instance
 instance-at place name file = record { place = place; name = name; file = file }
 
 pub pair_made : (job : Bytes) (config : Configuration) (file : JobDef) (name : Bytes) (c d : Chronicle) → file.name ≡ job
-    → job_named job config.jobs ≡ Some file → instance_named (called job name) c ≡ None → Like job config c d
+    → instance_named (called job name) c ≡ None → Like job config c d
     → Pair job config (Made file name ∷ c) (Made file name ∷ d) (instance-at (length c) name file)
     (instance-at (length d) name file)
-pair_made job config file name c d its in_force none like = record {
+pair_made job config file name c d its none like = record {
   like = record {
     twins = rw (own)
         (twins-with (Twin job config (e ∷ c) (e ∷ d)) x y (instances_of job c) (instances_of job d) refl twin
@@ -145,15 +144,14 @@ pair_made job config file name c d its in_force none like = record {
     twin : Twin job config (e ∷ c) (e ∷ d) x y
     twin = record {
       name = refl;
-      file = (in_force, refl);
+      file = refl;
       bond = record {
         alike = lives.made file name c d (λ p h. (like.blank p h).alike) (λ p h. (like.empty p h).alike);
         held =
             ap (λ ps. contents ps (e ∷ c)) blank.holders ∙ sym (ap (λ ps. contents ps (e ∷ d)) empty.holders);
         older = subst (λ ps. AreOlder (length (e ∷ c)) ps) (sym blank.holders) tt;
         older_there = subst (λ ps. AreOlder (length (e ∷ d)) ps) (sym empty.holders) tt;
-        sights = ap (told (jobs_called job config.jobs)) blank.seen
-            ∙ sym (ap (told (jobs_called job config.jobs)) empty.seen);
+        sights = ap (told file.stop_on) blank.seen ∙ sym (ap (told file.stop_on) empty.seen);
       };
     }
 

@@ -11,7 +11,8 @@ use Rattle.up_model.specs.Files.{job_names}
 use Rattle.up_model.specs.Instances.{Instance, instances_of}
 use Rattle.up_model.specs.Values.{Bytes}
 use Rattle.up_model.proofs.Places.{bytes_same}
-use Rattle.up_isolation.specs.Views.{jobs_called, is_of}
+use Rattle.up_isolation.specs.Isolation.{jobs_called}
+use Rattle.up_isolation.specs.Views.{is_of}
 use Rattle.up_isolation.proofs.Twins.{Twins}
 use Rattle.up_isolation.proofs.Known.{IsKnown}
 use Rattle.up_isolation.proofs.Likes.{Twin, Like, Fair, only}
@@ -105,7 +106,7 @@ moves-in : (job : Bytes) (config : Configuration) (c d : Chronicle) (xs ys : Lis
 moves-in job config c d [] [] at twins = Idle refl refl
 moves-in job config c d (x ∷ xs) (y ∷ ys) at twins =
     moves-or job c d (move_of x.file x c) (move_in xs c) (move_of y.file y d) (move_in ys d)
-    (subst (λ file. Moves job c d (move_of x.file x c) (move_of file y d)) twins.0.file.1
+    (subst (λ file. Moves job c d (move_of x.file x c) (move_of file y d)) twins.0.file
     (by_case (may_leave x.file x.place c) (may_leave x.file y.place d)
     (leave-same x.file x.place y.place c d twins.0.bond.alike)))
     (moves-in job config c d xs ys (λ u v there. at u v (inr there)) twins.1)

@@ -13,15 +13,13 @@ use Rattle.up_model.specs.Instances.{Instance, instances_of}
 use Rattle.up_model.specs.Readings.{entry_at, event_at}
 use Rattle.up_model.specs.Seen.{seen}
 use Rattle.up_model.specs.Values.{Bytes, Bindings}
-use Rattle.up_model.proofs.FileLaws.{start_by-one}
 use Rattle.up_model.proofs.NameLaws.{called}
-use Rattle.up_isolation.specs.Views.{jobs_called}
 use Rattle.up_isolation.specs.Parts.{Content, contents, content}
 use Rattle.up_isolation.proofs.Lives.{Life}
 use Rattle.up_isolation.proofs.Sights.{told}
 use Rattle.up_isolation.proofs.Twins.{Twins}
 use Rattle.up_isolation.proofs.Known.{IsKnown, AreOlder, contents-later, older-later}
-use Rattle.up_isolation.proofs.Likes.{only, Twin, Like, like-files, like-files-there}
+use Rattle.up_isolation.proofs.Likes.{only, named-only, Twin, Like}
 use Rattle.up_isolation.proofs.Pairs.{Pair, Carries, carries-none}
 use Rattle.std.proofs.Common.{append_assoc, not, nat_lt, option_to_list}
 use Rattle.up_expr.specs.declared.expr.Leaf.{Leaf}
@@ -29,18 +27,20 @@ use Rattle.up_expr.specs.Matching.{matches}
 use Rattle.up_expr.specs.Trees.{Tree, One, Both, Either}
 use Rattle.up_expr.specs.Truth as truth
 use Rattle.up_model.specs.declared.state.Goal.TheVariants.{Start, Stop}
-use Rattle.up_model.specs.Environments.{env_of_job, instance_name}
+use Rattle.up_model.specs.Environments.{env_by_job, env_of_job, start_base, instance_name}
 use Rattle.up_model.specs.Events.{events_at, events_env, with_instance, stopped_by}
+use Rattle.up_model.specs.Files.{file_at, own_file, start_file_at, start_file}
+use Rattle.up_model.specs.Held.{start_on_of}
 use Rattle.up_model.specs.Instances.{place_named, instance_named}
 use Rattle.up_model.specs.Offers.{stop_of, stop_by, stop_offer, max_instances, start_of, who_called}
-use Rattle.up_model.specs.Offers.{start_who, start_by, start_offer}
+use Rattle.up_model.specs.Offers.{start_who, start_env, start_by, start_offer}
 use Rattle.up_model.specs.Predicates.{is_start, entries_if}
 use Rattle.up_model.specs.Readings.{goal, event_of}
 use Rattle.up_model.specs.Replies.{releasing}
 use Rattle.up_model.specs.Seen.{holds, taken}
 use Rattle.up_model.proofs.Places.{count, all_instances-once, instances-exist}
 use Rattle.up_isolation.specs.Parts.{content_of, AnEvent}
-use Rattle.up_isolation.proofs.Sights.{AreKnown, event_of_sight, first_event, taken_events, Covers}
+use Rattle.up_isolation.proofs.Sights.{AreKnown, event_of_sight, first_event, taken_events}
 use Rattle.up_isolation.proofs.Sights.{holds-told, taken-told, taken-known}
 use Rattle.up_isolation.proofs.Twins.{At, at-twins, matched, twins_map}
 use Rattle.up_isolation.proofs.Known.{known, seen-known, known-sights-later, entry-older}
@@ -49,26 +49,17 @@ use Rattle.up_isolation.proofs.Entries.{pair_aimed}
 use Rattle.up_isolation.proofs.Making.{instance-at, pair_made}
 use Rattle.up_isolation.proofs.Releases.{carries-append, pair_releasing, later-contents, later-older}
 
--- the leaves of an expression that there may be are named
-abbrev pub AreCovered : List JobDef → Option Tree → Type 0
-AreCovered jobs None = Unit {0}
-AreCovered jobs (Some tree) = Covers jobs tree
-
-pub holds-same : (jobs : List JobDef) (o : Option Tree) (ss rs : List Sight) → AreCovered jobs o
-    → told jobs ss ≡ told jobs rs → holds o ss ≡ holds o rs
-holds-same jobs None ss rs covered same = refl
-holds-same jobs (Some tree) ss rs covered same =
-    sym (holds-told jobs tree ss covered) ∙ ap (truth.holds tree) same ∙ holds-told jobs tree rs covered
+pub holds-same : (o : Option Tree) (ss rs : List Sight) → told o ss ≡ told o rs → holds o ss ≡ holds o rs
+holds-same None ss rs same = refl
+holds-same (Some tree) ss rs same = sym (holds-told tree ss) ∙ ap (truth.holds tree) same ∙ holds-told tree rs
 
 abbrev events_of : Option Tree → List Sight → List Event
 events_of None ss = []
 events_of (Some tree) ss = taken_events tree ss
 
-events-same : (jobs : List JobDef) (o : Option Tree) (ss rs : List Sight) → AreCovered jobs o
-    → told jobs ss ≡ told jobs rs → events_of o ss ≡ events_of o rs
-events-same jobs None ss rs covered same = refl
-events-same jobs (Some tree) ss rs covered same =
-    sym (taken-told jobs tree ss covered) ∙ ap (taken_events tree) same ∙ taken-told jobs tree rs covered
+events-same : (o : Option Tree) (ss rs : List Sight) → told o ss ≡ told o rs → events_of o ss ≡ events_of o rs
+events-same None ss rs same = refl
+events-same (Some tree) ss rs same = sym (taken-told tree ss) ∙ ap (taken_events tree) same ∙ taken-told tree rs
 
 -- what is taken is these events
 events-at : (o : Option Tree) (ss : List Sight) (c : Chronicle) → AreKnown c ss
@@ -182,12 +173,12 @@ pub record TakesSame (c d : Chronicle) (ps qs : List ℕ) : Type 0 where
   pub older : AreOlder (length c) ps
   pub older_there : AreOlder (length d) qs
 
-pub takes-same : (jobs : List JobDef) (o : Option Tree) (ss rs : List Sight) (c d : Chronicle)
-    → AreCovered jobs o → AreKnown c ss → AreKnown d rs → told jobs ss ≡ told jobs rs
+pub takes-same : (o : Option Tree) (ss rs : List Sight) (c d : Chronicle)
+    → AreKnown c ss → AreKnown d rs → told o ss ≡ told o rs
     → TakesSame c d (taken o ss) (taken o rs)
-takes-same jobs o ss rs c d covered known knowns same = record {
-  events = events-at o ss c known ∙ events-same jobs o ss rs covered same ∙ sym (events-at o rs d knowns);
-  contents = contents-at o ss c known ∙ ap as_contents (events-same jobs o ss rs covered same)
+takes-same o ss rs c d known knowns same = record {
+  events = events-at o ss c known ∙ events-same o ss rs same ∙ sym (events-at o rs d knowns);
+  contents = contents-at o ss c known ∙ ap as_contents (events-same o ss rs same)
       ∙ sym (contents-at o rs d knowns);
   older = taken-older o ss c known;
   older_there = taken-older o rs d knowns;
@@ -238,25 +229,23 @@ takes-later c d ps qs e f events takes = record {
   older_there = older-later (length d) (length (f ∷ d)) qs (omega arith) takes.older_there;
 }
 
--- an instance's `stop on` is offered an event that its job names
-pub pair_stop_offer : (job : Bytes) (config : Configuration) (def : JobDef) (c d : Chronicle) (x y : Instance)
-    (p q : ℕ) → AreCovered (jobs_called job config.jobs) def.stop_on
-    → event_at p c ≡ event_at q d → content p c ≡ content q d
-    → jobs_called job (jobs_called job config.jobs) ≡ jobs_called job config.jobs → Pair job config c d x y
-    → Carries job config c d (stop_offer config def x.place p c ++ c)
-    (stop_offer (only job config) def y.place q d ++ d) x y
-pair_stop_offer job config def c d x y p q covered same stands twice pair =
+-- an instance's `stop on` is offered an event
+pub pair_stop_offer : (job : Bytes) (config : Configuration) (c d : Chronicle) (x y : Instance)
+    (p q : ℕ) → event_at p c ≡ event_at q d → content p c ≡ content q d → Pair job config c d x y
+    → Carries job config c d (stop_offer config x.file x.place p c ++ c)
+    (stop_offer (only job config) x.file y.place q d ++ d) x y
+pair_stop_offer job config c d x y p q same stands pair =
     carries-append job config c d x y
     (entries_if (holds def.stop_on ss) (stop_by x.place ps fired ++ Fired (StopOn x.place) ps ∷ []))
     (Offered (StopOn x.place) p ∷ [])
     (entries_if (holds def.stop_on rs) (stop_by y.place qs fired_there ++ Fired (StopOn y.place) qs ∷ []))
     (Offered (StopOn y.place) q ∷ [])
-    (pair_offered job config c d x y p q same stands twice pair)
+    (pair_offered job config c d x y p q same stands pair)
     (λ next. by_case next (holds def.stop_on ss) (holds def.stop_on rs)
-    (holds-same own def.stop_on ss rs covered next.twin.bond.sights))
+    (holds-same def.stop_on ss rs next.twin.bond.sights))
   where
-    own : List JobDef
-    own = jobs_called job config.jobs
+    def : JobDef
+    def = x.file
 
     offered : Chronicle
     offered = Offered (StopOn x.place) p ∷ c
@@ -293,9 +282,9 @@ pair_stop_offer job config def c d x y p q covered same stands twice pair =
         (entries_if b (stop_by x.place ps fired ++ Fired (StopOn x.place) ps ∷ []) ++ offered)
         (entries_if a (stop_by y.place qs fired_there ++ Fired (StopOn y.place) qs ∷ []) ++ offered_there) x y
     by_case next true true equal =
-        let takes = takes-same own def.stop_on ss rs offered offered_there covered known-left known-right
+        let takes = takes-same def.stop_on ss rs offered offered_there known-left known-right
         next.twin.bond.sights in
-        let later = takes-same own def.stop_on ss rs fired fired_there covered
+        let later = takes-same def.stop_on ss rs fired fired_there
         (known-sights-later (Fired (StopOn x.place) ps) offered ss known-left)
         (known-sights-later (Fired (StopOn y.place) qs) offered_there rs known-right) next.twin.bond.sights in
         carries-append job config offered offered_there x y (stop_by x.place ps fired)
@@ -371,20 +360,20 @@ twins-length R (x ∷ xs) [] twins = absurd twins
 
 -- a new instance is started
 pub pair_start_new : (job : Bytes) (config : Configuration) (c d : Chronicle) (def : JobDef) (name : Bytes)
-    (environment : Bindings) (ps qs : List ℕ) → def.name ≡ job → job_named job config.jobs ≡ Some def
+    (environment : Bindings) (ps qs : List ℕ) → def.name ≡ job
     → contents ps c ≡ contents qs d
     → AreOlder (length c) ps → AreOlder (length d) qs → instance_named (called job name) c ≡ None
     → Like job config c d
     → Pair job config (Aimed (length c) Start environment ps ∷ Made def name ∷ c)
     (Aimed (length d) Start environment qs ∷ Made def name ∷ d) (instance-at (length c) name def)
     (instance-at (length d) name def)
-pair_start_new job config c d def name environment ps qs named in_force same older there none like =
+pair_start_new job config c d def name environment ps qs named same older there none like =
     (pair_aimed job config (Made def name ∷ c) (Made def name ∷ d) (instance-at (length c) name def)
     (instance-at (length d) name def) Start environment ps qs
     (contents-later ps (Made def name) c older ∙ same ∙ sym (contents-later qs (Made def name) d there))
     (older-later (length c) (length (Made def name ∷ c)) ps (omega arith) older)
     (older-later (length d) (length (Made def name ∷ d)) qs (omega arith) there)
-    (pair_made job config def name c d named in_force none like)).pair
+    (pair_made job config def name c d named none like)).pair
 
 -- one that is there is started
 pub pair_start_old : (job : Bytes) (config : Configuration) (c d : Chronicle) (x y : Instance)
@@ -404,11 +393,11 @@ pair_start_old job config c d x y environment ps qs same older there pair =
     next)
 
 like_start_of : (job : Bytes) (config : Configuration) (c d : Chronicle) (def : JobDef) (name : Bytes)
-    (environment : Bindings) (ps qs : List ℕ) → def.name ≡ job → job_named job config.jobs ≡ Some def → contents ps c ≡ contents qs d
+    (environment : Bindings) (ps qs : List ℕ) → def.name ≡ job → contents ps c ≡ contents qs d
     → AreOlder (length c) ps → AreOlder (length d) qs → Like job config c d
     → Like job config (start_of def (called job name) environment ps (instance_named (called job name) c) c ++ c)
     (start_of def (called job name) environment qs (instance_named (called job name) d) d ++ d)
-like_start_of job config c d def name environment ps qs named in_force same older there like =
+like_start_of job config c d def name environment ps qs named same older there like =
     by_found (found job config c d name (instances_of job c) (instances_of job d) like.twins)
   where
     who : Who
@@ -418,7 +407,7 @@ like_start_of job config c d def name environment ps qs named in_force same olde
         → Like job config (entries_if b (Aimed (length c) Start environment ps ∷ Made def name ∷ []) ++ c)
         (entries_if a (Aimed (length d) Start environment qs ∷ Made def name ∷ []) ++ d)
     by_room none true true equal =
-        (pair_start_new job config c d def name environment ps qs named in_force same older there none like).like
+        (pair_start_new job config c d def name environment ps qs named same older there none like).like
     by_room none false false equal = like
     by_room none true false equal = absurd (cc)
     by_room none false true equal = absurd (cc)
@@ -451,35 +440,74 @@ like_start_of job config c d def name environment ps qs named in_force same olde
         like.twins).bond.alike))
 
 like_start_who : (job : Bytes) (config : Configuration) (c d : Chronicle) (def : JobDef) (o : Option Bytes)
-    (environment : Bindings) (ps qs : List ℕ) → def.name ≡ job → job_named job config.jobs ≡ Some def → contents ps c ≡ contents qs d
+    (environment : Bindings) (ps qs : List ℕ) → def.name ≡ job → contents ps c ≡ contents qs d
     → AreOlder (length c) ps → AreOlder (length d) qs → Like job config c d
     → Like job config (start_who def environment ps (who_called job o) c ++ c)
     (start_who def environment qs (who_called job o) d ++ d)
-like_start_who job config c d def None environment ps qs named in_force same older there like = like
-like_start_who job config c d def (Some name) environment ps qs named in_force same older there like =
-    like_start_of job config c d def name (with_instance (called job name) environment) ps qs named in_force same
+like_start_who job config c d def None environment ps qs named same older there like = like
+like_start_who job config c d def (Some name) environment ps qs named same older there like =
+    like_start_of job config c d def name (with_instance (called job name) environment) ps qs named same
     older there like
 
--- the job's `start on` is offered an event that it names
+-- the instance of a name goes by one file
+pub own_file-same : (job : Bytes) (config : Configuration) (c d : Chronicle) (name : Bytes) → Like job config c d
+    → own_file (called job name) c ≡ own_file (called job name) d
+own_file-same job config c d name like =
+    by_found (found job config c d name (instances_of job c) (instances_of job d) like.twins)
+  where
+    by_found : Found name (instances_of job c) (instances_of job d)
+        → own_file (called job name) c ≡ own_file (called job name) d
+    by_found (Neither none void) = ap (λ o. file_at o c) none ∙ sym (ap (λ o. file_at o d) void)
+    by_found (Two x y at left right) =
+        let pair = pair-at job config c d x y at like in
+        ap (λ o. file_at o c) left ∙ pair.left.2 ∙ ap Some pair.twin.file ∙ sym pair.right.2
+        ∙ sym (ap (λ o. file_at o d) right)
+
+-- and starts by one
+start_file-same : (job : Bytes) (config : Configuration) (c d : Chronicle) (name : Bytes) → Like job config c d
+    → start_file config (called job name) c ≡ start_file (only job config) (called job name) d
+start_file-same job config c d name like =
+    by_found (found job config c d name (instances_of job c) (instances_of job d) like.twins)
+  where
+    who : Who
+    who = called job name
+
+    by_found : Found name (instances_of job c) (instances_of job d)
+        → start_file config who c ≡ start_file (only job config) who d
+    by_found (Neither none void) = ap (λ o. start_file_at config who o c) none ∙ named-only job config.jobs
+        ∙ sym (ap (λ o. start_file_at (only job config) who o d) void)
+    by_found (Two x y at left right) =
+        let pair = pair-at job config c d x y at like in
+        ap (λ o. start_file_at config who o c) left ∙ pair.left.2 ∙ ap Some pair.twin.file ∙ sym pair.right.2
+        ∙ sym (ap (λ o. start_file_at (only job config) who o d) right)
+
+pub start_base-same : (job : Bytes) (config : Configuration) (c d : Chronicle) (name : Bytes) → Like job config c d
+    → start_base config (called job name) c ≡ start_base (only job config) (called job name) d
+start_base-same job config c d name like = ap (env_by_job config.base) (start_file-same job config c d name like)
+
+start_env-same : (job : Bytes) (config : Configuration) (c d : Chronicle) (o : Option Bytes) (es fs : List Event)
+    → es ≡ fs → Like job config c d
+    → start_env config (who_called job o) es c ≡ start_env (only job config) (who_called job o) fs d
+start_env-same job config c d None es fs same like = refl
+start_env-same job config c d (Some name) es fs same like =
+    ap₂ events_env (start_base-same job config c d name like) same
+
+-- the `start on` of its file in force is offered an event
 pub like_start_offer : (config : Configuration) (def : JobDef) (c d : Chronicle) (p q : ℕ)
-    → job_named def.name config.jobs ≡ Some def → AreCovered (jobs_called def.name config.jobs) def.start_on
+    → job_named def.name config.jobs ≡ Some def
     → event_at p c ≡ event_at q d → content p c ≡ content q d
-    → jobs_called def.name (jobs_called def.name config.jobs) ≡ jobs_called def.name config.jobs
     → Like def.name config c d
     → Like def.name config (start_offer config def p c ++ c) (start_offer (only def.name config) def q d ++ d)
-like_start_offer config def c d p q in_force covered same stands twice like =
+like_start_offer config def c d p q in_force same stands like =
     subst₂ (λ a b. Like def.name config a b)
     (sym (append_assoc (entries_if (holds def.start_on ss) front) (Offered (StartOn def.name) p ∷ []) c))
     (sym (append_assoc (entries_if (holds def.start_on rs) front_there) (Offered (StartOn def.name) q ∷ [])
     d))
     (by_case (holds def.start_on ss) (holds def.start_on rs)
-    (holds-same own def.start_on ss rs covered next.starts))
+    (holds-same def.start_on ss rs sights))
   where
     job : Bytes
     job = def.name
-
-    own : List JobDef
-    own = jobs_called job config.jobs
 
     offered : Chronicle
     offered = Offered (StartOn job) p ∷ c
@@ -488,7 +516,7 @@ like_start_offer config def c d p q in_force covered same stands twice like =
     offered_there = Offered (StartOn job) q ∷ d
 
     next : Like job config offered offered_there
-    next = like_offered job config c d p q same stands twice like
+    next = like_offered job config c d p q same stands like
 
     ss : List Sight
     ss = seen config (StartOn job) offered
@@ -520,16 +548,27 @@ like_start_offer config def c d p q in_force covered same stands twice like =
     known-right : AreKnown offered_there rs
     known-right = seen-known (only job config) (StartOn job) offered_there
 
+    sights : told def.start_on ss ≡ told def.start_on rs
+    sights = subst (λ file. told (start_on_of file) ss ≡ told (start_on_of file) rs) in_force next.starts
+
     takes : TakesSame offered offered_there ps qs
-    takes = takes-same own def.start_on ss rs offered offered_there covered known-left known-right next.starts
+    takes = takes-same def.start_on ss rs offered offered_there known-left known-right sights
 
     later : TakesSame fired fired_there ps qs
-    later = takes-same own def.start_on ss rs fired fired_there covered
+    later = takes-same def.start_on ss rs fired fired_there
         (known-sights-later (Fired (StartOn job) ps) offered ss known-left)
-        (known-sights-later (Fired (StartOn job) qs) offered_there rs known-right) next.starts
+        (known-sights-later (Fired (StartOn job) qs) offered_there rs known-right) sights
 
-    there : Bindings
-    there = events_env (env_of_job (only job config) job) (events_at qs fired_there)
+    name : Option Bytes
+    name = instance_name def (events_env (env_of_job config job) (events_at ps fired))
+
+    environment : Bindings
+    environment = start_env config (who_called job name) (events_at ps fired) fired
+
+    -- what is done there, by this name of the instance
+    there : Option Bytes → Chronicle
+    there its = start_who def (start_env (only job config) (who_called job its) (events_at qs fired_there) fired_there) qs
+        (who_called job its) fired_there ++ fired_there
 
     environments : events_env (env_of_job config job) (events_at ps fired)
         ≡ events_env (env_of_job (only job config) job) (events_at qs fired_there)
@@ -541,16 +580,13 @@ like_start_offer config def c d p q in_force covered same stands twice like =
     started : Like job config (start_by config def ps fired ++ fired)
         (start_by (only job config) def qs fired_there ++ fired_there)
     started =
-        subst₂ (λ es fs. Like job config (es ++ fired) (fs ++ fired_there))
-        (sym (start_by-one config def ps fired (like-files job config fired fired_there after)))
-        (sym (start_by-one (only job config) def qs fired_there (like-files-there job config fired fired_there after)))
-        (subst (λ environment. Like job config
-        (start_who def environment ps (who_called job (instance_name def environment)) fired ++ fired)
-        (start_who def there qs (who_called job (instance_name def there)) fired_there ++ fired_there))
-        (sym environments)
-        (like_start_who job config fired fired_there def
-        (instance_name def (events_env (env_of_job (only job config) job) (events_at qs fired_there)))
-        (events_env (env_of_job (only job config) job) (events_at qs fired_there)) ps qs refl in_force later.contents
+        subst (λ its. Like job config (start_who def environment ps (who_called job name) fired ++ fired) (there its))
+        (ap (instance_name def) environments)
+        (subst (λ its. Like job config (start_who def environment ps (who_called job name) fired ++ fired)
+        (start_who def its qs (who_called job name) fired_there ++ fired_there))
+        (start_env-same job config fired fired_there name (events_at ps fired) (events_at qs fired_there) later.events
+        after)
+        (like_start_who job config fired fired_there def name environment ps qs refl later.contents
         later.older later.older_there after))
 
     by_case : (b a : Bool) → b ≡ a

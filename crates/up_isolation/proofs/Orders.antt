@@ -91,33 +91,32 @@ orders-both job xs ys zs ws one other =
     orders-append job xs ys ∙ ap₂ (λ us vs. us ++ vs) one other ∙ sym (orders-append job zs ws)
 
 -- of the last step
-pub orders-step : (job : Bytes) (config : Configuration) (c : Chronicle)
-    → orders_of job (outputs_of c) ≡ orders_of job (deeds_in job config c)
+pub orders-step : (job : Bytes) (c : Chronicle) → orders_of job (outputs_of c) ≡ orders_of job (deeds_in job c)
 unfolding outputs_of deeds_in
-orders-step job config [] = refl
-orders-step job config (Given given ∷ c) = refl
-orders-step job config (Ordered i its ∷ c) =
-    orders-both job (outputs_of c) (order_of i its c) (deeds_in job config c)
+orders-step job [] = refl
+orders-step job (Given given ∷ c) = refl
+orders-step job (Ordered i its ∷ c) =
+    orders-both job (outputs_of c) (order_of i its c) (deeds_in job c)
     (outputs_if (owns job i c) (order_of i its c))
-    (orders-step job config c) (orders-ordered job (file_of i c) (made_at i c) its (process_env i its c))
-orders-step job config (Signalled i signal by_timer ∷ c) =
-    orders-both job (outputs_of c) (signal_of (made_at i c) signal (pid_of i Main c)) (deeds_in job config c)
+    (orders-step job c) (orders-ordered job (file_of i c) (made_at i c) its (process_env i its c))
+orders-step job (Signalled i signal by_timer ∷ c) =
+    orders-both job (outputs_of c) (signal_of (made_at i c) signal (pid_of i Main c)) (deeds_in job c)
     (outputs_if (owns job i c) (signal_of (made_at i c) signal (pid_of i Main c)))
-    (orders-step job config c) (orders-signalled job (made_at i c) signal (pid_of i Main c))
-orders-step job config (Queued (Entering i to) event ∷ c) =
-    orders-both job (outputs_of c) (output.Emitted event ∷ []) (deeds_in job config c)
+    (orders-step job c) (orders-signalled job (made_at i c) signal (pid_of i Main c))
+orders-step job (Queued (Entering i to) event ∷ c) =
+    orders-both job (outputs_of c) (output.Emitted event ∷ []) (deeds_in job c)
     (outputs_if (owns job i c) (output.Emitted event ∷ []))
-    (orders-step job config c) (sym (no-event job (owns job i c) (output.Emitted event) refl))
-orders-step job config (Queued (Spoilt spoilt) event ∷ c) =
-    orders-both job (outputs_of c) (output.Emitted event ∷ []) (deeds_in job config c) []
-    (orders-step job config c) refl
-orders-step job config (Replied r answer ∷ c) =
-    orders-both job (outputs_of c) (reply_of (id_at r c) answer) (deeds_in job config c)
+    (orders-step job c) (sym (no-event job (owns job i c) (output.Emitted event) refl))
+orders-step job (Queued (Spoilt spoilt) event ∷ c) =
+    orders-both job (outputs_of c) (output.Emitted event ∷ []) (deeds_in job c) []
+    (orders-step job c) refl
+orders-step job (Replied r answer ∷ c) =
+    orders-both job (outputs_of c) (reply_of (id_at r c) answer) (deeds_in job c)
     (outputs_if (was_asked job (request_at r c)) (reply_of (id_at r c) answer))
-    (orders-step job config c) (no-reply job true (id_at r c) answer
+    (orders-step job c) (no-reply job true (id_at r c) answer
     ∙ sym (no-reply job (was_asked job (request_at r c)) (id_at r c) answer))
-orders-step job config (e ∷ c) =
-    orders-step job config c ∙ sym (ap (orders_of job) (append-nil (deeds_in job config c)))
+orders-step job (e ∷ c) =
+    orders-step job c ∙ sym (ap (orders_of job) (append-nil (deeds_in job c)))
 
 -- of a run
 pub orders-run : (job : Bytes) (config : Configuration) (c : Chronicle) (inputs : List Input)
@@ -136,8 +135,8 @@ orders-run job config c (given ∷ inputs) =
     by_case : (b : Bool) → orders_of job rest ≡ orders_of job others
         → orders_of job (outputs_in ((if b then step.Gave (outputs_of (after config c given))
         else step.NotExpected) ∷ answers config (next config c given) inputs))
-        ≡ orders_of job ((if b then deeds_in job config (after config c given) else []) ++ others)
+        ≡ orders_of job ((if b then deeds_in job (after config c given) else []) ++ others)
     by_case true both =
-        orders-both job (outputs_of (after config c given)) rest (deeds_in job config (after config c given)) others
-        (orders-step job config (after config c given)) both
+        orders-both job (outputs_of (after config c given)) rest (deeds_in job (after config c given)) others
+        (orders-step job (after config c given)) both
     by_case false both = both

@@ -1,7 +1,7 @@
 -- Entries about the job as a whole: its `start on`, instances that come and go, inputs, replies.
 use Rattle.std.proofs.Common.{◌≡◌, ℕ, ◌==◌, Bool, true, false, List, [], ◌∷◌, ◌++◌, Option, None, Some}
 use Rattle.std.proofs.Common.{length, if◌then◌else◌, bytes_eq, refl, sym, ◌∙◌, ap, ap₂, arith, eq-eqb}
-use Rattle.up_conf.specs.declared.job.JobDef.{JobDef}
+use Rattle.up_expr.specs.Trees.{Tree}
 use Rattle.up_expr.specs.Truth.{Sight}
 use Rattle.up_model.specs.declared.event.Event.{Event}
 use Rattle.up_model.specs.declared.request.Answer.{Answer}
@@ -14,15 +14,15 @@ use Rattle.up_model.specs.Seen.{seen, sight_of}
 use Rattle.up_model.specs.Values.{Bytes, Bindings}
 use Rattle.up_model.proofs.Places.{bytes_refl}
 use Rattle.up_model.proofs.NameLaws.{entered-singles}
-use Rattle.up_isolation.specs.Views.{jobs_called, owns}
+use Rattle.up_isolation.specs.Views.{owns}
 use Rattle.up_isolation.specs.Parts as parts
-use Rattle.up_isolation.specs.Parts.{Content, contents, content, Item, items, items_if, is_named_event}
+use Rattle.up_isolation.specs.Parts.{Content, contents, content, Item, items, items_if, hears_event}
 use Rattle.up_isolation.specs.Parts.{name_at}
 use Rattle.up_isolation.proofs.Lives.{Life, life}
 use Rattle.up_isolation.proofs.Lives as lives
 use Rattle.up_isolation.proofs.Sights.{told}
 use Rattle.up_isolation.proofs.Twins.{Twins, Match}
-use Rattle.up_isolation.proofs.Known.{contents-later, older-later}
+use Rattle.up_isolation.proofs.Known.{known, contents-later, older-later}
 use Rattle.up_isolation.proofs.Likes.{only, Bond, Twin, Like, blank_more, fair_more, told-append}
 use Rattle.up_isolation.proofs.Pairs.{Pair, Carries, twin-carried, Shows, pair_more, part_more, deeds_more}
 use Rattle.up_isolation.proofs.Pairs.{bond-life, shows-item, items-own, own-true, name-same, known-one}
@@ -30,7 +30,7 @@ use Rattle.up_isolation.proofs.Pairs.{twins-own}
 use Rattle.up_model.specs.Environments.{env_of_job, env_by_job}
 use Rattle.up_isolation.specs.Parts.{part}
 use Rattle.up_isolation.proofs.Pairs.{LeavesAlone, bond-missed}
-use Rattle.up_isolation.proofs.Likes.{named-only}
+use Rattle.up_isolation.proofs.Likes.{named-only, start_tree, hears_event-same}
 
 -- those but one, side by side
 pub twins-without : (R : Instance → Instance → Type 0) (i j : ℕ) (xs ys : List Instance)
@@ -58,8 +58,8 @@ pair_waiting job config c d x y pair = record {
     like = record {
       twins = twins-without (Twin job config (e ∷ c) (f ∷ d)) x.place y.place (instances_of job c)
           (instances_of job d) pair.match
-          (twins-own job config e f c d x.place y.place (instances_of job c) (instances_of job d) refl refl
-          bond pair.match pair.like.twins);
+          (twins-own job config e f c d x.file x.place y.place (instances_of job c) (instances_of job d) refl refl
+          pair.left.2 bond pair.match (known job c) pair.like.twins);
       starts = pair.like.starts;
       today = pair.like.today;
       blank = blank_more config e c pair.like.blank pair.left.0;
@@ -76,7 +76,8 @@ pair_waiting job config c d x y pair = record {
         pair.match pair.match;
   };
   carries = λ u v same guest. record {
-    twin = twin-carried job config e f c d x.place y.place u v refl refl bond same guest.twin;
+    twin = twin-carried job config e f c d x.file x.place y.place u v refl refl pair.left.2 bond same guest.left
+        guest.twin;
     left = known-one job e c u guest.left;
     right = known-one job f d v guest.right;
     match = twins-without (Match u.place v.place) x.place y.place (instances_of job c) (instances_of job d)
@@ -92,8 +93,8 @@ pair_waiting job config c d x y pair = record {
     f : Entry
     f = Entered y.place state.Waiting
 
-    bond : Bond job config (e ∷ c) (f ∷ d) x.place y.place
-    bond = bond-life job config e f c d x.place y.place pair.twin.bond
+    bond : Bond job config (e ∷ c) (f ∷ d) x.file x.place y.place
+    bond = bond-life job config e f c d x.file x.place y.place pair.twin.bond
         (lives.entered x.place y.place c d state.Waiting pair.twin.bond.alike) refl refl refl refl
 
     shows : Shows job config e f c d
@@ -110,7 +111,7 @@ twins-left job config e f c d (x ∷ xs) (y ∷ ys) one other twins = (
   record {
     name = twins.0.name;
     file = twins.0.file;
-    bond = bond-missed job config e f c d x.place y.place (one x.place)
+    bond = bond-missed job config e f c d x.file x.place y.place (one x.place)
         (other y.place) twins.0.bond;
   },
   twins-left job config e f c d xs ys one other twins.1,
@@ -150,17 +151,17 @@ pub pair_replied : (job : Bytes) (config : Configuration) (c d : Chronicle) (x y
     → Carries job config c d (Replied r answer ∷ c) (Replied q answer ∷ d) x y
 pair_replied job config c d x y r q answer same pair =
     pair_more job config (Replied r answer) (Replied q answer) c d x y pair tt tt tt tt tt tt tt
-    (bond-life job config (Replied r answer) (Replied q answer) c d x.place y.place pair.twin.bond
+    (bond-life job config (Replied r answer) (Replied q answer) c d x.file x.place y.place pair.twin.bond
     pair.twin.bond.alike refl refl refl refl)
     (record { notices = refl; items = rw same refl; deeds = rw same refl })
 
 -- the same sight, told without its place
-pub sight-told : (jobs : List JobDef) (p q : ℕ) (o u : Option Event) (environment other : Bindings) → o ≡ u
+pub sight-told : (tree : Option Tree) (p q : ℕ) (o u : Option Event) (environment other : Bindings) → o ≡ u
     → environment ≡ other
-    → told jobs (sight_of p o environment) ≡ told jobs (sight_of q u other)
-sight-told jobs p q o u environment other same alike = rw (same, alike) (by_case u)
+    → told tree (sight_of p o environment) ≡ told tree (sight_of q u other)
+sight-told tree p q o u environment other same alike = rw (same, alike) (by_case u)
   where
-    by_case : (u : Option Event) → told jobs (sight_of p u other) ≡ told jobs (sight_of q u other)
+    by_case : (u : Option Event) → told tree (sight_of p u other) ≡ told tree (sight_of q u other)
     by_case None = refl
     by_case (Some event) = refl
 
@@ -175,10 +176,9 @@ items-offered b a n m one other is named same = rw (is, named, same) refl
 
 -- the job's `start on` is offered the same event
 pub like_offered : (job : Bytes) (config : Configuration) (c d : Chronicle) (p q : ℕ)
-    → event_at p c ≡ event_at q d → content p c ≡ content q d
-    → jobs_called job (jobs_called job config.jobs) ≡ jobs_called job config.jobs → Like job config c d
+    → event_at p c ≡ event_at q d → content p c ≡ content q d → Like job config c d
     → Like job config (Offered (StartOn job) p ∷ c) (Offered (StartOn job) q ∷ d)
-like_offered job config c d p q same stands twice like = record {
+like_offered job config c d p q same stands like = record {
   twins = twins-left job config e f c d (instances_of job c) (instances_of job d)
       (λ k. record { aside = tt; holders = refl; seen = refl })
       (λ k. record { aside = tt; holders = refl; seen = refl }) like.twins;
@@ -198,8 +198,8 @@ like_offered job config c d p q same stands twice like = record {
   deeds = deeds_more job config e f c d shows like.deeds;
 }
   where
-    own : List JobDef
-    own = jobs_called job config.jobs
+    own : Option Tree
+    own = start_tree job config
 
     e : Entry
     e = Offered (StartOn job) p
@@ -210,10 +210,11 @@ like_offered job config c d p q same stands twice like = record {
     shows : Shows job config e f c d
     shows = record {
       notices = refl;
-      items = items-offered (bytes_eq job job) (bytes_eq job job) (is_named_event own (event_at p c))
-          (is_named_event (jobs_called job own) (event_at q d))
+      items = items-offered (bytes_eq job job) (bytes_eq job job) (hears_event job config (event_at p c) c)
+          (hears_event job (only job config) (event_at q d) d)
           (parts.Offered parts.StartOn (content p c)) (parts.Offered parts.StartOn (content q d)) refl
-          (ap₂ is_named_event (sym twice) same) (ap (λ its. parts.Offered parts.StartOn its) stands);
+          (hears_event-same job config c d (event_at p c) (event_at q d) same like)
+          (ap (λ its. parts.Offered parts.StartOn its) stands);
       deeds = refl;
     }
 
@@ -251,10 +252,9 @@ like_fired job config c d ps qs same like = record {
 
 -- an instance's `stop on` is offered the same event
 pub pair_offered : (job : Bytes) (config : Configuration) (c d : Chronicle) (x y : Instance) (p q : ℕ)
-    → event_at p c ≡ event_at q d → content p c ≡ content q d
-    → jobs_called job (jobs_called job config.jobs) ≡ jobs_called job config.jobs → Pair job config c d x y
+    → event_at p c ≡ event_at q d → content p c ≡ content q d → Pair job config c d x y
     → Carries job config c d (Offered (StopOn x.place) p ∷ c) (Offered (StopOn y.place) q ∷ d) x y
-pair_offered job config c d x y p q same stands twice pair =
+pair_offered job config c d x y p q same stands pair =
     pair_more job config e f c d x y pair refl refl tt tt pair.left.0 pair.right.0 tt
     (record {
       alike = pair.twin.bond.alike;
@@ -273,19 +273,19 @@ pair_offered job config c d x y p q same stands twice pair =
     })
     (record {
       notices = refl;
-      items = items-offered (owns job x.place c) (owns job y.place d) (is_named_event own (event_at p c))
-          (is_named_event (jobs_called job own) (event_at q d))
+      items = items-offered (owns job x.place c) (owns job y.place d) (hears_event job config (event_at p c) c)
+          (hears_event job (only job config) (event_at q d) d)
           (parts.Offered (parts.StopOn (name_at x.place c)) (content p c))
           (parts.Offered (parts.StopOn (name_at y.place d)) (content q d))
           (own-true job c x pair.left ∙ sym (own-true job d y pair.right))
-          (ap₂ is_named_event (sym twice) same)
+          (hears_event-same job config c d (event_at p c) (event_at q d) same pair.like)
           (ap₂ (λ name its. parts.Offered (parts.StopOn name) its) (name-same job config c d x y pair)
           stands);
       deeds = refl;
     })
   where
-    own : List JobDef
-    own = jobs_called job config.jobs
+    own : Option Tree
+    own = x.file.stop_on
 
     e : Entry
     e = Offered (StopOn x.place) p

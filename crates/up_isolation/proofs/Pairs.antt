@@ -2,6 +2,8 @@
 use Rattle.std.proofs.Common.{◌≡◌, ℕ, ◌==◌, Bool, true, false, List, [], ◌∷◌, ◌++◌, Some, length, refl, sym}
 use Rattle.std.proofs.Common.{◌∙◌, ap, ap₂, subst, subst₂, arith, eq-eqb, ne_eqb, eqb-true}
 use Rattle.std.proofs.lemmas.Bool.{eqb-false}
+use Rattle.std.specs.List.{AllByRecursion}
+use Rattle.up_conf.specs.declared.job.JobDef.{JobDef}
 use Rattle.up_model.specs.declared.failure.Failure.{Failure}
 use Rattle.up_model.specs.declared.output.Output.{Output}
 use Rattle.up_model.specs.declared.state.State.TheVariants as state
@@ -11,21 +13,21 @@ use Rattle.up_model.specs.Chronicle.{Signalled, Replied, Entering, StartOn, Stop
 use Rattle.up_model.specs.Clock.{now}
 use Rattle.up_model.specs.Configuration.{Configuration}
 use Rattle.up_model.specs.Instances.{Instance, instances_of}
-use Rattle.up_model.specs.Readings.{made_at, holders}
+use Rattle.up_model.specs.Readings.{made_at, file_of, holders}
 use Rattle.up_model.specs.Seen.{seen}
 use Rattle.up_model.specs.Values.{Bytes}
 use Rattle.up_model.proofs.Places.{bytes_refl, older-other}
 use Rattle.up_model.proofs.NameLaws.{called, Singles, entered-singles}
-use Rattle.up_isolation.specs.Views.{jobs_called, notices, is_of, owns, outputs_if, deeds_by, deeds}
+use Rattle.up_isolation.specs.Views.{notices, is_of, owns, outputs_if, deeds_by, deeds}
 use Rattle.up_isolation.specs.Parts as parts
-use Rattle.up_isolation.specs.Parts.{Content, contents, content, Item, items, items_if, is_named_event}
+use Rattle.up_isolation.specs.Parts.{Content, contents, content, Item, items, items_if}
 use Rattle.up_isolation.specs.Parts.{owns_expression, part, noticed, name_at}
 use Rattle.up_isolation.proofs.Lives.{Life, life, IsAside, aside, IsOld}
 use Rattle.up_isolation.proofs.Lives as lives
 use Rattle.up_isolation.proofs.Sights.{told}
 use Rattle.up_isolation.proofs.Twins.{Twins, Match}
-use Rattle.up_isolation.proofs.Known.{IsKnown, known, AreOlder, contents-later, older-later}
-use Rattle.up_isolation.proofs.Likes.{only, Bond, Twin, Like, HoldsFair, IsPast, blank_more, fair_more}
+use Rattle.up_isolation.proofs.Known.{IsKnown, known, one-file, AreOlder, contents-later, older-later}
+use Rattle.up_isolation.proofs.Likes.{only, Bond, Twin, Like, start_tree, HoldsFair, IsPast, blank_more, fair_more}
 
 -- two instances that are alike, in chronicles in which the job is alike
 pub record Pair (job : Bytes) (config : Configuration) (c d : Chronicle) (x y : Instance) : Type 0 where
@@ -129,25 +131,24 @@ grown ps its e c same older = subst (λ qs. AreOlder (length (e ∷ c)) qs) (sym
     (older-later (length c) (length (e ∷ c)) ps (omega arith) older)
 
 -- a bond of others holds on
-pub bond-missed : (job : Bytes) (config : Configuration) (e f : Entry) (c d : Chronicle) (i j : ℕ)
+pub bond-missed : (job : Bytes) (config : Configuration) (e f : Entry) (c d : Chronicle) (file : JobDef) (i j : ℕ)
     → LeavesAlone config e c i → LeavesAlone (only job config) f d j
-    → Bond job config c d i j → Bond job config (e ∷ c) (f ∷ d) i j
-bond-missed job config e f c d i j one other bond = record {
+    → Bond job config c d file i j → Bond job config (e ∷ c) (f ∷ d) file i j
+bond-missed job config e f c d file i j one other bond = record {
   alike = aside i e c one.aside ∙ bond.alike ∙ sym (aside j f d other.aside);
   held = held-later (holders i c) (holders i (e ∷ c)) e c one.holders bond.older ∙ bond.held
       ∙ sym (held-later (holders j d) (holders j (f ∷ d)) f d other.holders bond.older_there);
   older = grown (holders i c) (holders i (e ∷ c)) e c one.holders bond.older;
   older_there = grown (holders j d) (holders j (f ∷ d)) f d other.holders bond.older_there;
-  sights = ap (told (jobs_called job config.jobs)) one.seen ∙ bond.sights
-      ∙ sym (ap (told (jobs_called job config.jobs)) other.seen);
+  sights = ap (told file.stop_on) one.seen ∙ bond.sights ∙ sym (ap (told file.stop_on) other.seen);
 }
 
 -- so does that of the two
-pub twin-carried : (job : Bytes) (config : Configuration) (e f : Entry) (c d : Chronicle) (i j : ℕ)
-    (x y : Instance) → IsAboutOne i e → IsAboutOne j f
-    → Bond job config (e ∷ c) (f ∷ d) i j → (i == x.place) ≡ (j == y.place) → Twin job config c d x y
-    → Twin job config (e ∷ c) (f ∷ d) x y
-twin-carried job config e f c d i j x y is are bond same twin =
+pub twin-carried : (job : Bytes) (config : Configuration) (e f : Entry) (c d : Chronicle) (file : JobDef) (i j : ℕ)
+    (x y : Instance) → IsAboutOne i e → IsAboutOne j f → file_of i c ≡ Some file
+    → Bond job config (e ∷ c) (f ∷ d) file i j → (i == x.place) ≡ (j == y.place) → IsKnown job c x
+    → Twin job config c d x y → Twin job config (e ∷ c) (f ∷ d) x y
+twin-carried job config e f c d file i j x y is are own bond same known twin =
     by_case (i == x.place) (j == y.place) refl refl same
   where
     by_case : (b a : Bool) → (i == x.place) ≡ b → (j == y.place) ≡ a → (i == x.place) ≡ (j == y.place)
@@ -155,13 +156,15 @@ twin-carried job config e f c d i j x y is are bond same twin =
     by_case true true here there same = record {
       name = twin.name;
       file = twin.file;
-      bond = subst₂ (λ p q. Bond job config (e ∷ c) (f ∷ d) p q) (eqb-true i x.place here)
-          (eqb-true j y.place there) bond;
+      bond = subst (λ its. Bond job config (e ∷ c) (f ∷ d) its x.place y.place)
+          (one-file (file_of x.place c) file x.file (ap (λ p. file_of p c) (sym (eqb-true i x.place here)) ∙ own) known.2)
+          (subst₂ (λ p q. Bond job config (e ∷ c) (f ∷ d) file p q) (eqb-true i x.place here)
+          (eqb-true j y.place there) bond);
     }
     by_case false false here there same = record {
       name = twin.name;
       file = twin.file;
-      bond = bond-missed job config e f c d x.place y.place (leaves config i x.place e c is here)
+      bond = bond-missed job config e f c d x.file x.place y.place (leaves config i x.place e c is here)
           (leaves (only job config) j y.place f d are there) twin.bond;
     }
     by_case true false here there same = absurd (cc)
@@ -179,17 +182,18 @@ flipped p q k l same = by_case (p == q) (k == l) refl refl same
     by_case false true here there same = absurd (cc)
 
 -- so all bonds hold on if that of the two does
-pub twins-own : (job : Bytes) (config : Configuration) (e f : Entry) (c d : Chronicle) (i j : ℕ)
-    (xs ys : List Instance) → IsAboutOne i e → IsAboutOne j f
-    → Bond job config (e ∷ c) (f ∷ d) i j → Twins (Match i j) xs ys → Twins (Twin job config c d) xs ys
-    → Twins (Twin job config (e ∷ c) (f ∷ d)) xs ys
-twins-own job config e f c d i j [] [] is are bond match twins = tt
-twins-own job config e f c d i j (x ∷ xs) (y ∷ ys) is are bond match twins = (
-  twin-carried job config e f c d i j x y is are bond (flipped x.place i y.place j match.0) twins.0,
-  twins-own job config e f c d i j xs ys is are bond match.1 twins.1,
+pub twins-own : (job : Bytes) (config : Configuration) (e f : Entry) (c d : Chronicle) (file : JobDef) (i j : ℕ)
+    (xs ys : List Instance) → IsAboutOne i e → IsAboutOne j f → file_of i c ≡ Some file
+    → Bond job config (e ∷ c) (f ∷ d) file i j → Twins (Match i j) xs ys → AllByRecursion (IsKnown job c) xs
+    → Twins (Twin job config c d) xs ys → Twins (Twin job config (e ∷ c) (f ∷ d)) xs ys
+twins-own job config e f c d file i j [] [] is are own bond match known twins = tt
+twins-own job config e f c d file i j (x ∷ xs) (y ∷ ys) is are own bond match known twins = (
+  twin-carried job config e f c d file i j x y is are own bond (flipped x.place i y.place j match.0) known.0
+      twins.0,
+  twins-own job config e f c d file i j xs ys is are own bond match.1 known.1 twins.1,
 )
-twins-own job config e f c d i j [] (y ∷ ys) is are bond match twins = twins
-twins-own job config e f c d i j (x ∷ xs) [] is are bond match twins = twins
+twins-own job config e f c d file i j [] (y ∷ ys) is are own bond match known twins = twins
+twins-own job config e f c d file i j (x ∷ xs) [] is are own bond match known twins = twins
 
 -- an entry that leaves alone which instances the job has, what its `start on` has seen, and the clock
 pub record KeepsJob (job : Bytes) (config : Configuration) (e : Entry) (c : Chronicle) : Type 0 where
@@ -220,7 +224,7 @@ quiet job config e c is = record { instances = refl; starts = refl; today = refl
 pub record Shows (job : Bytes) (config : Configuration) (e f : Entry) (c d : Chronicle) : Type 0 where
   pub notices : notices job config e c ≡ notices job (only job config) f d
   pub items : items job config e c ≡ items job (only job config) f d
-  pub deeds : deeds_by job config e c ≡ deeds_by job (only job config) f d
+  pub deeds : deeds_by job e c ≡ deeds_by job f d
 
 pub part_more : (job : Bytes) (config : Configuration) (e f : Entry) (c d : Chronicle)
     → Shows job config e f c d → part job config c ≡ part job (only job config) d
@@ -230,8 +234,8 @@ part_more job config e f c d shows same =
     ap₂ (λ ns is. noticed ns ++ is) shows.notices (ap₂ (λ is rest. is ++ rest) shows.items same)
 
 pub deeds_more : (job : Bytes) (config : Configuration) (e f : Entry) (c d : Chronicle)
-    → Shows job config e f c d → deeds job config c ≡ deeds job (only job config) d
-    → deeds job config (e ∷ c) ≡ deeds job (only job config) (f ∷ d)
+    → Shows job config e f c d → deeds job c ≡ deeds job d
+    → deeds job (e ∷ c) ≡ deeds job (f ∷ d)
 unfolding deeds
 deeds_more job config e f c d shows same = ap₂ (λ (xs ys : List Output). xs ++ ys) same shows.deeds
 
@@ -255,17 +259,17 @@ pub pair_more : (job : Bytes) (config : Configuration) (e f : Entry) (c d : Chro
     → Pair job config c d x y
     → IsAboutOne x.place e → IsAboutOne y.place f → IsPlain e → IsPlain f → IsPast e c → IsPast f d
     → HoldsFair job e c
-    → Bond job config (e ∷ c) (f ∷ d) x.place y.place → Shows job config e f c d
+    → Bond job config (e ∷ c) (f ∷ d) x.file x.place y.place → Shows job config e f c d
     → Carries job config c d (e ∷ c) (f ∷ d) x y
 pair_more job config e f c d x y pair is are plain flat past gone fair bond shows = record {
   pair = record {
     like = record {
       twins = subst₂ (λ xs ys. Twins (Twin job config (e ∷ c) (f ∷ d)) xs ys) (sym one.instances)
           (sym other.instances)
-          (twins-own job config e f c d x.place y.place (instances_of job c) (instances_of job d) is are bond
-          pair.match pair.like.twins);
-      starts = ap (told (jobs_called job config.jobs)) one.starts ∙ pair.like.starts
-          ∙ sym (ap (told (jobs_called job config.jobs)) other.starts);
+          (twins-own job config e f c d x.file x.place y.place (instances_of job c) (instances_of job d) is are
+          pair.left.2 bond pair.match (known job c) pair.like.twins);
+      starts = ap (told (start_tree job config)) one.starts ∙ pair.like.starts
+          ∙ sym (ap (told (start_tree job config)) other.starts);
       today = one.today ∙ pair.like.today ∙ sym other.today;
       blank = blank_more config e c pair.like.blank past;
       empty = blank_more (only job config) f d pair.like.empty gone;
@@ -281,7 +285,8 @@ pair_more job config e f c d x y pair is are plain flat past gone fair bond show
         pair.match;
   };
   carries = λ u v same guest. record {
-    twin = twin-carried job config e f c d x.place y.place u v is are bond same guest.twin;
+    twin = twin-carried job config e f c d x.file x.place y.place u v is are pair.left.2 bond same guest.left
+        guest.twin;
     left = known-one job e c u guest.left;
     right = known-one job f d v guest.right;
     match = subst₂ (λ xs ys. Twins (Match u.place v.place) xs ys) (sym one.instances) (sym other.instances)
@@ -322,7 +327,7 @@ name-same job config c d x y pair = ap parts.name_in (made-same job config c d x
 pub shows-item : (job : Bytes) (config : Configuration) (e f : Entry) (c d : Chronicle) (x y : Instance)
     (item : Bytes → Item) → Pair job config c d x y
     → notices job config e c ≡ notices job (only job config) f d
-    → deeds_by job config e c ≡ deeds_by job (only job config) f d
+    → deeds_by job e c ≡ deeds_by job f d
     → items job config e c ≡ items_if (owns job x.place c) (item (name_at x.place c))
     → items job (only job config) f d ≡ items_if (owns job y.place d) (item (name_at y.place d))
     → Shows job config e f c d
@@ -335,20 +340,19 @@ shows-item job config e f c d x y item pair seen done left right = record {
 }
 
 -- a bond under entries that leave holders and sights alone
-pub bond-life : (job : Bytes) (config : Configuration) (e f : Entry) (c d : Chronicle) (i j : ℕ)
-    → Bond job config c d i j → life i (e ∷ c) ≡ life j (f ∷ d)
+pub bond-life : (job : Bytes) (config : Configuration) (e f : Entry) (c d : Chronicle) (file : JobDef) (i j : ℕ)
+    → Bond job config c d file i j → life i (e ∷ c) ≡ life j (f ∷ d)
     → holders i (e ∷ c) ≡ holders i c → holders j (f ∷ d) ≡ holders j d
     → seen config (StopOn i) (e ∷ c) ≡ seen config (StopOn i) c
     → seen (only job config) (StopOn j) (f ∷ d) ≡ seen (only job config) (StopOn j) d
-    → Bond job config (e ∷ c) (f ∷ d) i j
-bond-life job config e f c d i j bond alike one other sight sights = record {
+    → Bond job config (e ∷ c) (f ∷ d) file i j
+bond-life job config e f c d file i j bond alike one other sight sights = record {
   alike = alike;
   held = held-later (holders i c) (holders i (e ∷ c)) e c one bond.older ∙ bond.held
       ∙ sym (held-later (holders j d) (holders j (f ∷ d)) f d other bond.older_there);
   older = grown (holders i c) (holders i (e ∷ c)) e c one bond.older;
   older_there = grown (holders j d) (holders j (f ∷ d)) f d other bond.older_there;
-  sights = ap (told (jobs_called job config.jobs)) sight ∙ bond.sights
-      ∙ sym (ap (told (jobs_called job config.jobs)) sights);
+  sights = ap (told file.stop_on) sight ∙ bond.sights ∙ sym (ap (told file.stop_on) sights);
 }
 
 -- a failure
@@ -358,7 +362,7 @@ pub pair_failed : (job : Bytes) (config : Configuration) (c d : Chronicle) (x y 
 pair_failed job config c d x y its pair =
     pair_more job config (Failed x.place its) (Failed y.place its) c d x y pair refl refl tt tt pair.left.0
     pair.right.0 tt
-    (bond-life job config (Failed x.place its) (Failed y.place its) c d x.place y.place pair.twin.bond
+    (bond-life job config (Failed x.place its) (Failed y.place its) c d x.file x.place y.place pair.twin.bond
     (lives.failed x.place y.place c d its pair.twin.bond.alike) refl refl refl refl)
     (shows-item job config (Failed x.place its) (Failed y.place its) c d x y (λ name. parts.Failed name its)
     pair refl refl refl refl)
@@ -370,7 +374,7 @@ pub pair_respawned : (job : Bytes) (config : Configuration) (c d : Chronicle) (x
 pair_respawned job config c d x y moment pair =
     pair_more job config (Respawned x.place moment) (Respawned y.place moment) c d x y pair refl refl tt tt
     pair.left.0 pair.right.0 tt
-    (bond-life job config (Respawned x.place moment) (Respawned y.place moment) c d x.place y.place
+    (bond-life job config (Respawned x.place moment) (Respawned y.place moment) c d x.file x.place y.place
     pair.twin.bond
     (lives.respawned x.place y.place moment c d pair.twin.bond.alike) refl refl refl refl)
     (shows-item job config (Respawned x.place moment) (Respawned y.place moment) c d x y

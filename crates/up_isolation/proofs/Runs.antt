@@ -1,7 +1,6 @@
 -- Whole runs: the job's part is that of the job alone, by what came to its notice.
-use Rattle.std.proofs.Common.{◌≡◌, ℕ, ◌≤◌, ◌⊎◌, inl, inr, Bool, true, false, List, [], ◌∷◌, ◌++◌, Option}
+use Rattle.std.proofs.Common.{◌≡◌, ℕ, ◌⊎◌, inl, inr, Bool, true, false, List, [], ◌∷◌, ◌++◌, Option}
 use Rattle.std.proofs.Common.{None, Some, length, if◌then◌else◌, bytes_eq, refl, sym, ◌∙◌, ap, ap₂, subst}
-use Rattle.std.proofs.Common.{arith}
 use Rattle.std.specs.List.{AllByRecursion}
 use Rattle.up_conf.specs.declared.job.JobDef.{JobDef}
 use Rattle.up_model.specs.declared.event.Event.{Event}
@@ -13,11 +12,10 @@ use Rattle.up_model.specs.Readings.{event_at}
 use Rattle.up_model.specs.Replies.{request_at}
 use Rattle.up_model.specs.Seen.{seen}
 use Rattle.up_model.specs.Values.{Bytes, Bindings}
-use Rattle.up_model.proofs.Places.{bytes_same, bytes_refl}
 use Rattle.up_model.proofs.NameLaws.{called}
-use Rattle.up_isolation.specs.Views.{Notice, jobs_called, is_named, notices, owns, was_asked, deeds}
+use Rattle.up_isolation.specs.Views.{Notice, notices, owns, was_asked, deeds}
 use Rattle.up_isolation.specs.Parts as parts
-use Rattle.up_isolation.specs.Parts.{Content, contents, content, Item, items, items_if, is_named_event}
+use Rattle.up_isolation.specs.Parts.{Content, contents, content, Item, items, items_if, hears_event}
 use Rattle.up_isolation.specs.Parts.{name_at}
 use Rattle.up_isolation.proofs.Sights.{told}
 use Rattle.up_isolation.proofs.Likes.{only, Like}
@@ -36,9 +34,7 @@ use Rattle.up_isolation.specs.Views.{Received, Arrived, Unblocked, view}
 use Rattle.up_isolation.proofs.Calm.{IsBlind}
 use Rattle.up_isolation.proofs.Ends.{IsMute, mute-end}
 use Rattle.up_isolation.proofs.Resting.{IsCalm}
-use Rattle.up_isolation.proofs.Acting.{Facts}
-use Rattle.std.proofs.Common.{zero, ◌||◌}
-use Rattle.up_expr.specs.Trees.{Tree, One, Both, Either}
+use Rattle.std.proofs.Common.{zero}
 use Rattle.up_model.specs.Answers.{after, next, is_expected, after_all}
 use Rattle.up_model.specs.Due.{finishing, turn_event, turn_of, failed_event_of, telling}
 use Rattle.up_model.specs.Held.{is_spoilt}
@@ -50,17 +46,13 @@ use Rattle.up_model.proofs.ReplyLaws.{outcome-all, answering_waiter-all}
 use Rattle.up_model.proofs.Settling.{settle_rests}
 use Rattle.up_model.proofs.WorkLaws.{IsAbout as IsDue, due-about}
 use Rattle.up_model.proofs.Sparing.{IsOf}
-use Rattle.up_isolation.specs.Views.{has_leaf, stands_in, asks}
+use Rattle.up_isolation.specs.Views.{asks}
 use Rattle.up_isolation.specs.Parts.{part, noticed, owns_expression}
 use Rattle.up_isolation.specs.Isolation.{MeanTheSame, IsUnique, GrowsByAtMostOne}
-use Rattle.up_isolation.proofs.Sights.{Covers}
-use Rattle.up_isolation.proofs.Likes.{blank_nil}
-use Rattle.up_isolation.proofs.Offering.{AreCovered}
-use Rattle.up_model.proofs.FileLaws.{AreMadeBy}
-use Rattle.up_model.proofs.MadeLaws.{effect-made, settle-made}
+use Rattle.up_isolation.proofs.Likes.{start_tree, blank_nil}
 use Rattle.up_isolation.proofs.Calm.{nothing-holds, calm-blind, calm-settle}
 use Rattle.up_isolation.proofs.Resting.{resting-settle}
-use Rattle.up_isolation.proofs.Acting.{IsCovered, plain-settle}
+use Rattle.up_isolation.proofs.Acting.{plain-settle}
 use Rattle.up_isolation.proofs.Hurry.{waits-settle}
 use Rattle.up_isolation.proofs.Alone.{freeing, blocker_of, begin, alone, Effected, Unnoticed, Noticed}
 use Rattle.up_isolation.proofs.Alone.{Hurried, Base, effect-spawned, effect-refused, effect-ended}
@@ -68,66 +60,6 @@ use Rattle.up_isolation.proofs.Alone.{effect-emit}
 use Rattle.up_isolation.proofs.Turning.{effect-clock, effect-turn}
 use Rattle.up_isolation.proofs.Requesting.{mute-allows, effect-other}
 use Rattle.up_isolation.proofs.Asking.{effect-own}
-
--- the jobs of a name
-twice-called : (job : Bytes) (js : List JobDef) → jobs_called job (jobs_called job js) ≡ jobs_called job js
-twice-called job [] = refl
-twice-called job (def ∷ js) = by_case (bytes_eq def.name job) refl (twice-called job js)
-  where
-    by_case : (b : Bool) → bytes_eq def.name job ≡ b
-        → jobs_called job (jobs_called job js) ≡ jobs_called job js
-        → jobs_called job (if b then def ∷ jobs_called job js else jobs_called job js)
-        ≡ (if b then def ∷ jobs_called job js else jobs_called job js)
-    by_case true is ih = rw is (ap (λ rest. def ∷ rest) ih)
-    by_case false is ih = ih
-
-or-true : (b : Bool) → (b || true) ≡ true
-or-true true = refl
-or-true false = refl
-
--- what their expressions name is named
-covers : (jobs : List JobDef) (tree : Tree)
-    → ((event : Bytes) → has_leaf event tree ≡ true → is_named event jobs ≡ true) → Covers jobs tree
-covers jobs (One leaf) named = named leaf.event (bytes_refl leaf.event)
-covers jobs (Both left right) named = (
-  covers jobs left (λ event is. named event (ap (λ b. b || has_leaf event right) is)),
-  covers jobs right (λ event is. named event (ap (λ b. has_leaf event left || b) is
-      ∙ or-true (has_leaf event left))),
-)
-covers jobs (Either left right) named = (
-  covers jobs left (λ event is. named event (ap (λ b. b || has_leaf event right) is)),
-  covers jobs right (λ event is. named event (ap (λ b. has_leaf event left || b) is
-      ∙ or-true (has_leaf event left))),
-)
-
-covers-option : (jobs : List JobDef) (o : Option Tree)
-    → ((event : Bytes) → stands_in event o ≡ true → is_named event jobs ≡ true) → AreCovered jobs o
-covers-option jobs None named = tt
-covers-option jobs (Some tree) named = covers jobs tree named
-
-all-covered : (all js : List JobDef)
-    → ((event : Bytes) → is_named event js ≡ true → is_named event all ≡ true)
-    → AllByRecursion (IsCovered all) js
-all-covered all [] named = tt
-all-covered all (def ∷ js) named = (
-  (
-    covers-option all def.start_on
-        (λ event is. named event (ap (λ b. (b || stands_in event def.stop_on) || is_named event js) is)),
-    covers-option all def.stop_on
-        (λ event is. named event (ap (λ b. (stands_in event def.start_on || b) || is_named event js) is
-        ∙ ap (λ b. b || is_named event js) (or-true (stands_in event def.start_on)))),
-  ),
-  all-covered all js (λ event is. named event
-      (ap (λ b. (stands_in event def.start_on || stands_in event def.stop_on) || b) is
-      ∙ or-true (stands_in event def.start_on || stands_in event def.stop_on))),
-)
-
-facts-of : (job : Bytes) (config : Configuration) → Facts job config
-facts-of job config = record {
-  twice = twice-called job config.jobs;
-  covered = all-covered
-      (jobs_called job config.jobs) (jobs_called job config.jobs) (λ event is. is);
-}
 
 -- in a step nothing but its input and its turn is noticed
 of-mute : (k : Bytes) (p : ℕ) (job : Bytes) (config : Configuration) (e : Entry) (c : Chronicle) → IsOf k p e
@@ -228,58 +160,19 @@ effect-blind config input.Turn c =
     all-append IsBlind (turn_of (turn_event config (queue c) c) (Given input.Turn ∷ c))
     (Given input.Turn ∷ []) (turn-blind (turn_event config (queue c) c) (Given input.Turn ∷ c)) (tt, tt)
 
-calm-begin : (job : Bytes) (config : Configuration) (def : JobDef) (notice : Notice) (d : Chronicle)
-    → IsCalm job config d def → IsCalm job config (begin job config notice d) def
-calm-begin job config def (Received given) d calm = calm-blind job config def
+calm-begin : (job : Bytes) (config : Configuration) (notice : Notice) (d : Chronicle)
+    → IsCalm job config d → IsCalm job config (begin job config notice d)
+calm-begin job config (Received given) d calm = calm-blind job config
     (effect (only job config) given d) d (effect-blind (only job config) given d) calm
-calm-begin job config def (Arrived event) d calm =
-    calm-blind job config def (Handled (suc (length d)) ∷ Queued (Outside (length d)) event ∷ Given input.Turn
+calm-begin job config (Arrived event) d calm =
+    calm-blind job config (Handled (suc (length d)) ∷ Queued (Outside (length d)) event ∷ Given input.Turn
     ∷ []) d (tt, (tt, (tt, tt))) calm
-calm-begin job config def (Unblocked name) d calm =
+calm-begin job config (Unblocked name) d calm =
     by_event (blocker_of (instance_named (called job name) d) d)
   where
-    by_event : (o : Option ℕ) → IsCalm job config (freeing o d) def
+    by_event : (o : Option ℕ) → IsCalm job config (freeing o d)
     by_event None = calm
-    by_event (Some event) =
-        calm-blind job config def (Finished event ∷ Given input.Turn ∷ []) d (tt, (tt, tt)) calm
-
--- it stays calm, if it is one
-calm-next : (job : Bytes) (config : Configuration) (n : ℕ) (d : Chronicle) → IsUnique job config
-    → AreMadeBy (jobs_called job config.jobs) d → AllByRecursion (IsCalm job config d) (jobs_called job config.jobs)
-    → AllByRecursion (IsCalm job config (settle n (only job config) d)) (jobs_called job config.jobs)
-calm-next job config n d one made calm = by_list (jobs_called job config.jobs) refl one calm
-  where
-    named : (js : List JobDef) (def : JobDef) → jobs_called job js ≡ def ∷ [] → def.name ≡ job
-    named [] def is = absurd (cc)
-    named (its ∷ js) def is = by_case (bytes_eq its.name job) refl is (named js def)
-      where
-        by_case : (b : Bool) → bytes_eq its.name job ≡ b
-            → (if b then its ∷ jobs_called job js else jobs_called job js) ≡ def ∷ []
-            → (jobs_called job js ≡ def ∷ [] → def.name ≡ job) → def.name ≡ job
-        by_case true here is ih =
-            let same : its ≡ def = cc in ap (λ (k : JobDef). k.name) (sym same) ∙ bytes_same its.name job here
-        by_case false here is ih = ih is
-
-    settled : (def : JobDef) → def.name ≡ job → jobs_called job config.jobs ≡ def ∷ []
-        → IsCalm job config d def → IsCalm job config (settle n (only job config) d) def
-    settled def name is calm =
-        subst (λ k. jobs_called k config.jobs ≡ def ∷ [] → AreMadeBy (jobs_called k config.jobs) d → IsCalm k config d def
-        → IsCalm k config (settle n (only k config) d) def) name
-        (λ is made calm. calm-settle n config def d is made calm) is made calm
-
-    by_list : (js : List JobDef) → jobs_called job config.jobs ≡ js → length js ≤ 1
-        → AllByRecursion (IsCalm job config d) js
-        → AllByRecursion (IsCalm job config (settle n (only job config) d)) js
-    by_list [] is few calm = tt
-    by_list (def ∷ []) is few calm = (settled def (named config.jobs def is) is calm.0, tt)
-    by_list (def ∷ other ∷ js) is few calm = absurd (omega arith)
-
-calm-begun : (job : Bytes) (config : Configuration) (notice : Notice) (d : Chronicle) (js : List JobDef)
-    → AllByRecursion (IsCalm job config d) js
-    → AllByRecursion (IsCalm job config (begin job config notice d)) js
-calm-begun job config notice d [] calm = tt
-calm-begun job config notice d (def ∷ js) calm =
-    (calm-begin job config def notice d calm.0, calm-begun job config notice d js calm.1)
+    by_event (Some event) = calm-blind job config (Finished event ∷ Given input.Turn ∷ []) d (tt, (tt, tt)) calm
 
 -- the job in a chronicle is the job alone, by what it noticed
 abbrev pub Tracks : Bytes → Configuration → Chronicle → Type 0
@@ -300,25 +193,6 @@ effected job config (input.Ended who its how) c d base = effect-ended job config
 effected job config (input.Clock reading) c d base = effect-clock job config reading c d base
 effected job config input.Turn c d base = effect-turn job config c d base
 
--- each instance of the job alone is made by its file
-begin-made : (job : Bytes) (config : Configuration) (notice : Notice) (d : Chronicle) → AreMadeBy (jobs_called job config.jobs) d
-    → AreMadeBy (jobs_called job config.jobs) (begin job config notice d)
-begin-made job config (Received given) d made = effect-made (only job config) given d made
-begin-made job config (Arrived event) d made = made
-begin-made job config (Unblocked name) d made = by_event (blocker_of (instance_named (called job name) d) d)
-  where
-    by_event : (o : Option ℕ) → AreMadeBy (jobs_called job config.jobs) (freeing o d)
-    by_event None = made
-    by_event (Some event) = made
-
-alone-made : (job : Bytes) (config : Configuration) (ns : List Notice) → AreMadeBy (jobs_called job config.jobs) (alone job config ns)
-unfolding alone
-alone-made job config [] = tt
-alone-made job config (notice ∷ ns) =
-    let A = only job config in
-    let d = begin job config notice (alone job config ns) in
-    settle-made (work A d) A d (begin-made job config notice (alone job config ns) (alone-made job config ns))
-
 -- what an input leaves: all as it was, or one notice more
 pub data Left (job : Bytes) (config : Configuration) (c e : Chronicle) : Type 0 where
   Same : view job config e ≡ view job config c → Tracks job config e → Left job config c e
@@ -326,9 +200,9 @@ pub data Left (job : Bytes) (config : Configuration) (c e : Chronicle) : Type 0 
       → Left job config c e
 
 pub tracks-after : (job : Bytes) (config : Configuration) (given : Input) (c : Chronicle)
-    → IsUnique job config → Tracks job config c → Left job config c (after config c given)
+    → Tracks job config c → Left job config c (after config c given)
 unfolding after alone
-tracks-after job config given c one base = by_effect (effected job config given c d base)
+tracks-after job config given c base = by_effect (effected job config given c d base)
   where
     A : Configuration
     A = only job config
@@ -345,9 +219,6 @@ tracks-after job config given c one base = by_effect (effected job config given 
     rest : due config (settle n config e) ≡ []
     rest = settle_rests config e
 
-    made : AreMadeBy (jobs_called job config.jobs) d
-    made = alone-made job config (view job config c)
-
     more : (notice : Notice) → view job config e ≡ notice ∷ view job config c
         → Like job config (settle n config e)
         (settle (work A (begin job config notice d)) A (begin job config notice d))
@@ -360,9 +231,7 @@ tracks-after job config given c one base = by_effect (effected job config given 
         (record {
           like = like;
           rest = settle_rests A f;
-          calm = calm-next job config (work A f) f one (begin-made job config notice d made)
-              (calm-begun job config notice d (jobs_called job config.jobs) base.calm);
-          facts = base.facts;
+          calm = calm-settle (work A f) job config f (calm-begin job config notice d base.calm);
         }))
 
     by_effect : Effected job config c d e → Left job config c (settle n config e)
@@ -374,48 +243,40 @@ tracks-after job config given c one base = by_effect (effected job config given 
           like = resting-settle n job config e d resting;
           rest = base.rest;
           calm = base.calm;
-          facts =
-              base.facts;
         }))
     by_effect (Noticed notice seen plain) =
-        more notice seen (plain-settle n job config e (begin job config notice d) base.facts plain rest)
+        more notice seen (plain-settle n job config e (begin job config notice d) plain rest)
     by_effect (Hurried notice seen r q x y waits) = more notice seen
-        (waits-settle n job config e (begin job config notice d) r q x y base.facts waits rest)
+        (waits-settle n job config e (begin job config notice d) r q x y waits rest)
 
 left-tracks : (job : Bytes) (config : Configuration) (c e : Chronicle) → Left job config c e
     → Tracks job config e
 left-tracks job config c e (Same seen tracks) = tracks
 left-tracks job config c e (More notice seen tracks) = tracks
 
-pub tracks-next : (job : Bytes) (config : Configuration) (given : Input) (c : Chronicle) → IsUnique job config
+pub tracks-next : (job : Bytes) (config : Configuration) (given : Input) (c : Chronicle)
     → Tracks job config c → Tracks job config (next config c given)
-tracks-next job config given c one tracks = by_case (is_expected given c)
+tracks-next job config given c tracks = by_case (is_expected given c)
   where
     by_case : (b : Bool) → Tracks job config (if b then after config c given else c)
     by_case true =
-        left-tracks job config c (after config c given) (tracks-after job config given c one tracks)
+        left-tracks job config c (after config c given) (tracks-after job config given c tracks)
     by_case false = tracks
 
 pub tracks-all : (job : Bytes) (config : Configuration) (inputs : List Input) (c : Chronicle)
-    → IsUnique job config → Tracks job config c → Tracks job config (after_all config c inputs)
+    → Tracks job config c → Tracks job config (after_all config c inputs)
 unfolding after_all
-tracks-all job config [] c one tracks = tracks
-tracks-all job config (given ∷ inputs) c one tracks =
-    tracks-all job config inputs (next config c given) one (tracks-next job config given c one tracks)
+tracks-all job config [] c tracks = tracks
+tracks-all job config (given ∷ inputs) c tracks =
+    tracks-all job config inputs (next config c given) (tracks-next job config given c tracks)
 
 -- at the start
-calm-nil : (job : Bytes) (config : Configuration) (js : List JobDef)
-    → AllByRecursion (IsCovered (jobs_called job config.jobs)) js → AllByRecursion (IsCalm job config []) js
-calm-nil job config [] covered = tt
-calm-nil job config (def ∷ js) covered = (
-  record {
-    start = nothing-holds def.start_on;
-    stop = λ j. nothing-holds def.stop_on;
-    starts = covered.0.0;
-    stops = covered.0.1;
-  },
-  calm-nil job config js covered.1,
-)
+calm-nil : (job : Bytes) (config : Configuration) → IsCalm job config []
+calm-nil job config = record {
+  start = nothing-holds (start_tree job config);
+  stops = λ j file is. nothing-holds file.stop_on;
+  blank = λ j h. refl;
+}
 
 first-none : (names : List Bytes) → move_first names [] ≡ []
 first-none [] = refl
@@ -436,14 +297,13 @@ tracks-nil job config = record {
     deeds = refl;
   };
   rest = ap (λ (es : List Entry). or_else es []) (first-none (names_in_order (only job config) []));
-  calm = calm-nil job config (jobs_called job config.jobs) (facts-of job config).covered;
-  facts = facts-of job config;
+  calm = calm-nil job config;
 }
 
 -- so each run
-pub tracked : (job : Bytes) (config : Configuration) (inputs : List Input) → IsUnique job config
+pub tracked : (job : Bytes) (config : Configuration) (inputs : List Input)
     → Tracks job config (after_all config [] inputs)
-tracked job config inputs one = tracks-all job config inputs [] one (tracks-nil job config)
+tracked job config inputs = tracks-all job config inputs [] (tracks-nil job config)
 
 only-same : (job : Bytes) (first second : Configuration) → MeanTheSame job first second
     → only job first ≡ only job second
@@ -468,11 +328,10 @@ alone-same job first second (notice ∷ ns) same =
 -- in two runs in which the same comes to its notice, the job does the same
 pub isolated : (job : Bytes) (first second : Configuration) (c d : Chronicle) → MeanTheSame job first second
     → Tracks job first c → Tracks job second d
-    → view job first c ≡ view job second d → deeds job first c ≡ deeds job second d
+    → view job first c ≡ view job second d → deeds job c ≡ deeds job d
 isolated job first second c d same tracks other views =
     tracks.like.deeds
-    ∙ ap₂ (λ (A : Configuration) (t : Chronicle). deeds job A t) (only-same job first second same)
-    (ap (alone job first) views ∙ alone-same job first second (view job second d)
+    ∙ ap (deeds job) (ap (alone job first) views ∙ alone-same job first second (view job second d)
     (only-same job first second same))
     ∙ sym other.like.deeds
 
@@ -515,7 +374,7 @@ items-beside : (job : Bytes) (config : Configuration) (e : Entry) (c : Chronicle
 items-beside job config (Queued (Entering i to) event) c = beside-if (owns job i c) _ (λ rest. refl)
 items-beside job config (Offered expression event) c =
     beside-offer (owns_expression job expression c) _
-    (beside-if (is_named_event (jobs_called job config.jobs) (event_at event c)) _ (λ rest. refl))
+    (beside-if (hears_event job config (event_at event c) c) _ (λ rest. refl))
 items-beside job config (Fired expression taken) c =
     beside-if (owns_expression job expression c) _ (λ rest. refl)
 items-beside job config (Made file name) c = beside-if (bytes_eq file.name job) _ (λ rest. refl)
@@ -546,9 +405,9 @@ views-same job first second c d same =
     sym (view-part job first c) ∙ ap noticed_in same ∙ view-part job second d
 
 -- each step adds one notice at most
-pub grows : (job : Bytes) (config : Configuration) (given : Input) (c : Chronicle) → IsUnique job config
+pub grows : (job : Bytes) (config : Configuration) (given : Input) (c : Chronicle)
     → Tracks job config c → GrowsByAtMostOne (view job config c) (view job config (next config c given))
-grows job config given c one tracks = by_case (is_expected given c)
+grows job config given c tracks = by_case (is_expected given c)
   where
     by_left : Left job config c (after config c given)
         → GrowsByAtMostOne (view job config c) (view job config (after config c given))
@@ -557,28 +416,24 @@ grows job config given c one tracks = by_case (is_expected given c)
 
     by_case : (b : Bool)
         → GrowsByAtMostOne (view job config c) (view job config (if b then after config c given else c))
-    by_case true = by_left (tracks-after job config given c one tracks)
+    by_case true = by_left (tracks-after job config given c tracks)
     by_case false = inl refl
-
-one-other : (job : Bytes) (first second : Configuration) → MeanTheSame job first second → IsUnique job first
-    → IsUnique job second
-one-other job first second same one = subst (λ (js : List JobDef). length js ≤ 1) same.1 one
 
 -- the laws
 pub law-isolation : (job : Bytes) (first second : Configuration) (inputs others : List Input)
     → IsUnique job first → MeanTheSame job first second
     → view job first (after_all first [] inputs) ≡ view job second (after_all second [] others)
-    → deeds job first (after_all first [] inputs) ≡ deeds job second (after_all second [] others)
+    → deeds job (after_all first [] inputs) ≡ deeds job (after_all second [] others)
 law-isolation job first second inputs others one same views =
     isolated job first second (after_all first [] inputs) (after_all second [] others) same
-    (tracked job first inputs one) (tracked job second others (one-other job first second same one)) views
+    (tracked job first inputs) (tracked job second others) views
 
 pub law-one : (job : Bytes) (config : Configuration) (inputs : List Input) (given : Input)
     → IsUnique job config
     → GrowsByAtMostOne (view job config (after_all config [] inputs))
     (view job config (next config (after_all config [] inputs) given))
 law-one job config inputs given one =
-    grows job config given (after_all config [] inputs) one (tracked job config inputs one)
+    grows job config given (after_all config [] inputs) (tracked job config inputs)
 
 pub law-still : (job : Bytes) (config : Configuration) (inputs : List Input) (given : Input)
     → IsUnique job config
@@ -589,8 +444,8 @@ pub law-still : (job : Bytes) (config : Configuration) (inputs : List Input) (gi
 law-still job config inputs given one views =
     parts-same job config config (next config (after_all config [] inputs) given) (after_all config [] inputs)
     (refl, refl)
-    (tracks-next job config given (after_all config [] inputs) one (tracked job config inputs one))
-    (tracked job config inputs one) views
+    (tracks-next job config given (after_all config [] inputs) (tracked job config inputs))
+    (tracked job config inputs) views
 
 pub law-part : (job : Bytes) (first second : Configuration) (inputs others : List Input) (given other : Input)
     (notice : Notice) → IsUnique job first → MeanTheSame job first second
@@ -602,11 +457,10 @@ pub law-part : (job : Bytes) (first second : Configuration) (inputs others : Lis
     → part job first (next first (after_all first [] inputs) given)
     ≡ part job second (next second (after_all second [] others) other)
 law-part job first second inputs others given other notice one same parts left right =
-    let two = one-other job first second same one in
     parts-same job first second (next first (after_all first [] inputs) given)
     (next second (after_all second [] others) other) same
-    (tracks-next job first given (after_all first [] inputs) one (tracked job first inputs one))
-    (tracks-next job second other (after_all second [] others) two (tracked job second others two))
+    (tracks-next job first given (after_all first [] inputs) (tracked job first inputs))
+    (tracks-next job second other (after_all second [] others) (tracked job second others))
     (left ∙ ap (λ ns. notice ∷ ns)
     (views-same job first second (after_all first [] inputs) (after_all second [] others) parts)
     ∙ sym right)

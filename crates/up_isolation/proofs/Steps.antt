@@ -1,8 +1,9 @@
 -- Entries with which a step begins, and new instances.
 use Rattle.std.proofs.Common.{◌≡◌, ℕ, ◌<◌, ◌==◌, Bool, true, false, ◌&&◌, List, [], ◌∷◌, Option, None, Some}
-use Rattle.std.proofs.Common.{is_some, length, if◌then◌else◌, refl, sym, ◌∙◌, ap, ap₂, arith, eq-eqb}
+use Rattle.std.proofs.Common.{is_some, length, if◌then◌else◌, refl, sym, ◌∙◌, ap, arith, eq-eqb}
 use Rattle.std.proofs.Common.{eqb-true, append-nil}
 use Rattle.std.specs.List.{AllByRecursion}
+use Rattle.up_conf.specs.declared.job.JobDef.{JobDef}
 use Rattle.up_model.specs.declared.event.Event.{Event}
 use Rattle.up_model.specs.Chronicle.{Chronicle, Entry, Given, Queued, Handled, Finished, Entering, Outside}
 use Rattle.up_model.specs.Clock.{now}
@@ -11,19 +12,19 @@ use Rattle.up_model.specs.Instances.{Instance, instances_of}
 use Rattle.up_model.specs.Readings.{entry_at, event_at, holders}
 use Rattle.up_model.specs.Values.{Bytes}
 use Rattle.up_model.proofs.NameLaws.{called}
-use Rattle.up_isolation.specs.Views.{jobs_called, deeds}
+use Rattle.up_isolation.specs.Views.{deeds}
 use Rattle.up_isolation.proofs.Lives.{Life, life}
 use Rattle.up_isolation.proofs.Lives as lives
 use Rattle.up_isolation.proofs.Sights.{told}
 use Rattle.up_isolation.proofs.Twins.{Twins, Match}
 use Rattle.up_isolation.proofs.Known.{IsKnown}
-use Rattle.up_isolation.proofs.Likes.{only, Bond, Twin, Like, blank_more, fair_more}
+use Rattle.up_isolation.proofs.Likes.{only, Bond, Twin, Like, arrivals-same, blank_more, fair_more}
 use Rattle.up_isolation.proofs.Pairs.{Pair, Shows, part_more, deeds_more, bond-life}
 use Rattle.std.proofs.Common.{nat_lt}
 use Rattle.up_model.specs.declared.input.Input.{Input}
 use Rattle.up_model.specs.declared.input.Input.TheVariants as input
 use Rattle.up_model.specs.Readings.{blocker, without, is_blocking}
-use Rattle.up_isolation.specs.Views.{is_blocked_by, unblocked, arrivals}
+use Rattle.up_isolation.specs.Views.{is_blocked_by, unblocked}
 use Rattle.up_isolation.specs.Parts.{part}
 use Rattle.up_isolation.proofs.Known.{known, entry-later}
 use Rattle.up_isolation.proofs.Pairs.{LeavesAlone, held-later, grown}
@@ -38,7 +39,7 @@ twins-given job config given c d (x ∷ xs) (y ∷ ys) known knowns twins = (
   record {
     name = twins.0.name;
     file = twins.0.file;
-    bond = bond-life job config (Given given) (Given given) c d x.place y.place twins.0.bond
+    bond = bond-life job config (Given given) (Given given) c d x.file x.place y.place twins.0.bond
         (lives.given x.place y.place c d given (known.0.1 ∙ ap (λ name. Some (called job name)) twins.0.name
         ∙ sym knowns.0.1) twins.0.bond.alike) refl refl refl refl;
   },
@@ -70,14 +71,14 @@ like_given job config given c d like = record {
 }
 
 -- an entry of the job's own chronicle that shows nothing
-bond-right : (job : Bytes) (config : Configuration) (f : Entry) (c d : Chronicle) (i j : ℕ)
-    → LeavesAlone (only job config) f d j → Bond job config c d i j → Bond job config c (f ∷ d) i j
-bond-right job config f c d i j other bond = record {
+bond-right : (job : Bytes) (config : Configuration) (f : Entry) (c d : Chronicle) (file : JobDef) (i j : ℕ)
+    → LeavesAlone (only job config) f d j → Bond job config c d file i j → Bond job config c (f ∷ d) file i j
+bond-right job config f c d file i j other bond = record {
   alike = bond.alike ∙ sym (lives.aside j f d other.aside);
   held = bond.held ∙ sym (held-later (holders j d) (holders j (f ∷ d)) f d other.holders bond.older_there);
   older = bond.older;
   older_there = grown (holders j d) (holders j (f ∷ d)) f d other.holders bond.older_there;
-  sights = bond.sights ∙ sym (ap (told (jobs_called job config.jobs)) other.seen);
+  sights = bond.sights ∙ sym (ap (told file.stop_on) other.seen);
 }
 
 twins-right : (job : Bytes) (config : Configuration) (f : Entry) (c d : Chronicle) (xs ys : List Instance)
@@ -88,7 +89,7 @@ twins-right job config f c d (x ∷ xs) (y ∷ ys) other twins = (
   record {
     name = twins.0.name;
     file = twins.0.file;
-    bond = bond-right job config f c d x.place y.place (other y.place)
+    bond = bond-right job config f c d x.file x.place y.place (other y.place)
         twins.0.bond;
   },
   twins-right job config f c d xs ys other twins.1,
@@ -109,7 +110,7 @@ like_turn job config c d like = record {
   fair = like.fair;
   singles = like.singles;
   part = like.part;
-  deeds = like.deeds ∙ sym (append-nil (deeds job (only job config) d));
+  deeds = like.deeds ∙ sym (append-nil (deeds job d));
 }
 
 pub like_queued : (job : Bytes) (config : Configuration) (c d : Chronicle) (given : ℕ) (event : Event)
@@ -125,15 +126,14 @@ like_queued job config c d given event like = record {
   fair = like.fair;
   singles = like.singles;
   part = like.part;
-  deeds = like.deeds ∙ sym (append-nil (deeds job (only job config) d));
+  deeds = like.deeds ∙ sym (append-nil (deeds job d));
 }
 
 -- an event is taken up
 pub like_handled : (job : Bytes) (config : Configuration) (c d : Chronicle) (p q : ℕ)
-    → event_at p c ≡ event_at q d
-    → jobs_called job (jobs_called job config.jobs) ≡ jobs_called job config.jobs → Like job config c d
+    → event_at p c ≡ event_at q d → Like job config c d
     → Like job config (Handled p ∷ c) (Handled q ∷ d)
-like_handled job config c d p q same twice like = record {
+like_handled job config c d p q same like = record {
   twins = twins-left job config (Handled p) (Handled q) c d (instances_of job c) (instances_of job d)
       (λ k. record { aside = tt; holders = refl; seen = refl })
       (λ k. record { aside = tt; holders = refl; seen = refl }) like.twins;
@@ -148,7 +148,11 @@ like_handled job config c d p q same twice like = record {
 }
   where
     shows : Shows job config (Handled p) (Handled q) c d
-    shows = record { notices = ap₂ arrivals (sym twice) same; items = refl; deeds = refl }
+    shows = record {
+      notices = arrivals-same job config c d (event_at p c) (event_at q d) same like;
+      items = refl;
+      deeds = refl;
+    }
 
 -- the event that an instance waits for is one that this instance emitted
 origin-of : Entry → Option ℕ
@@ -240,7 +244,7 @@ twins-freed job config p q c d i j (x ∷ xs) (y ∷ ys) one other match twins =
   record {
     name = twins.0.name;
     file = twins.0.file;
-    bond = bond-life job config (Finished p) (Finished q) c d x.place y.place twins.0.bond
+    bond = bond-life job config (Finished p) (Finished q) c d x.file x.place y.place twins.0.bond
         (by_case (is_blocked_by p (blocker x.place c)) (is_blocked_by q (blocker y.place d)) refl refl
         (one x.place ∙ match.0 ∙ sym (other y.place))) refl refl refl refl;
   },

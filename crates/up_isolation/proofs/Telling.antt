@@ -59,50 +59,48 @@ among-if true xs = among-refl xs
 among-if false xs = tt
 
 -- what a job does in the last step is among the outputs
-pub deeds-among : (job : Bytes) (config : Configuration) (c : Chronicle)
-    → AreAmong (deeds_in job config c) (outputs_of c)
+pub deeds-among : (job : Bytes) (c : Chronicle) → AreAmong (deeds_in job c) (outputs_of c)
 unfolding deeds_in outputs_of
-deeds-among job config [] = tt
-deeds-among job config (Given given ∷ c) = tt
-deeds-among job config (Ordered i its ∷ c) =
-    among-append (deeds_in job config c) (outputs_of c)
+deeds-among job [] = tt
+deeds-among job (Given given ∷ c) = tt
+deeds-among job (Ordered i its ∷ c) =
+    among-append (deeds_in job c) (outputs_of c)
     (outputs_if (owns job i c) (order_of i its c))
     (order_of i its c)
-    (deeds-among job config c)
+    (deeds-among job c)
     (among-if (owns job i c) (order_of i its c))
-deeds-among job config (Signalled i signal by_timer ∷ c) =
-    among-append (deeds_in job config c) (outputs_of c)
+deeds-among job (Signalled i signal by_timer ∷ c) =
+    among-append (deeds_in job c) (outputs_of c)
     (outputs_if (owns job i c) (signal_of (made_at i c) signal (pid_of i Main c)))
     (signal_of (made_at i c) signal (pid_of i Main c))
-    (deeds-among job config c) (among-if (owns job i c) (signal_of (made_at i c) signal (pid_of i Main c)))
-deeds-among job config (Queued (Entering i to) event ∷ c) =
-    among-append (deeds_in job config c) (outputs_of c)
+    (deeds-among job c) (among-if (owns job i c) (signal_of (made_at i c) signal (pid_of i Main c)))
+deeds-among job (Queued (Entering i to) event ∷ c) =
+    among-append (deeds_in job c) (outputs_of c)
     (outputs_if (owns job i c) (output.Emitted event ∷ [])) (output.Emitted event ∷ [])
-    (deeds-among job config c) (among-if (owns job i c) (output.Emitted event ∷ []))
-deeds-among job config (Queued (Spoilt spoilt) event ∷ c) =
-    among-append (deeds_in job config c) (outputs_of c) [] (output.Emitted event ∷ [])
-    (deeds-among job config c) tt
-deeds-among job config (Replied r answer ∷ c) =
-    among-append (deeds_in job config c) (outputs_of c)
+    (deeds-among job c) (among-if (owns job i c) (output.Emitted event ∷ []))
+deeds-among job (Queued (Spoilt spoilt) event ∷ c) =
+    among-append (deeds_in job c) (outputs_of c) [] (output.Emitted event ∷ [])
+    (deeds-among job c) tt
+deeds-among job (Replied r answer ∷ c) =
+    among-append (deeds_in job c) (outputs_of c)
     (outputs_if (was_asked job (request_at r c)) (reply_of (id_at r c) answer))
     (reply_of (id_at r c) answer)
-    (deeds-among job config c) (among-if (was_asked job (request_at r c)) (reply_of (id_at r c) answer))
-deeds-among job config (e ∷ c) = subst (λ xs. AreAmong xs (outputs_of c))
-    (sym (append-nil (deeds_in job config c))) (deeds-among job config c)
+    (deeds-among job c) (among-if (was_asked job (request_at r c)) (reply_of (id_at r c) answer))
+deeds-among job (e ∷ c) = subst (λ xs. AreAmong xs (outputs_of c))
+    (sym (append-nil (deeds_in job c))) (deeds-among job c)
 
 -- what it did is what it did before, and in the last step
-deeds-step : (job : Bytes) (config : Configuration) (given : Input) (es c : List Entry)
+deeds-step : (job : Bytes) (given : Input) (es c : List Entry)
     → AllByRecursion NotGiven es
-    → deeds job config (es ++ Given given ∷ c) ≡ deeds job config c ++ deeds_in job config
-    (es ++ Given given ∷ c)
+    → deeds job (es ++ Given given ∷ c) ≡ deeds job c ++ deeds_in job (es ++ Given given ∷ c)
 unfolding deeds deeds_in
-deeds-step job config given [] c all = refl
-deeds-step job config given (Given other ∷ es) c all = absurd all.0
-deeds-step job config given (e ∷ es) c all =
-    ap (λ (xs : List Output). xs ++ deeds_by job config e (es ++ Given given ∷ c))
-    (deeds-step job config given es c all.1)
-    ∙ append_assoc (deeds job config c) (deeds_in job config (es ++ Given given ∷ c))
-    (deeds_by job config e (es ++ Given given ∷ c))
+deeds-step job given [] c all = refl
+deeds-step job given (Given other ∷ es) c all = absurd all.0
+deeds-step job given (e ∷ es) c all =
+    ap (λ (xs : List Output). xs ++ deeds_by job e (es ++ Given given ∷ c))
+    (deeds-step job given es c all.1)
+    ∙ append_assoc (deeds job c) (deeds_in job (es ++ Given given ∷ c))
+    (deeds_by job e (es ++ Given given ∷ c))
 
 -- a step adds its input and then other entries
 record IsStep (given : Input) (c later : Chronicle) : Type 0 where
@@ -203,11 +201,10 @@ effect-step config input.Turn c =
     (turn-plain (turn_event config (queue c) c) (Given input.Turn ∷ c))
 
 pub deeds-after : (job : Bytes) (config : Configuration) (c : Chronicle) (given : Input)
-    → deeds job config (after config c given) ≡ deeds job config c ++ deeds_in job config
-    (after config c given)
+    → deeds job (after config c given) ≡ deeds job c ++ deeds_in job (after config c given)
 unfolding after
 deeds-after job config c given =
     let step = settle-step (work config (effect config given c ++ c)) config given c
     (effect config given c ++ c) (effect-step config given c) in
-    subst (λ (t : Chronicle). deeds job config t ≡ deeds job config c ++ deeds_in job config t)
-    (sym step.whole) (deeds-step job config given step.entries c step.plain)
+    subst (λ (t : Chronicle). deeds job t ≡ deeds job c ++ deeds_in job t)
+    (sym step.whole) (deeds-step job given step.entries c step.plain)

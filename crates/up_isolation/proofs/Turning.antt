@@ -16,13 +16,14 @@ use Rattle.up_model.specs.Replies.{request_at}
 use Rattle.up_model.specs.Values.{Bytes}
 use Rattle.up_model.proofs.Places.{bytes_same}
 use Rattle.up_model.proofs.NameLaws.{called}
-use Rattle.up_isolation.specs.Views.{jobs_called, is_named, is_of, was_asked}
-use Rattle.up_isolation.specs.Parts.{is_named_event}
+use Rattle.up_isolation.specs.Isolation.{jobs_called}
+use Rattle.up_isolation.specs.Views.{hears, is_of, was_asked}
+use Rattle.up_isolation.specs.Parts.{hears_event}
 use Rattle.up_isolation.proofs.Lives.{Life, life}
 use Rattle.up_isolation.proofs.Sights.{told}
 use Rattle.up_isolation.proofs.Twins.{Twins, Match}
 use Rattle.up_isolation.proofs.Known.{IsKnown}
-use Rattle.up_isolation.proofs.Likes.{Twin, Like, only}
+use Rattle.up_isolation.proofs.Likes.{Twin, Like, only, hears_event-kept}
 use Rattle.up_isolation.proofs.Pairs.{Pair}
 use Rattle.std.proofs.Common.{append_assoc, not, suc}
 use Rattle.up_model.specs.declared.input.Input.{Input}
@@ -106,7 +107,7 @@ kill-own job config c d later after (x ∷ xs) (y ∷ ys) today twins at like =
     (sym (kill-one x.place (overdue xs c) (kill_due x.file x.place c) later))
     (sym (kill-one y.place (overdue ys d) (kill_due y.file y.place d) after))
     (by_case (kill_due x.file x.place c) (kill_due y.file y.place d)
-    (due-same x.file x.place y.place c d twins.0.bond.alike today ∙ ap (λ file. kill_due file y.place d) twins.0.file.1)
+    (due-same x.file x.place y.place c d twins.0.bond.alike today ∙ ap (λ file. kill_due file y.place d) twins.0.file)
     (λ s t more grown. kill-own job config c d s t xs ys today twins.1
     (λ u v there. more u v (at u v (inr there))) grown))
   where
@@ -311,9 +312,6 @@ taken-up : (job : Bytes) (config : Configuration) (p : ℕ) (c d : Chronicle) �
 unfolding view
 taken-up job config p c d older base = by_event (event_at p e) refl
   where
-    own : List JobDef
-    own = jobs_called job config.jobs
-
     e : Chronicle
     e = Given input.Turn ∷ c
 
@@ -326,29 +324,30 @@ taken-up job config p c d older base = by_event (event_at p e) refl
     some-same : (k : ℕ) → Some p ≡ Some k → p ≡ k
     some-same k same = cc
 
-    quiet : arrivals own (event_at p e) ≡ [] → is_named_event own (event_at p e) ≡ false
+    quiet : arrivals job config (event_at p e) e ≡ [] → hears_event job config (event_at p e) e ≡ false
         → Effected job config c d (Handled p ∷ e)
-    quiet none unnamed =
+    quiet none unheard =
         Unnoticed (record {
           like = foreign job config (Handled p) e d none next;
           still = still-of job config d base.rest;
           calm = base.calm;
           offers = λ k some.
               subst (λ q. (q < length (Handled p ∷ e))
-              × (is_named_event own (event_at q (Handled p ∷ e)) ≡ false)) (some-same k some) (
+              × (hears_event job config (event_at q (Handled p ∷ e)) (Handled p ∷ e) ≡ false)) (some-same k some) (
                 omega (arith, older),
-                ap (λ o. is_named_event own (event_of o))
-                    (entry-later p (Handled p) e (omega (arith, older))) ∙ unnamed,
+                ap (λ o. hears_event job config (event_of o) (Handled p ∷ e))
+                    (entry-later p (Handled p) e (omega (arith, older)))
+                    ∙ hears_event-kept job config (event_at p e) e (Handled p ∷ e) refl ∙ unheard,
               );
           asks = λ r some. absurd (none-some r some);
         }) (ap (λ ns. ns ++ view job config c) none)
 
-    noted : (event : Event) → event_at p e ≡ Some event → is_named event.name own ≡ true
+    noted : (event : Event) → event_at p e ≡ Some event → hears job config event.name e ≡ true
         → Effected job config c d (Handled p ∷ e)
-    noted event is named =
-        Noticed (Arrived event) (ap (λ o. arrivals own o ++ view job config c) is ∙ rw named refl)
+    noted event is heard =
+        Noticed (Arrived event) (ap (λ o. arrivals job config o e ++ view job config c) is ∙ rw heard refl)
         (record {
-          like = like_handled job config e there p q same base.facts.twice
+          like = like_handled job config e there p q same
               (like_queued job config e (Given input.Turn ∷ d) (length d) event
               (like_turn job config e d next));
           offers = Open p q refl refl
@@ -378,15 +377,15 @@ taken-up job config p c d older base = by_event (event_at p e) refl
         same : event_at p e ≡ event_at q there
         same = is ∙ sym right
 
-    by_name : (event : Event) → event_at p e ≡ Some event → (b : Bool) → is_named event.name own ≡ b
+    by_name : (event : Event) → event_at p e ≡ Some event → (b : Bool) → hears job config event.name e ≡ b
         → Effected job config c d (Handled p ∷ e)
-    by_name event is true named = noted event is named
-    by_name event is false unnamed =
-        quiet (ap (arrivals own) is ∙ rw unnamed refl) (ap (is_named_event own) is ∙ unnamed)
+    by_name event is true heard = noted event is heard
+    by_name event is false unheard =
+        quiet (ap (λ o. arrivals job config o e) is ∙ rw unheard refl) (ap (λ o. hears_event job config o e) is ∙ unheard)
 
     by_event : (o : Option Event) → event_at p e ≡ o → Effected job config c d (Handled p ∷ e)
-    by_event None is = quiet (ap (arrivals own) is) (ap (is_named_event own) is)
-    by_event (Some event) is = by_name event is (is_named event.name own) refl
+    by_event None is = quiet (ap (λ o. arrivals job config o e) is) (ap (λ o. hears_event job config o e) is)
+    by_event (Some event) is = by_name event is (hears job config event.name e) refl
 
 -- whether one of the job's instances waits for the event
 data Freeing (p : ℕ) (c : Chronicle) (xs ys : List Instance) : Type 0 where

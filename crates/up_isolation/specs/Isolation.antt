@@ -1,8 +1,16 @@
 -- That a job does what it does by what comes to its notice alone.
-use Rattle.std.specs.Prelude.{◌≡◌, ◌≤◌, ◌⊎◌, List, ◌∷◌, length}
+use Rattle.std.specs.Prelude.{◌≡◌, ◌≤◌, ◌⊎◌, List, [], ◌∷◌, length, if◌then◌else◌}
+use Rattle.std.specs.Str.{bytes_eq}
+use Rattle.up_conf.specs.declared.job.JobDef.{JobDef}
 use Rattle.up_model.specs.Configuration.{Configuration}
 use Rattle.up_model.specs.Values.{Bytes}
-use Rattle.up_isolation.specs.Views.{Notice, jobs_called}
+use Rattle.up_isolation.specs.Views.{Notice}
+
+-- the jobs of this name: one, or none
+abbrev pub jobs_called : Bytes → List JobDef → List JobDef
+jobs_called job [] = []
+jobs_called job (its ∷ jobs) =
+    if bytes_eq its.name job then its ∷ jobs_called job jobs else jobs_called job jobs
 
 -- two configurations mean the same by a job: the base is one, and its file says the same, or neither has it
 abbrev pub MeanTheSame : Bytes → Configuration → Configuration → Type 0

@@ -2,7 +2,6 @@
 -- expressions, instances and requests. No place is named in it.
 use Rattle.std.specs.Prelude.{ℕ, Bool, true, false, List, [], ◌∷◌, ◌++◌, Option, None, Some, if◌then◌else◌}
 use Rattle.std.specs.Str.{bytes_eq}
-use Rattle.up_conf.specs.declared.job.JobDef.{JobDef}
 use Rattle.up_stanza.specs.declared.process.Process.{Process}
 use Rattle.up_model.specs.declared.event.Event.{Event}
 use Rattle.up_model.specs.declared.failure.Failure.{Failure}
@@ -18,7 +17,7 @@ use Rattle.up_model.specs.Readings.{entry_at, event_at, made_at}
 use Rattle.up_model.specs.Replies.{request_at}
 use Rattle.up_model.specs.Requests.{RequestValue}
 use Rattle.up_model.specs.Values.{Bytes, Bindings}
-use Rattle.up_isolation.specs.Views.{Notice, jobs_called, is_named, notices, owns, was_asked}
+use Rattle.up_isolation.specs.Views.{Notice, hears, notices, owns, was_asked}
 
 -- what a place stands for, beside an instance: an event, a request, or neither
 pub data Content : Type 0 where
@@ -85,17 +84,16 @@ abbrev pub own_expression : Expression → Chronicle → OwnExpression
 own_expression (entry.StartOn its) c = StartOn
 own_expression (entry.StopOn instance) c = StopOn (name_at instance c)
 
-abbrev pub is_named_event : List JobDef → Option Event → Bool
-is_named_event jobs None = false
-is_named_event jobs (Some event) = is_named event.name jobs
+abbrev pub hears_event : Bytes → Configuration → Option Event → Chronicle → Bool
+hears_event job config None c = false
+hears_event job config (Some event) c = hears job config event.name c
 
 -- the entries beside the view
 abbrev pub items : Bytes → Configuration → Entry → Chronicle → List Item
 items job config (entry.Queued (entry.Entering instance state) event) c =
     items_if (owns job instance c) (Queued (name_at instance c) state event)
 items job config (entry.Offered expression event) c =
-    if owns_expression job expression c then items_if
-    (is_named_event (jobs_called job config.jobs) (event_at event c))
+    if owns_expression job expression c then items_if (hears_event job config (event_at event c) c)
     (Offered (own_expression expression c) (content event c)) else []
 items job config (entry.Fired expression taken) c =
     items_if (owns_expression job expression c) (Fired (own_expression expression c) (contents taken c))

@@ -15,7 +15,7 @@ use Rattle.up_isolation.specs.Views.{AreAmong, deeds_in}
 -- what a job does by an input: nothing by one that isn't expected
 abbrev pub deeds_of_step : Bytes → Configuration → Chronicle → Input → List Output
 deeds_of_step job config c given =
-    if is_expected given c then deeds_in job config (after config c given) else []
+    if is_expected given c then deeds_in job (after config c given) else []
 
 -- what it does by inputs, one after another
 unfoldable pub deeds_by_step : Bytes → Configuration → Chronicle → List Input → List (List Output)

@@ -4,7 +4,6 @@
 use Rattle.std.specs.Prelude.{⊤, ◌≡◌, ◌⊎◌, ℕ, Bool, true, false, ◌&&◌, ◌||◌, ◌==◌, List, [], ◌∷◌, ◌++◌}
 use Rattle.std.specs.Prelude.{Option, None, Some, if◌then◌else◌}
 use Rattle.std.specs.Str.{bytes_eq}
-use Rattle.up_conf.specs.declared.job.JobDef.{JobDef}
 use Rattle.up_expr.specs.Trees.{Tree, One, Both, Either}
 use Rattle.up_stanza.specs.declared.process.Process.TheVariants.{Main}
 use Rattle.up_model.specs.declared.event.Event.{Event}
@@ -18,18 +17,14 @@ use Rattle.up_model.specs.declared.who.Who.{Who}
 use Rattle.up_model.specs.Chronicle.{Chronicle, Entry, Given, Queued, Handled, Finished, Ordered, Signalled}
 use Rattle.up_model.specs.Chronicle.{Replied, Entering}
 use Rattle.up_model.specs.Configuration.{Configuration}
+use Rattle.up_model.specs.Files.{file_in_force}
+use Rattle.up_model.specs.Held.{start_on_of}
 use Rattle.up_model.specs.Instances.{Instance, instances_of}
 use Rattle.up_model.specs.Outputs.{order_of, signal_of, reply_of}
 use Rattle.up_model.specs.Readings.{event_at, made_at, id_at, blocker, pid_of}
 use Rattle.up_model.specs.Replies.{request_at}
 use Rattle.up_model.specs.Requests.{RequestValue}
 use Rattle.up_model.specs.Values.{Bytes}
-
--- the jobs of this name: one, or none
-abbrev pub jobs_called : Bytes → List JobDef → List JobDef
-jobs_called job [] = []
-jobs_called job (its ∷ jobs) =
-    if bytes_eq its.name job then its ∷ jobs_called job jobs else jobs_called job jobs
 
 -- whether an event of this name can match a leaf of an expression
 abbrev pub has_leaf : (event : Bytes) → Tree → Bool
@@ -41,11 +36,17 @@ abbrev pub stands_in : (event : Bytes) → Option Tree → Bool
 stands_in event None = false
 stands_in event (Some tree) = has_leaf event tree
 
--- whether the name stands in an expression of one of these jobs
-abbrev pub is_named : (event : Bytes) → List JobDef → Bool
-is_named event [] = false
-is_named event (job ∷ jobs) =
-    (stands_in event job.start_on || stands_in event job.stop_on) || is_named event jobs
+-- whether the name stands in the `stop on` of one of these instances: that of its own file
+abbrev pub stands_in_stops : (event : Bytes) → List Instance → Bool
+stands_in_stops event [] = false
+stands_in_stops event (instance ∷ instances) =
+    stands_in event instance.file.stop_on || stands_in_stops event instances
+
+-- whether a job hears events of this name: it stands in an expression in force, which is the `start on` of the
+-- job's file in force, or the `stop on` of an instance that exists
+abbrev pub hears : Bytes → Configuration → (event : Bytes) → Chronicle → Bool
+hears job config event c =
+    stands_in event (start_on_of (file_in_force config job c)) || stands_in_stops event (instances_of job c)
 
 -- whether a request of this kind names a job: the others name an event or nothing
 abbrev pub names_job : Command → Bool
@@ -75,7 +76,7 @@ concerns job input.Turn = false
 pub data Notice : Type 0 where
   -- an input that concerns it
   Received : (input : Input) → Notice
-  -- a turn took up an event that one of its expressions names
+  -- a turn took up an event that it hears
   Arrived : (event : Event) → Notice
   -- the event finished by which its instance of this name was blocked
   Unblocked : (instance : Bytes) → Notice
@@ -91,15 +92,15 @@ unblocked event [] c = []
 unblocked event (instance ∷ instances) c = if is_blocked_by event (blocker instance.place c)
     then Unblocked instance.name ∷ unblocked event instances c else unblocked event instances c
 
--- an event that a turn took up arrives at the jobs that name it
-abbrev pub arrivals : List JobDef → Option Event → List Notice
-arrivals jobs None = []
-arrivals jobs (Some event) = if is_named event.name jobs then Arrived event ∷ [] else []
+-- an event that a turn took up arrives at a job that hears it
+abbrev pub arrivals : Bytes → Configuration → Option Event → Chronicle → List Notice
+arrivals job config None c = []
+arrivals job config (Some event) c = if hears job config event.name c then Arrived event ∷ [] else []
 
 -- what comes to a job's notice by an entry
 abbrev pub notices : Bytes → Configuration → Entry → Chronicle → List Notice
 notices job config (Given given) c = if concerns job given then Received given ∷ [] else []
-notices job config (Handled event) c = arrivals (jobs_called job config.jobs) (event_at event c)
+notices job config (Handled event) c = arrivals job config (event_at event c) c
 notices job config (Finished event) c = unblocked event (instances_of job c) c
 notices job config entry c = []
 
@@ -128,27 +129,27 @@ outputs_if false outputs = []
 
 -- what a job does by an entry: the starts of its processes, the signals to them, the events of its instances,
 -- and the answers to the requests that name it
-abbrev pub deeds_by : Bytes → Configuration → Entry → Chronicle → List Output
-deeds_by job config (Ordered instance its) c =
+abbrev pub deeds_by : Bytes → Entry → Chronicle → List Output
+deeds_by job (Ordered instance its) c =
     outputs_if (owns job instance c) (order_of instance its c)
-deeds_by job config (Signalled instance signal by_timer) c =
+deeds_by job (Signalled instance signal by_timer) c =
     outputs_if (owns job instance c) (signal_of (made_at instance c) signal (pid_of instance Main c))
-deeds_by job config (Queued (Entering instance state) event) c =
+deeds_by job (Queued (Entering instance state) event) c =
     outputs_if (owns job instance c) (output.Emitted event ∷ [])
-deeds_by job config (Replied request answer) c =
+deeds_by job (Replied request answer) c =
     outputs_if (was_asked job (request_at request c)) (reply_of (id_at request c) answer)
-deeds_by job config entry c = []
+deeds_by job entry c = []
 
 -- the deeds: all that it did, oldest first
-unfoldable pub deeds : Bytes → Configuration → Chronicle → List Output
-deeds job config [] = []
-deeds job config (entry ∷ c) = deeds job config c ++ deeds_by job config entry c
+unfoldable pub deeds : Bytes → Chronicle → List Output
+deeds job [] = []
+deeds job (entry ∷ c) = deeds job c ++ deeds_by job entry c
 
 -- what it did in the last step
-unfoldable pub deeds_in : Bytes → Configuration → Chronicle → List Output
-deeds_in job config [] = []
-deeds_in job config (Given given ∷ c) = []
-deeds_in job config (entry ∷ c) = deeds_in job config c ++ deeds_by job config entry c
+unfoldable pub deeds_in : Bytes → Chronicle → List Output
+deeds_in job [] = []
+deeds_in job (Given given ∷ c) = []
+deeds_in job (entry ∷ c) = deeds_in job c ++ deeds_by job entry c
 
 -- these are among those, in their order
 abbrev pub AreAmong : List Output → List Output → Type 0

@@ -38,24 +38,22 @@ pub fn isolation()
     ensures { (job : List ℕ) (first second : Configuration) (inputs others : List Input)
         → IsUnique job first → MeanTheSame job first second
         → view job first (after_all first [] inputs) ≡ view job second (after_all second [] others)
-        → deeds job first (after_all first [] inputs) ≡ deeds job second (after_all second [] others) }
+        → deeds job (after_all first [] inputs) ≡ deeds job (after_all second [] others) }
 {}
 
 /// What a job does after an input is what it did before and what it does in the last step, and that is among the step's
 /// outputs, in their order.
 pub fn deeds_are_outputs()
     ensures added { (job : List ℕ) (config : Configuration) (c : Chronicle) (given : Input)
-        → deeds job config (after config c given)
-        ≡ deeds job config c ++ deeds_in job config (after config c given) }
-    ensures among { (job : List ℕ) (config : Configuration) (c : Chronicle)
-        → AreAmong (deeds_in job config c) (outputs_of c) }
+        → deeds job (after config c given) ≡ deeds job c ++ deeds_in job (after config c given) }
+    ensures among { (job : List ℕ) (c : Chronicle) → AreAmong (deeds_in job c) (outputs_of c) }
 {}
 
 /// What a job does in each step of a run is among the outputs of that step's answer, in their order, and is together all that
 /// the job does. The starts and signals in it are all those of the answers that name the job.
 pub fn deeds_are_answers()
     ensures whole { (job : List ℕ) (config : Configuration) (inputs : List Input)
-        → joined (deeds_by_step job config [] inputs) ≡ deeds job config (after_all config [] inputs) }
+        → joined (deeds_by_step job config [] inputs) ≡ deeds job (after_all config [] inputs) }
     ensures among { (job : List ℕ) (config : Configuration) (c : Chronicle) (inputs : List Input)
         → AreStepsOf (deeds_by_step job config c inputs) (answers config c inputs) }
     ensures orders { (job : List ℕ) (config : Configuration) (c : Chronicle) (inputs : List Input)

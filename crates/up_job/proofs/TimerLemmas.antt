@@ -1,6 +1,5 @@
 -- What is kept of an instance decides on its kill as the model does, and so does the alarm.
 use Rattle.std.proofs.Common.{◌≡◌, ℕ, ◌+◌, ◌-◌, ◌<◌, ◌≤◌, ◌==◌, nat_le, nat_lt, Bool, true, false, [], ◌∷◌, Option, None, Some, option_map, if◌then◌else◌, refl, arith}
-use Rattle.up_conf.specs.declared.job.JobDef.{JobDef}
 use Rattle.up_model.specs.declared.input.Input.TheVariants as input
 use Rattle.up_model.specs.Chronicle.{Chronicle, Given, Entered, Signalled}
 use Rattle.up_model.specs.Clock.{has_passed, kill_due, kill_moment, milliseconds, now}
@@ -35,10 +34,10 @@ moment-past i (Given (input.Clock reading) ∷ c) m some = by_case (nat_lt (now 
     by_case false more before = before
 moment-past i (entry ∷ c) m some = moment-past i c m some
 
-pub overdue_model : (job : JobDef) (place : ℕ) (c : Chronicle) (today : ℕ) (instance : Instance)
-    → today ≡ now c → IsKept job place c instance → is_overdue today instance ≡ kill_due job place c
-overdue_model job place c today instance is kept =
-    rw (is, kept.state, kept.main, kept.moment, kept.timeout) refl
+pub overdue_model : (place : ℕ) (c : Chronicle) (today : ℕ) (instance : Instance)
+    → today ≡ now c → IsKept place c instance → is_overdue today instance ≡ kill_due instance.file place c
+overdue_model place c today instance is kept =
+    rw (is, kept.state, kept.main, kept.moment) refl
 
 -- a span hasn't passed since then before its end
 not-come : (today span moment : ℕ) → moment ≤ today → today < moment + span → nat_le span (today - moment) ≡ false
@@ -50,10 +49,10 @@ not-come today span moment past before = by_case (nat_le span (today - moment)) 
 
 -- so the timer kills nobody before its alarm
 pub before-alarm : (alarm today : ℕ) (instance : Instance) → today < alarm → ((m : ℕ) → instance.kill_moment ≡ Some m → m ≤ today) → IsFrom alarm (kill_at instance)
-    → has_passed instance.kill_moment today (milliseconds instance.kill_timeout) ≡ false
+    → has_passed instance.kill_moment today (milliseconds instance.file.kill_timeout) ≡ false
 before-alarm alarm today instance before past from = by_moment instance.kill_moment past from
   where
-    by_moment : (o : Option ℕ) → ((m : ℕ) → o ≡ Some m → m ≤ today) → IsFrom alarm (option_map (λ m. m + milliseconds instance.kill_timeout) o)
-        → has_passed o today (milliseconds instance.kill_timeout) ≡ false
+    by_moment : (o : Option ℕ) → ((m : ℕ) → o ≡ Some m → m ≤ today) → IsFrom alarm (option_map (λ m. m + milliseconds instance.file.kill_timeout) o)
+        → has_passed o today (milliseconds instance.file.kill_timeout) ≡ false
     by_moment None past from = refl
-    by_moment (Some m) past from = not-come today (milliseconds instance.kill_timeout) m (past m refl) (omega (arith, before, from))
+    by_moment (Some m) past from = not-come today (milliseconds instance.file.kill_timeout) m (past m refl) (omega (arith, before, from))

@@ -12,7 +12,6 @@ use Rattle.up_job.specs.declared.child.Children.{Children}
 use Rattle.up_job.specs.declared.fault.JobFault.{JobFault}
 use Rattle.up_job.specs.declared.fault.JobFault.TheVariants.{Full, Memory}
 use Rattle.up_job.specs.declared.instance.Instance.{Instance}
-use Rattle.up_job.specs.declared.limits.Limits.{Limits}
 use Rattle.up_job.specs.Moments.{room}
 use Rattle.up_job.specs.Named as by_name
 
@@ -29,14 +28,11 @@ idle = record {
   post_stop = idle_child;
 }
 
--- the limits of a job
-abbrev pub limits_of : JobDef → Limits
-limits_of job = record { respawn = job.limit; kill_timeout = job.kill_timeout }
-
--- an instance that was just made, of a job with these limits, by what its `stop on` remembers
-abbrev pub new_instance : Bytes → Limits → (stop_on : Option (List Mark)) → Instance
-new_instance name limits stop_on = record {
+-- an instance that was just made, by its file and by what its `stop on` remembers
+abbrev pub new_instance : Bytes → JobDef → (stop_on : Option (List Mark)) → Instance
+new_instance name file stop_on = record {
   name = name;
+  file = file;
   goal = Stop;
   state = Waiting;
   restarted = false;
@@ -48,8 +44,7 @@ new_instance name limits stop_on = record {
   blocker = None;
   children = idle;
   kill_moment = None;
-  kill_timeout = limits.kill_timeout;
-  moments = buffer [] (room limits.respawn);
+  moments = buffer [] (room file.limit);
   stop_on = stop_on;
 }
 

@@ -1,6 +1,5 @@
 -- When the timer kills main, by what is kept of an instance (init(5), "kill timeout").
 use Rattle.std.specs.Prelude.{◌≡◌, ℕ, ◌+◌, Bool, ◌&&◌, Option, option_map, is_some}
-use Rattle.up_conf.specs.declared.job.JobDef.{JobDef}
 use Rattle.up_stanza.specs.declared.process.Process.TheVariants.{Main}
 use Rattle.up_model.specs.Chronicle.{Chronicle}
 use Rattle.up_model.specs.Clock.{has_passed, is_killed, kill_moment, milliseconds}
@@ -15,16 +14,15 @@ is_dying instance = is_killed instance.state && is_some (child_of Main instance.
 -- whether the timer is to kill main
 abbrev pub is_overdue : (today : ℕ) → Instance → Bool
 is_overdue today instance =
-    is_dying instance && has_passed instance.kill_moment today (milliseconds instance.kill_timeout)
+    is_dying instance && has_passed instance.kill_moment today (milliseconds instance.file.kill_timeout)
 
 -- what the clock reads when the timer is to kill main, if it is to
 abbrev pub kill_at : Instance → Option ℕ
 kill_at instance =
-    option_map (λ moment. moment + milliseconds instance.kill_timeout) instance.kill_moment
+    option_map (λ moment. moment + milliseconds instance.file.kill_timeout) instance.kill_moment
 
 -- what is kept of an instance is what the timer reads in a history
-pub record IsKept (job : JobDef) (place : ℕ) (c : Chronicle) (instance : Instance) : Type 0 where
+pub record IsKept (place : ℕ) (c : Chronicle) (instance : Instance) : Type 0 where
   pub state : instance.state ≡ state_of place c
   pub main : (child_of Main instance.children).pid ≡ pid_of place Main c
   pub moment : instance.kill_moment ≡ kill_moment place c
-  pub timeout : instance.kill_timeout ≡ job.kill_timeout

@@ -17,7 +17,7 @@ use crate::fault::JobFault;
 use crate::instance::Instance;
 use crate::instance_key::InstanceKey;
 use crate::instances::{Instances, JobInstances};
-use crate::limits::Limits;
+use up_image::JobFile;
 use up_marks::Trigger;
 use up_model::EventId;
 use up_text::Name;
@@ -97,17 +97,17 @@ fn first_blocked(jobs: &[JobInstances], id: EventId) -> Option<InstanceKey>
 fn add_in(
     job: &mut JobInstances,
     name: &str,
-    limits: Limits,
+    file: JobFile,
     stop_on: Trigger,
 ) -> Result<usize, JobFault>
     requires { named name.now job.old.instances ≡ None }
-    ensures added { OnOk result (job.new ≡ with_made (new_instance name.now limits stop_on) job.old) }
+    ensures added { OnOk result (job.new ≡ with_made (new_instance name.now file stop_on) job.old) }
     ensures position { IfOk result (λ at. at ≡ position_in name.now (map name_of job.old.instances)) }
     ensures fits { OnOk result (length job.old.instances < max_instances) }
     ensures refused { IfErr result (λ fault. fault ≡ refusal job.old.instances) }
     ensures unchanged { OnErr result (job.new ≡ job.old) }
 {
-    job.instances.add(name, limits, stop_on)
+    job.instances.add(name, file, stop_on)
 }
 
 #[tactic(auto, using(crate::proofs::Places::set_with_at, crate::proofs::Places::nth_get))]
@@ -115,19 +115,19 @@ fn add_at(
     jobs: &mut Vec<JobInstances>,
     job: usize,
     name: &str,
-    limits: Limits,
+    file: JobFile,
     stop_on: Trigger,
 ) -> Result<usize, JobFault>
     requires { named name.now (instances_at job jobs.old.items) ≡ None }
     ensures added { OnOk result (jobs.new.items
-        ≡ with_at job (with_made (new_instance name.now limits stop_on)) jobs.old.items) }
+        ≡ with_at job (with_made (new_instance name.now file stop_on)) jobs.old.items) }
     ensures position { IfOk result (λ at. at ≡ position_at name.now job jobs.old.items) }
     ensures fits { OnOk result (length (instances_at job jobs.old.items) < max_instances) }
     ensures refused { IfErr result (λ fault. fault ≡ refusal (instances_at job jobs.old.items)) }
     ensures unchanged { OnErr result (jobs.new.items ≡ jobs.old.items) }
 {
     if job < jobs.len() {
-        add_in(&mut jobs[job], name, limits, stop_on)
+        add_in(&mut jobs[job], name, file, stop_on)
     } else {
         drop(stop_on);
         Err(JobFault::Memory)
@@ -222,18 +222,18 @@ impl Instances {
         &mut self,
         job: usize,
         name: &str,
-        limits: Limits,
+        file: JobFile,
         stop_on: Trigger,
     ) -> Result<usize, JobFault>
         requires { named name.now (instances_at job self.old) ≡ None }
         ensures added { OnOk result (self.new
-            ≡ with_at job (with_made (new_instance name.now limits stop_on)) self.old) }
+            ≡ with_at job (with_made (new_instance name.now file stop_on)) self.old) }
         ensures position { IfOk result (λ at. at ≡ position_at name.now job self.old) }
         ensures fits { OnOk result (length (instances_at job self.old) < max_instances) }
         ensures refused { IfErr result (λ fault. fault ≡ refusal (instances_at job self.old)) }
         ensures unchanged { OnErr result (self.new ≡ self.old) }
     {
-        add_at(&mut self.jobs, job, name, limits, stop_on)
+        add_at(&mut self.jobs, job, name, file, stop_on)
     }
 
     /// What the `stop on` of an instance remembers.

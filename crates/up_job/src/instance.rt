@@ -4,9 +4,9 @@ ghost use Rattle.up_job.specs.InstanceLists.{new_instance};
 
 use crate::child::{Children, idle};
 use crate::holder::Holder;
-use crate::limits::Limits;
 use crate::moments::Moments;
 use std::alloc::{AllocError, Global};
+use up_image::JobFile;
 use up_marks::Trigger;
 use up_model::{EventId, Failure, Goal, State};
 use up_text::{Env, Items, Text};
@@ -15,6 +15,8 @@ use up_text::{Env, Items, Text};
 #[derive(Drop)]
 pub struct Instance {
     pub name: Text,
+    /// The job file by which it was made.
+    pub file: JobFile,
     pub goal: Goal,
     pub state: State,
     /// Whether a restart was taken since the state was entered.
@@ -33,27 +35,26 @@ pub struct Instance {
     pub children: Children,
     /// What the clock read when main was sent its signal, until the timer has sent KILL.
     pub kill_moment: Option<u64>,
-    /// How many seconds after that main is killed.
-    pub kill_timeout: u32,
     /// The last respawns, as many as the limit counts.
     pub moments: Moments,
     /// What its `stop on` remembers.
     pub stop_on: Trigger,
 }
 
-/// An instance whose life begins, of a job with these limits, by what its `stop on` remembers.
+/// An instance whose life begins, by its file and by what its `stop on` remembers.
 pub(crate) fn new_instance(
     alloc: Global,
     name: &str,
-    limits: Limits,
+    file: JobFile,
     stop_on: Trigger,
 ) -> Result<Instance, AllocError>
-    ensures { IfOk result (λ instance. instance ≡ new_instance name.now limits stop_on) }
+    ensures { IfOk result (λ instance. instance ≡ new_instance name.now file stop_on) }
 {
     let name = Text::from_str(alloc, name)?;
-    let moments = Moments::new(alloc, limits.respawn)?;
+    let moments = Moments::new(alloc, file.job().limit)?;
     Ok(Instance {
         name,
+        file,
         goal: Goal::Stop,
         state: State::Waiting,
         restarted: false,
@@ -65,7 +66,6 @@ pub(crate) fn new_instance(
         blocker: None,
         children: idle(),
         kill_moment: None,
-        kill_timeout: limits.kill_timeout,
         moments,
         stop_on,
     })

@@ -13,10 +13,10 @@ ghost use Rattle.up_job.specs.Unblocking.{blocked_from, unblocked};
 use crate::change::{Change, apply};
 use crate::fault::JobFault;
 use crate::instance::{Instance, new_instance};
-use crate::limits::Limits;
 use crate::unblocking::{any_waits, first_blocked, may_wait, unblock_all};
 use std::alloc::{AllocError, Global};
 use std::marker::Model;
+use up_image::JobFile;
 use up_marks::Trigger;
 use up_model::{EventId, MAX_INSTANCES};
 
@@ -33,8 +33,12 @@ impl Model for InstanceList {
     ghost use Rattle.up_job.specs.declared.instance.Instance.{Instance};
     ghost use Rattle.up_job.specs.InstanceLists.{IsInstanceList};
     ghost use Rattle.up_job.specs.Waiting.{any_waits};
+    ghost use Rattle.std.specs.Coded.{codes};
+    ghost use Rattle.up_conf.specs.contracts.job.JobDef as job;
 
     ghost Value = { List Instance };
+
+    ghost coded = { Prim.hlevel (codes, job.the_row.coded) };
 
     ghost view = { λ r. r.instances.items };
 
@@ -203,12 +207,12 @@ impl InstanceList {
     pub(crate) fn add(
         &mut self,
         name: &str,
-        limits: Limits,
+        file: JobFile,
         stop_on: Trigger,
     ) -> Result<usize, JobFault>
         requires { named name.now self.old ≡ None }
         ensures added { OnOk result (self.new
-            ≡ with_instance (new_instance name.now limits stop_on) self.old) }
+            ≡ with_instance (new_instance name.now file stop_on) self.old) }
         ensures position { IfOk result (λ at. at ≡ position_in name.now (map name_of self.old)) }
         ensures fits { OnOk result (length self.old < max_instances) }
         ensures refused { IfErr result (λ fault. fault ≡ refusal self.old) }
@@ -218,7 +222,7 @@ impl InstanceList {
             drop(stop_on);
             return Err(JobFault::Full);
         }
-        let instance = new_instance(*self.instances.allocator(), name, limits, stop_on)?;
+        let instance = new_instance(*self.instances.allocator(), name, file, stop_on)?;
         let at = insert(&mut self.instances, instance)?;
         Ok(at)
     }

@@ -12,10 +12,10 @@ use crate::change::Change;
 use crate::fault::JobFault;
 use crate::instance::{Instance, new_instance};
 use crate::instance_list::InstanceList;
-use crate::limits::Limits;
 use std::alloc::{AllocError, Global};
 use std::marker::Model;
 use up_conf::JobDef;
+use up_image::JobFile;
 use up_marks::Trigger;
 use up_text::Name;
 
@@ -40,8 +40,12 @@ impl Model for Instances {
     ghost use Rattle.up_job.specs.JobLists.{job_of};
     ghost use Rattle.up_job.specs.Alarms.{AllFrom};
     ghost use Rattle.up_job.specs.Named.{AreInOrder};
+    ghost use Rattle.std.specs.Coded.{codes};
+    ghost use Rattle.up_conf.specs.contracts.job.JobDef as job;
 
     ghost Value = { List JobInstances };
+
+    ghost coded = { Prim.hlevel (codes, job.the_row.coded) };
 
     ghost view = { λ s. s.jobs.items };
 
@@ -112,13 +116,13 @@ fn first_of(
     alloc: Global,
     job: &Name,
     instance: &str,
-    limits: Limits,
+    file: JobFile,
     stop_on: Trigger,
 ) -> Result<JobInstances, AllocError>
     ensures { IfOk result (λ its. its
-        ≡ record { name = job.now; instances = new_instance instance.now limits stop_on ∷ [] }) }
+        ≡ record { name = job.now; instances = new_instance instance.now file stop_on ∷ [] }) }
 {
-    let instance = new_instance(alloc, instance, limits, stop_on)?;
+    let instance = new_instance(alloc, instance, file, stop_on)?;
     match job.copy() {
         Ok(name) => with_first(alloc, name, instance),
         Err(fault) => {
@@ -133,17 +137,17 @@ fn add_first(
     jobs: &mut Vec<JobInstances>,
     job: &Name,
     instance: &str,
-    limits: Limits,
+    file: JobFile,
     stop_on: Trigger,
 ) -> Result<usize, AllocError>
     requires order { by_name.AreInOrder job_of jobs.old.items }
     requires absent { by_name.named job_of job.now jobs.old.items ≡ None }
     ensures order { OnOk result (by_name.AreInOrder job_of jobs.new.items) }
     ensures added { OnOk result (Changes job.now
-        (with_instance (new_instance instance.now limits stop_on)) jobs.old.items jobs.new.items) }
+        (with_instance (new_instance instance.now file stop_on)) jobs.old.items jobs.new.items) }
     ensures unchanged { OnErr result (jobs.new.items ≡ jobs.old.items) }
 {
-    let its = first_of(*jobs.allocator(), job, instance, limits, stop_on)?;
+    let its = first_of(*jobs.allocator(), job, instance, file, stop_on)?;
     let at = position(jobs.as_slice(), job);
     jobs.insert(at, its)?;
     Ok(at)
@@ -154,7 +158,7 @@ fn add_to(
     jobs: &mut Vec<JobInstances>,
     job: &Name,
     instance: &str,
-    limits: Limits,
+    file: JobFile,
     stop_on: Trigger,
 ) -> Result<usize, JobFault>
     requires order { by_name.AreInOrder job_of jobs.old.items }
@@ -162,13 +166,13 @@ fn add_to(
     requires absent { named instance.now (instances_in job.now jobs.old.items) ≡ None }
     ensures order { by_name.AreInOrder job_of jobs.new.items }
     ensures added { OnOk result (Changes job.now
-        (with_instance (new_instance instance.now limits stop_on)) jobs.old.items jobs.new.items) }
+        (with_instance (new_instance instance.now file stop_on)) jobs.old.items jobs.new.items) }
     ensures fits { OnOk result (length (instances_in job.now jobs.old.items) < max_instances) }
     ensures refused { IfErr result (λ fault. fault ≡ refusal (instances_in job.now jobs.old.items)) }
     ensures unchanged { OnErr result (jobs.new.items ≡ jobs.old.items) }
 {
     let at = position(jobs.as_slice(), job);
-    jobs[at].instances.add(instance, limits, stop_on)
+    jobs[at].instances.add(instance, file, stop_on)
 }
 
 fn take(jobs: &mut Vec<JobInstances>, job: &Name, instance: &str) -> Instance
@@ -242,12 +246,12 @@ impl Instances {
         &mut self,
         job: &Name,
         instance: &str,
-        limits: Limits,
+        file: JobFile,
         stop_on: Trigger,
     ) -> Result<(), JobFault>
         requires { named instance.now (instances_in job.now self.old) ≡ None }
         ensures added { OnOk result (Changes job.now
-            (with_instance (new_instance instance.now limits stop_on)) self.old self.new) }
+            (with_instance (new_instance instance.now file stop_on)) self.old self.new) }
         ensures fits { OnOk result (length (instances_in job.now self.old) < max_instances) }
         ensures refused { IfErr result (λ fault. fault ≡ refusal (instances_in job.now self.old)) }
         ensures unchanged { OnErr result (self.new ≡ self.old) }
@@ -255,11 +259,11 @@ impl Instances {
         self.alarm = 0;
         match place(self.jobs.as_slice(), job) {
             Ok(_) => {
-                add_to(&mut self.jobs, job, instance, limits, stop_on)?;
+                add_to(&mut self.jobs, job, instance, file, stop_on)?;
                 Ok(())
             }
             Err(_) => {
-                add_first(&mut self.jobs, job, instance, limits, stop_on)?;
+                add_first(&mut self.jobs, job, instance, file, stop_on)?;
                 Ok(())
             }
         }

@@ -1,6 +1,5 @@
 //! When the timer kills main.
 ghost use Rattle.std.specs.Prelude.{◌≡◌, ℕ, is_some};
-ghost use Rattle.up_conf.specs.declared.job.JobDef.{JobDef as JobDefValue};
 ghost use Rattle.up_model.specs.Chronicle.{Chronicle};
 ghost use Rattle.up_model.specs.Clock as clock;
 ghost use Rattle.up_job.specs.Timers.{is_dying, is_overdue, kill_at, IsKept};
@@ -49,7 +48,7 @@ fn overdue(instance: &Instance, now: u64) -> bool
         && has_passed(
             instance.kill_moment,
             now,
-            milliseconds(instance.kill_timeout),
+            milliseconds(instance.file.job().kill_timeout),
         )
 }
 
@@ -59,7 +58,7 @@ pub(crate) fn kill_at(instance: &Instance) -> Option<u128>
 {
     match instance.kill_moment {
         Some(moment) => {
-            Some(u128::from(moment) + u128::from(milliseconds(instance.kill_timeout)))
+            Some(u128::from(moment) + u128::from(milliseconds(instance.file.job().kill_timeout)))
         }
         None => None,
     }
@@ -68,8 +67,8 @@ pub(crate) fn kill_at(instance: &Instance) -> Option<u128>
 /// Whether the timer is to kill main of an instance, by what the clock reads, in milliseconds (init(5), `kill timeout`).
 pub fn is_overdue(instance: &Instance, now: u64) -> bool
     ensures kept { result ≡ is_overdue now instance.now }
-    ensures model { (job : JobDefValue) (i : ℕ) (c : Chronicle) → now ≡ clock.now c
-        → IsKept job i c instance.now → result ≡ clock.kill_due job i c }
+    ensures model { (i : ℕ) (c : Chronicle) → now ≡ clock.now c
+        → IsKept i c instance.now → result ≡ clock.kill_due instance.now.file i c }
 {
     overdue(instance, now)
 }

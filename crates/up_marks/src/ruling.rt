@@ -9,7 +9,7 @@ ghost use Rattle.up_marks.specs.Ruling as ruling;
 
 use up_conf::JobDef;
 use up_expr::{Condition, Leaf, Node, Test};
-use up_image::Place;
+use up_image::{JobFile, Place};
 use up_model::Event;
 use up_text::{Env, Name, Text};
 
@@ -144,17 +144,17 @@ pub(crate) fn leaf_in<'a>(condition: Option<&'a Condition>, at: usize) -> Option
     }
 }
 
-fn leaf_at<'a>(jobs: &'a [JobDef], place: &Place) -> Option<&'a Leaf>
+fn leaf_at<'a>(jobs: &'a [JobFile], place: &Place) -> Option<&'a Leaf>
     ensures { option_copied result ≡ ruling.leaf_at jobs.now place.now }
 {
     match jobs.get(usize::from(place.job)) {
-        Some(job) => leaf_in(side_of(job, place.start), usize::from(place.node)),
+        Some(file) => leaf_in(side_of(file.job(), place.start), usize::from(place.node)),
         None => None,
     }
 }
 
 /// Whether the leaf at a place of a table may match an event. Takes no memory.
-pub fn admits(jobs: &[JobDef], place: &Place, event: &Event) -> bool
+pub fn admits(jobs: &[JobFile], place: &Place, event: &Event) -> bool
     ensures { result ≡ ruling.admits jobs.now event.now place.now }
 {
     match leaf_at(jobs, place) {

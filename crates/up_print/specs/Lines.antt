@@ -90,5 +90,5 @@ step_lines (step.Gave outputs) = flat_map output_lines outputs
 step_lines step.NotExpected = codes "refused 40 NotExpected\n"
 
 -- the line of a bad step of the script with this name
-unfoldable pub bad_step_line : List ℕ → ℕ → List ℕ
-bad_step_line name line = name ++ codes ":" ++ decimal line ++ codes ": bad step\n"
+unfoldable pub bad_statement_line : List ℕ → ℕ → List ℕ
+bad_statement_line name line = name ++ codes ":" ++ decimal line ++ codes ": bad step\n"

@@ -3,7 +3,7 @@ ghost use Rattle.std.specs.Prelude.{◌≡◌, ◌++◌, OnOk, codes};
 ghost use Rattle.std.specs.List.{flat_map};
 ghost use Rattle.std.specs.Fmt.{decimal};
 ghost use Rattle.up_model.specs.Signals.{signal_text};
-ghost use Rattle.up_print.specs.Lines.{escaped, quoted, instance_text, who_text, word_text, binding_text, variable_text, variable_line, spawn_lines, signal_line, event_line, verdict_text, reply_line, output_lines, step_lines, bad_step_line};
+ghost use Rattle.up_print.specs.Lines.{escaped, quoted, instance_text, who_text, word_text, binding_text, variable_text, variable_line, spawn_lines, signal_line, event_line, verdict_text, reply_line, output_lines, step_lines, bad_statement_line};
 
 use std::alloc::AllocError;
 use up_conf::signal_name;
@@ -235,9 +235,9 @@ pub fn push_step(text: &mut Vec<u8>, step: &Step) -> Result<(), AllocError>
 }
 
 /// Appends the line of a bad step of the script with this name.
-#[tactic(auto, unfolding(crate::specs::Lines::bad_step_line))]
+#[tactic(auto, unfolding(crate::specs::Lines::bad_statement_line))]
 pub fn push_bad_step(text: &mut Vec<u8>, name: &str, line: u32) -> Result<(), AllocError>
-    ensures { OnOk result (text.new.items ≡ text.old.items ++ bad_step_line name.now line) }
+    ensures { OnOk result (text.new.items ≡ text.old.items ++ bad_statement_line name.now line) }
 {
     push(text, name)?;
     push(text, ":")?;

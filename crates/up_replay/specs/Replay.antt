@@ -15,8 +15,8 @@ use Rattle.up_model.specs.declared.exit_status.ExitStatus.TheVariants.{Usage, Un
 use Rattle.up_print.specs.declared.printed.Printed.{Printed}
 use Rattle.up_script.specs.Bundle.{lines_of, files_of, bad_line, script_line, script_text}
 use Rattle.up_print.specs.Folders.{unusable, prints, compile_outcome, faults_output}
-use Rattle.up_print.specs.Lines.{bad_step_line, step_lines}
-use Rattle.up_script.specs.ScriptSteps.{script_inputs}
+use Rattle.up_print.specs.Lines.{bad_statement_line, step_lines}
+use Rattle.up_script.specs.Statements.{script_inputs}
 use Rattle.up_print.specs.Writing.{IsBegun}
 
 -- the inputs of a bundle, or the number of its first bad line
@@ -32,7 +32,7 @@ inputs_in lines = unless_bad (bad_line lines) (script_inputs (script_line 1 line
 abbrev pub play_output : List (List ℕ × List ℕ) → List ℕ → List JobDef → Printed → Result (List Input) ℕ → Printed
 play_output base name jobs faults (Ok inputs) = prints
     (faults.text ++ flat_map step_lines (answers (record { base = base; jobs = jobs }) [] inputs)) faults.status
-play_output base name jobs faults (Err line) = prints (faults.text ++ bad_step_line name line) Usage
+play_output base name jobs faults (Err line) = prints (faults.text ++ bad_statement_line name line) Usage
 
 -- what a folder and a script with this name print, with a base environment
 abbrev pub replay_output : List (List ℕ × List ℕ) → List ℕ → Result (List JobDef × List Fault) CompileError

@@ -8,7 +8,7 @@ ghost use Rattle.up_model.specs.declared.exit_status.ExitStatus.TheVariants.{Mem
 ghost use Rattle.up_print.specs.Folders.{unusable};
 ghost use Rattle.up_print.specs.Lines.{step_lines};
 ghost use Rattle.up_print.specs.Writing.{IsBegun};
-ghost use Rattle.up_script.specs.ScriptSteps.{script_inputs};
+ghost use Rattle.up_script.specs.Statements.{script_inputs};
 ghost use Rattle.up_script.specs.declared.bundle.TheConstants.{MAX_BUNDLE};
 ghost use Rattle.up_replay.specs.Replay.{play_output, unless_bad, Plays, Prints, Replays};
 

@@ -11,8 +11,8 @@ mod record;
 pub mod run;
 pub mod silence;
 mod socket;
-pub mod teller;
+pub mod reporter;
 mod unsaid;
 
 pub use run::{Rounds, run_source};
-pub use teller::Telling;
+pub use reporter::ReportOptions;

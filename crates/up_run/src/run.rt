@@ -17,7 +17,7 @@ use crate::pace::{Pace, SHORT_PAUSE, is_idle};
 use crate::record::open_file;
 use crate::silence::Silences;
 use crate::socket::say_no_socket;
-use crate::teller::{Teller, Telling};
+use crate::reporter::{Reporter, ReportOptions};
 use std::alloc::{AllocError, Global};
 use std::fs::{File, OpenFile, remove_file};
 use std::io::{Eprint, Write};
@@ -145,7 +145,7 @@ fn round<R, W>(
     daemon: &mut Daemon,
     (host, door): (&mut RealHost<R>, &mut UnixDoor),
     going: &mut Going,
-    teller: &mut Teller<W>,
+    reporter: &mut Reporter<W>,
 ) -> bool
 where
     R: Processes + Clock + Print + Eprint + AllocGlobal,
@@ -156,10 +156,10 @@ where
         return false;
     };
     let idle = is_idle(&round, door.happened());
-    teller.tell(rt, rt.alloc(), &round, idle);
+    reporter.tell(rt, rt.alloc(), &round, idle);
     let counted = host.faults().saturating_sub(faults);
     let faults = host_faults(round.fed.as_slice(), host.happened(), counted);
-    teller.tell_faults(rt, rt.alloc(), &faults, door.failed());
+    reporter.tell_faults(rt, rt.alloc(), &faults, door.failed());
     if !going.quiet && !idle {
         say_failures(rt, &round, host.refusals());
     }
@@ -178,14 +178,14 @@ fn all_rounds<R, W>(
     (host, door): (&mut RealHost<R>, &mut UnixDoor),
     count: u32,
     mut going: Going,
-    teller: &mut Teller<W>,
+    reporter: &mut Reporter<W>,
 ) -> ExitStatus
 where
     R: Processes + Clock + Print + Eprint + AllocGlobal,
     W: Write + OpenFile + Drop,
 {
     for _ in 0..count {
-        if !round(rt, daemon, (host, door), &mut going, teller) {
+        if !round(rt, daemon, (host, door), &mut going, reporter) {
             return ExitStatus::Memory;
         }
     }
@@ -201,13 +201,13 @@ fn unusable(rt: &(impl Print + AllocGlobal), path: &str) -> io::Result<ExitStatu
 fn first_daemon<R: Eprint + AllocGlobal, W: Write + OpenFile + Drop>(
     rt: &R,
     table: Table,
-    teller: &mut Teller<W>,
+    reporter: &mut Reporter<W>,
 ) -> Result<Daemon, AllocError>
     ensures { IfOk result (Begins table) }
 {
     match first_inputs(rt.alloc()) {
         Ok(inputs) => {
-            teller.note(rt, rt.alloc(), inputs.as_slice(), false);
+            reporter.note(rt, rt.alloc(), inputs.as_slice(), false);
             started(rt.alloc(), table, inputs)
         }
         Err(refused) => {
@@ -226,7 +226,7 @@ fn serve_with<
     daemon: &mut Daemon,
     door: &mut UnixDoor,
     (rounds, quiet): (Rounds, bool),
-    teller: &mut Teller<W>,
+    reporter: &mut Reporter<W>,
 ) -> io::Result<ExitStatus> {
     let mut host = match RealHost::new(rt.alloc(), rt.clone()?) {
         Ok(host) => host,
@@ -240,8 +240,8 @@ fn serve_with<
         silences: Silences::new(rt.alloc(), rounds.client_timeout),
         quiet,
     };
-    let status = all_rounds(rt, daemon, (&mut host, door), rounds.count, going, teller);
-    teller.finish(rt, rt.alloc(), host.faults(), door.faults());
+    let status = all_rounds(rt, daemon, (&mut host, door), rounds.count, going, reporter);
+    reporter.finish(rt, rt.alloc(), host.faults(), door.faults());
     drop(host);
     Ok(status)
 }
@@ -255,10 +255,10 @@ fn serve<
     table: Table,
     door: &mut UnixDoor,
     (rounds, quiet): (Rounds, bool),
-    teller: &mut Teller<W>,
+    reporter: &mut Reporter<W>,
 ) -> io::Result<ExitStatus> {
-    let mut daemon = first_daemon(rt, table, teller)?;
-    let served = serve_with(rt, &mut daemon, door, (rounds, quiet), teller);
+    let mut daemon = first_daemon(rt, table, reporter)?;
+    let served = serve_with(rt, &mut daemon, door, (rounds, quiet), reporter);
     drop(daemon);
     served
 }
@@ -277,23 +277,23 @@ fn no_socket<R: Files + Net + Print + Eprint + AllocGlobal>(
 }
 
 // What tells of a run, once its files are there; or the path of one that can't be made.
-fn teller_of<'a, R: Files<File = File> + Net + Eprint + AllocGlobal>(
+fn reporter_of<'a, R: Files<File = File> + Net + Eprint + AllocGlobal>(
     rt: &R,
     source: &str,
-    telling: Telling<'a>,
-) -> Result<Result<Teller<File>, &'a str>, AllocError> {
-    let head = log_head(rt.alloc(), source, telling.log.unwrap_or("-"), SEARCHED)?;
-    let Some(log) = open_file(rt, telling.log, telling.over) else {
+    options: ReportOptions<'a>,
+) -> Result<Result<Reporter<File>, &'a str>, AllocError> {
+    let head = log_head(rt.alloc(), source, options.log.unwrap_or("-"), SEARCHED)?;
+    let Some(log) = open_file(rt, options.log, options.over) else {
         drop(head);
-        return Ok(Err(telling.log.unwrap_or("-")));
+        return Ok(Err(options.log.unwrap_or("-")));
     };
-    let Some(told) = open_file(rt, telling.tell, telling.over) else {
+    let Some(told) = open_file(rt, options.tell, options.over) else {
         drop(head);
         drop(log);
-        return Ok(Err(telling.tell.unwrap_or("-")));
+        return Ok(Err(options.tell.unwrap_or("-")));
     };
-    let verbose = telling.verbose.then(|| Outlet::new(rt, rt.alloc()));
-    Ok(Ok(Teller::new(verbose, told, log, head)))
+    let verbose = options.verbose.then(|| Outlet::new(rt, rt.alloc()));
+    Ok(Ok(Reporter::new(verbose, told, log, head)))
 }
 
 // The rounds over jobs, once the files to which they are told are there. Without them there is no run, and the socket that was made goes.
@@ -303,15 +303,15 @@ fn record_run<R>(
     door: &mut UnixDoor,
     (source, socket): (&str, &str),
     rounds: Rounds,
-    telling: Telling,
+    options: ReportOptions,
 ) -> io::Result<ExitStatus>
 where
     R: Files<File = File> + Net + Processes + Clock + Print + Eprint + AllocGlobal + Clone + Drop,
 {
-    match teller_of(rt, source, telling) {
-        Ok(Ok(mut teller)) => {
-            let served = serve(rt, table, door, (rounds, telling.quiet), &mut teller);
-            drop(teller);
+    match reporter_of(rt, source, options) {
+        Ok(Ok(mut reporter)) => {
+            let served = serve(rt, table, door, (rounds, options.quiet), &mut reporter);
+            drop(reporter);
             served
         }
         Ok(Err(path)) => {
@@ -333,14 +333,14 @@ fn run_jobs<R>(
     table: Table,
     (source, socket): (&str, &str),
     rounds: Rounds,
-    telling: Telling,
+    options: ReportOptions,
 ) -> io::Result<ExitStatus>
 where
     R: Files<File = File> + Net + Processes + Clock + Print + Eprint + AllocGlobal + Clone + Drop,
 {
     match UnixDoor::bind(rt, rt.alloc(), socket) {
         Ok(mut door) => {
-            let served = record_run(rt, table, &mut door, (source, socket), rounds, telling);
+            let served = record_run(rt, table, &mut door, (source, socket), rounds, options);
             drop(door);
             served
         }
@@ -358,7 +358,7 @@ fn run_found<R>(
     printed: ExitStatus,
     (source, socket): (&str, &str),
     rounds: Rounds,
-    telling: Telling,
+    options: ReportOptions,
 ) -> io::Result<ExitStatus>
 where
     R: Files<File = File> + Net + Processes + Clock + Print + Eprint + AllocGlobal + Clone + Drop,
@@ -370,7 +370,7 @@ where
         drop(table);
         return Ok(printed);
     }
-    let status = run_jobs(rt, table, (source, socket), rounds, telling)?;
+    let status = run_jobs(rt, table, (source, socket), rounds, options)?;
     if status == ExitStatus::Done {
         Ok(printed)
     } else {
@@ -383,10 +383,10 @@ where
 /// the output can't be used; `Memory` if memory ran out. Neither the socket nor the processes are touched at the end.
 pub fn run_source<
     R: Files<File = File> + Net + Processes + Clock + Print + Eprint + AllocGlobal + Clone + Drop,
->(rt: &R, source: &str, socket: &str, rounds: Rounds, telling: Telling) -> io::Result<ExitStatus> {
+>(rt: &R, source: &str, socket: &str, rounds: Rounds, options: ReportOptions) -> io::Result<ExitStatus> {
     let jobs = read_jobs(rt, source)?;
     match print(rt, Ok(jobs.printed)) {
-        Ok(printed) => run_found(rt, jobs.table, printed, (source, socket), rounds, telling),
+        Ok(printed) => run_found(rt, jobs.table, printed, (source, socket), rounds, options),
         Err(error) => {
             drop(jobs.table);
             Err(error)

@@ -2,7 +2,7 @@
 use std::alloc::{AllocError, Global};
 use std::test::Fail;
 use up_command::{Invocation, parse_args, print_refusal};
-use up_run::{Rounds, Telling};
+use up_run::{Rounds, ReportOptions};
 use up_text::{Env, Text};
 use up_tools::Kind;
 
@@ -36,7 +36,7 @@ enum Wanted {
         source: &'static str,
         socket: &'static str,
         rounds: Rounds,
-        telling: Telling<'static>,
+        options: ReportOptions<'static>,
     },
     Status(u8),
     Text(&'static str),
@@ -150,7 +150,7 @@ static ASKED: [Case; 13] = [
                 most_pause: 10,
                 client_timeout: 60,
             },
-            telling: Telling {
+            options: ReportOptions {
                 verbose: true,
                 quiet: false,
                 tell: None,
@@ -169,7 +169,7 @@ static ASKED: [Case; 13] = [
                 most_pause: 10,
                 client_timeout: 60,
             },
-            telling: Telling {
+            options: ReportOptions {
                 verbose: false,
                 quiet: false,
                 tell: None,
@@ -199,7 +199,7 @@ static ASKED: [Case; 13] = [
                 most_pause: 0,
                 client_timeout: 1,
             },
-            telling: Telling {
+            options: ReportOptions {
                 verbose: false,
                 quiet: true,
                 tell: Some("t"),
@@ -304,15 +304,15 @@ fn is_wanted(asked: &Invocation, wanted: &Wanted) -> bool {
                 source,
                 socket,
                 rounds,
-                telling,
+                options,
             },
             Wanted::Run {
                 source: s,
                 socket: p,
                 rounds: r,
-                telling: t,
+                options: t,
             },
-        ) => *source == *s && *socket == *p && *rounds == *r && *telling == *t,
+        ) => *source == *s && *socket == *p && *rounds == *r && *options == *t,
         _ => false,
     }
 }

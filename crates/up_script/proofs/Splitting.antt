@@ -10,7 +10,7 @@ use Rattle.up_text.proofs.Readings.{prefix_len-front}
 use Rattle.up_script.specs.Bundle.{lines_of, first_line, after_line}
 use Rattle.up_model.specs.declared.input.Input.{Input}
 use Rattle.up_text.specs.Lexemes.{stanzas}
-use Rattle.up_script.specs.ScriptSteps.{is_text, begins_text, inputs_from, lines_inputs, unless_left, Fronts}
+use Rattle.up_script.specs.Statements.{is_text, begins_text, inputs_from, lines_inputs, unless_left, Fronts}
 use Rattle.up_script.proofs.BundleLemmas.{lines_of-first}
 use Rattle.up_script.proofs.Passing.{first_line-append, shorter}
 

@@ -11,7 +11,7 @@ use Rattle.up_text.proofs.Lexemes.{line_lexemes, none_when_finished, finished_wh
 use Rattle.up_text.proofs.Runs.{feeds-length}
 use Rattle.up_model.specs.declared.input.Input.{Input}
 use Rattle.up_script.specs.Script.{inputs_of}
-use Rattle.up_script.specs.ScriptSteps.{begins_on, after_step, inputs_from, step_then, step_inputs, with_inputs, texts_in, ReachesNoFurther}
+use Rattle.up_script.specs.Statements.{begins_on, after_step, inputs_from, step_then, step_inputs, with_inputs, texts_in, ReachesNoFurther}
 
 -- the line of the next token is one of the text that is left
 pub line_within : (place : Place) → line_at place ≤ place.line + length place.rest

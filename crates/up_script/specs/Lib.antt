@@ -7,7 +7,7 @@ pub mod Requests
 -- What the lines of a script say.
 pub mod Script
 -- The steps of a script.
-pub mod ScriptSteps
+pub mod Statements
 -- The inputs that they give.
 pub mod ScriptInputs
 -- The script that says inputs.

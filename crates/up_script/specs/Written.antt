@@ -13,7 +13,7 @@ use Rattle.up_model.specs.Events.{process_name}
 use Rattle.up_model.specs.Requests.{command_name}
 use Rattle.up_model.specs.Signals.{signal_text}
 use Rattle.up_script.specs.declared.inputs.TheConstants.{MAX_LINES}
-use Rattle.up_script.specs.ScriptSteps.{script_inputs}
+use Rattle.up_script.specs.Statements.{script_inputs}
 
 -- a byte between quotes: a backslash stands before a quote and before a backslash
 unfoldable pub token_byte : ℕ → List ℕ

@@ -1,7 +1,7 @@
 //! Writes inputs as the lines of a script.
 ghost use Rattle.std.specs.Prelude.{◌≡◌, ◌++◌, None, Ok, OnOk, IfOk, IfSome, codes};
 ghost use Rattle.std.specs.List.{flat_map};
-ghost use Rattle.up_script.specs.ScriptSteps.{script_inputs};
+ghost use Rattle.up_script.specs.Statements.{script_inputs};
 ghost use Rattle.up_script.specs.Written.{token_byte, token, variable_token, wait_token, name_token, request_tokens, process_tokens, end_tokens, statement, is_turn, turns_line, script_of, IsUnsaid};
 
 use crate::push::{push, push_decimal, push_signal};

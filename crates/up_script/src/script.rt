@@ -5,7 +5,7 @@ ghost use Rattle.up_text.specs.Places.{reading};
 ghost use Rattle.up_text.specs.Lexemes.{lexemes_of, stanzas};
 ghost use Rattle.up_script.specs.Bundle.{lines_of};
 ghost use Rattle.up_script.specs.ScriptInputs.{inputs_of_step};
-ghost use Rattle.up_script.specs.ScriptSteps.{is_text, begins_text, after_step, inputs_from, lines_inputs, step_inputs, script_inputs, unless_left, texts_in, IsNext, Fronts, ReachesNoFurther};
+ghost use Rattle.up_script.specs.Statements.{is_text, begins_text, after_step, inputs_from, lines_inputs, step_inputs, script_inputs, unless_left, texts_in, IsNext, Fronts, ReachesNoFurther};
 
 use crate::bundle::{as_text, split_line};
 use crate::scripted::{ScriptInputs, StepInputs};
@@ -15,7 +15,7 @@ use up_model::Input;
 use up_text::{Items, Lexer, Text, TextFault, without_comments};
 
 // The bytes as a text, where they may stand in a script.
-#[tactic(auto, unfolding(crate::specs::ScriptSteps::is_text))]
+#[tactic(auto, unfolding(crate::specs::Statements::is_text))]
 fn text_of(bytes: &[u8]) -> Option<&str>
     ensures test { MatchOption result (is_text bytes.now ≡ false) (λ text. is_text bytes.now ≡ true) }
     ensures same { IfSome result (λ text. text.now ≡ bytes.now) }
@@ -160,7 +160,7 @@ fn lines_inputs(
 }
 
 /// The inputs of a script that begins on this line, or its first bad line.
-#[tactic(auto, unfolding(crate::specs::ScriptSteps::script_inputs), using(up_text::proofs::Comments::no_longer))]
+#[tactic(auto, unfolding(crate::specs::Statements::script_inputs), using(up_text::proofs::Comments::no_longer))]
 pub fn read_inputs(
     alloc: Global,
     script: &[u8],

@@ -18,7 +18,7 @@ use Rattle.up_script.specs.declared.bundle.TheConstants.{MAX_BUNDLE}
 use Rattle.up_script.specs.Bundle.{files_of, lines_of}
 use Rattle.up_print.specs.Folders.{IsTable, PrintsFaults, prints}
 use Rattle.up_replay.specs.Replay.{Plays}
-use Rattle.up_script.specs.ScriptSteps.{script_inputs}
+use Rattle.up_script.specs.Statements.{script_inputs}
 use Rattle.up_tools.specs.declared.view.View.{View}
 use Rattle.up_tools.specs.declared.view.View.TheVariants as view
 

@@ -15,7 +15,7 @@ use up_print::check::faults_and_compile;
 use up_print::{Printed, cannot_use};
 use up_text::{Items, Text};
 
-fn status_by(text: &[u8]) -> ExitStatus
+pub(crate) fn status_by(text: &[u8]) -> ExitStatus
     ensures { result ≡ status_by text.now }
 {
     match text {

@@ -1,5 +1,5 @@
 use Rattle.std.proofs.Common.{◌∷◌, ◌∙◌}
-use Rattle.up_book.specs.Keys.{Resting, Stepping}
+use Rattle.up_book.specs.Keys.{Stepping}
 use Rattle.up_engine.proofs.Entries.{finishing_last}
 use Rattle.up_engine.proofs.FreeLemmas.{unseen-concern, unseen-told}
 use Rattle.up_engine.proofs.Unblocked.{finished-concerns}
@@ -26,7 +26,7 @@ returns-clause-concerns g c config c' e distinct s known free found =
     let now = c.given.ensures.after config c' s tt in
     let here = c.given.ensures.events config c' c.args.key e s known in
     rw c.unblocked_concern.ensures
-    (finished-concerns (g.B.Book.event_place c.finish.new.self) config c' e c.in_ok-on.on distinct (g.met.B.Book.made c.args.book.now Resting config c' s) (c.in_ok-on.ensures.blocked config d e now here (held-given config e Turn c' ∙ free)) found)
+    (finished-concerns (g.B.Book.event_place c.finish.new.self) config c' e c.in_ok-on.on distinct (c.in_ok-on.ensures.blocked config d e now here (held-given config e Turn c' ∙ free)) found)
 
 pub returns-clause-free : goal.returns-clause-free
 returns-clause-free g c config c' e s known free unseen =

@@ -31,5 +31,5 @@ returns-clause-concerns g c c' s =
     let who = c.args.who in
     let es = end_by who c.args.process (end.Refused) d in
     rw c.concern_of.ensures
-    (concerns-alone (g.B.Book.event_place c.conclude.new.book) config given who c' c.find-on.result es c.names_differ.ensures (g.met.B.Book.made c.args.book.now Resting config c' s) (c.names_differ-2.ensures Resting config c' s) refl (c.find-on.ensures Resting c' s)
+    (concerns-alone (g.B.Book.event_place c.conclude.new.book) config given who c' c.find-on.result es c.names_differ.ensures (c.names_differ-2.ensures Resting config c' s) refl (c.find-on.ensures Resting c' s)
     (λ i named. end_of-own (own_file who d) (instance_named who d) i c.args.process (end.Refused) d named) (append_assoc es (Given given ∷ []) c') (effect-offers config given c' (λ no. no)))

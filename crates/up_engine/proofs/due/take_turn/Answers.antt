@@ -1,4 +1,3 @@
-use Rattle.up_book.specs.Keys.{Resting}
 use Rattle.up_engine.proofs.Quiet.{idle-due}
 use Rattle.up_engine.proofs.Entries.{one_last}
 use Rattle.up_engine.proofs.TurnLemmas.{turn_found, turn_none}
@@ -19,7 +18,7 @@ returns-in_ok-concern-in-Some-clause-concerns g c config c' distinct s =
 
 pub returns-in-None-clause-concerns : goal.returns-in-None-clause-concerns
 returns-in-None-clause-concerns g c config c' distinct s =
-    idle-due config c' distinct (g.met.B.Book.made c.args.book.now Resting config c' s) (turn_none (g.B.Book.event_place c.args.book.now c') (turn_event config (queue c') c') (rw c.in-None.is at (c.turn.ensures config c' s)))
+    idle-due config c' (turn_none (g.B.Book.event_place c.args.book.now c') (turn_event config (queue c') c') (rw c.in-None.is at (c.turn.ensures config c' s)))
 
 pub returns-in_ok-concern-in-Some-clause-free : goal.returns-in_ok-concern-in-Some-clause-free
 unfolding effect

@@ -10,8 +10,7 @@ use Rattle.up_engine.proofs.hear.hear_all.Goals as goal
 pub hearers-init : goal.hearers-init
 hearers-init g c = record {
   within = omega arith;
-  heard = λ c' e none untrue stood known. heard-none (g.B.Book.stands c.args.book.now Stepping c.args.setup.now) (g.B.Book.event_place c.args.book.now) c.args.setup.now e c.args.event c' c.names_differ.ensures
-      (g.met.B.Book.made c.args.book.now Stepping c.args.setup.now (Handled e ∷ Given Turn ∷ c') stood) none untrue stood known;
+  heard = λ c' e none untrue stood known. heard-none (g.B.Book.stands c.args.book.now Stepping c.args.setup.now) (g.B.Book.event_place c.args.book.now) c.args.setup.now e c.args.event c' none untrue stood known;
   unheard = λ c' e stood known deaf. refl;
 }
 
@@ -25,15 +24,15 @@ hearers-preserved g c = record {
       let places = g.B.Book.event_place c.hearers.book in
       let h = c.hearers.invariant.heard c' e none untrue stood known in
       let next = c.in-Some.ensures.next h.d e h.stood h.known in
-      let by : PassesBy stands places config = record { start = c.passes_by.ensures.start config; stop = c.passes_by.ensures.stop config; events = c.passes_by.ensures.events } in
+      let by : PassesBy stands places config = record { start = c.passes_by.ensures.start config; stop = c.passes_by.ensures.stop config; events = c.passes_by.ensures.events; made = λ d s. g.met.B.Book.made c.hearers.book Stepping config d s } in
       let to = passed-to stands places config by c.names_differ.ensures e event c.hearers.from c.in-Some.index (Handled e ∷ Given Turn ∷ c') c.in-Some.ensures.within.0 (omega (arith, c.in-Some.ensures.within.1)) h next.1 in
-      heard-one stands (g.B.Book.stands c.hear.new.book Stepping config) places (g.B.Book.event_place c.hear.new.book) config e event c.in-Some.index c.in-Some.job.now (Handled e ∷ Given Turn ∷ c') c.names_differ.ensures next.0 to
+      heard-one stands (g.B.Book.stands c.hear.new.book Stepping config) places (g.B.Book.event_place c.hear.new.book) config e event c.in-Some.index c.in-Some.file.now (Handled e ∷ Given Turn ∷ c') c.names_differ.ensures next.0 to
       (c.in_ok-hear.ensures.after to.d e to.stood next.0 to.known) (c.in_ok-hear.ensures.events to.d e event e to.stood next.0 to.known to.known);
   unheard = λ c' e stood known deaf.
       let same = c.hearers.invariant.unheard c' e stood known deaf in
       let now = subst (λ b. g.B.Book.stands b Stepping c.args.setup.now c') (sym same) stood in
       let here = subst (λ b. g.B.Book.event_place b c' c.args.event ≡ Some e) (sym same) known in
-      absurd (hears-none c.args.setup.now c.in-Some.index c.in-Some.job.now (event_at e c') deaf (c.in-Some.ensures.next c' e now here).0 (c.in-Some.ensures.hears c' e now here));
+      absurd (hears-none c.args.setup.now c.in-Some.index c.in-Some.file.now (event_at e c') deaf (c.in-Some.ensures.next c' e now here).0 (c.in-Some.ensures.hears c' e now here));
 }
 
 pub returns-clause-after : goal.returns-clause-after
@@ -43,7 +42,7 @@ returns-clause-after g c c' e none untrue stood known =
     let stands = g.B.Book.stands c.hearers.book Stepping config in
     let places = g.B.Book.event_place c.hearers.book in
     let h = c.hearers.invariant.heard c' e none untrue stood known in
-    let by : PassesBy stands places config = record { start = c.passes_by-2.ensures.start config; stop = c.passes_by-2.ensures.stop config; events = c.passes_by-2.ensures.events } in
+    let by : PassesBy stands places config = record { start = c.passes_by-2.ensures.start config; stop = c.passes_by-2.ensures.stop config; events = c.passes_by-2.ensures.events; made = λ d s. g.met.B.Book.made c.hearers.book Stepping config d s } in
     heard-last stands places config e event (Handled e ∷ Given Turn ∷ c')
     (passed-to stands places config by c.names_differ.ensures e event c.hearers.from (length config.jobs) (Handled e ∷ Given Turn ∷ c') c.hearers.invariant.within (omega arith) h (c.in_default.ensures.next h.d e h.stood h.known))
 
@@ -55,4 +54,4 @@ returns-in_err-hear-clause-unheard g c c' e stood known deaf =
     let same = c.hearers.invariant.unheard c' e stood known deaf in
     let now = subst (λ b. g.B.Book.stands b Stepping c.args.setup.now c') (sym same) stood in
     let here = subst (λ b. g.B.Book.event_place b c' c.args.event ≡ Some e) (sym same) known in
-    absurd (hears-none c.args.setup.now c.in-Some.index c.in-Some.job.now (event_at e c') deaf (c.in-Some.ensures.next c' e now here).0 (c.in-Some.ensures.hears c' e now here))
+    absurd (hears-none c.args.setup.now c.in-Some.index c.in-Some.file.now (event_at e c') deaf (c.in-Some.ensures.next c' e now here).0 (c.in-Some.ensures.hears c' e now here))

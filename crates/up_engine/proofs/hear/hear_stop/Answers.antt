@@ -1,32 +1,30 @@
-use Rattle.std.proofs.Common.{◌≡◌, ◌∙◌, ◌++◌, Some}
-use Rattle.up_book.specs.Keys.{instance_at}
-use Rattle.up_engine.specs.Settling.{settle_one}
-use Rattle.up_engine.proofs.Hearing.{stop-lists, lists-then}
-use Rattle.up_engine.proofs.KeyLemmas.{placed}
-use Rattle.up_engine.proofs.Positions.{same-instance}
-use Rattle.up_model.specs.Chronicle.{Chronicle}
+use Rattle.std.proofs.Common.{◌≡◌, ◌∙◌, ◌++◌, Some, sym, subst}
+use Rattle.up_book.specs.Keys.{Stepping}
+use Rattle.up_engine.specs.Settling.{settle_one, ListsAfter}
+use Rattle.up_engine.proofs.KeyLemmas.{one-some}
 use Rattle.up_model.specs.Offers.{stop_offer}
 use Rattle.up_engine.proofs.hear.hear_stop.Goals as goal
 
-pub returns-clause-after : goal.returns-clause-after
-returns-clause-after g c c' its e s there in_table event =
+pub returns-in_ok-stays-in-Some-clause-after : goal.returns-in_ok-stays-in-Some-clause-after
+returns-in_ok-stays-in-Some-clause-after g c c' its e s there event =
     let config = c.args.setup.now in
-    let d : Chronicle = stop_offer config c.args.job.now its.place e c' ++ c' in
-    let there_d : instance_at config d c.args.key ≡ Some its = same-instance config c' d c.args.key (stop-lists config c.args.job.now its.place e c') ∙ there in
-    c.in_ok-stays.ensures.after d its (c.in_ok-offer_stop.ensures.after c' its.place e s (placed config c' c.args.key its there) in_table event) there_d in_table
+    let made = sym c.in-Some.is ∙ c.in_ok-file.ensures Stepping config c' its s there in
+    let same : its.file ≡ c.job.result.now = sym (one-some c.in-Some.file its.file made) ∙ sym c.job.ensures in
+    subst (λ file. g.B.Book.stands c.hear_by.new.book Stepping config (settle_one 5 file its (stop_offer config file its.place e c' ++ c'))) (sym same)
+    (c.in_ok-stays-in-Some.ensures.after c' its e s there same event)
 
-pub returns-clause-lists : goal.returns-clause-lists
-returns-clause-lists g c c' its e s there in_table event =
+pub returns-in_ok-stays-in-Some-clause-lists : goal.returns-in_ok-stays-in-Some-clause-lists
+returns-in_ok-stays-in-Some-clause-lists g c c' its e s there event =
     let config = c.args.setup.now in
-    let d : Chronicle = stop_offer config c.args.job.now its.place e c' ++ c' in
-    let there_d : instance_at config d c.args.key ≡ Some its = same-instance config c' d c.args.key (stop-lists config c.args.job.now its.place e c') ∙ there in
-    lists-then c.in_ok-stays.stays its c' d (settle_one 5 c.args.job.now its d) (stop-lists config c.args.job.now its.place e c')
-    (c.in_ok-stays.ensures.lists d its (c.in_ok-offer_stop.ensures.after c' its.place e s (placed config c' c.args.key its there) in_table event) there_d in_table)
+    let made = sym c.in-Some.is ∙ c.in_ok-file.ensures Stepping config c' its s there in
+    let same : its.file ≡ c.job.result.now = sym (one-some c.in-Some.file its.file made) ∙ sym c.job.ensures in
+    subst (λ file. ListsAfter c.in_ok-stays-in-Some.stays its c' (settle_one 5 file its (stop_offer config file its.place e c' ++ c'))) (sym same)
+    (c.in_ok-stays-in-Some.ensures.lists c' its e s there same event)
 
-pub returns-clause-events : goal.returns-clause-events
-returns-clause-events g c c' its e k j s there in_table event known =
+pub returns-in_ok-stays-in-Some-clause-events : goal.returns-in_ok-stays-in-Some-clause-events
+returns-in_ok-stays-in-Some-clause-events g c c' its e k j s there event known =
     let config = c.args.setup.now in
-    let d : Chronicle = stop_offer config c.args.job.now its.place e c' ++ c' in
-    let place = placed config c' c.args.key its there in
-    let there_d : instance_at config d c.args.key ≡ Some its = same-instance config c' d c.args.key (stop-lists config c.args.job.now its.place e c') ∙ there in
-    c.in_ok-stays.ensures.events d its k j (c.in_ok-offer_stop.ensures.after c' its.place e s place in_table event) there_d in_table (c.in_ok-offer_stop.ensures.events c' its.place e k j s place in_table event known)
+    let made = sym c.in-Some.is ∙ c.in_ok-file.ensures Stepping config c' its s there in
+    let same : its.file ≡ c.job.result.now = sym (one-some c.in-Some.file its.file made) ∙ sym c.job.ensures in
+    subst (λ file. g.B.Book.event_place c.hear_by.new.book (settle_one 5 file its (stop_offer config file its.place e c' ++ c')) k ≡ Some j) (sym same)
+    (c.in_ok-stays-in-Some.ensures.events c' its e k j s there same event known)

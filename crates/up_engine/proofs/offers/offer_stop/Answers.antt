@@ -1,16 +1,17 @@
 use Rattle.std.proofs.Common.{◌∙◌, sym, ◌∷◌}
 use Rattle.up_model.specs.Chronicle.{Offered, StopOn}
 use Rattle.up_engine.proofs.Entries.{two_last}
+use Rattle.up_engine.proofs.KeyLemmas.{file-kept}
 use Rattle.up_engine.proofs.offers.offer_stop.Goals as goal
 
 pub returns-in_ok-stop_fires-clause-after : goal.returns-in_ok-stop_fires-clause-after
-returns-in_ok-stop_fires-clause-after g c c' i e s known in_table event =
+returns-in_ok-stop_fires-clause-after g c c' i e s known file event =
     let config = c.args.setup.now in
-    let holds = sym (c.in_ok-holds.ensures.holds config c' i e s known in_table event) ∙ c.if-holds.true in
-    rw (holds, two_last) (c.in_ok-stop_fires.ensures.after (Offered (StopOn i) e ∷ c') i (c.in_ok-holds.ensures.after config c' i e s known in_table event) known in_table)
+    let holds = sym (c.in_ok-holds.ensures.holds config c' i e s known file event) ∙ c.if-holds.true in
+    rw (holds, two_last) (c.in_ok-stop_fires.ensures.after (Offered (StopOn i) e ∷ c') i (c.in_ok-holds.ensures.after config c' i e s known file event) known (file-kept i (Offered (StopOn i) e) c' c.args.job.now file))
 
 pub returns-in_ok-stop_fires-clause-events : goal.returns-in_ok-stop_fires-clause-events
-returns-in_ok-stop_fires-clause-events g c c' i e k j s known in_table event other =
+returns-in_ok-stop_fires-clause-events g c c' i e k j s known file event other =
     let config = c.args.setup.now in
-    let holds = sym (c.in_ok-holds.ensures.holds config c' i e s known in_table event) ∙ c.if-holds.true in
-    rw (holds, two_last) (c.in_ok-stop_fires.ensures.events (Offered (StopOn i) e ∷ c') i k j (c.in_ok-holds.ensures.after config c' i e s known in_table event) known in_table (c.in_ok-holds.ensures.events config c' i e k j s known in_table event other))
+    let holds = sym (c.in_ok-holds.ensures.holds config c' i e s known file event) ∙ c.if-holds.true in
+    rw (holds, two_last) (c.in_ok-stop_fires.ensures.events (Offered (StopOn i) e ∷ c') i k j (c.in_ok-holds.ensures.after config c' i e s known file event) known (file-kept i (Offered (StopOn i) e) c' c.args.job.now file) (c.in_ok-holds.ensures.events config c' i e k j s known file event other))

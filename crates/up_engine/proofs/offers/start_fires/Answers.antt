@@ -6,12 +6,18 @@ use Rattle.up_engine.proofs.offers.start_fires.Goals as goal
 pub returns-clause-after : goal.returns-clause-after
 returns-clause-after g c c' s named =
     let config = c.args.setup.now in
-    let events = taken c.args.job.now.start_on (seen config (StartOn c.args.job.now.name) c') in
-    c.in_ok-start_by.ensures.after (Fired (StartOn c.args.job.now.name) events ∷ c') events (c.in_ok-holders.ensures.after config c' s named) named (c.in_ok-holders.ensures.taken config c' s named)
+    let job = c.args.file.now in
+    let events = taken job.start_on (seen config (StartOn job.name) c') in
+    let after = rw c.job.ensures at (c.in_ok-holders.ensures.after config c' s (rw c.job.ensures named)) in
+    let takes = rw c.job.ensures at (c.in_ok-holders.ensures.taken config c' s (rw c.job.ensures named)) in
+    c.in_ok-start_by.ensures.after (Fired (StartOn job.name) events ∷ c') events after named takes
 
 pub returns-clause-events : goal.returns-clause-events
 returns-clause-events g c c' k j s named event =
     let config = c.args.setup.now in
-    let events = taken c.args.job.now.start_on (seen config (StartOn c.args.job.now.name) c') in
-    c.in_ok-start_by.ensures.events (Fired (StartOn c.args.job.now.name) events ∷ c') events k j (c.in_ok-holders.ensures.after config c' s named) named (c.in_ok-holders.ensures.taken config c' s named)
-    (c.in_ok-holders.ensures.events config c' k j s named event)
+    let job = c.args.file.now in
+    let events = taken job.start_on (seen config (StartOn job.name) c') in
+    let after = rw c.job.ensures at (c.in_ok-holders.ensures.after config c' s (rw c.job.ensures named)) in
+    let takes = rw c.job.ensures at (c.in_ok-holders.ensures.taken config c' s (rw c.job.ensures named)) in
+    let others = rw c.job.ensures at (c.in_ok-holders.ensures.events config c' k j s (rw c.job.ensures named) event) in
+    c.in_ok-start_by.ensures.events (Fired (StartOn job.name) events ∷ c') events k j after named takes others

@@ -4,7 +4,6 @@ use Rattle.up_engine.specs.Requests.{target_of as said_of}
 use Rattle.up_engine.proofs.Asked.{answered-due, emitted-due, status-told, told-entries}
 use Rattle.up_model.specs.Chronicle.{Chronicle, Given, Replied}
 use Rattle.up_model.specs.Commands.{entries_of, outcome_of, reload, status}
-use Rattle.up_model.specs.declared.input.Input.TheVariants as input
 use Rattle.up_model.specs.declared.request.Command.TheVariants as command
 use Rattle.up_model.specs.declared.request.Command.{Command}
 use Rattle.up_model.specs.Requests.{RequestValue}
@@ -20,33 +19,27 @@ waits_by same is = sym (ap (λ (r : RequestValue). r.wait) same) ∙ is
 
 pub returns-then-wait-clause-concerns : goal.returns-then-wait-clause-concerns
 returns-then-wait-clause-concerns g c c' id s none =
-    emitted-due c.args.setup.now id c.args.request c' (asks c.request.view_is c.in-Emit.is) (waits_by c.request.view_is c.if-wait.true) (g.met.B.Book.distinct c.args.book.now Stepping c.args.setup.now (Given (input.Request id c.args.request) ∷ c') s)
-    (g.met.B.Book.made c.args.book.now Stepping c.args.setup.now (Given (input.Request id c.args.request) ∷ c') s) none
+    emitted-due c.args.setup.now id c.args.request c' (asks c.request.view_is c.in-Emit.is) (waits_by c.request.view_is c.if-wait.true) none
 
 pub returns-in-Status-clause-concerns : goal.returns-in-Status-clause-concerns
 returns-in-Status-clause-concerns g c c' id s none =
-    answered-due command.Status c.args.setup.now id c.args.request c' (asks c.request.view_is c.in-Status.is) tt (g.met.B.Book.distinct c.args.book.now Stepping c.args.setup.now (Given (input.Request id c.args.request) ∷ c') s)
-    (g.met.B.Book.made c.args.book.now Stepping c.args.setup.now (Given (input.Request id c.args.request) ∷ c') s) none
+    answered-due command.Status c.args.setup.now id c.args.request c' (asks c.request.view_is c.in-Status.is) tt none
 
 pub returns-in-List-clause-concerns : goal.returns-in-List-clause-concerns
 returns-in-List-clause-concerns g c c' id s none =
-    answered-due command.List c.args.setup.now id c.args.request c' (asks c.request.view_is c.in-List.is) tt (g.met.B.Book.distinct c.args.book.now Stepping c.args.setup.now (Given (input.Request id c.args.request) ∷ c') s)
-    (g.met.B.Book.made c.args.book.now Stepping c.args.setup.now (Given (input.Request id c.args.request) ∷ c') s) none
+    answered-due command.List c.args.setup.now id c.args.request c' (asks c.request.view_is c.in-List.is) tt none
 
 pub returns-in-Version-clause-concerns : goal.returns-in-Version-clause-concerns
 returns-in-Version-clause-concerns g c c' id s none =
-    answered-due command.Version c.args.setup.now id c.args.request c' (asks c.request.view_is c.in-Version.is) tt (g.met.B.Book.distinct c.args.book.now Stepping c.args.setup.now (Given (input.Request id c.args.request) ∷ c') s)
-    (g.met.B.Book.made c.args.book.now Stepping c.args.setup.now (Given (input.Request id c.args.request) ∷ c') s) none
+    answered-due command.Version c.args.setup.now id c.args.request c' (asks c.request.view_is c.in-Version.is) tt none
 
 pub returns-in-Reload-clause-concerns : goal.returns-in-Reload-clause-concerns
 returns-in-Reload-clause-concerns g c c' id s none =
-    answered-due command.Reload c.args.setup.now id c.args.request c' (asks c.request.view_is c.in-Reload.is) tt (g.met.B.Book.distinct c.args.book.now Stepping c.args.setup.now (Given (input.Request id c.args.request) ∷ c') s)
-    (g.met.B.Book.made c.args.book.now Stepping c.args.setup.now (Given (input.Request id c.args.request) ∷ c') s) none
+    answered-due command.Reload c.args.setup.now id c.args.request c' (asks c.request.view_is c.in-Reload.is) tt none
 
 pub returns-clause-concerns : goal.returns-clause-concerns
 returns-clause-concerns g c c' id s none =
-    answered-due command.ReloadConfiguration c.args.setup.now id c.args.request c' (asks c.request.view_is c.in-ReloadConfiguration.is) tt (g.met.B.Book.distinct c.args.book.now Stepping c.args.setup.now (Given (input.Request id c.args.request) ∷ c') s)
-    (g.met.B.Book.made c.args.book.now Stepping c.args.setup.now (Given (input.Request id c.args.request) ∷ c') s) none
+    answered-due command.ReloadConfiguration c.args.setup.now id c.args.request c' (asks c.request.view_is c.in-ReloadConfiguration.is) tt none
 
 pub returns-in-Reload-clause-after : goal.returns-in-Reload-clause-after
 returns-in-Reload-clause-after g c c' given s asked =

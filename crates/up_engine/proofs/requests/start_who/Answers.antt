@@ -12,16 +12,16 @@ pub returns-in_ok-refuse-in-Some : goal.returns-in_ok-refuse-in-Some
 returns-in_ok-refuse-in-Some g c config c' input places s named in_table held =
     let d : Chronicle = Given input ∷ c' in
     let told = with_instance c.args.who.now c.args.environment in
-    let means = rw c.in-Some.is at (c.in_ok-text.ensures Stepping config d places c.args.job.now told s named) in
+    let means = rw c.in-Some.is at (c.in_ok-text.ensures Stepping config d places c.args.file.now told s named) in
     subst (λ outcome. g.B.Book.stands c.refuse.new.book Stepping config (entries_of (length c') outcome ++ d)) (sym means) (c.in_ok-refuse-in-Some.ensures config c' input s)
 
 pub returns-in_ok-start_called-in-None : goal.returns-in_ok-start_called-in-None
 returns-in_ok-start_called-in-None g c config c' input places s named in_table held =
     let d : Chronicle = Given input ∷ c' in
     let told = with_instance c.args.who.now c.args.environment in
-    let means = rw c.in-None.is at (c.in_ok-text.ensures Stepping config d places c.args.job.now told s named) in
-    let same : c.args.job.now.name ≡ c.args.who.now.job = some_same (sym (job_name config c.args.index c.args.job.now in_table) ∙ named) in
+    let means = rw c.in-None.is at (c.in_ok-text.ensures Stepping config d places c.args.file.now told s named) in
+    let same : c.args.file.now.name ≡ c.args.who.now.job = some_same (sym (job_name config c.args.index c.args.file.now in_table) ∙ named) in
     let done = rw c.as_str.ensures at (c.in_ok-start_called-in-None.ensures.after config d places s in_table held) in
     let told_who = subst (λ job. g.B.Book.stands c.start_called.new.book Stepping config
-    (start_who c.args.job.now c.args.environment places (Some (record { job = job; instance = c.args.who.now.instance })) d ++ d)) same done in
+    (start_who c.args.file.now c.args.environment places (Some (record { job = job; instance = c.args.who.now.instance })) d ++ d)) same done in
     subst (λ outcome. g.B.Book.stands c.start_called.new.book Stepping config (entries_of (length c') outcome ++ d)) (sym means) told_who

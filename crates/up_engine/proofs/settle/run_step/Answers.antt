@@ -2,7 +2,7 @@ use Rattle.std.proofs.Common.{◌≡◌, ◌++◌, ◌∙◌, refl, sym, ap, sub
 use Rattle.up_engine.specs.Settling.{settle_one, settle_all}
 use Rattle.up_model.specs.Due.{effect}
 use Rattle.up_model.specs.Replies.{answering_last}
-use Rattle.up_book.specs.Keys.{Resting, Stepping}
+use Rattle.up_book.specs.Keys.{Stepping}
 use Rattle.up_engine.proofs.Hearing.{after-taken, after-other}
 use Rattle.up_engine.proofs.Quiet.{after-quiet}
 use Rattle.up_engine.proofs.settle.run_step.Goals as goal
@@ -18,24 +18,24 @@ returns-in_ok-settle_alone-in-Instance-clause-after g c c' s rest =
     let config = c.args.setup.now in
     let d = effect config c.args.input c' ++ c' in
     let alone = (rw c.in-Instance.is at (c.in_ok-act.ensures.concerns c' s)) rest.rested in
-    let settled = settle_one 5 alone.job alone.its d in
+    let settled = settle_one 5 alone.its.file alone.its d in
     let same : answering_last (settle_all config.jobs d) ++ settle_all config.jobs d ≡ answering_last settled ++ settled = ap (λ f. answering_last f ++ f) alone.settles in
-    subst (g.B.Book.stands c.settle_alone.new.book Stepping config) (sym same ∙ after-other config c.args.input c' c.names_differ.ensures (g.met.B.Book.made c.args.book.now Resting config c' s) alone.unasked)
-    (c.in_ok-settle_alone-in-Instance.ensures d alone.job alone.its (c.in_ok-act.ensures.after c' s) alone.in_table alone.there)
+    subst (g.B.Book.stands c.settle_alone.new.book Stepping config) (sym same ∙ after-other config c.args.input c' c.names_differ.ensures alone.unasked)
+    (c.in_ok-settle_alone-in-Instance.ensures d alone.its (c.in_ok-act.ensures.after c' s) alone.there)
 
 pub returns-in_ok-hear_all-in-Event-clause-after : goal.returns-in_ok-hear_all-in-Event-clause-after
 returns-in_ok-hear_all-in-Event-clause-after g c c' s rest =
     let config = c.args.setup.now in
     let takes = rw c.in-Event.is at (c.in_ok-act.ensures.concerns c' s) in
     let stood = subst (g.B.Book.stands c.act.new.book Stepping config) takes.1 (c.in_ok-act.ensures.after c' s) in
-    subst (g.B.Book.stands c.hear_all.new.book Stepping config) (after-taken config c.args.input c' takes.0 c.names_differ.ensures (g.met.B.Book.made c.args.book.now Resting config c' s) rest.rested takes.1)
+    subst (g.B.Book.stands c.hear_all.new.book Stepping config) (after-taken config c.args.input c' takes.0 c.names_differ.ensures rest.rested takes.1)
     (c.in_ok-hear_all-in-Event.ensures.after c' takes.0 rest.rested rest.untrue stood takes.2)
 
 pub returns-in_ok-settle-in-Anybody-clause-after : goal.returns-in_ok-settle-in-Anybody-clause-after
 returns-in_ok-settle-in-Anybody-clause-after g c c' s rest =
     let config = c.args.setup.now in
     let takes = rw c.in-Anybody.is at (c.in_ok-act.ensures.concerns c' s) in
-    subst (g.B.Book.stands c.settle.new.book Stepping config) (after-other config c.args.input c' c.names_differ.ensures (g.met.B.Book.made c.args.book.now Resting config c' s) takes) (c.in_ok-settle-in-Anybody.ensures _ (c.in_ok-act.ensures.after c' s))
+    subst (g.B.Book.stands c.settle.new.book Stepping config) (after-other config c.args.input c' c.names_differ.ensures takes) (c.in_ok-settle-in-Anybody.ensures _ (c.in_ok-act.ensures.after c' s))
 
 pub returns-in-Nobody-clause-free : goal.returns-in-Nobody-clause-free
 returns-in-Nobody-clause-free g c c' s free = (refl, c.in_ok-act.ensures.after c' s)

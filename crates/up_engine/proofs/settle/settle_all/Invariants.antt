@@ -7,5 +7,5 @@ use Rattle.up_engine.proofs.settle.settle_all.Given as goal
 -- the jobs from here on are still to settle
 abbrev pub invariant-loop-index : goal.invariant-loop-index
 invariant-loop-index g l =
-    (c : Chronicle) → l.jobs ≡ l.setup.jobs → g.B.Book.stands l.fn.book Stepping l.setup c
-    → (d : Chronicle) × (g.B.Book.stands l.book Stepping l.setup d) × (settle_all l.jobs c ≡ settle_all (drop l.index l.jobs) d)
+    (c : Chronicle) → g.B.Book.stands l.fn.book Stepping l.setup c
+    → (d : Chronicle) × (g.B.Book.stands l.book Stepping l.setup d) × (settle_all l.setup.jobs c ≡ settle_all (drop l.index l.setup.jobs) d)

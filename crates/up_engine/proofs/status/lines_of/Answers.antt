@@ -14,7 +14,7 @@ loop-index-preserved g c mode config c' s are =
     let named = named_there config c.args.jobs.now n job are c.loop-index-test.true c.index-jobs-index.is in
     let its = instances_of job.name c' in
     let rest = list_lines (job_names (drop (n + 1) c.args.jobs.now)) c' in
-    ap (λ lines. lines ++ rest) (c.in_ok-add_job.ensures mode config c' s named)
+    ap (λ lines. lines ++ rest) (rw c.job.ensures at (c.in_ok-add_job.ensures mode config c' s (rw c.job.ensures named)))
     ∙ append_assoc c.loop-index.lines.items (job_lines job.name its c') rest
     ∙ ap (λ left. c.loop-index.lines.items ++ left) (sym (list_left c.args.jobs.now n job c' c.loop-index-test.true c.index-jobs-index.is))
     ∙ c.loop-index.invariant mode config c' s are

@@ -1,7 +1,7 @@
 use Rattle.std.proofs.Common.{◌≡◌, ◌∙◌, ◌+◌, ◌++◌, ◌<◌, [], Some, map, drop, length, sym, ap, arith, refl, add-one, append_assoc, append-nil}
 use Rattle.std.proofs.lemmas.List.{drop_all}
 use Rattle.up_engine.proofs.ClockLemmas.{none_of_job}
-use Rattle.up_engine.proofs.KeyLemmas.{job-at}
+use Rattle.up_engine.proofs.KeyLemmas.{job-at, job_name}
 use Rattle.up_model.specs.Clock.{overdue, all_overdue}
 use Rattle.up_model.specs.Files.{job_names}
 use Rattle.up_model.specs.Instances.{instances_of}
@@ -19,7 +19,7 @@ loop-index-preserved g c mode config c' s are =
     let job = at.0 in
     let old = c.loop-index.invariant mode config c' s are in
     let its = instances_of job.name c' in
-    let now = c.in_ok-add_overdue.ensures.after mode config c' job old.0 s at.1.0 old.1 in
+    let now = c.in_ok-add_overdue.ensures.after mode config c' job.name old.0 s (job_name config n job at.1.0) old.1 in
     let left : all_overdue (job_names (drop n jobs)) c' ≡ overdue its c' ++ all_overdue (job_names (drop (n + 1) jobs)) c' =
     rw add-one (ap (λ js. all_overdue (job_names js) c') at.1.1) in (
       old.0 ++ overdue its c',
@@ -41,6 +41,6 @@ returns-in_err-add_overdue-clause-free g c mode config c' s are none =
     let n = c.loop-index.index in
     let inside : n < length jobs = omega (arith, c.loop-index-test.true) in
     let at = job-at config jobs n are inside in
-    let never = c.in_err-add_overdue.ensures.free mode config c' at.0 s at.1.0
+    let never = c.in_err-add_overdue.ensures.free mode config c' at.0.name s (job_name config n at.0 at.1.0)
     (none_of_job config jobs n at.0 _ c' at.1.1 (ap (λ js. all_overdue (job_names js) c') are ∙ none)) in
     absurd cc

@@ -9,7 +9,7 @@ pub returns-then-job-len-clause-added : goal.returns-then-job-len-clause-added
 returns-then-job-len-clause-added c =
     let within : c.args.job < length c.args.jobs.now.items = omega (arith, c.args.jobs.now.ok.0, c.if-job-len.true, c.len.ensures) in
     on_ok c.add_in.result
-    (λ so. rw so (set_with_at (with_made (new_instance c.args.name.now c.args.limits c.args.stop_on)) c.args.job c.args.jobs.now.items _ within c.index_mut.ensures.value))
+    (λ so. rw so (set_with_at (with_made (new_instance c.args.name.now c.args.file c.args.stop_on)) c.args.job c.args.jobs.now.items _ within c.index_mut.ensures.value))
     c.add_in.ensures.added
 
 pub returns-else-job-len-clause-refused : goal.returns-else-job-len-clause-refused

@@ -16,11 +16,11 @@ pub returns-clause-order : goal.returns-clause-order
 returns-clause-order c =
     let at : c.position-at.result ≡ by_name.position job_of c.args.job.now c.args.jobs.now.items = search rules in
     let its : c.in_ok-its.its.name ≡ c.args.job.now = search rules in
-    subst (by_name.AreInOrder job_of) (sym c.in_ok-insert.ensures.items) (added_order c.args.job.now (with_instance (new_instance c.args.instance.now c.args.limits c.args.stop_on)) c.args.jobs.now.items c.position-at.result at c.requires.order c.in_ok-its.its c.requires.absent its)
+    subst (by_name.AreInOrder job_of) (sym c.in_ok-insert.ensures.items) (added_order c.args.job.now (with_instance (new_instance c.args.instance.now c.args.file c.args.stop_on)) c.args.jobs.now.items c.position-at.result at c.requires.order c.in_ok-its.its c.requires.absent its)
 
 pub returns-clause-added : goal.returns-clause-added
 returns-clause-added c =
     let at : c.position-at.result ≡ by_name.position job_of c.args.job.now c.args.jobs.now.items = search rules in
     let its : c.in_ok-its.its.name ≡ c.args.job.now = search rules in
-    let instances : c.in_ok-its.its.instances ≡ with_instance (new_instance c.args.instance.now c.args.limits c.args.stop_on) [] = search rules in
-    subst (λ gs. Changes c.args.job.now (with_instance (new_instance c.args.instance.now c.args.limits c.args.stop_on)) c.args.jobs.now.items gs) (sym c.in_ok-insert.ensures.items) (added_job c.args.job.now (with_instance (new_instance c.args.instance.now c.args.limits c.args.stop_on)) c.args.jobs.now.items c.position-at.result at c.requires.order c.in_ok-its.its c.requires.absent its instances)
+    let instances : c.in_ok-its.its.instances ≡ with_instance (new_instance c.args.instance.now c.args.file c.args.stop_on) [] = search rules in
+    subst (λ gs. Changes c.args.job.now (with_instance (new_instance c.args.instance.now c.args.file c.args.stop_on)) c.args.jobs.now.items gs) (sym c.in_ok-insert.ensures.items) (added_job c.args.job.now (with_instance (new_instance c.args.instance.now c.args.file c.args.stop_on)) c.args.jobs.now.items c.position-at.result at c.requires.order c.in_ok-its.its c.requires.absent its instances)

@@ -23,13 +23,13 @@ pub returns-clause-order : goal.returns-clause-order
 returns-clause-order c =
     let at : c.position-at.result ≡ by_name.position job_of c.args.job.now c.args.jobs.now.items = search rules in
     let there = c.requires.there in
-    changed_order c.args.job.now (with_instance (new_instance c.args.instance.now c.args.limits c.args.stop_on)) c.args.jobs.now.items c.position-at.result at c.requires.order c.index_mut.result.now c.add.new.self there c.index_mut.ensures.value
+    changed_order c.args.job.now (with_instance (new_instance c.args.instance.now c.args.file c.args.stop_on)) c.args.jobs.now.items c.position-at.result at c.requires.order c.index_mut.result.now c.add.new.self there c.index_mut.ensures.value
 
 pub returns-clause-added : goal.returns-clause-added
 returns-clause-added c =
     let at : c.position-at.result ≡ by_name.position job_of c.args.job.now c.args.jobs.now.items = search rules in
     let there = c.requires.there in
-    on_ok c.add.result (λ so. changed_job c.args.job.now (with_instance (new_instance c.args.instance.now c.args.limits c.args.stop_on)) c.args.jobs.now.items c.position-at.result at c.requires.order c.index_mut.result.now c.add.new.self there c.index_mut.ensures.value so) c.add.ensures.added
+    on_ok c.add.result (λ so. changed_job c.args.job.now (with_instance (new_instance c.args.instance.now c.args.file c.args.stop_on)) c.args.jobs.now.items c.position-at.result at c.requires.order c.index_mut.result.now c.add.new.self there c.index_mut.ensures.value so) c.add.ensures.added
 
 pub returns-clause-fits : goal.returns-clause-fits
 returns-clause-fits c =

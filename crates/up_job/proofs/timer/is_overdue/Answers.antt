@@ -3,5 +3,5 @@ use Rattle.up_job.proofs.TimerLemmas.{overdue_model}
 use Rattle.up_job.proofs.timer.is_overdue.Goals as goal
 
 pub returns-clause-model : goal.returns-clause-model
-returns-clause-model c job i c' today kept =
-    c.overdue.ensures ∙ overdue_model job i c' c.args.now c.args.instance.now today kept
+returns-clause-model c i c' today kept =
+    c.overdue.ensures ∙ overdue_model i c' c.args.now c.args.instance.now today kept

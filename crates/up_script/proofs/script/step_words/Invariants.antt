@@ -1,6 +1,6 @@
 use Rattle.std.proofs.Common.{◌≡◌, ◌++◌, length, option_map}
 use Rattle.up_text.specs.Lexemes.{lexemes_of}
-use Rattle.up_script.specs.ScriptSteps.{after_step, texts_in, ReachesNoFurther}
+use Rattle.up_script.specs.Statements.{after_step, texts_in, ReachesNoFurther}
 use Rattle.up_script.proofs.script.step_words.Given as goal
 
 -- the words so far stand before those that are left

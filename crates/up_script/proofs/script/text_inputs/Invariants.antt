@@ -1,6 +1,6 @@
 use Rattle.std.proofs.Common.{◌≡◌, ◌+◌, ◌≤◌, length}
 use Rattle.up_text.specs.Lexemes.{lexemes_of, split_ends, stanzas}
-use Rattle.up_script.specs.ScriptSteps.{inputs_from, with_inputs}
+use Rattle.up_script.specs.Statements.{inputs_from, with_inputs}
 use Rattle.up_script.proofs.script.text_inputs.Given as goal
 
 -- what is left, after the inputs so far, gives the whole

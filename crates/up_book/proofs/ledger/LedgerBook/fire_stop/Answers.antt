@@ -1,7 +1,6 @@
 use Rattle.std.proofs.Common.{refl}
 use Rattle.up_model.specs.Chronicle.{Fired, StopOn}
 use Rattle.up_model.specs.Seen.{seen, taken}
-use Rattle.up_book.proofs.Keyed.{job-there}
 use Rattle.up_book.proofs.Ledgers.{keyed, silent, calm}
 use Rattle.std.proofs.Common.{◌∙◌}
 use Rattle.up_model.specs.Queue.{queue}
@@ -12,13 +11,13 @@ returns-clause-after c config c' i s found there =
     let old = c.args.self.now in
     let ts = taken c.args.job.now.stop_on (seen config (StopOn i) c') in
     let x = Fired (StopOn i) ts in
-    silent old _ config c' x s (c.in_ok-taken.ensures.after config c' i ts s.past (keyed old.past config c' c.args.key i s.past found) (job-there config c.args.key.job c.args.job.now there)) tt tt (calm config c' x (λ job. refl) (λ j. refl) (λ j. refl))
+    silent old _ config c' x s (c.in_ok-taken.ensures.after config c' i ts s.past (keyed old.past config c' c.args.key i s.past found) there) tt tt (calm config c' x (λ job. refl) (λ j. refl) (λ j. refl))
 
 pub returns-clause-taken : goal.returns-clause-taken
 returns-clause-taken c config c' i s found there =
     let old = c.args.self.now in
     let ts = taken c.args.job.now.stop_on (seen config (StopOn i) c') in
-    c.in_ok-taken.ensures.taken config c' i ts s.past (keyed old.past config c' c.args.key i s.past found) (job-there config c.args.key.job c.args.job.now there)
+    c.in_ok-taken.ensures.taken config c' i ts s.past (keyed old.past config c' c.args.key i s.past found) there
 
 pub returns-clause-events : goal.returns-clause-events
 returns-clause-events c config c' i k j s found there other = c.in_ok-taken.ensures.places (queue c') k ∙ other

@@ -17,16 +17,16 @@ use Rattle.up_book.proofs.ledger.LedgerBook.make.Goals as goal
 pub returns-clause-after : goal.returns-clause-after
 returns-clause-after c config c' s there none =
     let old = c.args.self.now in
-    let job = job-there config c.args.index c.args.job.now there in
+    let job = job-there config c.args.index c.args.file.now there in
     stood _ _ config _ (c.in_ok-key.ensures.after config c' s.past job none) s.index
-    (subst (λ (st : Step). IsStep st config (Made c.args.job.now c.args.name.now ∷ c')) (sym c.in_ok-make.ensures)
+    (subst (λ (st : Step). IsStep st config (Made c.args.file.now c.args.name.now ∷ c')) (sym c.in_ok-make.ensures)
     (asks-same _ _ _ _ (moved_on (after_made c.args.index (position_at c.args.name.now c.args.index old.past.instances)) old.step.on) _ config _ refl refl (ap (λ (key : InstanceKey). moved_on (after_made key.job key.at) old.step.on) c.in_ok-key.ensures.key)
-    (step-made old.step.outputs.items old.step.asked old.step.on old.past config c' c.args.index c.args.job.now c.args.name.now s.past job s.step)))
+    (step-made old.step.outputs.items old.step.asked old.step.on old.past config c' c.args.index c.args.file.now c.args.name.now s.past job s.step)))
 
 pub returns-clause-made : goal.returns-clause-made
 returns-clause-made c config c' s there none =
-    let job = job-there config c.args.index c.args.job.now there in
-    let d = Made c.args.job.now c.args.name.now ∷ c' in
+    let job = job-there config c.args.index c.args.file.now there in
+    let d = Made c.args.file.now c.args.name.now ∷ c' in
     let f = c.in_ok-key.ensures.after config c' s.past job none in
     sym (place-keyed _ _ config d c.in_ok-key.key f.lives.jobs) ∙ c.in_ok-key.ensures.made config c' s.past job
 

@@ -26,7 +26,7 @@ returns-in-Ok-clause-meaning c config c' s =
     let rest : IsAtRest c.args.self.now.setup c' = rw (sym s.setup) at s.rest in (
       sym (c.expects.ensures config c' s) ∙ c.if-not-expects.false,
       rw (sym s.setup) (c.in-Ok.ensures.outputs c' past rest),
-      record { up = refl; setup = s.setup; past = rw (sym s.setup) (c.in-Ok.ensures.after c' past rest); rest = rest-after config c.args.given c' s.past.past.lives.distinct s.past.past.regular.made s.rest },
+      record { up = refl; setup = s.setup; past = rw (sym s.setup) (c.in-Ok.ensures.after c' past rest); rest = rest-after config c.args.given c' s.past.past.lives.distinct s.rest },
     )
 
 pub returns-in-Ok-clause-left : goal.returns-in-Ok-clause-left

@@ -9,4 +9,4 @@ returns c job there =
     let distinct = rw (← c.self.view_is) at c.names_differ.ensures in
     rw (← c.self.view_is)
     (c.environment_at.ensures ∙ ap (λ xs. unwrap_or (slice_get xs c.args.index) its.base) c.as_slice.ensures.value
-    ∙ environment_by_index its.base its.environments.items its.table c.args.index job c.self.invariant distinct here)
+    ∙ environment_by_index its.base its.environments.items its.files.items c.args.index job c.self.invariant.0 distinct here)

@@ -13,7 +13,7 @@ invariant_of-self-2 c =
     let xs = c.self.inside.instances.items in
     let absent : named c.args.name.now xs ≡ None = search rules in
     let less : length xs < max_instances = search (rules, arith) in
-    let new = new_instance c.args.name.now c.args.limits c.args.stop_on in (
+    let new = new_instance c.args.name.now c.args.file c.args.stop_on in (
       subst IsInstanceList (search rules) (list_with new xs c.self.invariant.0 absent less),
       λ calm. ap any_waits (c.in_ok-at.ensures.added ∙ ap (λ i. with_instance i xs) c.in_ok-instance.ensures) ∙ calm-with new xs refl (c.self.invariant.1 calm),
     )

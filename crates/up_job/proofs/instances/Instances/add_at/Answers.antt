@@ -9,7 +9,7 @@ pub invariant_of-self : goal.invariant_of-self
 invariant_of-self c =
     let old = c.self.inside.jobs.items in
     let alarm = c.self.inside.alarm in
-    let new = new_instance c.args.name.now c.args.limits c.args.stop_on in (
+    let new = new_instance c.args.name.now c.args.file c.args.stop_on in (
       order-if_ok c.add_at.result c.args.job (with_made new) (λ x. refl) old c.add_at.new.jobs.items c.add_at.ensures.added c.add_at.ensures.unchanged c.self.invariant.0,
       all-if_ok c.add_at.result alarm c.args.job (with_made new) (from-made alarm new tt) old c.add_at.new.jobs.items c.add_at.ensures.added c.add_at.ensures.unchanged c.self.invariant.1,
     )

@@ -1,4 +1,4 @@
--- The steps of a script.
+-- The statements of a script, each of which gives inputs.
 use Rattle.std.specs.Prelude.{◌≡◌, ℕ, ◌+◌, ◌-◌, ◌≤◌, Bool, true, false, ◌==◌, ◌&&◌, not, List, [], ◌∷◌, ◌++◌, length, take, drop, Option, None, Some, option_map, option_and_then, Result, Ok, Err}
 use Rattle.std.specs.List.{list_any, prefix_len, concat}
 use Rattle.std.specs.Str.{is_utf8}

@@ -23,7 +23,7 @@ const MOST_WAITING: usize = 65_536;
 
 /// What is told of a run.
 #[derive(Clone, Copy, PartialEq, Eq)]
-pub struct Telling<'a> {
+pub struct ReportOptions<'a> {
     /// Whether standard output gets the lines that a replay prints.
     pub verbose: bool,
     /// Whether nothing is said of jobs that fail.
@@ -38,7 +38,7 @@ pub struct Telling<'a> {
 
 /// Tells of a run's rounds.
 #[derive(Drop)]
-pub(crate) struct Teller<W> {
+pub(crate) struct Reporter<W> {
     // standard output, if it gets the lines of what rounds gave
     verbose: Option<Outlet>,
     // the file that gets them, until it can't be written
@@ -82,7 +82,7 @@ fn say_lost<R: Eprint>(rt: &R, lost: u64) {
     }
 }
 
-impl<W: Write + OpenFile + Drop> Teller<W> {
+impl<W: Write + OpenFile + Drop> Reporter<W> {
     /// Tells of a run. The record, if one is kept, begins with these lines.
     pub(crate) fn new(
         verbose: Option<Outlet>,
@@ -90,7 +90,7 @@ impl<W: Write + OpenFile + Drop> Teller<W> {
         log: Option<W>,
         head: Vec<u8>,
     ) -> Self {
-        Teller {
+        Reporter {
             verbose,
             told,
             log,

@@ -1,0 +1,100 @@
+//! Differences, and the line that is printed of each.
+ghost use Rattle.std.specs.Prelude.{◌≡◌, ◌++◌, codes, OnOk};
+ghost use Rattle.std.specs.List.{flat_map};
+ghost use Rattle.up_conf.specs.Order.{in_order};
+ghost use Rattle.up_compare.specs.Compare.{change_text, line_of, listed};
+ghost use Rattle.up_compare.specs.Parts.{name_of};
+
+use crate::part::{Part, name_of};
+use crate::push::push;
+use std::alloc::AllocError;
+use up_text::{Items, Text};
+
+/// What happens to a job.
+#[derive(Drop)]
+pub enum Change {
+    Added,
+    Removed,
+    /// It differs by these parts.
+    Changed(Items<Part>),
+}
+
+/// What happens to the job of a name.
+#[derive(Drop)]
+pub struct Difference {
+    pub name: Text,
+    pub change: Change,
+}
+
+/// Sorts differences in byte order of names.
+pub(crate) fn sort(differences: &mut Vec<Difference>) -> Result<(), AllocError>
+    ensures { OnOk result (differences.new.items
+        ≡ in_order (λ difference. difference.name) differences.old.items) }
+{
+    differences.sort_by(|difference, other| difference.name.as_str().cmp(other.name.as_str()))
+}
+
+// Appends a name after another one.
+fn push_next(text: &mut Vec<u8>, part: Part) -> Result<(), AllocError>
+    ensures { OnOk result (text.new.items ≡ text.old.items ++ (codes ", " ++ name_of part)) }
+{
+    push(text, ", ")?;
+    push(text, name_of(part))
+}
+
+fn push_rest(text: &mut Vec<u8>, parts: &[Part]) -> Result<(), AllocError>
+    ensures { OnOk result (text.new.items
+        ≡ text.old.items ++ flat_map (λ part. codes ", " ++ name_of part) parts.now) }
+{
+    for part in parts {
+        push_next(text, *part)?;
+    }
+    Ok(())
+}
+
+// Appends the names of parts.
+fn push_listed(text: &mut Vec<u8>, parts: &[Part]) -> Result<(), AllocError>
+    ensures { OnOk result (text.new.items ≡ text.old.items ++ listed parts.now) }
+{
+    match parts {
+        [] => Ok(()),
+        [part, rest @ ..] => {
+            push(text, name_of(*part))?;
+            push_rest(text, rest)
+        }
+    }
+}
+
+fn push_change(text: &mut Vec<u8>, change: &Change) -> Result<(), AllocError>
+    ensures { OnOk result (text.new.items ≡ text.old.items ++ change_text change.now) }
+{
+    match change {
+        Change::Added => push(text, "added"),
+        Change::Removed => push(text, "removed"),
+        Change::Changed(parts) => {
+            push(text, "changed: ")?;
+            push_listed(text, parts.as_slice())
+        }
+    }
+}
+
+// Appends the line of a difference.
+#[tactic(auto, unfolding(crate::specs::Compare::line_of))]
+fn push_line(text: &mut Vec<u8>, difference: &Difference) -> Result<(), AllocError>
+    ensures { OnOk result (text.new.items ≡ text.old.items ++ line_of difference.now) }
+{
+    push(text, difference.name.as_str())?;
+    push(text, ": ")?;
+    push_change(text, &difference.change)?;
+    push(text, "\n")
+}
+
+/// Appends the lines of differences.
+pub(crate) fn push_lines(text: &mut Vec<u8>, differences: &[Difference]) -> Result<(), AllocError>
+    ensures { OnOk result (text.new.items ≡ text.old.items ++ flat_map line_of differences.now) }
+{
+    for difference in differences {
+        push_line(text, difference)?;
+    }
+    Ok(())
+}
