@@ -7,7 +7,7 @@ use Rattle.up_image.specs.declared.index.Place.{Place}
 use Rattle.up_job.specs.Lists.{nth}
 use Rattle.up_marks.specs.Naming.{of_expression, naming_in, side_of}
 use Rattle.up_book.specs.Ledgers.{HasIndex}
-use Rattle.up_image.specs.Giving.{are_ascending, can_all_be_given, IsTable}
+use Rattle.up_image.specs.Definable.{are_ascending, are_definable, IsTable}
 use Rattle.up_job.specs.JobLists.{job_of, new_job}
 use Rattle.up_job.specs.Named.{AreInOrder, IsBelowAll}
 use Rattle.up_job.proofs.JobLemmas.{order-ascending}
@@ -30,7 +30,7 @@ both-first false b h = absurd cc
 
 -- the names rise
 pub names-rise : (jobs : List JobDef) → IsTable jobs → are_ascending (map (λ job. job.name) jobs) ≡ true
-unfolding can_all_be_given
+unfolding are_definable
 names-rise jobs table = both-first (are_ascending (map (λ (job : JobDef). job.name) jobs)) _ table.given
 
 below-apart : (name : Bytes) (jobs : List JobDef) → IsBelowAll job_of name (map new_job jobs) → AllByRecursion (λ other. bytes_eq other.name name ≡ false) jobs

@@ -187,7 +187,7 @@ pub trait Book: Drop {
             ≡ option_map Some (turn_event config (queue.queue c) c) };
 
     /// A step begins with an input; one of a process speaks of this instance, if it exists. Takes no memory.
-    fn given(&mut self, input: &Input, on: Option<InstanceKey>)
+    fn begin_step(&mut self, input: &Input, on: Option<InstanceKey>)
         ensures after { (config : Configuration) (c : Chronicle)
             → stands self.old Resting config c → SpeaksOf config on input.now c
             → stands self.new Stepping config (entry.Given input.now ∷ c) }
@@ -516,7 +516,7 @@ pub trait Book: Drop {
             → replied ≡ is_filled (replies.answering_last c)) };
 
     /// The step is over; returns what it asks for, in order. Takes no memory.
-    fn rest(&mut self) -> Vec<Output>
+    fn end_step(&mut self) -> Vec<Output>
         ensures after { (config : Configuration) (c : Chronicle) → stands self.old Stepping config c
             → stands self.new Resting config c }
         ensures outputs { (config : Configuration) (c : Chronicle) → stands self.old Stepping config c

@@ -19,7 +19,7 @@ use crate::holders::{Holders, holders_by};
 use crate::orders::{order_of, signal_of};
 use crate::past::Past;
 use crate::replies::{no_text, reply, reply_asked, reply_finished, reply_held};
-use crate::step::{ActedOn, Step, put, tell};
+use crate::step::{ActedOn, Step, put, push_emitted};
 use std::alloc::{AllocError, Global};
 use up_conf::JobDef;
 use up_event::TurnKind;
@@ -134,8 +134,8 @@ impl Ledger {
     {
         match told {
             Some(event) => {
-                tell(&mut self.step.outputs, &event)?;
-                self.past.tell(event)?;
+                push_emitted(&mut self.step.outputs, &event)?;
+                self.past.queue_failure_event(event)?;
             }
             None => {}
         }
@@ -240,8 +240,8 @@ impl Book for Ledger {
         self.past.turn()
     }
 
-    fn given(&mut self, input: &Input, on: Option<InstanceKey>) {
-        self.past.given(input, on);
+    fn begin_step(&mut self, input: &Input, on: Option<InstanceKey>) {
+        self.past.begin_step(input, on);
         self.step = Step::new(self.alloc, input);
     }
 
@@ -279,7 +279,7 @@ impl Book for Ledger {
 
     fn leave(&mut self, key: InstanceKey, event: Event) -> Result<(), AllocError> {
         let told = self.past.last_status_of(self.alloc, key)?;
-        tell(&mut self.step.outputs, &event)?;
+        push_emitted(&mut self.step.outputs, &event)?;
         reply_held(
             &mut self.step.outputs,
             self.alloc,
@@ -305,7 +305,7 @@ impl Book for Ledger {
     }
 
     fn announce(&mut self, key: InstanceKey, state: State, event: Event) -> Result<(), AllocError> {
-        tell(&mut self.step.outputs, &event)?;
+        push_emitted(&mut self.step.outputs, &event)?;
         self.past.announce(key, state, event)?;
         Ok(())
     }
@@ -448,7 +448,7 @@ impl Book for Ledger {
         }
     }
 
-    fn rest(&mut self) -> Vec<Output> {
+    fn end_step(&mut self) -> Vec<Output> {
         std::mem::replace(&mut self.step.outputs, Vec::new(self.alloc))
     }
 

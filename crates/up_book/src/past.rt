@@ -214,7 +214,7 @@ impl Past {
     }
 
     /// An event that tells that another was spoilt goes to the end of the queue.
-    pub(crate) fn tell(&mut self, event: Event) -> Result<(), AllocError>
+    pub(crate) fn queue_failure_event(&mut self, event: Event) -> Result<(), AllocError>
         ensures { OnOk result ((config : Configuration) (c : Chronicle) (spoilt : ℕ)
             → Forgets self.old config c
             → Forgets self.new config (entry.Queued (entry.Spoilt spoilt) event ∷ c)) }
@@ -224,7 +224,7 @@ impl Past {
     }
 
     /// An input is given; one of a process speaks of this instance, if it exists. Takes no memory.
-    pub(crate) fn given(&mut self, input: &Input, on: Option<InstanceKey>)
+    pub(crate) fn begin_step(&mut self, input: &Input, on: Option<InstanceKey>)
         ensures after { (config : Configuration) (c : Chronicle) → Forgets self.old config c
             → SpeaksOf config on input.now c → Forgets self.new config (entry.Given input.now ∷ c) }
         ensures events { self.new.events ≡ self.old.events }

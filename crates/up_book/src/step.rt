@@ -117,7 +117,7 @@ pub(crate) fn put(outputs: &mut Vec<Output>, output: Option<Output>) -> Result<(
 }
 
 /// An event is told of.
-pub(crate) fn tell(outputs: &mut Vec<Output>, event: &Event) -> Result<(), AllocError>
+pub(crate) fn push_emitted(outputs: &mut Vec<Output>, event: &Event) -> Result<(), AllocError>
     ensures { OnOk result (outputs.new.items ≡ outputs.old.items ++ output.Emitted event.now ∷ []) }
 {
     let event = event.copy()?;

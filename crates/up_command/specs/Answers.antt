@@ -1,8 +1,9 @@
 -- The status of what a command line asks for.
 use Rattle.up_command.specs.declared.command.Invocation.{Invocation}
-use Rattle.up_command.specs.declared.command.Invocation.TheVariants.{Bundle, Check, Compile, Graph, Lint, Replay, Run, Show, View}
+use Rattle.up_command.specs.declared.command.Invocation.TheVariants.{Bundle, Check, Compare, Compile, Graph, Lint, Replay, Run, Show, View}
 use Rattle.up_disk.specs.Disk.{ChecksBy, CompilesDir, EndsWith, GraphsDir, PlaysSource, ShowsFile}
 use Rattle.up_model.specs.declared.exit_status.ExitStatus.{ExitStatus}
+use Rattle.up_tools.specs.Compares.{ComparesDir}
 use Rattle.up_tools.specs.Lints.{LintsDir}
 use Rattle.up_tools.specs.Views.{ViewsSource}
 
@@ -10,6 +11,7 @@ use Rattle.up_tools.specs.Views.{ViewsSource}
 abbrev pub Answers : Invocation → ExitStatus → Type 0
 Answers Bundle status = Unit {0}
 Answers (Check dir explain) status = EndsWith (ChecksBy explain dir.now) status
+Answers (Compare dir other) status = EndsWith (ComparesDir dir.now other.now) status
 Answers (Graph dir) status = EndsWith (GraphsDir dir.now) status
 Answers (Lint dir left_out outside) status = EndsWith (LintsDir dir.now left_out outside) status
 Answers (Compile dir image) status = EndsWith (CompilesDir dir.now image.now) status

@@ -17,6 +17,8 @@ enum ArgumentKind {
     LastPlace,
     // After its option.
     Text,
+    // After its option, which can't be given beside another.
+    InsteadOf(&'static str),
     // After its option, which may be given again and again.
     Texts,
     // The option alone.
@@ -84,6 +86,12 @@ static SUBCOMMANDS: [Subcommand; 9] = [
                 shown: "",
                 help: "Prints below each fault the line at fault, and what to do",
                 kind: ArgumentKind::Flag,
+            },
+            Argument {
+                id: "against",
+                shown: "DIR|IMAGE",
+                help: "Prints what a reload to the folder changes in a run over this folder or image, a line for each job",
+                kind: ArgumentKind::InsteadOf("explain"),
             },
         ],
     },
@@ -220,32 +228,57 @@ fn option<'a>(arg: Arg<'a>, argument: &Argument) -> Arg<'a> {
         .action(ArgAction::Set)
 }
 
-fn arg_of<'a>(alloc: Global, argument: &Argument) -> Arg<'a> {
+// An option with a value that can't be given beside another.
+fn option_instead<'a>(
+    arg: Arg<'a>,
+    argument: &Argument,
+    other: &'static str,
+) -> Result<Arg<'a>, AllocError> {
+    option(arg, argument).conflicts_with(other)
+}
+
+fn arg_of<'a>(alloc: Global, argument: &Argument) -> Result<Arg<'a>, AllocError> {
     let arg = Arg::new(alloc, argument.id).help(argument.help);
     match argument.kind {
-        ArgumentKind::Place => arg
+        ArgumentKind::Place => Ok(arg
             .value_name(argument.shown)
             .required(true)
-            .action(ArgAction::Set),
-        ArgumentKind::LastPlace => arg.value_name(argument.shown).action(ArgAction::Set),
-        ArgumentKind::Text => option(arg, argument),
-        ArgumentKind::Texts => option(arg, argument).action(ArgAction::Append),
-        ArgumentKind::Flag => arg.long(argument.id).action(ArgAction::SetTrue),
-        ArgumentKind::Count => option(arg, argument).value_parser(value_parser!(u32).range(1..)),
-        ArgumentKind::Pause => option(arg, argument).value_parser(value_parser!(u64).range(
-            0..=MAX_PAUSE,
+            .action(ArgAction::Set)),
+        ArgumentKind::LastPlace => Ok(arg.value_name(argument.shown).action(ArgAction::Set)),
+        ArgumentKind::Text => Ok(option(arg, argument)),
+        ArgumentKind::InsteadOf(other) => option_instead(arg, argument, other),
+        ArgumentKind::Texts => Ok(option(arg, argument).action(ArgAction::Append)),
+        ArgumentKind::Flag => Ok(arg.long(argument.id).action(ArgAction::SetTrue)),
+        ArgumentKind::Count => Ok(option(arg, argument).value_parser(
+            value_parser!(u32).range(1..),
         )),
-        ArgumentKind::Timeout => option(arg, argument).value_parser(value_parser!(u64).range(
-            0..=MAX_SILENCE,
+        ArgumentKind::Pause => Ok(option(arg, argument).value_parser(
+            value_parser!(u64).range(0..=MAX_PAUSE),
+        )),
+        ArgumentKind::Timeout => Ok(option(arg, argument).value_parser(
+            value_parser!(u64).range(0..=MAX_SILENCE),
         )),
     }
 }
 
-// Each argument is added to a command that moves on, so that none is owned at the `?`, where it would be dropped field by field.
+// A command with one argument more. Neither is owned at a `?`, where it would be dropped field by field.
+fn add_argument<'a>(
+    command: Command<'a>,
+    arg: Result<Arg<'a>, AllocError>,
+) -> Result<Command<'a>, AllocError> {
+    match arg {
+        Ok(arg) => command.arg(arg),
+        Err(refused) => {
+            drop(command);
+            Err(refused)
+        }
+    }
+}
+
 fn command_of<'a>(alloc: Global, subcommand: &Subcommand) -> Result<Command<'a>, AllocError> {
     let mut command = Command::new(alloc, subcommand.name).about(subcommand.about);
     for argument in subcommand.arguments {
-        command = command.arg(arg_of(alloc, argument))?;
+        command = add_argument(command, arg_of(alloc, argument))?;
     }
     Ok(command)
 }

@@ -26,6 +26,11 @@ pub enum Invocation<'a> {
         dir: &'a str,
         explain: bool,
     },
+    /// To print what a reload from another folder or an image to a folder changes.
+    Compare {
+        dir: &'a str,
+        other: &'a str,
+    },
     /// To print the graph of a folder's jobs.
     Graph {
         dir: &'a str,
@@ -71,8 +76,13 @@ pub enum Invocation<'a> {
 
 fn parse_check<'a>(given: &ArgMatches<'a>) -> Option<Invocation<'a>> {
     let dir = given.get_str("DIR")?;
-    let explain = is_set(given, "explain");
-    Some(Invocation::Check { dir, explain })
+    Some(match given.get_str("against") {
+        Some(other) => Invocation::Compare { dir, other },
+        None => Invocation::Check {
+            dir,
+            explain: is_set(given, "explain"),
+        },
+    })
 }
 
 fn parse_compile<'a>(given: &ArgMatches<'a>) -> Option<Invocation<'a>> {

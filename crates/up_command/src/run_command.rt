@@ -15,7 +15,7 @@ use up_disk::{check_dir, compile_dir, explain_dir, graph_dir, replay_source, sho
 use up_model::ExitStatus;
 use up_replay::replay::replay_bundle;
 use up_run::run_source;
-use up_tools::{lint_dir, view_source};
+use up_tools::{compare_dir, lint_dir, view_source};
 
 // Replays standard input, and returns the status. If it can't be used it is said why.
 fn replay_input(rt: &(impl Input + Print + Eprint + AllocGlobal)) -> io::Result<ExitStatus> {
@@ -54,6 +54,7 @@ pub fn run_command<
                 print(rt, check_dir(rt, dir))
             }
         }
+        Invocation::Compare { dir, other } => print(rt, compare_dir(rt, dir, other)),
         Invocation::Graph { dir } => print(rt, graph_dir(rt, dir)),
         Invocation::Lint {
             dir,

@@ -133,7 +133,7 @@ impl ScriptDoor {
     }
 
     // Counts a call that failed.
-    fn refuse(&mut self) -> DoorFault
+    fn fail_call(&mut self) -> DoorFault
         ensures calls { calls_of self.new.journal ≡ with_failure (calls_of self.old.journal) }
         ensures clients { self.new.clients ≡ self.old.clients }
     {
@@ -197,10 +197,10 @@ impl Door for ScriptDoor {
             || !self.journal.make_room()
             || self.clients.reserve(1).is_err()
         {
-            return Err(self.refuse());
+            return Err(self.fail_call());
         }
         let Ok(client) = u32::try_from(self.clients.vacant_key()) else {
-            return Err(self.refuse());
+            return Err(self.fail_call());
         };
         match self.next_visit() {
             Some(visit) => {
@@ -217,7 +217,7 @@ impl Door for ScriptDoor {
 
     fn read(&mut self, client: u32, buffer: &mut [u8]) -> Result<Option<usize>, DoorFault> {
         if self.failures.next_fails() || !self.journal.make_room() {
-            return Err(self.refuse());
+            return Err(self.fail_call());
         }
         match self.speak(client, buffer.len()) {
             Spoken::Bytes(bytes) => {
@@ -231,16 +231,16 @@ impl Door for ScriptDoor {
                 self.journal.add(Passed::Read(client, None));
                 Ok(None)
             }
-            Spoken::Failed => Err(self.refuse()),
+            Spoken::Failed => Err(self.fail_call()),
         }
     }
 
     fn write(&mut self, client: u32, bytes: &[u8]) -> Result<usize, DoorFault> {
         if self.failures.next_fails() || !self.journal.make_room() {
-            return Err(self.refuse());
+            return Err(self.fail_call());
         }
         let Ok(mut told) = copy_of(self.alloc, bytes) else {
-            return Err(self.refuse());
+            return Err(self.fail_call());
         };
         match self.take(client, bytes.len()) {
             Some(count) => {
@@ -248,7 +248,7 @@ impl Door for ScriptDoor {
                 self.journal.add(Passed::Wrote(client, Items::new(told)));
                 Ok(count)
             }
-            None => Err(self.refuse()),
+            None => Err(self.fail_call()),
         }
     }
 

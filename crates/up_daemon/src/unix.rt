@@ -210,7 +210,7 @@ impl UnixDoor {
     }
 
     // Counts a call that failed, and keeps which, if there is memory for it.
-    fn refuse(&mut self, call: DoorCall) -> DoorFault
+    fn fail_call(&mut self, call: DoorCall) -> DoorFault
         ensures calls { calls_of self.new.journal ≡ with_failure (calls_of self.old.journal) }
         ensures clients { self.new.clients ≡ self.old.clients }
     {
@@ -230,10 +230,10 @@ impl Door for UnixDoor {
 
     fn accept(&mut self) -> Result<Option<u32>, DoorFault> {
         if !self.journal.make_room() || self.clients.reserve(1).is_err() {
-            return Err(self.refuse(DoorCall::Accept));
+            return Err(self.fail_call(DoorCall::Accept));
         }
         let Ok(client) = u32::try_from(self.clients.vacant_key()) else {
-            return Err(self.refuse(DoorCall::Accept));
+            return Err(self.fail_call(DoorCall::Accept));
         };
         match admit(&self.listener, &self.poll, client as usize) {
             Arrival::Client(stream) => {
@@ -245,19 +245,19 @@ impl Door for UnixDoor {
                 self.journal.add(Passed::Accepted(None));
                 Ok(None)
             }
-            Arrival::Failed => Err(self.refuse(DoorCall::Accept)),
+            Arrival::Failed => Err(self.fail_call(DoorCall::Accept)),
         }
     }
 
     fn read(&mut self, client: u32, buffer: &mut [u8]) -> Result<Option<usize>, DoorFault> {
         if !self.journal.make_room() {
-            return Err(self.refuse(DoorCall::Read));
+            return Err(self.fail_call(DoorCall::Read));
         }
         let Ok(mut bytes) = zeros(self.alloc, buffer.len()) else {
-            return Err(self.refuse(DoorCall::Read));
+            return Err(self.fail_call(DoorCall::Read));
         };
         let Some(stream) = self.clients.get(client as usize) else {
-            return Err(self.refuse(DoorCall::Read));
+            return Err(self.fail_call(DoorCall::Read));
         };
         match receive(stream, &mut bytes, self.dismissed == Some(client)) {
             Ok(Some(count)) => {
@@ -271,19 +271,19 @@ impl Door for UnixDoor {
                 self.journal.add(Passed::Read(client, None));
                 Ok(None)
             }
-            Err(_) => Err(self.refuse(DoorCall::Read)),
+            Err(_) => Err(self.fail_call(DoorCall::Read)),
         }
     }
 
     fn write(&mut self, client: u32, bytes: &[u8]) -> Result<usize, DoorFault> {
         if !self.journal.make_room() {
-            return Err(self.refuse(DoorCall::Write));
+            return Err(self.fail_call(DoorCall::Write));
         }
         let Ok(mut told) = copy_of(self.alloc, bytes) else {
-            return Err(self.refuse(DoorCall::Write));
+            return Err(self.fail_call(DoorCall::Write));
         };
         let Some(stream) = self.clients.get(client as usize) else {
-            return Err(self.refuse(DoorCall::Write));
+            return Err(self.fail_call(DoorCall::Write));
         };
         match send(stream, bytes) {
             Ok(count) => {
@@ -291,7 +291,7 @@ impl Door for UnixDoor {
                 self.journal.add(Passed::Wrote(client, Items::new(told)));
                 Ok(count)
             }
-            Err(_) => Err(self.refuse(DoorCall::Write)),
+            Err(_) => Err(self.fail_call(DoorCall::Write)),
         }
     }
 
@@ -300,7 +300,7 @@ impl Door for UnixDoor {
         if self.journal.make_room() {
             self.journal.add(Passed::Closed(client));
         } else {
-            let _ = self.refuse(DoorCall::Close);
+            let _ = self.fail_call(DoorCall::Close);
         }
     }
 

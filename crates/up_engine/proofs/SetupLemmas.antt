@@ -19,7 +19,7 @@ use Rattle.up_book.proofs.One.{apart-back}
 use Rattle.up_book.proofs.Outgoing.{named-there}
 use Rattle.up_book.proofs.Tables.{names-rise}
 use Rattle.up_engine.specs.Naming.{name_of}
-use Rattle.up_image.specs.Giving.{IsTable}
+use Rattle.up_image.specs.Definable.{IsTable}
 use Rattle.up_job.specs.JobLists.{job_of, new_job}
 use Rattle.up_job.specs.Named.{named, position, AreInOrder, IsBelowAll}
 use Rattle.up_job.proofs.JobLemmas.{order-ascending}

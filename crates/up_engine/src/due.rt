@@ -91,7 +91,7 @@ fn take_event<B: Book>(book: &mut B, event: Event) -> Result<(), AllocError>
         → B.stands book.new Stepping config (model.effect config (given_as.Emit event) c ++ c)) }
 {
     let copy = event.copy()?;
-    book.given(&Input::Emit(event), None);
+    book.begin_step(&Input::Emit(event), None);
     book.emit(copy)?;
     Ok(())
 }
@@ -117,7 +117,7 @@ fn take_spawn<B: Book>(setup: &Setup, book: &mut B, who: Who, process: Process, 
     setup.names_differ();
     book.names_differ();
     let on = find(setup, book, &who);
-    book.given(&Input::Spawned { who, process, pid }, on);
+    book.begin_step(&Input::Spawned { who, process, pid }, on);
     concern_of(on)
 }
 
@@ -138,7 +138,7 @@ fn take_refusal<B: Book>(
     book.names_differ();
     let its = who.copy()?;
     let on = find(setup, book, &who);
-    book.given(&Input::Refused { who, process }, on);
+    book.begin_step(&Input::Refused { who, process }, on);
     let verdict_on_end = verdict_on(setup, book, &its, process, End::Refused);
     conclude(book, verdict_on_end)?;
     Ok(concern_of(on))
@@ -162,7 +162,7 @@ fn take_end<B: Book>(
     book.names_differ();
     let its = who.copy()?;
     let on = find(setup, book, &who);
-    book.given(&Input::Ended { who, process, how }, on);
+    book.begin_step(&Input::Ended { who, process, how }, on);
     let verdict_on_end = verdict_on(setup, book, &its, process, End::Ended(how));
     conclude(book, verdict_on_end)?;
     Ok(concern_of(on))
@@ -217,7 +217,7 @@ fn finish<B: Book>(alloc: Global, book: &mut B, key: EventId) -> Result<Concern,
         → IsOkAnd result (ConcernsNone (B.event_place book.new) config
         (model.finishing e (entry.Given given_as.Turn ∷ c) ++ entry.Given given_as.Turn ∷ c)) }
 {
-    book.given(&Input::Turn, None);
+    book.begin_step(&Input::Turn, None);
     let told = failed_event_of(alloc, book, key)?;
     let on = book.finish(key, told)?;
     Ok(unblocked_concern(on))
@@ -233,7 +233,7 @@ fn handle<B: Book>(book: &mut B, key: EventId)
         → B.event_place book.old c key ≡ Some e
         → B.event_place book.new (entry.Handled e ∷ entry.Given given_as.Turn ∷ c) key ≡ Some e }
 {
-    book.given(&Input::Turn, None);
+    book.begin_step(&Input::Turn, None);
     book.handle(key)
 }
 
@@ -295,7 +295,7 @@ fn take_turn<B: Book>(alloc: Global, book: &mut B) -> Result<Concern, AllocError
             Ok(concern)
         }
         None => {
-            book.given(&Input::Turn, None);
+            book.begin_step(&Input::Turn, None);
             Ok(Concern::Nobody)
         }
     }
@@ -313,14 +313,14 @@ fn take_reading<B: Book>(
     ensures free { (c : Chronicle) → B.stands book.old Resting setup.now c
         → IsFree setup.now c (given_as.Clock reading) → IsOk result }
 {
-    book.given(&Input::Clock(reading), None);
+    book.begin_step(&Input::Clock(reading), None);
     kill_overdue(alloc, book, setup.jobs())?;
     Ok(())
 }
 
 /// Takes an input in, with its own effect; returns whom that concerns.
 #[tactic(auto, unfolding(up_model::specs::Due::effect))]
-pub(crate) fn act<B: Book>(
+pub(crate) fn apply_effect<B: Book>(
     alloc: Global,
     setup: &Setup,
     book: &mut B,

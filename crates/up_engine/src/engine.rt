@@ -60,7 +60,7 @@ fn step_book<B: Book>(
         → IsOkAnd result (λ outputs. outputs.items ≡ []) }
 {
     run_step(alloc, setup, book, given)?;
-    let outputs = book.rest();
+    let outputs = book.end_step();
     Ok(outputs)
 }
 

@@ -7,7 +7,7 @@ ghost use Rattle.up_engine.specs.declared.engine.Engine.{Engine};
 ghost use Rattle.up_engine.specs.declared.run.Run.{Run};
 ghost use Rattle.up_engine.specs.Stands.{RunMeans, Stands, left_of};
 ghost use Rattle.up_image.specs.Compiling.{Compiles};
-ghost use Rattle.up_image.specs.Giving.{IsTable};
+ghost use Rattle.up_image.specs.Definable.{IsTable};
 ghost use Rattle.up_isolation.specs.Isolation.{MeanTheSame};
 ghost use Rattle.up_isolation.specs.Steps.{AreStepsOf, deeds_by_step, joined, orders_of, outputs_in};
 ghost use Rattle.up_isolation.specs.Views.{deeds, view};

@@ -52,7 +52,7 @@ fn refuse<B: Book>(book: &mut B, text: Text) -> Result<(), AllocError>
 }
 
 // A request is told a text.
-fn tell<B: Book>(book: &mut B, text: Text) -> Result<(), AllocError>
+fn reply_ok<B: Book>(book: &mut B, text: Text) -> Result<(), AllocError>
     ensures { OnOk result ((config : Configuration) (c : Chronicle) → B.stands book.old Stepping config c
         → B.stands book.new Stepping config (entry.Replied (given_place c) (record { ok = true; text = text })
         ∷ c)) }
@@ -352,7 +352,7 @@ fn signal_and_reply<B: Book>(
 {
     let nothing = no_text(alloc);
     book.signal(key, signal)?;
-    tell(book, nothing)?;
+    reply_ok(book, nothing)?;
     Ok(())
 }
 
@@ -631,7 +631,7 @@ fn change<B: Book>(
         }
         Command::List => {
             let text = list(alloc, setup, book)?;
-            tell(book, text)?;
+            reply_ok(book, text)?;
             Ok(Concern::Nobody)
         }
         Command::Emit => {
@@ -644,7 +644,7 @@ fn change<B: Book>(
         }
         Command::Version => {
             let text = version(alloc)?;
-            tell(book, text)?;
+            reply_ok(book, text)?;
             Ok(Concern::Nobody)
         }
         Command::Reload => {
@@ -675,7 +675,7 @@ pub(crate) fn take_request<B: Book>(
         → Concerns (B.event_place book.new) concern setup.now (given_as.Request id request) c) }
 {
     let asked = request.copy()?;
-    book.given(&Input::Request { id, request }, None);
+    book.begin_step(&Input::Request { id, request }, None);
     let concern = change(alloc, setup, book, asked)?;
     Ok(concern)
 }

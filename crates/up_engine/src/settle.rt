@@ -12,7 +12,7 @@ ghost use Rattle.up_model.specs.Instances.{Instance, instances_of};
 ghost use Rattle.up_model.specs.Replies.{answering_last};
 ghost use Rattle.up_model.specs.Values.{Bytes};
 
-use crate::due::{Concern, act};
+use crate::due::{Concern, apply_effect};
 use crate::hear::hear_all;
 use crate::moves::moves_on;
 use crate::setup::Setup;
@@ -100,7 +100,7 @@ pub(crate) fn run_step<B: Book>(
         → IsOk result × B.stands book.new Stepping setup.now (effect setup.now input c ++ c) }
 {
     setup.names_differ();
-    match act(alloc, setup, book, input)? {
+    match apply_effect(alloc, setup, book, input)? {
         Concern::Nobody => {}
         Concern::Instance(key) => settle_alone(alloc, setup, book, key)?,
         Concern::Event(event) => hear_all(alloc, setup, book, event)?,

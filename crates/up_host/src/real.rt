@@ -48,7 +48,7 @@ pub struct RealHost<R: Processes> {
 }
 
 // Starts the process of an order.
-fn started<R: Processes>(
+fn spawn_order<R: Processes>(
     system: &R,
     alloc: Global,
     order: &Order,
@@ -154,7 +154,7 @@ impl<R: Processes> RealHost<R> {
         let Ok(who) = order.who.copy() else {
             return None;
         };
-        let child = match started(&self.system, self.alloc, order) {
+        let child = match spawn_order(&self.system, self.alloc, order) {
             Ok(child) => child,
             Err(error) => {
                 drop(who);
@@ -234,7 +234,7 @@ impl<R: Processes> RealHost<R> {
     }
 
     // Counts a call that failed.
-    fn refuse(&mut self) -> HostFault
+    fn fail_call(&mut self) -> HostFault
         ensures calls { calls_of self.new.journal ≡ with_failure (calls_of self.old.journal) }
         ensures children { self.new.children ≡ self.old.children }
     {
@@ -256,10 +256,10 @@ impl<R: Processes + Clock> Host for RealHost<R> {
 
     fn spawn(&mut self, order: &Order) -> Result<u32, HostFault> {
         if !self.journal.make_room() {
-            return Err(self.refuse());
+            return Err(self.fail_call());
         }
         let Ok(told) = order.copy(self.alloc) else {
-            return Err(self.refuse());
+            return Err(self.fail_call());
         };
         match self.start(order) {
             Some(pid) => {
@@ -268,14 +268,14 @@ impl<R: Processes + Clock> Host for RealHost<R> {
             }
             None => {
                 drop(told);
-                Err(self.refuse())
+                Err(self.fail_call())
             }
         }
     }
 
     fn poll(&mut self) -> Result<Option<(Who, Process, How)>, HostFault> {
         if !self.journal.make_room() {
-            return Err(self.refuse());
+            return Err(self.fail_call());
         }
         match find_end(&mut self.children, &mut self.next) {
             Look::Ended(how) => match self.take_end(self.next, how) {
@@ -283,43 +283,43 @@ impl<R: Processes + Clock> Host for RealHost<R> {
                     self.journal.add(Happened::Polled(Some(told)));
                     Ok(Some(end))
                 }
-                None => Err(self.refuse()),
+                None => Err(self.fail_call()),
             },
             Look::Nothing => {
                 reap(&mut self.helpers);
                 self.journal.add(Happened::Polled(None));
                 Ok(None)
             }
-            Look::Failed => Err(self.refuse()),
+            Look::Failed => Err(self.fail_call()),
         }
     }
 
     fn signal(&mut self, who: &Who, pid: u32, signal: u8) -> Result<(), HostFault> {
         if !self.journal.make_room() {
-            return Err(self.refuse());
+            return Err(self.fail_call());
         }
         let Ok(told) = who.copy() else {
-            return Err(self.refuse());
+            return Err(self.fail_call());
         };
         if self.send(who, pid, signal) {
             self.journal.add(Happened::Signalled(told, pid, signal));
             Ok(())
         } else {
             drop(told);
-            Err(self.refuse())
+            Err(self.fail_call())
         }
     }
 
     fn now(&mut self) -> Result<u64, HostFault> {
         if !self.journal.make_room() {
-            return Err(self.refuse());
+            return Err(self.fail_call());
         }
         match reading(&self.system, &self.start) {
             Some(time) => {
                 self.journal.add(Happened::Now(time));
                 Ok(time)
             }
-            None => Err(self.refuse()),
+            None => Err(self.fail_call()),
         }
     }
 

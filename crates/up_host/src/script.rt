@@ -70,7 +70,7 @@ impl ScriptHost {
     }
 
     // Counts a call that failed.
-    fn refuse(&mut self) -> HostFault
+    fn fail_call(&mut self) -> HostFault
         ensures calls { calls_of self.new.journal ≡ with_failure (calls_of self.old.journal) }
         ensures living { self.new.living ≡ self.old.living }
     {
@@ -176,10 +176,10 @@ impl Host for ScriptHost {
 
     fn spawn(&mut self, order: &Order) -> Result<u32, HostFault> {
         if self.failures.next_fails() || !self.journal.make_room() {
-            return Err(self.refuse());
+            return Err(self.fail_call());
         }
         let Ok(told) = order.copy(self.alloc) else {
-            return Err(self.refuse());
+            return Err(self.fail_call());
         };
         match self.start() {
             Some(pid) => {
@@ -188,14 +188,14 @@ impl Host for ScriptHost {
             }
             None => {
                 drop(told);
-                Err(self.refuse())
+                Err(self.fail_call())
             }
         }
     }
 
     fn poll(&mut self) -> Result<Option<End>, HostFault> {
         if self.failures.next_fails() || !self.journal.make_room() {
-            return Err(self.refuse());
+            return Err(self.fail_call());
         }
         match self.found() {
             Found::End(told, end) => {
@@ -208,26 +208,26 @@ impl Host for ScriptHost {
                 self.journal.add(Happened::Polled(None));
                 Ok(None)
             }
-            Found::Failed => Err(self.refuse()),
+            Found::Failed => Err(self.fail_call()),
         }
     }
 
     fn signal(&mut self, who: &Who, pid: u32, signal: u8) -> Result<(), HostFault> {
         if self.failures.next_fails() || !self.journal.make_room() {
-            return Err(self.refuse());
+            return Err(self.fail_call());
         }
         match who.copy() {
             Ok(told) => {
                 self.journal.add(Happened::Signalled(told, pid, signal));
                 Ok(())
             }
-            Err(_) => Err(self.refuse()),
+            Err(_) => Err(self.fail_call()),
         }
     }
 
     fn now(&mut self) -> Result<u64, HostFault> {
         if self.failures.next_fails() || !self.journal.make_room() {
-            return Err(self.refuse());
+            return Err(self.fail_call());
         }
         let reading = self.read_clock();
         self.journal.add(Happened::Now(reading));

@@ -4,7 +4,7 @@ use Rattle.std.specs.List.{list_any}
 use Rattle.up_stanza.specs.declared.exit.Exit.{Exit}
 use Rattle.up_conf.specs.declared.job.JobDef.{JobDef}
 use Rattle.up_conf.specs.Jobs.{same_exit}
-use Rattle.up_image.specs.Giving.{are_apart, are_ascending}
+use Rattle.up_image.specs.Definable.{are_apart, are_ascending}
 
 -- one name alone ascends
 pub are_ascending_one : (jobs : List JobDef) → length jobs ≤ 1 → are_ascending (map (λ job. job.name) jobs) ≡ true

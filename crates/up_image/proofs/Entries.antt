@@ -6,7 +6,7 @@ use Rattle.std.proofs.lemmas.Slice.Eq.{bytes_eq-Decides}
 use Rattle.up_conf.specs.declared.job.JobDef.{JobDef}
 use Rattle.up_conf.specs.Order.{is_below, in_order}
 use Rattle.up_image.specs.declared.index.Place.{Place}
-use Rattle.up_image.specs.Giving.{are_ascending}
+use Rattle.up_image.specs.Definable.{are_ascending}
 use Rattle.up_image.specs.Index.{all_places, entries_of, event_of, is_entry, named, onto_runs, places_of, runs_of, NoneBelow, IsAscending}
 use Rattle.up_image.proofs.PlaceOrder.{above, ascending-in_order, named-in_order}
 

@@ -9,7 +9,7 @@ use Rattle.up_expr.specs.declared.node.Node.TheVariants as node
 use Rattle.up_expr.specs.Flat.{IsFlat, nodes_of, size}
 use Rattle.up_expr.specs.Trees.{Tree, One, Both, Either}
 use Rattle.up_expr.proofs.Flattening.{length_nodes}
-use Rattle.up_image.specs.Giving.{are_leaves, is_leaf, is_node}
+use Rattle.up_image.specs.Definable.{are_leaves, is_leaf, is_node}
 use Rattle.up_image.specs.Image.{fits_condition, fits_node}
 
 pub fits_laid : (nodes : List Node) (tree : Tree) (fit : Bool) → IsFlat nodes tree → fit ≡ list_all fits_node nodes → fit ≡ fits_condition (Some tree)

@@ -12,7 +12,7 @@ use Rattle.up_text.proofs.Readings.{take_while-all}
 use Rattle.up_text.specs.Tokens.{Mark, Part, Quoting, Folded, Alone, Blank, Passed, Stop, Fail, Mode, Outside, Comment, Escaped, Continued, Quoted, QuotedEscape, marks, end_marks}
 use Rattle.up_text.specs.Places.{Place, is_space, command_bytes, fault_in}
 use Rattle.up_text.specs.Commands.{command_marks_at, trim_blanks, command_in}
-use Rattle.up_image.specs.Giving.{is_token_byte, is_command}
+use Rattle.up_image.specs.Definable.{is_token_byte, is_command}
 use Rattle.up_image.proofs.Thinning.{told_text, told_bytes, told_short}
 use Rattle.up_image.proofs.Spelling.{Good}
 use Rattle.up_image.proofs.Rereading.{goes_on, is_quoted, Follows, front_marks, told}

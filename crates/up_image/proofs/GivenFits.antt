@@ -21,7 +21,7 @@ use Rattle.up_conf.specs.declared.job.JobDef.{JobDef}
 use Rattle.up_conf.specs.Folders.{jobs_of}
 use Rattle.up_conf.specs.Jobs.{same_exit}
 use Rattle.up_image.specs.Compiling.{has_twice, read_paths}
-use Rattle.up_image.specs.Giving.{are_ascending, are_apart, are_exits, are_leaves, can_all_be_given, can_await, can_be_given, can_export, can_run, can_set, has_events, has_lists, has_numbers, has_processes, has_texts, is_exit, is_node, is_setting, is_shallow, is_test, is_word}
+use Rattle.up_image.specs.Definable.{are_ascending, are_apart, are_exits, are_leaves, are_definable, can_await, is_definable, can_export, can_run, can_set, has_events, has_lists, has_numbers, has_processes, has_texts, is_exit, is_node, is_setting, is_shallow, is_test, is_word}
 use Rattle.up_image.specs.Image.{body_of, fits, fits_action, fits_condition, fits_lists, fits_node, fits_numbers, fits_processes, has_image, is_countable, is_short}
 use Rattle.up_image.specs.declared.version.Version.TheVariants.{Two}
 use Rattle.up_image.proofs.Fitting.{leaves_given}
@@ -135,8 +135,8 @@ condition_fits (Some tree) is =
     and_from _ _ last.1 (nodes_fit (nodes_of 0 tree) (leaves_given 0 tree ∙ front.0))
 
 -- a job that files can give fits
-pub job_fits : (job : JobDef) → can_be_given job ≡ true → fits Two job ≡ true
-unfolding can_be_given fits
+pub job_fits : (job : JobDef) → is_definable job ≡ true → fits Two job ≡ true
+unfolding is_definable fits
 job_fits job is =
     let four = and_parts (has_texts job && has_numbers job && has_lists job && has_processes job) (has_events job) is in
     let three = and_parts (has_texts job && has_numbers job && has_lists job) (has_processes job) four.0 in
@@ -146,17 +146,17 @@ job_fits job is =
     and_from _ _ (and_from _ _ (and_from _ _ (numbers_fit job one.1) (lists_fit job two.1)) (processes_fit job three.1))
     (and_from _ _ (condition_fits job.start_on events.0) (condition_fits job.stop_on events.1))
 
-jobs_fit : (jobs : List JobDef) → list_all can_be_given jobs ≡ true → list_all (fits Two) jobs ≡ true
+jobs_fit : (jobs : List JobDef) → list_all is_definable jobs ≡ true → list_all (fits Two) jobs ≡ true
 jobs_fit [] is = refl
 jobs_fit (job ∷ jobs) is =
-    let parts = and_parts (can_be_given job) (list_all can_be_given jobs) is in
+    let parts = and_parts (is_definable job) (list_all is_definable jobs) is in
     and_from _ _ (job_fits job parts.0) (jobs_fit jobs parts.1)
 
 -- the jobs of a folder fit
 pub files_fit : (files : List File) → has_twice (read_paths files) ≡ false → list_all (fits Two) (jobs_of files) ≡ true
-unfolding can_all_be_given
+unfolding are_definable
 files_fit files apart =
-    jobs_fit (jobs_of files) (and_parts (are_ascending (map (λ (job : JobDef). job.name) (jobs_of files))) (list_all can_be_given (jobs_of files)) (folder_given files apart)).1
+    jobs_fit (jobs_of files) (and_parts (are_ascending (map (λ (job : JobDef). job.name) (jobs_of files))) (list_all is_definable (jobs_of files)) (folder_given files apart)).1
 
 -- so they have an image exactly if that isn't too long
 pub large_alone : (files : List File) → has_twice (read_paths files) ≡ false → nat_le (length (jobs_of files)) 1024 ≡ true

@@ -6,7 +6,7 @@ use Rattle.byteorder.specs.Numbers.{big_number-reads_back}
 use Rattle.up_conf.specs.declared.job.JobDef.{JobDef}
 use Rattle.up_image.specs.declared.image_error.ImageError.{ImageError}
 use Rattle.up_image.specs.declared.image_error.ImageError.TheVariants.{ImageTooLarge, BadMagic, BadVersion, Truncated, Trailing, BadTable, Memory}
-use Rattle.up_image.specs.Giving.{can_all_be_given}
+use Rattle.up_image.specs.Definable.{are_definable}
 use Rattle.up_image.specs.Image.{IsImage, body_of, head_of}
 use Rattle.up_image.specs.Reading.{ReadsImage, claimed_length, head_error, version_at}
 use Rattle.up_image.specs.declared.version.Version.TheVariants.{Two}
@@ -37,7 +37,7 @@ head_right bytes jobs image =
     none_by _ _ _ _ _ ((bytes_eq-Decides (take 4 bytes) (take (length bytes) (codes "UPTB"))).1 mark) (le-ltb (length bytes) 12 (omega (arith, long))) version
     (le-ltb (length bytes) (claimed_length bytes) (omega (arith, claimed))) (le-ltb (claimed_length bytes) (length bytes) (omega (arith, claimed)))
 
-pub read_back : (jobs : List JobDef) (bytes : List ℕ) (result : Result (List JobDef) ImageError) → can_all_be_given jobs ≡ true → IsImage bytes jobs → ReadsImage bytes (head_error bytes) result → (result ≡ Ok jobs) ⊎ (result ≡ Err Memory)
+pub read_back : (jobs : List JobDef) (bytes : List ℕ) (result : Result (List JobDef) ImageError) → are_definable jobs ≡ true → IsImage bytes jobs → ReadsImage bytes (head_error bytes) result → (result ≡ Ok jobs) ⊎ (result ≡ Err Memory)
 read_back jobs bytes result given image reads = by_result result (subst (λ error. ReadsImage bytes error result) (head_right bytes jobs image) reads)
   where
     by_error : (error : ImageError) → ReadsImage bytes None (Err error) → (◌≡◌ {A = Result (List JobDef) ImageError} (Err error) (Ok jobs)) ⊎ (◌≡◌ {A = Result (List JobDef) ImageError} (Err error) (Err Memory))

@@ -22,7 +22,7 @@ use Rattle.up_conf.specs.Folders.{job_name, bytes_at, override_of, job_in, job_o
 use Rattle.up_conf.specs.Jobs.{last_or, fold_stanzas, instance_in, dir_in, limit_in, kill_signal_in, kill_timeout_in, reload_signal_in, main_in, pre_start_in, post_start_in, pre_stop_in, post_stop_in, start_in, stop_in, env_with, export_with, normal_with, job_of}
 use Rattle.up_conf.specs.declared.report.Fault.{Fault}
 use Rattle.up_image.specs.Compiling.{Compiles, has_twice, read_paths}
-use Rattle.up_image.specs.Giving.{is_token, can_set, can_export, are_exits, can_run, can_await, can_be_given, can_all_be_given}
+use Rattle.up_image.specs.Definable.{is_token, can_set, can_export, are_exits, can_run, can_await, is_definable, are_definable}
 use Rattle.up_image.proofs.GivenLists.{AllGood, ListsGood, env_good, export_good, exits_good}
 use Rattle.up_image.proofs.GivenStanzas.{StanzaGood, is_limit, conf_good}
 use Rattle.up_image.proofs.GivenOrder.{sorted_up, sorted_all, names_apart}
@@ -145,8 +145,8 @@ no_instance : is_expandable [] ≡ true
 unfolding is_expandable
 no_instance = refl
 
-job_given : (name : List ℕ) (xs ys : List Stanza) → is_name name ≡ true → AllGood StanzaGood (xs ++ ys) → FewKeys xs → FewKeys ys → can_be_given (job_of name (xs ++ ys)) ≡ true
-unfolding can_be_given job_of
+job_given : (name : List ℕ) (xs ys : List Stanza) → is_name name ≡ true → AllGood StanzaGood (xs ++ ys) → FewKeys xs → FewKeys ys → is_definable (job_of name (xs ++ ys)) ≡ true
+unfolding is_definable job_of
 job_given name xs ys named good one other =
     let all = xs ++ ys in
     let instance = and_parts (is_token (last_or [] instance_in all)) (is_expandable (last_or [] instance_in all)) (last_good is_instance instance_in instance_said [] all (and_from _ _ no_text no_instance) good) in
@@ -186,7 +186,7 @@ override_good files name = by_bytes (bytes_at (name ++ codes ".override") files)
     by_bytes (Some bytes) = by_conf bytes (conf_of bytes) refl
 
 abbrev IsGivenAs : List ℕ → JobDef → Type 0
-IsGivenAs name job = (can_be_given job ≡ true) × (name ≡ job.name)
+IsGivenAs name job = (is_definable job ≡ true) × (name ≡ job.name)
 
 named_job : (name : List ℕ) (stanzas : List Stanza) → name ≡ (job_of name stanzas).name
 unfolding job_of
@@ -209,26 +209,26 @@ job_in_given files name bytes job is = by_name (is_name name) refl is
     by_name true named some = by_conf (conf_of bytes) named refl some
     by_name false named none = absurd (cc)
 
-file_given : (files : List File) (file : File) (job : JobDef) → job_of_file files file ≡ Some job → (can_be_given job ≡ true) × (job_name file.path ≡ Some job.name)
+file_given : (files : List File) (file : File) (job : JobDef) → job_of_file files file ≡ Some job → (is_definable job ≡ true) × (job_name file.path ≡ Some job.name)
 file_given files file job is =
     let made = chosen (λ name. job_in files name file.bytes) (job_name file.path) job is in
     let given = job_in_given files made.x file.bytes job made.gives in
     (given.0, made.is ∙ ap Some given.1)
 
-all_given : (all files : List File) → list_all can_be_given (filter_map (job_of_file all) files) ≡ true
+all_given : (all files : List File) → list_all is_definable (filter_map (job_of_file all) files) ≡ true
 all_given all [] = refl
 all_given all (file ∷ files) = by_job (job_of_file all file) refl (all_given all files)
   where
-    by_job : (found : Option JobDef) → job_of_file all file ≡ found → list_all can_be_given (filter_map (job_of_file all) files) ≡ true → list_all can_be_given (cons_option found (filter_map (job_of_file all) files)) ≡ true
+    by_job : (found : Option JobDef) → job_of_file all file ≡ found → list_all is_definable (filter_map (job_of_file all) files) ≡ true → list_all is_definable (cons_option found (filter_map (job_of_file all) files)) ≡ true
     by_job None is later = later
     by_job (Some job) is later = and_from _ _ (file_given all file job is).0 later
 
-pub folder_given : (files : List File) → has_twice (read_paths files) ≡ false → can_all_be_given (jobs_of files) ≡ true
-unfolding can_all_be_given jobs_of
+pub folder_given : (files : List File) → has_twice (read_paths files) ≡ false → are_definable (jobs_of files) ≡ true
+unfolding are_definable jobs_of
 folder_given files apart =
     let jobs = filter_map (job_of_file files) files in
-    and_from _ _ (sorted_up jobs (names_apart files (λ file job is. (file_given files file job is).1) files apart)) (sorted_all can_be_given jobs (all_given files files))
+    and_from _ _ (sorted_up jobs (names_apart files (λ file job is. (file_given files file job is).1) files apart)) (sorted_all is_definable jobs (all_given files files))
 
 -- what a folder is compiled to
-pub table_given : (files : List File) (table : List JobDef) (report : List Fault) → Compiles files table report → can_all_be_given table ≡ true
-table_given files table report made = ap can_all_be_given made.jobs ∙ folder_given files made.apart
+pub table_given : (files : List File) (table : List JobDef) (report : List Fault) → Compiles files table report → are_definable table ≡ true
+table_given files table report made = ap are_definable made.jobs ∙ folder_given files made.apart

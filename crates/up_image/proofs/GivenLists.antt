@@ -15,7 +15,7 @@ use Rattle.up_stanza.specs.declared.stanza.Stanza.TheVariants.{Env, Export, Norm
 use Rattle.up_stanza.specs.Confs.{keys_set, keys_exported, total}
 use Rattle.up_conf.specs.Jobs.{put, env_with, export_with, normal_with, with_new_item, with_new_items, same_exit, fold_stanzas}
 use Rattle.up_image.specs.Compiling.{has_twice}
-use Rattle.up_image.specs.Giving.{is_setting, is_exit, are_apart}
+use Rattle.up_image.specs.Definable.{is_setting, is_exit, are_apart}
 use Rattle.up_image.proofs.Repeats.{has_twice-push, or-false}
 
 abbrev keys_in : List Setting → List (List ℕ)

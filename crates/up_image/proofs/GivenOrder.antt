@@ -12,7 +12,7 @@ use Rattle.up_conf.specs.declared.job.JobDef.{JobDef}
 use Rattle.up_conf.specs.Folders.{job_name, has_conf, overridden_name, is_read, job_of_file}
 use Rattle.up_conf.specs.Order.{is_below, put_by, sort_by_order}
 use Rattle.up_image.specs.Compiling.{has_twice}
-use Rattle.up_image.specs.Giving.{are_ascending}
+use Rattle.up_image.specs.Definable.{are_ascending}
 
 -- of two different names one is below the other
 below_by : (a b : List ℕ) (one other : Ordering) → slice_cmp nat_cmp a b ≡ one → one ≡ ordering_reverse other → is_lt other ≡ false → bytes_eq a b ≡ false → is_lt one ≡ true

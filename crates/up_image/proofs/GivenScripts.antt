@@ -11,7 +11,7 @@ use Rattle.up_text.specs.Names.{is_value}
 use Rattle.up_text.specs.Scripts.{lines_of, script_in, is_end_line}
 use Rattle.up_text.specs.Tokens.{is_line_feed, is_blank}
 use Rattle.up_stanza.specs.declared.action.Action.TheVariants.{Shell}
-use Rattle.up_image.specs.Giving.{is_script, are_lines, can_run}
+use Rattle.up_image.specs.Definable.{is_script, are_lines, can_run}
 use Rattle.up_image.proofs.Thinning.{before_cut, after_cut, push_text}
 use Rattle.up_image.proofs.Spelling.{Good, good_rest, feed_low}
 

@@ -32,7 +32,7 @@ use Rattle.up_stanza.specs.Settings.{setting_in, setting_with, exit_in}
 use Rattle.up_stanza.specs.Signals.{is_signal, signal_in, signal_named, without_sig}
 use Rattle.up_stanza.proofs.Backward.{mapped, chosen}
 use Rattle.up_stanza.proofs.Signals.{signal_numbers}
-use Rattle.up_image.specs.Giving.{is_token, is_setting, is_value_token, is_exit, can_run, can_await}
+use Rattle.up_image.specs.Definable.{is_token, is_setting, is_value_token, is_exit, can_run, can_await}
 use Rattle.up_image.proofs.Thinning.{from_cut, push_text}
 use Rattle.up_image.proofs.Spelling.{Good, ReadsGood, reading_good, good_rest, feed_low}
 use Rattle.up_image.proofs.Rereading.{goes_on, front_marks}

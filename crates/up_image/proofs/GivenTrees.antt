@@ -16,7 +16,7 @@ use Rattle.up_expr.proofs.Counting.{sized}
 use Rattle.up_expr.specs.Syntax.{Syntax, Bare, Group, Joined, Writes, tokens_of, is_right, tree_in, depth, join_trees, with_both}
 use Rattle.up_expr.specs.Values.{is_equals, has_equals, is_negated_key, is_good, is_ordered, is_symbol, is_and, is_operator, test_of, test_by, values_of, are_values, leaf_of}
 use Rattle.up_stanza.proofs.Backward.{mapped}
-use Rattle.up_image.specs.Giving.{is_token_byte, is_token, is_test, is_leaf, are_leaves, is_lone, is_shallow, can_await}
+use Rattle.up_image.specs.Definable.{is_token_byte, is_token, is_test, is_leaf, are_leaves, is_lone, is_shallow, can_await}
 
 pub all_drop : {X : Type 0} (p : X → Bool) (n : ℕ) (xs : List X) → list_all p xs ≡ true → list_all p (drop n xs) ≡ true
 all_drop p zero xs all = all

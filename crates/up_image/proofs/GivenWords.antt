@@ -11,7 +11,7 @@ use Rattle.up_text.specs.Places.{is_space, command_bytes}
 use Rattle.up_stanza.specs.declared.action.Action.{Action}
 use Rattle.up_stanza.specs.declared.action.Action.TheVariants.{Words, Shell}
 use Rattle.up_stanza.specs.Actions.{is_shell, action_of}
-use Rattle.up_image.specs.Giving.{is_token_byte, is_word_byte, is_word, are_words, is_shell_text, can_run, is_script}
+use Rattle.up_image.specs.Definable.{is_token_byte, is_word_byte, is_word, are_words, is_shell_text, can_run, is_script}
 use Rattle.up_image.proofs.Thinning.{before_cut, after_cut, push_text}
 use Rattle.up_image.proofs.Spelling.{blank_low}
 use Rattle.up_image.proofs.Rereading.{Again, Follows}

@@ -19,7 +19,7 @@ use Rattle.up_image.specs.declared.job_parts.Lists.{Lists}
 use Rattle.up_image.specs.declared.job_parts.Processes.{Processes}
 use Rattle.up_image.specs.declared.job_parts.Events.{Events}
 use Rattle.up_image.specs.Image as image
-use Rattle.up_image.specs.Giving as giving
+use Rattle.up_image.specs.Definable as definable
 use Rattle.up_image.specs.Finding as found
 use Rattle.up_image.specs.Finding.{Found, name_at, text_at, list_at, number_at, items_at, setting_at, exit_at, action_at, trees_at, condition_at, texts_at, numbers_at, lists_at, processes_at, events_at, job_at}
 use Rattle.up_image.specs.Texts.{text_part}
@@ -31,9 +31,9 @@ use Rattle.up_image.proofs.PartDecoding.{name_decodes, key_decodes, token_decode
 
 -- an expression
 abbrev is_condition : Option Tree → Bool
-is_condition condition = giving.can_await condition && image.fits_condition condition
+is_condition condition = definable.can_await condition && image.fits_condition condition
 
-trees_are : (tree : Tree) (r : List ℕ) → giving.are_leaves tree ≡ true → list_all image.fits_node (nodes_of 0 tree) ≡ true → nat_le (size tree) 4095 ≡ true
+trees_are : (tree : Tree) (r : List ℕ) → definable.are_leaves tree ≡ true → list_all image.fits_node (nodes_of 0 tree) ≡ true → nat_le (size tree) 4095 ≡ true
     → length (flat_map image.node_part (nodes_of 0 tree) ++ r) ≤ 16777216
     → found.trees_by (length (nodes_of 0 tree), flat_map image.node_part (nodes_of 0 tree) ++ r) ≡ Some (Some tree, r)
 trees_are tree r are fit short small =
@@ -50,9 +50,9 @@ condition_decodes = record { finds = by_case }
     by_case None r is small = rw (two_found 0 r (omega arith)) refl
     by_case (Some tree) r is small =
         let nodes = nodes_of 0 tree in
-        let parts = and_parts (giving.can_await (Some tree)) (image.fits_condition (Some tree)) is in
-        let whole = and_parts (giving.are_leaves tree && giving.is_shallow 256 tree) (image.is_short (Some tree)) parts.0 in
-        let leaves = and_parts (giving.are_leaves tree) (giving.is_shallow 256 tree) whole.0 in
+        let parts = and_parts (definable.can_await (Some tree)) (image.fits_condition (Some tree)) is in
+        let whole = and_parts (definable.are_leaves tree && definable.is_shallow 256 tree) (image.is_short (Some tree)) parts.0 in
+        let leaves = and_parts (definable.are_leaves tree) (definable.is_shallow 256 tree) whole.0 in
         let fits = and_parts (nat_le (size tree) 4095) (list_all image.fits_node nodes) parts.1 in
         let apart = append_assoc (big_bytes 2 (length nodes)) (flat_map image.node_part nodes) r in
         let small_whole : length (big_bytes 2 (length nodes) ++ (flat_map image.node_part nodes ++ r)) ≤ 16777216 = omega (arith, small, ap length apart) in
@@ -77,12 +77,12 @@ regrouped one other is small = omega (arith, small, ap length is)
 abbrev texts : JobDef → Texts
 texts job = record { name = job.name; flags = image.flags job; instance = job.instance; dir = job.dir }
 
-texts_found : (job : JobDef) (r : List ℕ) → giving.has_texts job ≡ true → length (image.text_parts job ++ r) ≤ 16777216 → texts_at (image.text_parts job ++ r) ≡ Some (texts job, r)
+texts_found : (job : JobDef) (r : List ℕ) → definable.has_texts job ≡ true → length (image.text_parts job ++ r) ≤ 16777216 → texts_at (image.text_parts job ++ r) ≡ Some (texts job, r)
 unfolding texts_at
 texts_found job r is small =
-    let last = and_parts _ (giving.is_token job.dir) is in
+    let last = and_parts _ (definable.is_token job.dir) is in
     let front = and_parts _ (is_expandable job.instance) last.0 in
-    let first = and_parts (is_name job.name) (giving.is_token job.instance) front.0 in
+    let first = and_parts (is_name job.name) (definable.is_token job.instance) front.0 in
     let byte = image.flags job ∷ [] in
     let d = text_part job.dir ++ r in
     let i = text_part job.instance ++ d in
@@ -109,7 +109,7 @@ reload_found : (version : Version) (job : JobDef) (r : List ℕ) → fits_reload
 reload_found One job r fit = ap (λ signal. Some (signal, r)) (sym (eqb-true job.reload_signal hup fit))
 reload_found Two job r fit = refl
 
-numbers_found : (version : Version) (job : JobDef) (r : List ℕ) → image.fits_numbers version job ≡ true → giving.has_numbers job ≡ true → numbers_at version (image.number_parts version job ++ r) ≡ Some (numbers job, r)
+numbers_found : (version : Version) (job : JobDef) (r : List ℕ) → image.fits_numbers version job ≡ true → definable.has_numbers job ≡ true → numbers_at version (image.number_parts version job ++ r) ≡ Some (numbers job, r)
 numbers_found version job r fit is =
     let fits = and_parts _ (fits_reload version job.reload_signal) (and_parts _ (image.fits_number job.kill_timeout) fit).0 in
     let end = and_parts _ (is_signal job.reload_signal) is in
@@ -131,7 +131,7 @@ numbers_found version job r fit is =
 abbrev signals : JobDef → Signals
 signals job = record { kill = job.kill_signal; reload = job.reload_signal }
 
-signals_found : (job : JobDef) → giving.has_numbers job ≡ true → found.signals_of (numbers job) ≡ Some (signals job)
+signals_found : (job : JobDef) → definable.has_numbers job ≡ true → found.signals_of (numbers job) ≡ Some (signals job)
 signals_found job is =
     let end = and_parts _ (is_signal job.reload_signal) is in
     let last = and_parts _ (nat_le job.kill_timeout 2147483647) end.0 in
@@ -149,13 +149,13 @@ lists_by : (bytes k x r : List ℕ) (env : List Setting) (keys : List (List ℕ)
 unfolding lists_at
 lists_by bytes k x r env keys exits one two three = rw (one, two, three) refl
 
-lists_found : (job : JobDef) (r : List ℕ) → giving.has_lists job ≡ true → image.is_countable job.normal ≡ true → length (image.set_part job ++ r) ≤ 16777216 → lists_at (image.set_part job ++ r) ≡ Some (lists job, r)
+lists_found : (job : JobDef) (r : List ℕ) → definable.has_lists job ≡ true → image.is_countable job.normal ≡ true → length (image.set_part job ++ r) ≤ 16777216 → lists_at (image.set_part job ++ r) ≡ Some (lists job, r)
 lists_found job r is few small =
-    let last = and_parts _ (giving.are_exits job.normal) is in
-    let first = and_parts (giving.can_set job.env) (giving.can_export job.export) last.0 in
-    let env = and_parts (nat_le (length job.env) 60000) (list_all giving.is_setting job.env) (and_parts _ _ first.0).0 in
+    let last = and_parts _ (definable.are_exits job.normal) is in
+    let first = and_parts (definable.can_set job.env) (definable.can_export job.export) last.0 in
+    let env = and_parts (nat_le (length job.env) 60000) (list_all definable.is_setting job.env) (and_parts _ _ first.0).0 in
     let keys = and_parts (nat_le (length job.export) 60000) (list_all is_key job.export) (and_parts _ _ first.1).0 in
-    let exits = and_parts (list_all giving.is_exit job.normal) (giving.are_apart job.normal) last.1 in
+    let exits = and_parts (list_all definable.is_exit job.normal) (definable.are_apart job.normal) last.1 in
     let e = image.list_part image.setting_part job.env in
     let k = image.list_part text_part job.export in
     let x = image.list_part image.exit_part job.normal in
@@ -173,13 +173,13 @@ lists_found job r is few small =
 abbrev processes : JobDef → Processes
 processes job = record { main = job.main; pre_start = job.pre_start; post_start = job.post_start; pre_stop = job.pre_stop; post_stop = job.post_stop }
 
-processes_found : (job : JobDef) (r : List ℕ) → giving.has_processes job ≡ true → length (image.process_part job ++ r) ≤ 16777216 → processes_at (image.process_part job ++ r) ≡ Some (processes job, r)
+processes_found : (job : JobDef) (r : List ℕ) → definable.has_processes job ≡ true → length (image.process_part job ++ r) ≤ 16777216 → processes_at (image.process_part job ++ r) ≡ Some (processes job, r)
 unfolding processes_at
 processes_found job r is small =
-    let p4 = and_parts _ (giving.can_run job.post_stop) is in
-    let p3 = and_parts _ (giving.can_run job.pre_stop) p4.0 in
-    let p2 = and_parts _ (giving.can_run job.post_start) p3.0 in
-    let p1 = and_parts (giving.can_run job.main) (giving.can_run job.pre_start) p2.0 in
+    let p4 = and_parts _ (definable.can_run job.post_stop) is in
+    let p3 = and_parts _ (definable.can_run job.pre_stop) p4.0 in
+    let p2 = and_parts _ (definable.can_run job.post_start) p3.0 in
+    let p1 = and_parts (definable.can_run job.main) (definable.can_run job.pre_start) p2.0 in
     let a = image.action_part job.main in
     let b = image.action_part job.pre_start in
     let c = image.action_part job.post_start in
@@ -204,10 +204,10 @@ processes_found job r is small =
 abbrev events : JobDef → Events
 events job = record { start_on = job.start_on; stop_on = job.stop_on }
 
-events_found : (job : JobDef) (r : List ℕ) → giving.has_events job ≡ true → image.fits_events job ≡ true → length (image.event_part job ++ r) ≤ 16777216 → events_at (image.event_part job ++ r) ≡ Some (events job, r)
+events_found : (job : JobDef) (r : List ℕ) → definable.has_events job ≡ true → image.fits_events job ≡ true → length (image.event_part job ++ r) ≤ 16777216 → events_at (image.event_part job ++ r) ≡ Some (events job, r)
 unfolding events_at
 events_found job r is fit small =
-    let parts = and_parts (giving.can_await job.start_on) (giving.can_await job.stop_on) is in
+    let parts = and_parts (definable.can_await job.start_on) (definable.can_await job.stop_on) is in
     let fits = and_parts (image.fits_condition job.start_on) (image.fits_condition job.stop_on) fit in
     both_found (λ start stop. record { start_on = start; stop_on = stop }) condition_decodes condition_decodes job.start_on job.stop_on r (rw (parts.0, fits.0) refl) (rw (parts.1, fits.1) refl) small
 
@@ -228,20 +228,20 @@ whole_job job = let read = flags_read job.task job.respawn job.silent in rw (rea
 
 -- a job
 abbrev pub is_found_job : Version → JobDef → Bool
-is_found_job version job = image.fits version job && giving.can_be_given job
+is_found_job version job = image.fits version job && definable.is_definable job
 
 job_found : (version : Version) (job : JobDef) (r : List ℕ) → is_found_job version job ≡ true → length (image.job_part version job ++ r) ≤ 16777216 → job_at version (image.job_part version job ++ r) ≡ Some (job, r)
-unfolding job_at image.job_part image.fits giving.can_be_given
+unfolding job_at image.job_part image.fits definable.is_definable
 job_found version job r is small =
-    let both = and_parts (image.fits version job) (giving.can_be_given job) is in
+    let both = and_parts (image.fits version job) (definable.is_definable job) is in
     let fit_events = and_parts _ (image.fits_events job) both.0 in
     let fit_processes = and_parts _ (image.fits_processes job) fit_events.0 in
     let fit_lists = and_parts (image.fits_numbers version job) (image.fits_lists job) fit_processes.0 in
     let few = (and_parts _ (image.is_countable job.normal) fit_lists.1).1 in
-    let g4 = and_parts _ (giving.has_events job) both.1 in
-    let g3 = and_parts _ (giving.has_processes job) g4.0 in
-    let g2 = and_parts _ (giving.has_lists job) g3.0 in
-    let g1 = and_parts (giving.has_texts job) (giving.has_numbers job) g2.0 in
+    let g4 = and_parts _ (definable.has_events job) both.1 in
+    let g3 = and_parts _ (definable.has_processes job) g4.0 in
+    let g2 = and_parts _ (definable.has_lists job) g3.0 in
+    let g1 = and_parts (definable.has_texts job) (definable.has_numbers job) g2.0 in
     let t = image.text_parts job in
     let n = image.number_parts version job in
     let s = image.set_part job in

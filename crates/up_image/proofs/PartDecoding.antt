@@ -22,7 +22,7 @@ use Rattle.up_stanza.specs.declared.exit.Exit.TheVariants as exit
 use Rattle.up_stanza.specs.declared.setting.Setting.{Setting}
 use Rattle.up_text.specs.Names.{is_name, is_key, is_value}
 use Rattle.up_image.specs.Image as image
-use Rattle.up_image.specs.Giving as giving
+use Rattle.up_image.specs.Definable as definable
 use Rattle.up_image.specs.Finding as found
 use Rattle.up_image.specs.Finding.{Found, text_at, name_at, list_at, value_at, setting_at, exit_at, action_at, test_at, leaf_at, trees_at, node_at, condition_at}
 use Rattle.up_image.specs.Texts.{text_part}
@@ -40,15 +40,15 @@ name_decodes = record { finds = found_it }
 pub key_decodes : Decodes text_part text_at is_key
 key_decodes = also_decodes is_key key_is_text text_decodes
 
-pub token_decodes : Decodes text_part text_at giving.is_token
-token_decodes = also_decodes giving.is_token (λ text is. (and_parts (is_utf8 text) (list_all giving.is_token_byte text) is).0) text_decodes
+pub token_decodes : Decodes text_part text_at definable.is_token
+token_decodes = also_decodes definable.is_token (λ text is. (and_parts (is_utf8 text) (list_all definable.is_token_byte text) is).0) text_decodes
 
 -- what is set
-value_decodes : Decodes image.value_part value_at giving.is_value_token
+value_decodes : Decodes image.value_part value_at definable.is_value_token
 unfolding value_at
 value_decodes = record { finds = by_case }
   where
-    by_case : (value : Option (List ℕ)) (r : List ℕ) → giving.is_value_token value ≡ true → length (image.value_part value ++ r) ≤ 16777216
+    by_case : (value : Option (List ℕ)) (r : List ℕ) → definable.is_value_token value ≡ true → length (image.value_part value ++ r) ≤ 16777216
         → value_at (image.value_part value ++ r) ≡ Some (value, r)
     by_case None r is small = refl
     by_case (Some text) r is small = rw (token_decodes.finds text r is (omega (arith, small))) refl
@@ -64,51 +64,51 @@ both_found {p = p} {q = q} {f = f} {g = g} h first second a b r ta ub small =
     ∙ ap (λ x. option_and_then (λ x. found.made (λ y. h x.0 y) (g x.1)) x) (first.finds a (q b ++ r) ta small_whole)
     ∙ ap (λ y. found.made (λ y. h a y) y) (second.finds b r ub (shorter (p a) (q b ++ r) small_whole))
 
-pub setting_decodes : Decodes image.setting_part setting_at giving.is_setting
+pub setting_decodes : Decodes image.setting_part setting_at definable.is_setting
 unfolding setting_at
 setting_decodes = record { finds = found_it }
   where
-    found_it : (setting : Setting) (r : List ℕ) → giving.is_setting setting ≡ true → length (image.setting_part setting ++ r) ≤ 16777216 → setting_at (image.setting_part setting ++ r) ≡ Some (setting, r)
+    found_it : (setting : Setting) (r : List ℕ) → definable.is_setting setting ≡ true → length (image.setting_part setting ++ r) ≤ 16777216 → setting_at (image.setting_part setting ++ r) ≡ Some (setting, r)
     found_it setting r is small =
-        let parts = and_parts (is_key setting.key) (giving.is_value_token setting.value) is in
+        let parts = and_parts (is_key setting.key) (definable.is_value_token setting.value) is in
         both_found (λ key value. record { key = key; value = value }) key_decodes value_decodes setting.key setting.value r parts.0 parts.1 small
 
 -- exits
-pub exit_decodes : Decodes image.exit_part exit_at giving.is_exit
+pub exit_decodes : Decodes image.exit_part exit_at definable.is_exit
 unfolding exit_at
 exit_decodes = record { finds = by_case }
   where
-    by_case : (its : Exit) (r : List ℕ) → giving.is_exit its ≡ true → length (image.exit_part its ++ r) ≤ 16777216 → exit_at (image.exit_part its ++ r) ≡ Some (its, r)
+    by_case : (its : Exit) (r : List ℕ) → definable.is_exit its ≡ true → length (image.exit_part its ++ r) ≤ 16777216 → exit_at (image.exit_part its ++ r) ≡ Some (its, r)
     by_case (exit.Status status) r is small = refl
     by_case (exit.Signal signal) r is small = rw is refl
 
 -- what a process runs
-word_text : (word : List ℕ) → giving.is_word word ≡ true → is_utf8 word ≡ true
-word_text word is = (and_parts _ _ (and_parts _ (list_all giving.is_word_byte word) is).0).1
+word_text : (word : List ℕ) → definable.is_word word ≡ true → is_utf8 word ≡ true
+word_text word is = (and_parts _ _ (and_parts _ (list_all definable.is_word_byte word) is).0).1
 
-words_decode : Decodes (image.list_part text_part) (list_at text_at) (λ words. nat_le (length words) 65535 && list_all giving.is_word words)
-words_decode = list_decodes (also_decodes giving.is_word word_text text_decodes)
+words_decode : Decodes (image.list_part text_part) (list_at text_at) (λ words. nat_le (length words) 65535 && list_all definable.is_word words)
+words_decode = list_decodes (also_decodes definable.is_word word_text text_decodes)
 
-shell_text : (text : List ℕ) → giving.is_shell_text text ≡ true → is_utf8 text ≡ true
-shell_text text is = (and_parts _ (is_utf8 text) (and_parts _ (is_value text) (and_parts _ (giving.is_for_shell text) is).0).0).1
+shell_text : (text : List ℕ) → definable.is_shell_text text ≡ true → is_utf8 text ≡ true
+shell_text text is = (and_parts _ (is_utf8 text) (and_parts _ (is_value text) (and_parts _ (definable.is_for_shell text) is).0).0).1
 
-pub action_decodes : Decodes image.action_part action_at giving.can_run
+pub action_decodes : Decodes image.action_part action_at definable.can_run
 unfolding action_at
 action_decodes = record { finds = by_case }
   where
-    by_case : (action : Option Action) (r : List ℕ) → giving.can_run action ≡ true → length (image.action_part action ++ r) ≤ 16777216 → action_at (image.action_part action ++ r) ≡ Some (action, r)
+    by_case : (action : Option Action) (r : List ℕ) → definable.can_run action ≡ true → length (image.action_part action ++ r) ≤ 16777216 → action_at (image.action_part action ++ r) ≡ Some (action, r)
     by_case None r is small = refl
     by_case (Some (Words words)) r is small =
-        let parts = and_parts _ (list_all giving.is_word words) is in
+        let parts = and_parts _ (list_all definable.is_word words) is in
         rw (words_decode.finds words r (rw ((and_parts _ (nat_le (length words) 65535) parts.0).1, parts.1) refl) (omega (arith, small))) refl
     by_case (Some (Shell text)) r is small =
         rw (text_decodes.finds text r (shell_text text is) (omega (arith, small))) refl
 
 -- the values of a leaf
-leaf_value : (value : List ℕ) → giving.is_leaf_value value ≡ true → giving.is_token value ≡ true
-leaf_value value is = (and_parts (giving.is_token value) _ is).0
+leaf_value : (value : List ℕ) → definable.is_leaf_value value ≡ true → definable.is_token value ≡ true
+leaf_value value is = (and_parts (definable.is_token value) _ is).0
 
-keyed_part : (kind : ℕ) (key value r : List ℕ) (test : Test) → found.keyed_by kind key value ≡ Some test → is_key key ≡ true → giving.is_token value ≡ true
+keyed_part : (kind : ℕ) (key value r : List ℕ) (test : Test) → found.keyed_by kind key value ≡ Some test → is_key key ≡ true → definable.is_token value ≡ true
     → length ((text_part key ++ text_part value) ++ r) ≤ 16777216
     → option_and_then (found.keyed_at kind) (text_at ((text_part key ++ text_part value) ++ r)) ≡ Some (test, r)
 keyed_part kind key value r test by is_one is small =
@@ -116,27 +116,27 @@ keyed_part kind key value r test by is_one is small =
     let small_whole : length (text_part key ++ (text_part value ++ r)) ≤ 16777216 = omega (arith, small, ap length apart) in
     rw (apart, key_decodes.finds key (text_part value ++ r) is_one small_whole, token_decodes.finds value r is (shorter (text_part key) (text_part value ++ r) small_whole), by) refl
 
-test_decodes : Decodes image.test_part test_at giving.is_test
+test_decodes : Decodes image.test_part test_at definable.is_test
 unfolding test_at
 test_decodes = record { finds = by_case }
   where
-    by_case : (test : Test) (r : List ℕ) → giving.is_test test ≡ true → length (image.test_part test ++ r) ≤ 16777216 → test_at (image.test_part test ++ r) ≡ Some (test, r)
+    by_case : (test : Test) (r : List ℕ) → definable.is_test test ≡ true → length (image.test_part test ++ r) ≤ 16777216 → test_at (image.test_part test ++ r) ≡ Some (test, r)
     by_case (Place value) r is small =
-        rw (token_decodes.finds value r (leaf_value value (and_parts (giving.is_leaf_value value) _ is).0) (omega (arith, small))) refl
+        rw (token_decodes.finds value r (leaf_value value (and_parts (definable.is_leaf_value value) _ is).0) (omega (arith, small))) refl
     by_case (Same key value) r is small =
-        let parts = and_parts (is_key key) (giving.is_leaf_value value) is in
+        let parts = and_parts (is_key key) (definable.is_leaf_value value) is in
         keyed_part 1 key value r (Same key value) refl parts.0 (leaf_value value parts.1) (omega (arith, small))
     by_case (Differs key value) r is small =
-        let parts = and_parts (is_key key) (giving.is_leaf_value value) is in
+        let parts = and_parts (is_key key) (definable.is_leaf_value value) is in
         keyed_part 2 key value r (Differs key value) refl parts.0 (leaf_value value parts.1) (omega (arith, small))
 
-leaf_found : (leaf : Leaf) (r : List ℕ) → giving.is_leaf leaf ≡ true → image.is_countable leaf.values ≡ true
+leaf_found : (leaf : Leaf) (r : List ℕ) → definable.is_leaf leaf ≡ true → image.is_countable leaf.values ≡ true
     → length (text_part leaf.event ++ image.list_part image.test_part leaf.values ++ r) ≤ 16777216 → leaf_at (text_part leaf.event ++ image.list_part image.test_part leaf.values ++ r) ≡ Some (leaf, r)
 unfolding leaf_at
 leaf_found leaf r is few small =
-    let whole = and_parts (is_name leaf.event && list_all giving.is_test leaf.values && is_ordered leaf.values) (image.is_countable leaf.values) is in
-    let parts = and_parts (is_name leaf.event && list_all giving.is_test leaf.values) (is_ordered leaf.values) whole.0 in
-    let front = and_parts (is_name leaf.event) (list_all giving.is_test leaf.values) parts.0 in
+    let whole = and_parts (is_name leaf.event && list_all definable.is_test leaf.values && is_ordered leaf.values) (image.is_countable leaf.values) is in
+    let parts = and_parts (is_name leaf.event && list_all definable.is_test leaf.values) (is_ordered leaf.values) whole.0 in
+    let front = and_parts (is_name leaf.event) (list_all definable.is_test leaf.values) parts.0 in
     both_found (λ event tests. record { event = event; values = tests }) name_decodes (list_decodes test_decodes) leaf.event leaf.values r front.0 (rw (few, front.1) refl) small
 
 -- the nodes of a tree
@@ -146,7 +146,7 @@ two_passed x y r = number_is 2 (x ∷ y ∷ r) (big_number 2 (x ∷ y ∷ r)) r 
 sides_passed : (x y z w : ℕ) (r : List ℕ) → found.after_sides (x ∷ y ∷ z ∷ w ∷ r) ≡ Some r
 sides_passed x y z w r = rw (two_passed x y (z ∷ w ∷ r), two_passed z w r) refl
 
-node_found : (leaf : Leaf) (trees : List Tree) (r : List ℕ) → giving.is_leaf leaf ≡ true → image.is_countable leaf.values ≡ true
+node_found : (leaf : Leaf) (trees : List Tree) (r : List ℕ) → definable.is_leaf leaf ≡ true → image.is_countable leaf.values ≡ true
     → length (image.node_part (node.Leaf leaf) ++ r) ≤ 16777216 → node_at trees (image.node_part (node.Leaf leaf) ++ r) ≡ Some (One leaf ∷ trees, r)
 unfolding node_at
 node_found leaf trees r is few small = rw (leaf_found leaf r is few (omega (arith, small))) refl
@@ -181,7 +181,7 @@ sides_fit left right top all =
     let front = (and_parts _ _ (sym (list_all-append image.fits_node (left ++ right) (top ∷ [])) ∙ all)).0 in
     and_parts _ _ (sym (list_all-append image.fits_node left right) ∙ front)
 
-pub trees_found : (tree : Tree) (start count n : ℕ) (trees : List Tree) (r : List ℕ) → giving.are_leaves tree ≡ true → list_all image.fits_node (nodes_of start tree) ≡ true
+pub trees_found : (tree : Tree) (start count n : ℕ) (trees : List Tree) (r : List ℕ) → definable.are_leaves tree ≡ true → list_all image.fits_node (nodes_of start tree) ≡ true
     → count ≡ size tree + n → length (flat_map image.node_part (nodes_of start tree) ++ r) ≤ 16777216
     → trees_at count trees (flat_map image.node_part (nodes_of start tree) ++ r) ≡ trees_at n (tree ∷ trees) r
 trees_found (One leaf) start count n trees r are fit long small =
@@ -192,7 +192,7 @@ trees_found (Both left right) start count n trees r are fit long small =
     let top = node.And (start + size left - 1) (start + size left + size right - 1) in
     let ls = nodes_of start left in
     let rs = nodes_of (start + size left) right in
-    let both = and_parts (giving.are_leaves left) (giving.are_leaves right) are in
+    let both = and_parts (definable.are_leaves left) (definable.are_leaves right) are in
     let fits = sides_fit ls rs top fit in
     let apart = sides_apart ls rs top r in
     let last = (image.node_part top ++ []) ++ r in
@@ -205,7 +205,7 @@ trees_found (Either left right) start count n trees r are fit long small =
     let top = node.Or (start + size left - 1) (start + size left + size right - 1) in
     let ls = nodes_of start left in
     let rs = nodes_of (start + size left) right in
-    let both = and_parts (giving.are_leaves left) (giving.are_leaves right) are in
+    let both = and_parts (definable.are_leaves left) (definable.are_leaves right) are in
     let fits = sides_fit ls rs top fit in
     let apart = sides_apart ls rs top r in
     let last = (image.node_part top ++ []) ++ r in

@@ -5,10 +5,10 @@ use Rattle.std.proofs.lemmas.Bool.{and_parts}
 use Rattle.byteorder.specs.Endian.{big_bytes, big_number}
 use Rattle.byteorder.specs.Numbers.{big_number-reads_back}
 use Rattle.up_conf.specs.declared.job.JobDef.{JobDef}
-use Rattle.up_image.specs.declared.unread.Unread.{Unread}
-use Rattle.up_image.specs.declared.unread.Unread.TheVariants.{BadTable, Memory}
+use Rattle.up_image.specs.declared.read_fault.ReadFault.{ReadFault}
+use Rattle.up_image.specs.declared.read_fault.ReadFault.TheVariants.{BadTable, Memory}
 use Rattle.up_image.specs.Finding.{Refuses, items_at, job_at}
-use Rattle.up_image.specs.Giving.{can_all_be_given, can_be_given}
+use Rattle.up_image.specs.Definable.{are_definable, is_definable}
 use Rattle.up_image.specs.Image.{IsVersion, body_of, fits, has_image, head_of, job_part}
 use Rattle.up_image.specs.Index.{entries_of, index_part}
 use Rattle.up_image.specs.Reading.{HasNoTable, HasTable, IsStored, version_at}
@@ -18,11 +18,11 @@ use Rattle.up_image.proofs.Decoding.{items_found}
 use Rattle.up_image.proofs.Images.{has_it, same_version, says_version}
 use Rattle.up_image.proofs.JobDecoding.{is_found_job, job_decodes}
 
-all_found : (version : Version) (jobs : List JobDef) → list_all (fits version) jobs ≡ true → list_all can_be_given jobs ≡ true → list_all (is_found_job version) jobs ≡ true
+all_found : (version : Version) (jobs : List JobDef) → list_all (fits version) jobs ≡ true → list_all is_definable jobs ≡ true → list_all (is_found_job version) jobs ≡ true
 all_found version [] fit given = refl
 all_found version (job ∷ jobs) fit given =
     let one = and_parts (fits version job) (list_all (fits version) jobs) fit in
-    let other = and_parts (can_be_given job) (list_all can_be_given jobs) given in
+    let other = and_parts (is_definable job) (list_all is_definable jobs) given in
     rw (one.0, other.0, all_found version jobs one.1 other.1) refl
 
 -- how many jobs an image says that it has
@@ -32,9 +32,9 @@ counted version jobs long body few = big_number-reads_back 2 jobs (big_bytes 4 l
 body_after : (version : Version) (jobs long : ℕ) (body : List ℕ) → drop 12 (head_of version jobs long ++ body) ≡ body
 body_after version jobs long body = refl
 
-pub jobs_found : (version : Version) (bytes : List ℕ) (jobs : List JobDef) → IsVersion version bytes jobs → can_all_be_given jobs ≡ true
+pub jobs_found : (version : Version) (bytes : List ℕ) (jobs : List JobDef) → IsVersion version bytes jobs → are_definable jobs ≡ true
     → items_at (job_at version) (big_number 2 (drop 6 bytes)) [] (drop 12 bytes) ≡ Some (jobs, index_part (entries_of jobs))
-unfolding can_all_be_given
+unfolding are_definable
 jobs_found version bytes jobs image given =
     let index = index_part (entries_of jobs) in
     let head = head_of version (length jobs) (length bytes) in
@@ -44,7 +44,7 @@ jobs_found version bytes jobs image given =
     let body : drop 12 bytes ≡ body_of version jobs = ap (λ b. drop 12 b) image.written ∙ body_after version (length jobs) (length bytes) (body_of version jobs) in
     ap (λ n. items_at (job_at version) n [] (drop 12 bytes)) number
     ∙ ap (λ b. items_at (job_at version) (length jobs) [] b) body
-    ∙ items_found (job_part version) (job_at version) (is_found_job version) (job_decodes version) jobs [] index (all_found version jobs image.counted (and_parts _ (list_all can_be_given jobs) given).1) short
+    ∙ items_found (job_part version) (job_at version) (is_found_job version) (job_decodes version) jobs [] index (all_found version jobs image.counted (and_parts _ (list_all is_definable jobs) given).1) short
 
 none_found : (found : Option (List JobDef × List ℕ)) (jobs : List JobDef) (rest : List ℕ) → found ≡ None → found ≡ Some (jobs, rest) → ⊥
 none_found found jobs rest none some = absurd (cc)
@@ -55,7 +55,7 @@ of_version version bytes jobs says (second, stored) =
     subst (λ v. IsStored v bytes jobs) (same_version second version bytes (says_version second bytes jobs stored.image) says) stored
 
 -- where no jobs are found, there is no table
-pub no_jobs : (version : Version) (bytes : List ℕ) (unread : Unread) → Refuses unread (items_at (job_at version) (big_number 2 (drop 6 bytes)) [] (drop 12 bytes)) → version_at bytes ≡ Some version → unread ≡ BadTable → HasNoTable bytes
+pub no_jobs : (version : Version) (bytes : List ℕ) (read_fault : ReadFault) → Refuses read_fault (items_at (job_at version) (big_number 2 (drop 6 bytes)) [] (drop 12 bytes)) → version_at bytes ≡ Some version → read_fault ≡ BadTable → HasNoTable bytes
 no_jobs version bytes BadTable none says is jobs table =
     let stored = of_version version bytes jobs says table in
     none_found _ jobs (index_part (entries_of jobs)) none (jobs_found version bytes jobs stored.image stored.given)

@@ -9,7 +9,7 @@ use Rattle.std.proofs.lemmas.Str.{IsUtf8-nil, IsUtf8-from_ascii, is_utf8-from_Is
 use Rattle.up_text.specs.Lists.{begins}
 use Rattle.up_text.specs.Tokens.{Mark, Part, Quoting, Folded, Alone, Blank, Passed, Stop, Fail, Mode, Outside, Comment, Escaped, Continued, Quoted, QuotedEscape, marks, mark_of, mark_outside, mark_quoted, mode_after, mode_outside, mode_quoted, open_after, end_marks, feed_mark, is_line_feed, is_blank, is_hash, is_quote, is_backslash, is_paren, reaches_feed}
 use Rattle.up_text.specs.Places.{Place, Reading, Got, Ended, Fails, is_gap, is_spelled, token_bytes, fault_in, marks_at, gap_at, place_after, read_at, reading, spelling_read}
-use Rattle.up_image.specs.Giving.{is_token_byte, is_token}
+use Rattle.up_image.specs.Definable.{is_token_byte, is_token}
 use Rattle.up_image.proofs.Thinning.{Gives, Ends, Thins, thins_tells, told_text, told_bytes, thinned_rest, from_cut, after_cut, push_text, tail_text}
 
 -- bytes of ASCII

@@ -6,7 +6,7 @@ use Rattle.std.proofs.lemmas.Bool.{and_from, or_parts, not_from_false}
 use Rattle.std.proofs.lemmas.List.{get_or_at, take_at, drop_at}
 use Rattle.std.proofs.lemmas.Str.{IsUtf8-append, IsUtf8-nil, IsUtf8-take, IsUtf8-drop, IsUtf8-from_ascii, IsCharBoundary-before_ascii, IsCharBoundary-after_ascii}
 use Rattle.up_text.specs.Tokens.{Mark, is_line_feed}
-use Rattle.up_image.specs.Giving.{is_token_byte}
+use Rattle.up_image.specs.Definable.{is_token_byte}
 
 -- where a text may be cut
 

@@ -22,8 +22,8 @@ use Rattle.up_image.specs.declared.job_parts.Lists.{Lists}
 use Rattle.up_image.specs.declared.job_parts.Processes.{Processes}
 use Rattle.up_image.specs.declared.job_parts.Events.{Events}
 use Rattle.up_image.specs.declared.limits.TheConstants.{MAX_NODES}
-use Rattle.up_image.specs.declared.unread.Unread.{Unread}
-use Rattle.up_image.specs.declared.unread.Unread.TheVariants.{BadTable, Memory}
+use Rattle.up_image.specs.declared.read_fault.ReadFault.{ReadFault}
+use Rattle.up_image.specs.declared.read_fault.ReadFault.TheVariants.{BadTable, Memory}
 use Rattle.up_image.specs.declared.version.Version.{Version}
 use Rattle.up_image.specs.declared.version.Version.TheVariants as version
 
@@ -278,11 +278,11 @@ job_at version bytes =
     (numbers_at version texts.1)) (texts_at bytes)
 
 -- what a refused reading says: out of memory nothing, else that there is nothing to read
-abbrev pub Refuses : {Y : Type 0} → Unread → Option Y → Type 0
+abbrev pub Refuses : {Y : Type 0} → ReadFault → Option Y → Type 0
 Refuses Memory found = Unit {0}
 Refuses BadTable found = found ≡ None
 
 -- what was returned, seen by a view, is what is found
-abbrev pub Reads : {X Y : Type 0} → (X → Y) → Result X Unread → Option Y → Type 0
+abbrev pub Reads : {X Y : Type 0} → (X → Y) → Result X ReadFault → Option Y → Type 0
 Reads view (Ok x) found = found ≡ Some (view x)
-Reads view (Err unread) found = Refuses unread found
+Reads view (Err read_fault) found = Refuses read_fault found

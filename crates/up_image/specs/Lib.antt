@@ -11,7 +11,7 @@ pub mod Compiling
 -- The numbers and names of errors of images.
 pub mod ImageErrors
 -- Which jobs a job file with its override can give.
-pub mod Giving
+pub mod Definable
 -- What stands first in bytes, and the bytes after it.
 pub mod Finding
 -- When bytes are read as a table, and why they are refused.

@@ -5,7 +5,7 @@ use Rattle.byteorder.specs.Endian.{big_number}
 use Rattle.up_conf.specs.declared.job.JobDef.{JobDef}
 use Rattle.up_image.specs.declared.image_error.ImageError.{ImageError}
 use Rattle.up_image.specs.declared.image_error.ImageError.TheVariants.{ImageTooLarge, BadMagic, BadVersion, Truncated, Trailing, BadTable, Memory}
-use Rattle.up_image.specs.Giving.{can_all_be_given}
+use Rattle.up_image.specs.Definable.{are_definable}
 use Rattle.up_image.specs.Image.{IsVersion, has_image}
 use Rattle.up_image.specs.Versions.{version_of}
 use Rattle.up_image.specs.declared.version.Version.{Version}
@@ -31,7 +31,7 @@ head_error bytes =
 -- bytes are, in a version, the image of jobs that files can give, and that have an image to be written
 pub record IsStored (version : Version) (bytes : List ℕ) (jobs : List JobDef) : Type 0 where
   pub image : IsVersion version bytes jobs
-  pub given : can_all_be_given jobs ≡ true
+  pub given : are_definable jobs ≡ true
   pub imaged : has_image jobs ≡ true
 
 abbrev pub HasTable : List ℕ → List JobDef → Type 0

@@ -14,7 +14,7 @@ pub(crate) fn put_byte(out: &mut Vec<u8>, byte: u8) -> Result<(), AllocError>
 }
 
 /// Appends the lowest two bytes of a number.
-pub(crate) fn put_two(out: &mut Vec<u8>, number: u64) -> Result<(), AllocError>
+pub(crate) fn push_u16(out: &mut Vec<u8>, number: u64) -> Result<(), AllocError>
     ensures { OnOk result (out.new.items ≡ out.old.items ++ big_bytes 2 number) }
 {
     let mut bytes = [0; 8];
@@ -24,7 +24,7 @@ pub(crate) fn put_two(out: &mut Vec<u8>, number: u64) -> Result<(), AllocError>
 }
 
 /// Appends the lowest four bytes of a number.
-pub(crate) fn put_four(out: &mut Vec<u8>, number: u64) -> Result<(), AllocError>
+pub(crate) fn push_u32(out: &mut Vec<u8>, number: u64) -> Result<(), AllocError>
     ensures { OnOk result (out.new.items ≡ out.old.items ++ big_bytes 4 number) }
 {
     let mut bytes = [0; 8];
@@ -37,7 +37,7 @@ pub(crate) fn put_four(out: &mut Vec<u8>, number: u64) -> Result<(), AllocError>
 pub(crate) fn put_text(out: &mut Vec<u8>, text: &str) -> Result<(), AllocError>
     ensures { OnOk result (out.new.items ≡ out.old.items ++ text_part text.now) }
 {
-    put_four(out, text.len() as u64)?;
+    push_u32(out, text.len() as u64)?;
     out.extend_from_slice(text.as_bytes())?;
     Ok(())
 }

@@ -2,7 +2,7 @@
 ghost use Rattle.std.specs.Prelude.{◌≡◌, IfOk, IfErr, Ok, Err, if◌then◌else◌, true};
 ghost use Rattle.up_image.specs.declared.refusal.CompileError.TheVariants.{ImageTooLarge, SameName, TooManyJobs};
 ghost use Rattle.up_image.specs.Compiling.{Compiles, MayRefuse};
-ghost use Rattle.up_image.specs.Giving.{can_all_be_given};
+ghost use Rattle.up_image.specs.Definable.{are_definable};
 
 use crate::image::has_image;
 use crate::limits::MAX_JOBS;
@@ -46,7 +46,7 @@ fn check_small(small: bool) -> Result<(), CompileError>
 #[tactic(auto, using(crate::proofs::GivenJobs::table_given))]
 pub fn compile(alloc: Global, folder: &Folder) -> Result<(Table, Report), CompileError>
     ensures compiled { IfOk result (λ made. Compiles folder.now made.0 made.1) }
-    ensures given { IfOk result (λ made. can_all_be_given made.0 ≡ true) }
+    ensures given { IfOk result (λ made. are_definable made.0 ≡ true) }
     ensures refused { IfErr result (MayRefuse folder.now) }
 {
     let twice = has_same_path(alloc, folder.as_slice())?;

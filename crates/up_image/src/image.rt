@@ -7,7 +7,7 @@ ghost use Rattle.up_image.specs.Image.{IsImage, body_of, fits, has_image, head_o
 ghost use Rattle.up_image.specs.Index.{entries_of, index_part};
 ghost use Rattle.up_image.specs.declared.version.Version.TheVariants.{Two};
 
-use crate::bytes::{put_four, put_two};
+use crate::bytes::{push_u16, push_u32};
 use crate::fits::all_fit;
 use crate::index::put_index;
 use crate::limits::{MAX_IMAGE, MAX_JOBS};
@@ -77,9 +77,9 @@ pub(crate) fn put_head(
     ensures { OnOk result (out.new.items ≡ out.old.items ++ head_of version jobs bytes) }
 {
     out.extend_from_slice(b"UPTB")?;
-    put_two(out, u64::from(version.number()))?;
-    put_two(out, jobs as u64)?;
-    put_four(out, bytes as u64)?;
+    push_u16(out, u64::from(version.number()))?;
+    push_u16(out, jobs as u64)?;
+    push_u32(out, bytes as u64)?;
     Ok(())
 }
 

@@ -6,7 +6,7 @@ ghost use Rattle.up_conf.specs.Order.{in_order};
 ghost use Rattle.up_image.specs.declared.limits.TheConstants.{MAX_JOBS, MAX_NODES};
 ghost use Rattle.up_image.specs.Index.{entries_of, entry_part, event_of, index_part, leaf_places, place_part, places_in, places_of, runs_of};
 
-use crate::bytes::{put_byte, put_four, put_text, put_two};
+use crate::bytes::{push_u16, push_u32, put_byte, put_text};
 use std::alloc::{AllocError, Global};
 use up_conf::JobDef;
 use up_expr::{Condition, Node};
@@ -163,9 +163,9 @@ fn runs_of(alloc: Global, places: &[Place]) -> Result<Vec<&[Place]>, AllocError>
 fn put_place(out: &mut Vec<u8>, place: &Place) -> Result<(), AllocError>
     ensures { OnOk result (out.new.items ≡ out.old.items ++ place_part place.now) }
 {
-    put_two(out, u64::from(place.job))?;
+    push_u16(out, u64::from(place.job))?;
     put_byte(out, if place.start { 1 } else { 0 })?;
-    put_two(out, u64::from(place.node))?;
+    push_u16(out, u64::from(place.node))?;
     Ok(())
 }
 
@@ -192,7 +192,7 @@ fn put_entry(out: &mut Vec<u8>, places: &[Place]) -> Result<(), AllocError>
     ensures { OnOk result (out.new.items ≡ out.old.items ++ entry_part places.now) }
 {
     put_text(out, event_of(places))?;
-    put_four(out, places.len() as u64)?;
+    push_u32(out, places.len() as u64)?;
     put_each_place(out, places)?;
     Ok(())
 }
@@ -210,7 +210,7 @@ fn put_each_entry(out: &mut Vec<u8>, runs: &[&[Place]]) -> Result<(), AllocError
 fn put_entries(out: &mut Vec<u8>, runs: &[&[Place]]) -> Result<(), AllocError>
     ensures { OnOk result (out.new.items ≡ out.old.items ++ index_part (map (λ run. run.now) runs.now)) }
 {
-    put_four(out, runs.len() as u64)?;
+    push_u32(out, runs.len() as u64)?;
     put_each_entry(out, runs)?;
     Ok(())
 }

@@ -6,7 +6,7 @@ ghost use Rattle.up_conf.specs.declared.job.JobDef.{JobDef};
 ghost use Rattle.up_conf.specs.declared.report.Fault.{Fault};
 ghost use Rattle.up_conf.specs.Folders.{jobs_of};
 ghost use Rattle.up_image.specs.Compiling.{Compiles, has_twice, read_paths};
-ghost use Rattle.up_image.specs.Giving.{are_ascending, can_all_be_given};
+ghost use Rattle.up_image.specs.Definable.{are_ascending, are_definable};
 ghost use Rattle.up_image.specs.Image.{IsImage, IsVersion, body_of, fits, has_image};
 ghost use Rattle.up_image.specs.declared.version.Version.{Version};
 ghost use Rattle.up_image.specs.declared.version.Version.TheVariants.{One, Two};
@@ -43,7 +43,7 @@ pub fn some_image()
 /// What a folder is compiled to can be given by files.
 pub fn compiled_is_given()
     ensures { (files : List File) (jobs : List JobDef) (faults : List Fault) → Compiles files jobs faults
-        → can_all_be_given jobs ≡ true }
+        → are_definable jobs ≡ true }
 {}
 
 /// The image of what a folder is compiled to is read back, unless memory is lacking: it is never refused as `BadTable`.

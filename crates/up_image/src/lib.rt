@@ -3,11 +3,11 @@
 
 mod bytes;
 pub mod compiling;
+mod definable;
+mod definable_events;
+mod definable_texts;
 mod files;
 mod fits;
-mod giving;
-mod giving_events;
-mod giving_texts;
 mod image;
 pub mod image_error;
 pub mod index;
@@ -19,6 +19,7 @@ pub mod limits;
 mod put_job;
 mod put_lists;
 mod put_nodes;
+mod read_fault;
 mod read_image;
 pub mod refusal;
 mod same_image;
@@ -29,7 +30,6 @@ mod take_job;
 mod take_lists;
 mod take_nodes;
 mod twice;
-mod unread;
 pub mod version;
 
 pub use compiling::compile;

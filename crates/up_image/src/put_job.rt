@@ -4,7 +4,7 @@ ghost use Rattle.std.specs.List.{flat_map};
 ghost use Rattle.up_image.specs.Image.{bit, event_part, field_part, flags, job_part, number_parts, process_part, reload_part, set_part, text_parts};
 ghost use Rattle.up_image.specs.declared.version.Version.TheVariants.{Two};
 
-use crate::bytes::{put_byte, put_four, put_text};
+use crate::bytes::{push_u32, put_byte, put_text};
 use crate::put_lists::{put_action, put_exits, put_settings, put_texts};
 use crate::put_nodes::put_condition;
 use crate::version::Version;
@@ -46,11 +46,11 @@ fn put_reload(out: &mut Vec<u8>, version: Version, job: &JobDef) -> Result<(), A
 fn put_numbers(out: &mut Vec<u8>, version: Version, job: &JobDef) -> Result<(), AllocError>
     ensures { OnOk result (out.new.items ≡ out.old.items ++ number_parts version job.now) }
 {
-    put_four(out, u64::from(job.limit.count))?;
-    put_four(out, u64::from(job.limit.interval))?;
+    push_u32(out, u64::from(job.limit.count))?;
+    push_u32(out, u64::from(job.limit.interval))?;
     put_byte(out, job.kill_signal.number())?;
     put_reload(out, version, job)?;
-    put_four(out, u64::from(job.kill_timeout))?;
+    push_u32(out, u64::from(job.kill_timeout))?;
     Ok(())
 }
 

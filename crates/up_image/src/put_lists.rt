@@ -4,7 +4,7 @@ ghost use Rattle.std.specs.List.{flat_map};
 ghost use Rattle.up_image.specs.Image.{action_part, exit_part, list_part, setting_part, value_part};
 ghost use Rattle.up_image.specs.Texts.{text_part};
 
-use crate::bytes::{put_byte, put_text, put_two};
+use crate::bytes::{push_u16, put_byte, put_text};
 use std::alloc::AllocError;
 use up_stanza::{Action, Exit, Setting};
 use up_text::Text;
@@ -22,7 +22,7 @@ fn put_each_text(out: &mut Vec<u8>, texts: &[Text]) -> Result<(), AllocError>
 pub(crate) fn put_texts(out: &mut Vec<u8>, texts: &[Text]) -> Result<(), AllocError>
     ensures { OnOk result (out.new.items ≡ out.old.items ++ list_part text_part texts.now) }
 {
-    put_two(out, texts.len() as u64)?;
+    push_u16(out, texts.len() as u64)?;
     put_each_text(out, texts)?;
     Ok(())
 }
@@ -61,7 +61,7 @@ fn put_each_setting(out: &mut Vec<u8>, settings: &[Setting]) -> Result<(), Alloc
 pub(crate) fn put_settings(out: &mut Vec<u8>, settings: &[Setting]) -> Result<(), AllocError>
     ensures { OnOk result (out.new.items ≡ out.old.items ++ list_part setting_part settings.now) }
 {
-    put_two(out, settings.len() as u64)?;
+    push_u16(out, settings.len() as u64)?;
     put_each_setting(out, settings)?;
     Ok(())
 }
@@ -95,7 +95,7 @@ fn put_each_exit(out: &mut Vec<u8>, exits: &[Exit]) -> Result<(), AllocError>
 pub(crate) fn put_exits(out: &mut Vec<u8>, exits: &[Exit]) -> Result<(), AllocError>
     ensures { OnOk result (out.new.items ≡ out.old.items ++ list_part exit_part exits.now) }
 {
-    put_two(out, exits.len() as u64)?;
+    push_u16(out, exits.len() as u64)?;
     put_each_exit(out, exits)?;
     Ok(())
 }

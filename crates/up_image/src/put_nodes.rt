@@ -5,7 +5,7 @@ ghost use Rattle.byteorder.specs.Endian.{big_bytes};
 ghost use Rattle.up_image.specs.Image.{list_part, node_part, nodes_in, test_part};
 ghost use Rattle.up_image.specs.Texts.{text_part};
 
-use crate::bytes::{put_byte, put_text, put_two};
+use crate::bytes::{push_u16, put_byte, put_text};
 use std::alloc::AllocError;
 use up_expr::{Condition, Leaf, Node, Test};
 
@@ -49,7 +49,7 @@ fn put_each_test(out: &mut Vec<u8>, tests: &[Test]) -> Result<(), AllocError>
 fn put_tests(out: &mut Vec<u8>, tests: &[Test]) -> Result<(), AllocError>
     ensures { OnOk result (out.new.items ≡ out.old.items ++ list_part test_part tests.now) }
 {
-    put_two(out, tests.len() as u64)?;
+    push_u16(out, tests.len() as u64)?;
     put_each_test(out, tests)?;
     Ok(())
 }
@@ -66,8 +66,8 @@ fn put_leaf(out: &mut Vec<u8>, leaf: &Leaf) -> Result<(), AllocError>
 fn put_sides(out: &mut Vec<u8>, left: u16, right: u16) -> Result<(), AllocError>
     ensures { OnOk result (out.new.items ≡ out.old.items ++ (big_bytes 2 left ++ big_bytes 2 right)) }
 {
-    put_two(out, u64::from(left))?;
-    put_two(out, u64::from(right))?;
+    push_u16(out, u64::from(left))?;
+    push_u16(out, u64::from(right))?;
     Ok(())
 }
 
@@ -103,7 +103,7 @@ fn put_each_node(out: &mut Vec<u8>, nodes: &[Node]) -> Result<(), AllocError>
 fn put_nodes(out: &mut Vec<u8>, nodes: &[Node]) -> Result<(), AllocError>
     ensures { OnOk result (out.new.items ≡ out.old.items ++ list_part node_part nodes.now) }
 {
-    put_two(out, nodes.len() as u64)?;
+    push_u16(out, nodes.len() as u64)?;
     put_each_node(out, nodes)?;
     Ok(())
 }
@@ -116,7 +116,7 @@ pub(crate) fn put_condition(
     ensures { OnOk result (out.new.items ≡ out.old.items ++ list_part node_part (nodes_in condition.now)) }
 {
     match condition {
-        None => put_two(out, 0)?,
+        None => push_u16(out, 0)?,
         Some(condition) => put_nodes(out, condition.nodes().as_slice())?,
     }
     Ok(())

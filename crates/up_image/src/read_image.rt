@@ -7,19 +7,19 @@ ghost use Rattle.std.specs.Result.{result_err};
 ghost use Rattle.std.specs.Str.{bytes_eq};
 ghost use Rattle.byteorder.specs.Endian.{big_number};
 ghost use Rattle.up_image.specs.Image.{IsVersion, has_image};
-ghost use Rattle.up_image.specs.Giving.{can_all_be_given};
+ghost use Rattle.up_image.specs.Definable.{are_definable};
 ghost use Rattle.up_image.specs.Reading.{HasNoTable, IsStored, ReadsImage, claimed_length, head_error, version_at};
-ghost use Rattle.up_image.specs.declared.unread.Unread.TheVariants.{BadTable};
+ghost use Rattle.up_image.specs.declared.read_fault.ReadFault.TheVariants.{BadTable};
 ghost use Rattle.up_image.specs.declared.version.Version.TheVariants.{One};
 
-use crate::giving::can_all_be_given;
+use crate::definable::are_definable;
 use crate::image::{HEAD, has_image};
 use crate::image_error::ImageError;
 use crate::limits::MAX_IMAGE;
+use crate::read_fault::ReadFault;
 use crate::same_image::is_image;
 use crate::table::Table;
 use crate::take_job::take_jobs;
-use crate::unread::Unread;
 use crate::version::{Version, version_of};
 use byteorder::{BigEndian, ByteOrder};
 use std::alloc::Global;
@@ -86,41 +86,41 @@ fn read_head(bytes: &[u8]) -> Result<Version, ImageError>
 }
 
 // Refuses jobs that have another image than these bytes.
-fn check_image(alloc: Global, version: Version, jobs: &[JobDef], bytes: &[u8]) -> Result<(), Unread>
+fn check_image(alloc: Global, version: Version, jobs: &[JobDef], bytes: &[u8]) -> Result<(), ReadFault>
     ensures image { OnOk result (IsVersion version bytes.now jobs.now) }
-    ensures refused { IfErr result (λ unread. unread ≡ BadTable → IsVersion version bytes.now jobs.now → ⊥) }
+    ensures refused { IfErr result (λ read_fault. read_fault ≡ BadTable → IsVersion version bytes.now jobs.now → ⊥) }
 {
     if is_image(alloc, version, jobs, bytes)? {
         return Ok(());
     }
-    Err(Unread::BadTable)
+    Err(ReadFault::BadTable)
 }
 
 // Refuses jobs of an old image that have no new one: that may be longer.
-fn check_new(alloc: Global, version: Version, jobs: &[JobDef]) -> Result<(), Unread>
+fn check_new(alloc: Global, version: Version, jobs: &[JobDef]) -> Result<(), ReadFault>
     ensures imaged { OnOk result (version ≡ One → has_image jobs.now ≡ true) }
-    ensures refused { IfErr result (λ unread. unread ≡ BadTable → has_image jobs.now ≡ false) }
+    ensures refused { IfErr result (λ read_fault. read_fault ≡ BadTable → has_image jobs.now ≡ false) }
 {
     match version {
         Version::One => {
             if has_image(alloc, jobs)? {
                 return Ok(());
             }
-            Err(Unread::BadTable)
+            Err(ReadFault::BadTable)
         }
         Version::Two => Ok(()),
     }
 }
 
 // Refuses jobs that no files give.
-fn check_given(alloc: Global, jobs: &[JobDef]) -> Result<(), Unread>
-    ensures given { OnOk result (can_all_be_given jobs.now ≡ true) }
-    ensures refused { IfErr result (λ unread. unread ≡ BadTable → can_all_be_given jobs.now ≡ false) }
+fn check_given(alloc: Global, jobs: &[JobDef]) -> Result<(), ReadFault>
+    ensures given { OnOk result (are_definable jobs.now ≡ true) }
+    ensures refused { IfErr result (λ read_fault. read_fault ≡ BadTable → are_definable jobs.now ≡ false) }
 {
-    if can_all_be_given(alloc, jobs)? {
+    if are_definable(alloc, jobs)? {
         return Ok(());
     }
-    Err(Unread::BadTable)
+    Err(ReadFault::BadTable)
 }
 
 // The bytes after the head.
@@ -137,9 +137,9 @@ fn check_stored(
     version: Version,
     jobs: &[JobDef],
     bytes: &[u8],
-) -> Result<(), Unread>
+) -> Result<(), ReadFault>
     ensures stored { OnOk result (IsStored version bytes.now jobs.now) }
-    ensures refused { IfErr result (λ unread. unread ≡ BadTable → IsStored version bytes.now jobs.now → ⊥) }
+    ensures refused { IfErr result (λ read_fault. read_fault ≡ BadTable → IsStored version bytes.now jobs.now → ⊥) }
 {
     check_given(alloc, jobs)?;
     check_image(alloc, version, jobs, bytes)?;
@@ -153,31 +153,31 @@ fn checked(
     version: Version,
     jobs: Vec<JobDef>,
     bytes: &[u8],
-) -> Result<Items<JobDef>, Unread>
+) -> Result<Items<JobDef>, ReadFault>
     ensures found { IfOk result (λ found. found ≡ jobs.items) }
     ensures stored { OnOk result (IsStored version bytes.now jobs.items) }
-    ensures refused { IfErr result (λ unread. unread ≡ BadTable → IsStored version bytes.now jobs.items → ⊥) }
+    ensures refused { IfErr result (λ read_fault. read_fault ≡ BadTable → IsStored version bytes.now jobs.items → ⊥) }
 {
     check_stored(alloc, version, jobs.as_slice(), bytes)?;
     Ok(Items::new(jobs))
 }
 
 // The jobs whose image these bytes are, if their head is right and says this version.
-fn read_body(alloc: Global, version: Version, bytes: &[u8]) -> Result<Items<JobDef>, Unread>
+fn read_body(alloc: Global, version: Version, bytes: &[u8]) -> Result<Items<JobDef>, ReadFault>
     requires long { 12 ≤ length bytes.now }
     requires version { version_at bytes.now ≡ Some version }
     ensures stored { IfOk result (λ jobs. IsStored version bytes.now jobs) }
-    ensures refused { IfErr result (λ unread. unread ≡ BadTable → HasNoTable bytes.now) }
+    ensures refused { IfErr result (λ read_fault. read_fault ≡ BadTable → HasNoTable bytes.now) }
 {
     if bytes.len() > MAX_IMAGE {
-        return Err(Unread::BadTable);
+        return Err(ReadFault::BadTable);
     }
     match take_jobs(alloc, version, after_head(bytes), job_count(bytes)) {
         Ok((jobs, _index)) => match checked(alloc, version, jobs, bytes) {
             Ok(jobs) => Ok(jobs),
-            Err(unread) => Err(unread),
+            Err(read_fault) => Err(read_fault),
         },
-        Err(unread) => Err(unread),
+        Err(read_fault) => Err(read_fault),
     }
 }
 
@@ -189,8 +189,8 @@ pub(crate) fn read_image(alloc: Global, bytes: &[u8]) -> Result<Table, ImageErro
         Err(error) => Err(error),
         Ok(version) => match read_body(alloc, version, bytes) {
             Ok(jobs) => Ok(Table::new(jobs)),
-            Err(Unread::BadTable) => Err(ImageError::BadTable),
-            Err(Unread::Memory) => Err(ImageError::Memory),
+            Err(ReadFault::BadTable) => Err(ImageError::BadTable),
+            Err(ReadFault::Memory) => Err(ImageError::Memory),
         },
     }
 }

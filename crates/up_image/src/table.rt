@@ -4,7 +4,7 @@ ghost use Rattle.up_image.specs.declared.image_error.ImageError.TheVariants.{Mem
 ghost use Rattle.up_conf.specs.Order.{in_order};
 ghost use Rattle.up_image.specs.Image.{IsImage};
 ghost use Rattle.up_image.specs.Index.{places_of};
-ghost use Rattle.up_image.specs.Giving.{IsTable};
+ghost use Rattle.up_image.specs.Definable.{IsTable};
 ghost use Rattle.up_image.specs.Reading.{ReadsImage, head_error};
 
 use crate::image::write_image;
@@ -35,7 +35,7 @@ impl Model for Table {
 
     ghost view = { λ t. t.jobs };
 
-    ghost use Rattle.up_image.specs.Giving.{IsTable};
+    ghost use Rattle.up_image.specs.Definable.{IsTable};
 
     ghost invariant = { λ t. IsTable t.jobs };
 }

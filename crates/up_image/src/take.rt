@@ -3,7 +3,7 @@
 ghost use Rattle.std.specs.Prelude.{◌≡◌, ◌++◌, ◌∷◌, [], OnOk};
 ghost use Rattle.up_image.specs.Finding.{Reads, byte_at, items_at, list_at, name_at, number_at, split_at, text_at};
 
-use crate::unread::Unread;
+use crate::read_fault::ReadFault;
 use byteorder::{BigEndian, ByteOrder};
 use std::alloc::{AllocError, Global};
 use std::str;
@@ -17,57 +17,57 @@ pub(crate) fn push<T: Drop>(items: &mut Vec<T>, item: T) -> Result<(), AllocErro
     Ok(())
 }
 
-fn take_bytes(bytes: &[u8], len: usize) -> Result<(&[u8], &[u8]), Unread>
+fn take_bytes(bytes: &[u8], len: usize) -> Result<(&[u8], &[u8]), ReadFault>
     ensures { Reads (λ x. (x.0.now, x.1.now)) result (split_at (len, bytes.now)) }
 {
     if len > bytes.len() {
-        return Err(Unread::BadTable);
+        return Err(ReadFault::BadTable);
     }
     Ok(bytes.split_at(len))
 }
 
-pub(crate) fn take_byte(bytes: &[u8]) -> Result<(u8, &[u8]), Unread>
+pub(crate) fn take_byte(bytes: &[u8]) -> Result<(u8, &[u8]), ReadFault>
     ensures { Reads (λ x. (x.0, x.1.now)) result (byte_at bytes.now) }
 {
     match bytes.split_first() {
         Some((byte, rest)) => Ok((*byte, rest)),
-        None => Err(Unread::BadTable),
+        None => Err(ReadFault::BadTable),
     }
 }
 
-pub(crate) fn take_two(bytes: &[u8]) -> Result<(u16, &[u8]), Unread>
+pub(crate) fn take_two(bytes: &[u8]) -> Result<(u16, &[u8]), ReadFault>
     ensures { Reads (λ x. (x.0, x.1.now)) result (number_at 2 bytes.now) }
 {
     if bytes.len() < 2 {
-        return Err(Unread::BadTable);
+        return Err(ReadFault::BadTable);
     }
     let number = BigEndian::read_u16(bytes);
     Ok((number, &bytes[2..]))
 }
 
-pub(crate) fn take_four(bytes: &[u8]) -> Result<(u32, &[u8]), Unread>
+pub(crate) fn take_four(bytes: &[u8]) -> Result<(u32, &[u8]), ReadFault>
     ensures { Reads (λ x. (x.0, x.1.now)) result (number_at 4 bytes.now) }
 {
     if bytes.len() < 4 {
-        return Err(Unread::BadTable);
+        return Err(ReadFault::BadTable);
     }
     let number = BigEndian::read_u32(bytes);
     Ok((number, &bytes[4..]))
 }
 
 #[tactic(auto, unfolding(crate::specs::Finding::text_at), using(crate::proofs::Utf8::is_text, crate::proofs::Utf8::is_no_text))]
-fn take_str(bytes: &[u8]) -> Result<(&str, &[u8]), Unread>
+fn take_str(bytes: &[u8]) -> Result<(&str, &[u8]), ReadFault>
     ensures { Reads (λ x. (x.0.now, x.1.now)) result (text_at bytes.now) }
 {
     let (len, rest) = take_four(bytes)?;
     let (text, rest) = take_bytes(rest, len as usize)?;
     match str::from_utf8(text) {
         Ok(text) => Ok((text, rest)),
-        Err(_) => Err(Unread::BadTable),
+        Err(_) => Err(ReadFault::BadTable),
     }
 }
 
-pub(crate) fn take_text(alloc: Global, bytes: &[u8]) -> Result<(Text, &[u8]), Unread>
+pub(crate) fn take_text(alloc: Global, bytes: &[u8]) -> Result<(Text, &[u8]), ReadFault>
     ensures { Reads (λ x. (x.0, x.1.now)) result (text_at bytes.now) }
 {
     let (text, rest) = take_str(bytes)?;
@@ -75,19 +75,19 @@ pub(crate) fn take_text(alloc: Global, bytes: &[u8]) -> Result<(Text, &[u8]), Un
 }
 
 #[tactic(auto, unfolding(crate::specs::Finding::name_at))]
-pub(crate) fn take_name(alloc: Global, bytes: &[u8]) -> Result<(Name, &[u8]), Unread>
+pub(crate) fn take_name(alloc: Global, bytes: &[u8]) -> Result<(Name, &[u8]), ReadFault>
     ensures { Reads (λ x. (x.0, x.1.now)) result (name_at bytes.now) }
 {
     let (text, rest) = take_str(bytes)?;
     match Name::new(alloc, text) {
         Ok(name) => Ok((name, rest)),
-        Err(TextFault::Memory) => Err(Unread::Memory),
-        Err(_) => Err(Unread::BadTable),
+        Err(TextFault::Memory) => Err(ReadFault::Memory),
+        Err(_) => Err(ReadFault::BadTable),
     }
 }
 
 #[tactic(auto, using(crate::proofs::Counting::items_left))]
-fn take_many(alloc: Global, bytes: &[u8], count: u16) -> Result<(Items<Text>, &[u8]), Unread>
+fn take_many(alloc: Global, bytes: &[u8], count: u16) -> Result<(Items<Text>, &[u8]), ReadFault>
     ensures { Reads (λ x. (x.0, x.1.now)) result (items_at text_at count [] bytes.now) }
 {
     let mut rest = bytes;
@@ -100,7 +100,7 @@ fn take_many(alloc: Global, bytes: &[u8], count: u16) -> Result<(Items<Text>, &[
     Ok((Items::new(texts), rest))
 }
 
-pub(crate) fn take_texts(alloc: Global, bytes: &[u8]) -> Result<(Items<Text>, &[u8]), Unread>
+pub(crate) fn take_texts(alloc: Global, bytes: &[u8]) -> Result<(Items<Text>, &[u8]), ReadFault>
     ensures { Reads (λ x. (x.0, x.1.now)) result (list_at text_at bytes.now) }
 {
     let (count, rest) = take_two(bytes)?;

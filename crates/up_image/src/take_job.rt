@@ -3,17 +3,17 @@ ghost use Rattle.std.specs.Prelude.{◌≡◌, [], option_map};
 ghost use Rattle.up_image.specs.Finding.{Reads, events_at, items_at, job_at, job_by, lists_at, number_at, numbers_at, processes_at, reload_at, signals_of, texts_at};
 
 use crate::job_parts::{Events, Lists, Numbers, Processes, Signals, Texts};
+use crate::read_fault::ReadFault;
 use crate::take::{push, take_byte, take_four, take_name, take_text, take_texts};
 use crate::take_lists::{signal_of, take_action, take_exits, take_settings};
 use crate::take_nodes::take_condition;
-use crate::unread::Unread;
 use crate::version::Version;
 use std::alloc::Global;
 use up_conf::JobDef;
 use up_stanza::{Limit, Signal};
 
 #[tactic(auto, unfolding(crate::specs::Finding::texts_at))]
-fn take_own_texts(alloc: Global, bytes: &[u8]) -> Result<(Texts, &[u8]), Unread>
+fn take_own_texts(alloc: Global, bytes: &[u8]) -> Result<(Texts, &[u8]), ReadFault>
     ensures { Reads (λ x. (x.0, x.1.now)) result (texts_at bytes.now) }
 {
     let (name, rest) = take_name(alloc, bytes)?;
@@ -30,7 +30,7 @@ fn take_own_texts(alloc: Global, bytes: &[u8]) -> Result<(Texts, &[u8]), Unread>
 }
 
 // The number of the reload signal. In version 1 it is HUP and has no byte.
-fn take_reload(version: Version, bytes: &[u8]) -> Result<(u8, &[u8]), Unread>
+fn take_reload(version: Version, bytes: &[u8]) -> Result<(u8, &[u8]), ReadFault>
     ensures { Reads (λ x. (x.0, x.1.now)) result (reload_at version bytes.now) }
 {
     match version {
@@ -40,7 +40,7 @@ fn take_reload(version: Version, bytes: &[u8]) -> Result<(u8, &[u8]), Unread>
 }
 
 #[tactic(auto, unfolding(crate::specs::Finding::numbers_at))]
-fn take_numbers(version: Version, bytes: &[u8]) -> Result<(Numbers, &[u8]), Unread>
+fn take_numbers(version: Version, bytes: &[u8]) -> Result<(Numbers, &[u8]), ReadFault>
     ensures { Reads (λ x. (x.0, x.1.now)) result (numbers_at version bytes.now) }
 {
     let (count, rest) = take_four(bytes)?;
@@ -58,7 +58,7 @@ fn take_numbers(version: Version, bytes: &[u8]) -> Result<(Numbers, &[u8]), Unre
 }
 
 #[tactic(auto, unfolding(crate::specs::Finding::lists_at))]
-fn take_lists(alloc: Global, bytes: &[u8]) -> Result<(Lists, &[u8]), Unread>
+fn take_lists(alloc: Global, bytes: &[u8]) -> Result<(Lists, &[u8]), ReadFault>
     ensures { Reads (λ x. (x.0, x.1.now)) result (lists_at bytes.now) }
 {
     let (env, rest) = take_settings(alloc, bytes)?;
@@ -73,7 +73,7 @@ fn take_lists(alloc: Global, bytes: &[u8]) -> Result<(Lists, &[u8]), Unread>
 }
 
 #[tactic(auto, unfolding(crate::specs::Finding::processes_at))]
-fn take_processes(alloc: Global, bytes: &[u8]) -> Result<(Processes, &[u8]), Unread>
+fn take_processes(alloc: Global, bytes: &[u8]) -> Result<(Processes, &[u8]), ReadFault>
     ensures { Reads (λ x. (x.0, x.1.now)) result (processes_at bytes.now) }
 {
     let (main, rest) = take_action(alloc, bytes)?;
@@ -92,7 +92,7 @@ fn take_processes(alloc: Global, bytes: &[u8]) -> Result<(Processes, &[u8]), Unr
 }
 
 #[tactic(auto, unfolding(crate::specs::Finding::events_at))]
-fn take_events(alloc: Global, bytes: &[u8]) -> Result<(Events, &[u8]), Unread>
+fn take_events(alloc: Global, bytes: &[u8]) -> Result<(Events, &[u8]), ReadFault>
     ensures { Reads (λ x. (x.0, x.1.now)) result (events_at bytes.now) }
 {
     let (start_on, rest) = take_condition(alloc, bytes)?;
@@ -101,7 +101,7 @@ fn take_events(alloc: Global, bytes: &[u8]) -> Result<(Events, &[u8]), Unread>
 }
 
 // The signals of these numbers.
-fn signals_of(numbers: Numbers) -> Result<Signals, Unread>
+fn signals_of(numbers: Numbers) -> Result<Signals, ReadFault>
     ensures { Reads (λ signals. signals) result (signals_of numbers) }
 {
     let kill = signal_of(numbers.kill_signal)?;
@@ -145,7 +145,7 @@ fn job_of(
 }
 
 #[tactic(auto, unfolding(crate::specs::Finding::job_at))]
-fn take_job(alloc: Global, version: Version, bytes: &[u8]) -> Result<(JobDef, &[u8]), Unread>
+fn take_job(alloc: Global, version: Version, bytes: &[u8]) -> Result<(JobDef, &[u8]), ReadFault>
     ensures { Reads (λ x. (x.0, x.1.now)) result (job_at version bytes.now) }
 {
     let (texts, rest) = take_own_texts(alloc, bytes)?;
@@ -167,7 +167,7 @@ pub(crate) fn take_jobs(
     version: Version,
     bytes: &[u8],
     count: u16,
-) -> Result<(Vec<JobDef>, &[u8]), Unread>
+) -> Result<(Vec<JobDef>, &[u8]), ReadFault>
     ensures { Reads (λ x. (x.0.items, x.1.now)) result (items_at (job_at version) count [] bytes.now) }
 {
     let mut rest = bytes;

@@ -2,14 +2,14 @@
 ghost use Rattle.std.specs.Prelude.{◌≡◌, ◌++◌, ◌∷◌, [], OnOk, option_map};
 ghost use Rattle.up_image.specs.Finding.{Reads, action_at, exit_at, exit_of, items_at, list_at, made, setting_at, signal_of, value_at};
 
+use crate::read_fault::ReadFault;
 use crate::take::{push, take_byte, take_text, take_texts, take_two};
-use crate::unread::Unread;
 use std::alloc::{AllocError, Global};
 use up_stanza::{Action, Exit, Setting, Signal, signal_name};
 use up_text::{Items, Text};
 
 #[tactic(auto, unfolding(crate::specs::Finding::value_at))]
-fn take_value(alloc: Global, bytes: &[u8]) -> Result<(Option<Text>, &[u8]), Unread>
+fn take_value(alloc: Global, bytes: &[u8]) -> Result<(Option<Text>, &[u8]), ReadFault>
     ensures { Reads (λ x. (x.0, x.1.now)) result (value_at bytes.now) }
 {
     let (kind, rest) = take_byte(bytes)?;
@@ -19,12 +19,12 @@ fn take_value(alloc: Global, bytes: &[u8]) -> Result<(Option<Text>, &[u8]), Unre
             let (value, rest) = take_text(alloc, rest)?;
             Ok((Some(value), rest))
         }
-        _ => Err(Unread::BadTable),
+        _ => Err(ReadFault::BadTable),
     }
 }
 
 #[tactic(auto, unfolding(crate::specs::Finding::setting_at))]
-fn take_setting(alloc: Global, bytes: &[u8]) -> Result<(Setting, &[u8]), Unread>
+fn take_setting(alloc: Global, bytes: &[u8]) -> Result<(Setting, &[u8]), ReadFault>
     ensures { Reads (λ x. (x.0, x.1.now)) result (setting_at bytes.now) }
 {
     let (key, rest) = take_text(alloc, bytes)?;
@@ -37,7 +37,7 @@ fn take_each_setting(
     alloc: Global,
     bytes: &[u8],
     count: u16,
-) -> Result<(Items<Setting>, &[u8]), Unread>
+) -> Result<(Items<Setting>, &[u8]), ReadFault>
     ensures { Reads (λ x. (x.0, x.1.now)) result (items_at setting_at count [] bytes.now) }
 {
     let mut rest = bytes;
@@ -50,7 +50,7 @@ fn take_each_setting(
     Ok((Items::new(settings), rest))
 }
 
-pub(crate) fn take_settings(alloc: Global, bytes: &[u8]) -> Result<(Items<Setting>, &[u8]), Unread>
+pub(crate) fn take_settings(alloc: Global, bytes: &[u8]) -> Result<(Items<Setting>, &[u8]), ReadFault>
     ensures { Reads (λ x. (x.0, x.1.now)) result (list_at setting_at bytes.now) }
 {
     let (count, rest) = take_two(bytes)?;
@@ -58,20 +58,20 @@ pub(crate) fn take_settings(alloc: Global, bytes: &[u8]) -> Result<(Items<Settin
 }
 
 // The signal of this number.
-pub(crate) fn signal_of(number: u8) -> Result<Signal, Unread>
+pub(crate) fn signal_of(number: u8) -> Result<Signal, ReadFault>
     ensures { Reads (λ x. x) result (signal_of number) }
 {
     match signal_name(number) {
         Some(name) => match Signal::read(name) {
             Some(signal) => Ok(signal),
-            None => Err(Unread::BadTable),
+            None => Err(ReadFault::BadTable),
         },
-        None => Err(Unread::BadTable),
+        None => Err(ReadFault::BadTable),
     }
 }
 
 // The exit of this kind and number.
-fn exit_of(kind: u8, number: u8) -> Result<Exit, Unread>
+fn exit_of(kind: u8, number: u8) -> Result<Exit, ReadFault>
     ensures { Reads (λ x. x) result (exit_of kind number) }
 {
     match kind {
@@ -80,7 +80,7 @@ fn exit_of(kind: u8, number: u8) -> Result<Exit, Unread>
             let signal = signal_of(number)?;
             Ok(Exit::Signal(signal))
         }
-        _ => Err(Unread::BadTable),
+        _ => Err(ReadFault::BadTable),
     }
 }
 
@@ -93,7 +93,7 @@ fn push_exit(exits: &mut Vec<Exit>, exit: Exit) -> Result<(), AllocError>
 
 // Reads an exit and appends it, and returns the bytes after it.
 #[tactic(auto, unfolding(crate::specs::Finding::exit_at))]
-fn add_exit<'a>(exits: &mut Vec<Exit>, bytes: &'a [u8]) -> Result<&'a [u8], Unread>
+fn add_exit<'a>(exits: &mut Vec<Exit>, bytes: &'a [u8]) -> Result<&'a [u8], ReadFault>
     ensures { Reads (λ rest. (exits.new.items, rest.now)) result
         (made (λ exit. exits.old.items ++ exit ∷ []) (exit_at bytes.now)) }
 {
@@ -105,7 +105,7 @@ fn add_exit<'a>(exits: &mut Vec<Exit>, bytes: &'a [u8]) -> Result<&'a [u8], Unre
 }
 
 #[tactic(auto, using(crate::proofs::Counting::items_left))]
-fn take_each_exit(alloc: Global, bytes: &[u8], count: u16) -> Result<(Items<Exit>, &[u8]), Unread>
+fn take_each_exit(alloc: Global, bytes: &[u8], count: u16) -> Result<(Items<Exit>, &[u8]), ReadFault>
     ensures { Reads (λ x. (x.0, x.1.now)) result (items_at exit_at count [] bytes.now) }
 {
     let mut rest = bytes;
@@ -116,7 +116,7 @@ fn take_each_exit(alloc: Global, bytes: &[u8], count: u16) -> Result<(Items<Exit
     Ok((Items::new(exits), rest))
 }
 
-pub(crate) fn take_exits(alloc: Global, bytes: &[u8]) -> Result<(Items<Exit>, &[u8]), Unread>
+pub(crate) fn take_exits(alloc: Global, bytes: &[u8]) -> Result<(Items<Exit>, &[u8]), ReadFault>
     ensures { Reads (λ x. (x.0, x.1.now)) result (list_at exit_at bytes.now) }
 {
     let (count, rest) = take_two(bytes)?;
@@ -124,7 +124,7 @@ pub(crate) fn take_exits(alloc: Global, bytes: &[u8]) -> Result<(Items<Exit>, &[
 }
 
 #[tactic(auto, unfolding(crate::specs::Finding::action_at))]
-pub(crate) fn take_action(alloc: Global, bytes: &[u8]) -> Result<(Option<Action>, &[u8]), Unread>
+pub(crate) fn take_action(alloc: Global, bytes: &[u8]) -> Result<(Option<Action>, &[u8]), ReadFault>
     ensures { Reads (λ x. (x.0, x.1.now)) result (action_at bytes.now) }
 {
     let (kind, rest) = take_byte(bytes)?;
@@ -138,6 +138,6 @@ pub(crate) fn take_action(alloc: Global, bytes: &[u8]) -> Result<(Option<Action>
             let (text, rest) = take_text(alloc, rest)?;
             Ok((Some(Action::Shell(text)), rest))
         }
-        _ => Err(Unread::BadTable),
+        _ => Err(ReadFault::BadTable),
     }
 }

@@ -2,7 +2,7 @@
 use Rattle.std.proofs.Common.{◌≡◌, ℕ, ◌<◌, Bool, true, false, cond, ◌&&◌, List, [], ◌∷◌, Option, None, Some, Result, Ok, Err, OnOk, OnErr, IsSome, option_map, map, length, get_or, set, insert, bytes_eq, refl, sym, ◌∙◌, ap, subst, true≢false}
 use Rattle.up_conf.specs.declared.job.JobDef.{JobDef}
 use Rattle.up_conf.specs.Order.{is_below}
-use Rattle.up_image.specs.Giving.{are_ascending}
+use Rattle.up_image.specs.Definable.{are_ascending}
 use Rattle.up_model.specs.declared.event_id.EventId.{EventId}
 use Rattle.up_job.specs.declared.instance.Instance.{Instance}
 use Rattle.up_job.specs.declared.instance_key.InstanceKey.{InstanceKey}

@@ -238,7 +238,7 @@ impl Outlet {
     }
 
     /// Tells lines.
-    pub(crate) fn tell<R: Print>(&mut self, rt: &R, text: &[u8]) -> io::Result<()> {
+    pub(crate) fn write_lines<R: Print>(&mut self, rt: &R, text: &[u8]) -> io::Result<()> {
         self.flush(rt)?;
         self.keep(text);
         self.flush(rt)

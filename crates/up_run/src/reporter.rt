@@ -202,7 +202,7 @@ impl<W: Write + OpenFile + Drop> Reporter<W> {
         let Some(outlet) = &mut self.verbose else {
             return;
         };
-        match outlet.tell(rt, text) {
+        match outlet.write_lines(rt, text) {
             Ok(()) => say_lost(rt, outlet.take_lost()),
             Err(error) => {
                 let why = Reason(error);
@@ -234,7 +234,7 @@ impl<W: Write + OpenFile + Drop> Reporter<W> {
     }
 
     /// Tells of a round, which may have been idle.
-    pub(crate) fn tell<R: Print + Eprint>(
+    pub(crate) fn report_round<R: Print + Eprint>(
         &mut self,
         rt: &R,
         alloc: Global,

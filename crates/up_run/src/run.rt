@@ -60,7 +60,7 @@ struct Going {
 }
 
 // The environment of each process of a run, before that of its job.
-fn base(alloc: Global) -> Result<Env, AllocError>
+fn run_environment(alloc: Global) -> Result<Env, AllocError>
     ensures { IfOk result (λ base. base ≡ run_base) }
 {
     let mut base = Env::new(alloc);
@@ -86,7 +86,7 @@ fn first_inputs(alloc: Global) -> Result<Vec<Input>, AllocError>
 fn engine_over(alloc: Global, table: Table) -> Result<Engine, AllocError>
     ensures { IfOk result (λ engine. Stands engine (run_of table) []) }
 {
-    match base(alloc) {
+    match run_environment(alloc) {
         Ok(base) => Engine::new(alloc, table, base),
         Err(refused) => {
             drop(table);
@@ -109,7 +109,7 @@ fn feed(engine: &mut Engine, inputs: Vec<Input>) -> Result<(), AllocError>
 }
 
 // A daemon over these jobs, whose engine was fed these inputs.
-fn started(alloc: Global, table: Table, inputs: Vec<Input>) -> Result<Daemon, AllocError>
+fn start_daemon(alloc: Global, table: Table, inputs: Vec<Input>) -> Result<Daemon, AllocError>
     ensures engine { IfOk result (λ daemon. Stands (engine_of daemon) (run_of table)
         (after_all (run_of table) [] inputs.items)) }
     ensures fresh { IfOk result (λ daemon. (was_refused daemon ≡ false) × (clients_of daemon ≡ [])) }
@@ -128,7 +128,7 @@ fn started(alloc: Global, table: Table, inputs: Vec<Input>) -> Result<Daemon, Al
 }
 
 // The pause after a round, if there is one. A short one isn't ended by clients, as a door's pause has whole milliseconds.
-fn rest<R: Clock>(rt: &R, door: &mut UnixDoor, pace: &Pace) {
+fn pause_after<R: Clock>(rt: &R, door: &mut UnixDoor, pace: &Pace) {
     if pace.is_short() {
         thread::sleep(rt, Duration::from_micros(SHORT_PAUSE));
         return;
@@ -156,7 +156,7 @@ where
         return false;
     };
     let idle = is_idle(&round, door.happened());
-    reporter.tell(rt, rt.alloc(), &round, idle);
+    reporter.report_round(rt, rt.alloc(), &round, idle);
     let counted = host.faults().saturating_sub(faults);
     let faults = host_faults(round.fed.as_slice(), host.happened(), counted);
     reporter.tell_faults(rt, rt.alloc(), &faults, door.failed());
@@ -167,7 +167,7 @@ where
     going.silences.note(host.happened(), door.happened());
     door.dismiss(going.silences.silent_client(daemon));
     going.pace.note(idle);
-    rest(rt, door, &going.pace);
+    pause_after(rt, door, &going.pace);
     true
 }
 
@@ -208,7 +208,7 @@ fn first_daemon<R: Eprint + AllocGlobal, W: Write + OpenFile + Drop>(
     match first_inputs(rt.alloc()) {
         Ok(inputs) => {
             reporter.note(rt, rt.alloc(), inputs.as_slice(), false);
-            started(rt.alloc(), table, inputs)
+            start_daemon(rt.alloc(), table, inputs)
         }
         Err(refused) => {
             drop(table);

@@ -13,6 +13,10 @@ enum Wanted {
         dir: &'static str,
         explain: bool,
     },
+    Compare {
+        dir: &'static str,
+        other: &'static str,
+    },
     Lint {
         dir: &'static str,
         left_out: &'static [Kind],
@@ -44,7 +48,7 @@ enum Wanted {
 
 type Case = (&'static [&'static str], Wanted);
 
-static ASKED: [Case; 13] = [
+static ASKED: [Case; 15] = [
     (&["initd"], Wanted::Bundle),
     (
         &["initd", "check", "jobs"],
@@ -58,6 +62,20 @@ static ASKED: [Case; 13] = [
         Wanted::Check {
             dir: "-x",
             explain: false,
+        },
+    ),
+    (
+        &["initd", "check", "jobs", "--explain"],
+        Wanted::Check {
+            dir: "jobs",
+            explain: true,
+        },
+    ),
+    (
+        &["initd", "check", "jobs", "--against", "jobs.image"],
+        Wanted::Compare {
+            dir: "jobs",
+            other: "jobs.image",
         },
     ),
     (
@@ -210,9 +228,14 @@ static ASKED: [Case; 13] = [
     ),
 ];
 
-static REFUSED: [Case; 17] = [
+static REFUSED: [Case; 19] = [
     (&["initd", "check"], Wanted::Status(2)),
     (&["initd", "check", "a", "b"], Wanted::Status(2)),
+    (&["initd", "check", "a", "--against"], Wanted::Status(2)),
+    (
+        &["initd", "check", "--explain", "a", "--against", "b"],
+        Wanted::Status(2),
+    ),
     (&["initd", "replay", "a"], Wanted::Status(2)),
     (&["initd", "replay", "a", "b", "c"], Wanted::Status(2)),
     (
@@ -269,6 +292,9 @@ fn is_wanted(asked: &Invocation, wanted: &Wanted) -> bool {
         (Invocation::Bundle, Wanted::Bundle) => true,
         (Invocation::Check { dir, explain }, Wanted::Check { dir: d, explain: e }) => {
             *dir == *d && *explain == *e
+        }
+        (Invocation::Compare { dir, other }, Wanted::Compare { dir: d, other: o }) => {
+            *dir == *d && *other == *o
         }
         (
             Invocation::Lint {

@@ -17,7 +17,7 @@ unfolding effect
 returns-clause-after g c c' s =
     let d : Chronicle = Given (input.Refused c.args.who c.args.process) ∷ c' in
     let config = c.args.setup.now in
-    let now = c.given.ensures.after config c' s (c.find-on.ensures Resting c' s) in
+    let now = c.begin_step.ensures.after config c' s (c.find-on.ensures Resting c' s) in
     let does : Who → List Entry = λ who. end_by who c.args.process (end.Refused) d in
     let done = c.in_ok-conclude.ensures config d (does c.in_ok-its.its) now (c.verdict_on-verdict_on_end.ensures Stepping d now) in
     rw one_last (subst (λ who. g.B.Book.stands c.conclude.new.book Stepping config (does who ++ d)) c.in_ok-its.ensures done)

@@ -9,5 +9,5 @@ pub returns-clause-concerns : goal.returns-clause-concerns
 unfolding effect
 returns-clause-concerns g c c' s =
     rw c.concern_of.ensures
-    (concerns-alone (g.B.Book.event_place c.given.new.self) c.args.setup.now (input.Spawned c.args.who c.args.process c.args.pid) c.args.who c' c.find-on.result [] c.names_differ.ensures (c.names_differ-2.ensures Resting c.args.setup.now c' s) refl
+    (concerns-alone (g.B.Book.event_place c.begin_step.new.self) c.args.setup.now (input.Spawned c.args.who c.args.process c.args.pid) c.args.who c' c.find-on.result [] c.names_differ.ensures (c.names_differ-2.ensures Resting c.args.setup.now c' s) refl
     (c.find-on.ensures Resting c' s) (λ i named. tt) refl refl)

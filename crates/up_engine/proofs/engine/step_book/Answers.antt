@@ -6,4 +6,4 @@ use Rattle.up_engine.proofs.engine.step_book.Goals as goal
 pub returns-clause-free : goal.returns-clause-free
 returns-clause-free g c c' s free =
     let config = c.args.setup.now in
-    c.rest-outputs.ensures.outputs config (effect config c.args.given c' ++ c') (c.in_ok-run_step.ensures.free c' s free).1 ∙ free-outputs config c' c.args.given free
+    c.end_step-outputs.ensures.outputs config (effect config c.args.given c' ++ c') (c.in_ok-run_step.ensures.free c' s free).1 ∙ free-outputs config c' c.args.given free

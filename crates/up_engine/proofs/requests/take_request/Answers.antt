@@ -12,7 +12,7 @@ returns-clause-concerns g c c' s =
     let config = c.args.setup.now in
     let id = c.args.id in
     let same = c.in_ok-asked.ensures in
-    let given = subst (λ r. g.B.Book.stands c.given.new.self Stepping config (Given (input.Request id r) ∷ c')) (sym same) (c.given.ensures.after config c' s tt) in
+    let given = subst (λ r. g.B.Book.stands c.begin_step.new.self Stepping config (Given (input.Request id r) ∷ c')) (sym same) (c.begin_step.ensures.after config c' s tt) in
     let acts = c.in_ok-concern.ensures.concerns c' id given in
     acts-concerns (g.B.Book.event_place c.change.new.book) c.in_ok-concern.concern config id c.args.request c'
     (subst (λ r. ActsOn c.in_ok-concern.concern config c' (entries_of (length c') (outcome_of config (length c') r (Given (input.Request id r) ∷ c')) ++ Given (input.Request id r) ∷ c')) same acts)

@@ -25,7 +25,7 @@ returns-clause-after c config c' i s found =
     stood _ _ config _ (forgets-left-released old.past _ config c' c.args.key i c.args.event s.past found (c.in_ok-leave.ensures.after config c' i s.past here)) s.index
     (subst (λ (st : Step). IsStep st config (releasing i false d ++ d)) (sym c.leave.ensures)
     (asks-same ((old.step.outputs.items ++ Emitted c.args.event ∷ []) ++ replies_to (held_by_kept (kept_at c.args.key old.past.instances)) false c.in_ok-told.told) _ old.step.asked _ (on_left c.args.key c.in_ok-told.told old.step.on) _ config _
-    (c.in_ok-reply_held.ensures ∙ ap (λ outs. outs ++ replies_to (held_by_kept (option_copied c.at.result)) false c.in_ok-told.told) c.in_ok-tell.ensures
+    (c.in_ok-reply_held.ensures ∙ ap (λ outs. outs ++ replies_to (held_by_kept (option_copied c.at.result)) false c.in_ok-told.told) c.in_ok-push_emitted.ensures
     ∙ ap (λ k. (old.step.outputs.items ++ Emitted c.args.event ∷ []) ++ replies_to (held_by_kept k) false c.in_ok-told.told) c.at.ensures) refl refl
     (step-leaves old.step.outputs.items old.step.asked old.step.on old.past config c' c.args.key i c.in_ok-told.told c.args.event s.past found (c.in_ok-told.ensures config c' i s.past here) s.step)))
 

@@ -1,6 +1,6 @@
 use Rattle.std.proofs.Common.{◌≡◌, ◌∙◌, [], List, true, map, ap, refl, subst, sym}
 use Rattle.up_conf.specs.declared.job.JobDef.{JobDef}
-use Rattle.up_image.specs.Giving.{are_ascending}
+use Rattle.up_image.specs.Definable.{are_ascending}
 use Rattle.up_job.specs.JobLists.{new_job}
 use Rattle.up_model.specs.Configuration.{Configuration}
 use Rattle.up_book.specs.Remembering.{StartsRemember}

@@ -1,0 +1,23 @@
+//! Why what stands in an image isn't read.
+
+use std::alloc::AllocError;
+
+/// Why what stands in an image isn't read.
+#[derive(Clone, Copy, Debug)]
+pub(crate) enum ReadFault {
+    /// It is nothing that an image has there.
+    BadTable,
+    /// Memory was refused.
+    Memory,
+}
+
+impl From<AllocError> for ReadFault {
+    ghost use Rattle.std.specs.Prelude.{◌≡◌};
+    ghost use Rattle.up_image.specs.declared.read_fault.ReadFault.TheVariants.{Memory};
+
+    ghost from_gives = { λ _ read_fault. read_fault ≡ Memory };
+
+    fn from(_: AllocError) -> ReadFault {
+        ReadFault::Memory
+    }
+}
