@@ -74,7 +74,6 @@ none-of-job places c alarm before (k ∷ its) (x ∷ xs) same from =
     let due : kill_due x.file x.place c ≡ false = not-both (is_dying x.place c) (has_passed (kill_moment x.place c) (now c) (milliseconds x.file.kill_timeout)) so in
     ap (λ b. entries_if b (x.place ∷ []) ++ overdue xs c) due ∙ none-of-job places c alarm before its xs rest from.1
 
-
 none-of-jobs : (places : Places) (c : Chronicle) (alarm : ℕ) → now c < alarm → (jobs : List JobInstances) (defs : List JobDef)
     → map (job_view places) jobs ≡ map (job_summary c) defs → AllFrom alarm jobs → all_overdue (job_names defs) c ≡ []
 none-of-jobs places c alarm before jobs [] same from = refl

@@ -19,7 +19,7 @@ use crate::holders::{Holders, holders_by};
 use crate::orders::{order_of, signal_of};
 use crate::past::Past;
 use crate::replies::{no_text, reply, reply_asked, reply_finished, reply_held};
-use crate::step::{ActedOn, Step, put, push_emitted};
+use crate::step::{ActedOn, Step, push_emitted, put};
 use std::alloc::{AllocError, Global};
 use up_conf::JobDef;
 use up_event::TurnKind;
@@ -383,7 +383,12 @@ impl Book for Ledger {
         Ok(())
     }
 
-    fn make(&mut self, index: usize, file: &JobFile, name: &str) -> Result<InstanceKey, AllocError> {
+    fn make(
+        &mut self,
+        index: usize,
+        file: &JobFile,
+        name: &str,
+    ) -> Result<InstanceKey, AllocError> {
         let key = self.past.make(self.alloc, index, file, name)?;
         self.step.make(key)?;
         Ok(key)

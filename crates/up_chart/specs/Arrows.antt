@@ -12,24 +12,24 @@ use Rattle.up_chart.specs.Moments.{life_event, state_told}
 use Rattle.up_chart.specs.Rows.{Named, Times, entry_of, row_for, rows_after, times_after}
 
 -- whether no other event of the name came since the last life that events started
-abbrev pub is_only : (brought before : Option ℕ) → Bool
-is_only brought None = true
+abbrev pub is_only : (events_came before : Option ℕ) → Bool
+is_only events_came None = true
 is_only None (Some before) = false
-is_only (Some brought) (Some before) = nat_le before brought
+is_only (Some events_came) (Some before) = nat_le before events_came
 
 -- An event is known to have started a life that began then, if it is the only one of its name since the last such life, or if it
 -- came as the life began, and the start had no other event. Else an earlier one may have, as a condition keeps the first event that it
 -- takes (init(5), "start on").
-abbrev pub is_known : (alone : Bool) → Row → (begun : ℕ) → Came → Bool
-is_known alone row begun came =
-    nat_le came.last begun && (is_only row.brought came.before || (alone && came.last == begun))
+abbrev pub is_known : (alone : Bool) → Row → (life_began : ℕ) → Came → Bool
+is_known alone row life_began came =
+    nat_le came.last life_began && (is_only row.events_came came.before || (alone && came.last == life_began))
 
 -- an arrow from a row, or from outside, to the life of an instance that began then
-abbrev pub arrow : (from : Option ℕ) → (alone : Bool) → Row → (begun : ℕ) → Option Came → List Arrow
-arrow from alone row begun None = []
-arrow from alone row begun (Some came) =
-    if is_known alone row begun came
-    then (record { from = from; came = came.last; place = row.place; begun = begun }) ∷ [] else []
+abbrev pub arrow : (from : Option ℕ) → (alone : Bool) → Row → (life_began : ℕ) → Option Came → List Arrow
+arrow from alone row life_began None = []
+arrow from alone row life_began (Some came) =
+    if is_known alone row life_began came
+    then (record { from = from; came = came.last; place = row.place; life_began = life_began }) ∷ [] else []
 
 abbrev pub place_of : Named → (who : Bytes) → Option ℕ
 place_of rows who = option_map (λ row. row.place) (entry_of who rows)
@@ -48,39 +48,39 @@ last_life last [] = last
 last_life last (event ∷ events) = last_life (if is_life event then Some event else last) events
 
 -- an event of an instance's life comes from the instance's row
-abbrev pub from_life : Named → Times → (alone : Bool) → Row → (begun : ℕ) → (event source : Option Bytes) → List Arrow
-from_life rows times alone row begun None source = []
-from_life rows times alone row begun (Some event) None = []
-from_life rows times alone row begun (Some event) (Some who) =
-    arrow (place_of rows who) alone row begun (entry_of (life_event event who) times)
+abbrev pub from_life : Named → Times → (alone : Bool) → Row → (life_began : ℕ) → (event source : Option Bytes) → List Arrow
+from_life rows times alone row life_began None source = []
+from_life rows times alone row life_began (Some event) None = []
+from_life rows times alone row life_began (Some event) (Some who) =
+    arrow (place_of rows who) alone row life_began (entry_of (life_event event who) times)
 
 -- any other comes from outside
-abbrev pub from_outside : Times → (alone : Bool) → Row → (begun : ℕ) → (event : Bytes) → List Arrow
-from_outside times alone row begun event =
-    if is_life event then [] else arrow None alone row begun (entry_of event times)
+abbrev pub from_outside : Times → (alone : Bool) → Row → (life_began : ℕ) → (event : Bytes) → List Arrow
+from_outside times alone row life_began event =
+    if is_life event then [] else arrow None alone row life_began (entry_of event times)
 
 abbrev pub is_one : List Bytes → Bool
 is_one events = length events == 1
 
 -- the arrows to a life that these events started. Of those that are of instances' lives it is known of the last alone which instance
 -- it is about, since each sets JOB and INSTANCE
-abbrev pub arrows_to : Named → Times → Row → (begun : Option ℕ) → (events : List Bytes) → (source : Option Bytes) → List Arrow
+abbrev pub arrows_to : Named → Times → Row → (life_began : Option ℕ) → (events : List Bytes) → (source : Option Bytes) → List Arrow
 arrows_to rows times row None events source = []
-arrows_to rows times row (Some begun) events source =
-    from_life rows times (is_one events) row begun (last_life None events) source
-    ++ flat_map (from_outside times (is_one events) row begun) events
+arrows_to rows times row (Some life_began) events source =
+    from_life rows times (is_one events) row life_began (last_life None events) source
+    ++ flat_map (from_outside times (is_one events) row life_began) events
 
 -- a client starts a life at once, from outside
-abbrev pub from_client : (place : ℕ) → (begun : Option ℕ) → List Arrow
+abbrev pub from_client : (place : ℕ) → (life_began : Option ℕ) → List Arrow
 from_client place None = []
-from_client place (Some begun) = (record { from = None; came = begun; place = place; begun = begun }) ∷ []
+from_client place (Some life_began) = (record { from = None; came = life_began; place = place; life_began = life_began }) ∷ []
 
 -- the arrows to a life are told once, as its events are
 abbrev pub arrows_by : Named → Times → Row → Sign → List Arrow
 arrows_by rows times row (Enters to) = []
 arrows_by rows times row (StartedBy events source) =
-    if row.told then [] else arrows_to rows times row row.born (words_of events) source
-arrows_by rows times row ByClient = if row.asked then [] else from_client row.place row.born
+    if row.told then [] else arrows_to rows times row row.life_began (words_of events) source
+arrows_by rows times row ByClient = if row.asked then [] else from_client row.place row.life_began
 arrows_by rows times row Fails = []
 arrows_by rows times row (Signal signal) = []
 arrows_by rows times row Comes = []

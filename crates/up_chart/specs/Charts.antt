@@ -45,15 +45,15 @@ marks_by time row Comes = []
 -- a start that began then
 abbrev pub started : (time : ℕ) → Bytes → Option ℕ → List Start
 started time name None = []
-started time name (Some begun) = (record { name = name; begun = begun; took = time - begun }) ∷ []
+started time name (Some began) = (record { name = name; began = began; took = time - began }) ∷ []
 
 -- a start ends when the instance runs
 abbrev pub ended : ℕ → Bytes → Option ℕ → State → List Start
-ended time name begun state.Running = started time name begun
-ended time name begun other = []
+ended time name began state.Running = started time name began
+ended time name began other = []
 
 abbrev pub starts_for : Row → ℕ → Bytes → Sign → List Start
-starts_for row time name (Enters to) = ended time name row.begun to
+starts_for row time name (Enters to) = ended time name row.start_began to
 starts_for row time name (StartedBy events source) = []
 starts_for row time name ByClient = []
 starts_for row time name Fails = []

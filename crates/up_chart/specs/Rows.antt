@@ -12,7 +12,7 @@ use Rattle.up_chart.specs.declared.row.Row.{Row}
 
 -- an instance of which nothing was seen yet
 abbrev pub new_row : (place time : ℕ) → Row
-new_row place time = record { place = place; state = state.Waiting; since = time; told = false; asked = false; begun = None; born = None; brought = None }
+new_row place time = record { place = place; state = state.Waiting; since = time; told = false; asked = false; start_began = None; life_began = None; events_came = None }
 
 abbrev pub is_waiting : State → Bool
 is_waiting state.Waiting = true
@@ -26,22 +26,22 @@ is_up state.Running = true
 is_up other = false
 
 -- when a start began that isn't over: an instance that runs, or is stopped, starts no more
-abbrev pub begun_after : State → ℕ → Option ℕ → Option ℕ
-begun_after state.Starting time begun = Some time
-begun_after state.PreStart time begun = begun
-begun_after state.Spawned time begun = begun
-begun_after state.PostStart time begun = begun
-begun_after other time begun = None
+abbrev pub start_began_after : State → ℕ → Option ℕ → Option ℕ
+start_began_after state.Starting time start_began = Some time
+start_began_after state.PreStart time start_began = start_began
+start_began_after state.Spawned time start_began = start_began
+start_began_after state.PostStart time start_began = start_began
+start_began_after other time start_began = None
 
 -- when the life of an instance began
-abbrev pub born_after : State → ℕ → Option ℕ → Option ℕ
-born_after state.Starting time born = Some time
-born_after other time born = born
+abbrev pub life_began_after : State → ℕ → Option ℕ → Option ℕ
+life_began_after state.Starting time life_began = Some time
+life_began_after other time life_began = life_began
 
 -- an instance that is told which events started it, in a life that began then
-abbrev pub brought_row : Row → (born : Option ℕ) → Row
-brought_row row None = record row { told = true }
-brought_row row (Some born) = record row { told = true; brought = Some born }
+abbrev pub with_events : Row → (life_began : Option ℕ) → Row
+with_events row None = record row { told = true }
+with_events row (Some life_began) = record row { told = true; events_came = Some life_began }
 
 -- what is known of an instance after a sign of it; who started it is told once for each life
 abbrev pub next_row : ℕ → Row → Sign → Row
@@ -51,11 +51,11 @@ next_row time row (Enters to) = record {
   since = time;
   told = row.told && not (is_waiting to);
   asked = row.asked && not (is_waiting to);
-  begun = begun_after to time row.begun;
-  born = born_after to time row.born;
-  brought = row.brought;
+  start_began = start_began_after to time row.start_began;
+  life_began = life_began_after to time row.life_began;
+  events_came = row.events_came;
 }
-next_row time row (StartedBy events source) = if row.told then row else brought_row row row.born
+next_row time row (StartedBy events source) = if row.told then row else with_events row row.life_began
 next_row time row ByClient = record row { asked = true }
 next_row time row Fails = row
 next_row time row (Signal signal) = row

@@ -147,7 +147,7 @@ arrow_path from place x to_x =
 
 -- from where and when the event came, to where and when the life begins
 abbrev pub arrow_text : (end : ℕ) → Arrow → Bytes
-arrow_text end arrow = arrow_path arrow.from arrow.place (x_at end arrow.came) (x_at end arrow.begun)
+arrow_text end arrow = arrow_path arrow.from arrow.place (x_at end arrow.came) (x_at end arrow.life_began)
 
 -- the events that started an instance
 unfoldable pub started_text : (x y : ℕ) → Bytes → Bytes

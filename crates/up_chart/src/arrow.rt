@@ -12,21 +12,22 @@ use std::alloc::{AllocError, Global};
 use up_text::Text;
 
 // Whether no other event of the name came since the last life that events started.
-fn is_only(brought: Option<u64>, before: Option<u64>) -> bool
-    ensures { result ≡ is_only brought before }
+fn is_only(events_came: Option<u64>, before: Option<u64>) -> bool
+    ensures { result ≡ is_only events_came before }
 {
-    match (brought, before) {
+    match (events_came, before) {
         (_, None) => true,
         (None, Some(_)) => false,
-        (Some(brought), Some(before)) => before <= brought,
+        (Some(events_came), Some(before)) => before <= events_came,
     }
 }
 
 // Whether an event is known to have started a life that began then.
-fn is_known(alone: bool, row: &Row, begun: u64, came: Came) -> bool
-    ensures { result ≡ is_known alone row.now begun came }
+fn is_known(alone: bool, row: &Row, life_began: u64, came: Came) -> bool
+    ensures { result ≡ is_known alone row.now life_began came }
 {
-    came.last <= begun && (is_only(row.brought, came.before) || (alone && came.last == begun))
+    came.last <= life_began
+        && (is_only(row.events_came, came.before) || (alone && came.last == life_began))
 }
 
 fn push_arrow(
@@ -34,22 +35,22 @@ fn push_arrow(
     from: Option<u64>,
     alone: bool,
     row: &Row,
-    begun: u64,
+    life_began: u64,
     came: Option<Came>,
 ) -> Result<(), AllocError>
-    ensures { OnOk result (arrows.new.items ≡ arrows.old.items ++ arrow from alone row.now begun came) }
+    ensures { OnOk result (arrows.new.items ≡ arrows.old.items ++ arrow from alone row.now life_began came) }
 {
     let Some(came) = came else {
         return Ok(());
     };
-    if !is_known(alone, row, begun, came) {
+    if !is_known(alone, row, life_began, came) {
         return Ok(());
     }
     arrows.push(Arrow {
         from,
         came: came.last,
         place: row.place,
-        begun,
+        life_began,
     })?;
     Ok(())
 }
@@ -96,11 +97,11 @@ fn push_from_life(
     times: &Times,
     alone: bool,
     row: &Row,
-    begun: u64,
+    life_began: u64,
     event: Option<&str>,
     source: &Option<Text>,
 ) -> Result<(), AllocError>
-    ensures { OnOk result (arrows.new.items ≡ arrows.old.items ++ from_life rows.now times.now alone row.now begun
+    ensures { OnOk result (arrows.new.items ≡ arrows.old.items ++ from_life rows.now times.now alone row.now life_began
         (option_map (λ event. event.now) event.entry) source.now) }
 {
     let Some(event) = event else {
@@ -113,7 +114,7 @@ fn push_from_life(
     let event = life_event(*arrows.allocator(), event, who)?;
     let came = times.get(event.as_str());
     drop(event);
-    push_arrow(arrows, place_of(rows, who), alone, row, begun, came)
+    push_arrow(arrows, place_of(rows, who), alone, row, life_began, came)
 }
 
 // Any other comes from outside.
@@ -122,16 +123,16 @@ fn push_from_outside(
     times: &Times,
     alone: bool,
     row: &Row,
-    begun: u64,
+    life_began: u64,
     event: &str,
 ) -> Result<(), AllocError>
     ensures { OnOk result (arrows.new.items
-        ≡ arrows.old.items ++ from_outside times.now alone row.now begun event.now) }
+        ≡ arrows.old.items ++ from_outside times.now alone row.now life_began event.now) }
 {
     if is_life(event) {
         return Ok(());
     }
-    push_arrow(arrows, None, alone, row, begun, times.get(event))
+    push_arrow(arrows, None, alone, row, life_began, times.get(event))
 }
 
 fn push_all_from_outside(
@@ -139,14 +140,14 @@ fn push_all_from_outside(
     times: &Times,
     alone: bool,
     row: &Row,
-    begun: u64,
+    life_began: u64,
     events: &[&str],
 ) -> Result<(), AllocError>
     ensures { OnOk result (arrows.new.items ≡ arrows.old.items
-        ++ flat_map (from_outside times.now alone row.now begun) (map (λ event. event.now) events.now)) }
+        ++ flat_map (from_outside times.now alone row.now life_began) (map (λ event. event.now) events.now)) }
 {
     for event in events {
-        push_from_outside(arrows, times, alone, row, begun, event)?;
+        push_from_outside(arrows, times, alone, row, life_began, event)?;
     }
     Ok(())
 }
@@ -161,9 +162,9 @@ fn push_arrows_to(
     source: &Option<Text>,
 ) -> Result<(), AllocError>
     ensures { OnOk result (arrows.new.items ≡ arrows.old.items
-        ++ arrows_to rows.now times.now row.now row.now.born (map (λ event. event.now) events.now) source.now) }
+        ++ arrows_to rows.now times.now row.now row.now.life_began (map (λ event. event.now) events.now) source.now) }
 {
-    let Some(begun) = row.born else {
+    let Some(life_began) = row.life_began else {
         return Ok(());
     };
     let alone = events.len() == 1;
@@ -173,29 +174,29 @@ fn push_arrows_to(
         times,
         alone,
         row,
-        begun,
+        life_began,
         last_life(events),
         source,
     )?;
-    push_all_from_outside(arrows, times, alone, row, begun, events)
+    push_all_from_outside(arrows, times, alone, row, life_began, events)
 }
 
 // A client starts a life at once, from outside.
 fn push_from_client(
     arrows: &mut Vec<Arrow>,
     place: u64,
-    begun: Option<u64>,
+    life_began: Option<u64>,
 ) -> Result<(), AllocError>
-    ensures { OnOk result (arrows.new.items ≡ arrows.old.items ++ from_client place begun) }
+    ensures { OnOk result (arrows.new.items ≡ arrows.old.items ++ from_client place life_began) }
 {
-    let Some(begun) = begun else {
+    let Some(life_began) = life_began else {
         return Ok(());
     };
     arrows.push(Arrow {
         from: None,
-        came: begun,
+        came: life_began,
         place,
-        begun,
+        life_began,
     })?;
     Ok(())
 }
@@ -223,7 +224,7 @@ pub(crate) fn push_arrows(
             if row.asked {
                 return Ok(());
             }
-            push_from_client(arrows, row.place, row.born)
+            push_from_client(arrows, row.place, row.life_began)
         }
         Sign::Fails => Ok(()),
         Sign::Signal(_) => Ok(()),

@@ -29,7 +29,7 @@ pub struct Arrow {
     /// The row of the instance that it started.
     pub place: u64,
     /// When that one's life began.
-    pub begun: u64,
+    pub life_began: u64,
 }
 
 /// What happened to an instance.
@@ -44,6 +44,6 @@ pub struct Mark {
 #[derive(Drop)]
 pub struct Start {
     pub name: Text,
-    pub begun: u64,
+    pub began: u64,
     pub took: u64,
 }

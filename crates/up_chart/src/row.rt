@@ -1,6 +1,6 @@
 //! What is known of an instance, and what a moment makes of it.
 ghost use Rattle.std.specs.Prelude.{◌≡◌};
-ghost use Rattle.up_chart.specs.Rows.{begun_after, born_after, brought_row, came_again, is_up, is_waiting, new_row, next_row};
+ghost use Rattle.up_chart.specs.Rows.{start_began_after, life_began_after, with_events, came_again, is_up, is_waiting, new_row, next_row};
 
 use crate::moment::Sign;
 use up_model::State;
@@ -19,11 +19,11 @@ pub struct Row {
     /// Whether it was told that a client started it.
     pub asked: bool,
     /// When it began to start, while it does.
-    pub begun: Option<u64>,
+    pub start_began: Option<u64>,
     /// When its life began.
-    pub born: Option<u64>,
+    pub life_began: Option<u64>,
     /// When the last life began that events started.
-    pub brought: Option<u64>,
+    pub events_came: Option<u64>,
 }
 
 /// When an event came last, and when it came before that.
@@ -59,9 +59,9 @@ pub(crate) fn new_row(place: u64, time: u64) -> Row
         since: time,
         told: false,
         asked: false,
-        begun: None,
-        born: None,
-        brought: None,
+        start_began: None,
+        life_began: None,
+        events_came: None,
     }
 }
 
@@ -98,12 +98,12 @@ pub(crate) fn is_up(state: State) -> bool
     }
 }
 
-fn begun_after(state: State, time: u64, begun: Option<u64>) -> Option<u64>
-    ensures { result ≡ begun_after state time begun }
+fn start_began_after(state: State, time: u64, start_began: Option<u64>) -> Option<u64>
+    ensures { result ≡ start_began_after state time start_began }
 {
     match state {
         State::Starting => Some(time),
-        State::PreStart | State::Spawned | State::PostStart => begun,
+        State::PreStart | State::Spawned | State::PostStart => start_began,
         State::Waiting
         | State::Running
         | State::PreStop
@@ -113,8 +113,8 @@ fn begun_after(state: State, time: u64, begun: Option<u64>) -> Option<u64>
     }
 }
 
-fn born_after(state: State, time: u64, born: Option<u64>) -> Option<u64>
-    ensures { result ≡ born_after state time born }
+fn life_began_after(state: State, time: u64, life_began: Option<u64>) -> Option<u64>
+    ensures { result ≡ life_began_after state time life_began }
 {
     match state {
         State::Starting => Some(time),
@@ -126,13 +126,13 @@ fn born_after(state: State, time: u64, born: Option<u64>) -> Option<u64>
         | State::PreStop
         | State::Stopping
         | State::Killed
-        | State::PostStop => born,
+        | State::PostStop => life_began,
     }
 }
 
 // An instance that is told which events started it.
-fn brought_row(row: Row) -> Row
-    ensures { result ≡ brought_row row row.born }
+fn with_events(row: Row) -> Row
+    ensures { result ≡ with_events row row.life_began }
 {
     Row {
         place: row.place,
@@ -140,9 +140,9 @@ fn brought_row(row: Row) -> Row
         since: row.since,
         told: true,
         asked: row.asked,
-        begun: row.begun,
-        born: row.born,
-        brought: row.born.or(row.brought),
+        start_began: row.start_began,
+        life_began: row.life_began,
+        events_came: row.life_began.or(row.events_came),
     }
 }
 
@@ -157,23 +157,23 @@ pub(crate) fn next_row(time: u64, row: Row, sign: &Sign) -> Row
             since: time,
             told: row.told && !is_waiting(*state),
             asked: row.asked && !is_waiting(*state),
-            begun: begun_after(*state, time, row.begun),
-            born: born_after(*state, time, row.born),
-            brought: row.brought,
+            start_began: start_began_after(*state, time, row.start_began),
+            life_began: life_began_after(*state, time, row.life_began),
+            events_came: row.events_came,
         },
         Sign::StartedBy {
             events: _,
             source: _,
-        } => { if row.told { row } else { brought_row(row) } }
+        } => { if row.told { row } else { with_events(row) } }
         Sign::ByClient => Row {
             place: row.place,
             state: row.state,
             since: row.since,
             told: row.told,
             asked: true,
-            begun: row.begun,
-            born: row.born,
-            brought: row.brought,
+            start_began: row.start_began,
+            life_began: row.life_began,
+            events_came: row.events_came,
         },
         Sign::Fails => row,
         Sign::Signal(_) => row,

@@ -122,16 +122,16 @@ fn push_start(
     starts: &mut Vec<Start>,
     time: u64,
     name: &Text,
-    begun: Option<u64>,
+    began: Option<u64>,
 ) -> Result<(), AllocError>
-    ensures { OnOk result (starts.new.items ≡ starts.old.items ++ started time name.now begun) }
+    ensures { OnOk result (starts.new.items ≡ starts.old.items ++ started time name.now began) }
 {
-    let Some(begun) = begun else {
+    let Some(began) = began else {
         return Ok(());
     };
     let name = name.copy()?;
-    let took = time.saturating_sub(begun);
-    starts.push(Start { name, begun, took })?;
+    let took = time.saturating_sub(began);
+    starts.push(Start { name, began, took })?;
     Ok(())
 }
 
@@ -139,7 +139,12 @@ fn push_starts(starts: &mut Vec<Start>, row: &Row, moment: &Moment) -> Result<()
     ensures { OnOk result (starts.new.items ≡ starts.old.items ++ starts_by row.now moment.now) }
 {
     match moment.sign {
-        Sign::Enters(State::Running) => push_start(starts, moment.time, &moment.name, row.begun),
+        Sign::Enters(State::Running) => push_start(
+            starts,
+            moment.time,
+            &moment.name,
+            row.start_began,
+        ),
         _ => Ok(()),
     }
 }

@@ -422,7 +422,7 @@ fn push_arrow(text: &mut Vec<u8>, end: u64, arrow: &Arrow) -> Result<(), AllocEr
         arrow.from,
         arrow.place,
         x_at(end, arrow.came),
-        x_at(end, arrow.begun),
+        x_at(end, arrow.life_began),
     )
 }
 

@@ -240,24 +240,25 @@ fn option_instead<'a>(
 fn arg_of<'a>(alloc: Global, argument: &Argument) -> Result<Arg<'a>, AllocError> {
     let arg = Arg::new(alloc, argument.id).help(argument.help);
     match argument.kind {
-        ArgumentKind::Place => Ok(arg
-            .value_name(argument.shown)
-            .required(true)
-            .action(ArgAction::Set)),
+        ArgumentKind::Place => Ok(
+            arg.value_name(argument.shown)
+                .required(true)
+                .action(ArgAction::Set),
+        ),
         ArgumentKind::LastPlace => Ok(arg.value_name(argument.shown).action(ArgAction::Set)),
         ArgumentKind::Text => Ok(option(arg, argument)),
         ArgumentKind::InsteadOf(other) => option_instead(arg, argument, other),
         ArgumentKind::Texts => Ok(option(arg, argument).action(ArgAction::Append)),
         ArgumentKind::Flag => Ok(arg.long(argument.id).action(ArgAction::SetTrue)),
-        ArgumentKind::Count => Ok(option(arg, argument).value_parser(
-            value_parser!(u32).range(1..),
-        )),
-        ArgumentKind::Pause => Ok(option(arg, argument).value_parser(
-            value_parser!(u64).range(0..=MAX_PAUSE),
-        )),
-        ArgumentKind::Timeout => Ok(option(arg, argument).value_parser(
-            value_parser!(u64).range(0..=MAX_SILENCE),
-        )),
+        ArgumentKind::Count => Ok(option(arg, argument).value_parser(value_parser!(u32).range(
+            1..,
+        ))),
+        ArgumentKind::Pause => Ok(option(arg, argument).value_parser(value_parser!(u64).range(
+            0..=MAX_PAUSE,
+        ))),
+        ArgumentKind::Timeout => Ok(option(arg, argument).value_parser(value_parser!(u64).range(
+            0..=MAX_SILENCE,
+        ))),
     }
 }
 

@@ -11,7 +11,7 @@ use std::io::Eprint;
 use up_model::ExitStatus;
 use up_run::pace::MOST_PAUSE;
 use up_run::silence::MOST_SILENCE;
-use up_run::{Rounds, ReportOptions};
+use up_run::{ReportOptions, Rounds};
 use up_text::{Env, Items, Text, TextFault};
 use up_tools::{Kind, View, kind_named};
 use up_wire::DEFAULT_SOCKET;

@@ -15,7 +15,7 @@ ghost use Rattle.up_model.specs.declared.input.Input.{Input};
 ghost use Rattle.up_model.specs.declared.input.Input.TheVariants.{Turn};
 ghost use Rattle.up_model.specs.declared.step.Step.TheVariants.{Gave};
 ghost use Rattle.up_model.specs.Answers.{after_all, answers};
-ghost use Rattle.up_model.specs.Blocks.{IsLone};
+ghost use Rattle.up_model.specs.Blocks.{HasOneMain};
 ghost use Rattle.up_model.specs.Chronicle.{Chronicle};
 ghost use Rattle.up_model.specs.Configuration.{Configuration};
 ghost use Rattle.up_model.specs.Due.{turn_event};
@@ -27,13 +27,13 @@ ghost use Rattle.up_model.specs.Values.{Bindings, Bytes};
 pub fn one_main()
     ensures { (files : List File) (table : List JobDef) (report : List Fault) (base : Bindings)
         (inputs : List Input)
-        → Compiles files table report → IsLone (after_all (record { base = base; jobs = table }) [] inputs) }
+        → Compiles files table report → HasOneMain (after_all (record { base = base; jobs = table }) [] inputs) }
 {}
 
 /// The same of every table, whether it was compiled or read from an image.
 pub fn one_main_of_tables()
     ensures { (jobs : List JobDef) (base : Bindings) (inputs : List Input)
-        → IsTable jobs → IsLone (after_all (record { base = base; jobs = jobs }) [] inputs) }
+        → IsTable jobs → HasOneMain (after_all (record { base = base; jobs = jobs }) [] inputs) }
 {}
 
 /// What the instances of an engine may still order is what the chronicle says that it stands for.

@@ -86,7 +86,12 @@ fn read_head(bytes: &[u8]) -> Result<Version, ImageError>
 }
 
 // Refuses jobs that have another image than these bytes.
-fn check_image(alloc: Global, version: Version, jobs: &[JobDef], bytes: &[u8]) -> Result<(), ReadFault>
+fn check_image(
+    alloc: Global,
+    version: Version,
+    jobs: &[JobDef],
+    bytes: &[u8],
+) -> Result<(), ReadFault>
     ensures image { OnOk result (IsVersion version bytes.now jobs.now) }
     ensures refused { IfErr result (λ read_fault. read_fault ≡ BadTable → IsVersion version bytes.now jobs.now → ⊥) }
 {

@@ -50,7 +50,10 @@ fn take_each_setting(
     Ok((Items::new(settings), rest))
 }
 
-pub(crate) fn take_settings(alloc: Global, bytes: &[u8]) -> Result<(Items<Setting>, &[u8]), ReadFault>
+pub(crate) fn take_settings(
+    alloc: Global,
+    bytes: &[u8],
+) -> Result<(Items<Setting>, &[u8]), ReadFault>
     ensures { Reads (λ x. (x.0, x.1.now)) result (list_at setting_at bytes.now) }
 {
     let (count, rest) = take_two(bytes)?;
@@ -105,7 +108,11 @@ fn add_exit<'a>(exits: &mut Vec<Exit>, bytes: &'a [u8]) -> Result<&'a [u8], Read
 }
 
 #[tactic(auto, using(crate::proofs::Counting::items_left))]
-fn take_each_exit(alloc: Global, bytes: &[u8], count: u16) -> Result<(Items<Exit>, &[u8]), ReadFault>
+fn take_each_exit(
+    alloc: Global,
+    bytes: &[u8],
+    count: u16,
+) -> Result<(Items<Exit>, &[u8]), ReadFault>
     ensures { Reads (λ x. (x.0, x.1.now)) result (items_at exit_at count [] bytes.now) }
 {
     let mut rest = bytes;

@@ -39,7 +39,11 @@ fn take_test(alloc: Global, bytes: &[u8]) -> Result<(Test, &[u8]), ReadFault>
 }
 
 // Reads a value and appends it, and returns the bytes after it.
-fn add_test<'a>(alloc: Global, tests: &mut Vec<Test>, bytes: &'a [u8]) -> Result<&'a [u8], ReadFault>
+fn add_test<'a>(
+    alloc: Global,
+    tests: &mut Vec<Test>,
+    bytes: &'a [u8],
+) -> Result<&'a [u8], ReadFault>
     ensures { Reads (λ rest. (tests.new.items, rest.now)) result
         (made (λ test. tests.old.items ++ test ∷ []) (test_at bytes.now)) }
 {
@@ -49,7 +53,11 @@ fn add_test<'a>(alloc: Global, tests: &mut Vec<Test>, bytes: &'a [u8]) -> Result
 }
 
 #[tactic(auto, using(crate::proofs::Counting::items_left))]
-fn take_each_test(alloc: Global, bytes: &[u8], count: u16) -> Result<(Items<Test>, &[u8]), ReadFault>
+fn take_each_test(
+    alloc: Global,
+    bytes: &[u8],
+    count: u16,
+) -> Result<(Items<Test>, &[u8]), ReadFault>
     ensures { Reads (λ x. (x.0, x.1.now)) result (items_at test_at count [] bytes.now) }
 {
     let mut rest = bytes;
@@ -110,7 +118,11 @@ fn join_by(builder: &mut Builder, kind: u8) -> Result<(), ReadFault>
 
 // Reads a node: a leaf is a tree of its own, and another joins the newest two.
 #[tactic(auto, unfolding(crate::specs::Finding::node_at))]
-fn take_node<'a>(alloc: Global, builder: &mut Builder, bytes: &'a [u8]) -> Result<&'a [u8], ReadFault>
+fn take_node<'a>(
+    alloc: Global,
+    builder: &mut Builder,
+    bytes: &'a [u8],
+) -> Result<&'a [u8], ReadFault>
     requires { sizes builder.old < MAX_NODES }
     ensures read { Reads (λ rest. (builder.new, rest.now)) result (node_at builder.old bytes.now) }
     ensures few { OnOk result (sizes builder.new ≤ sizes builder.old + 1) }

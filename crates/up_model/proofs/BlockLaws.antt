@@ -20,7 +20,7 @@ use Rattle.up_model.specs.declared.state.State.{State}
 use Rattle.up_model.specs.declared.state.State.TheVariants.{Starting, Stopping}
 use Rattle.up_model.specs.declared.who.Who.{Who}
 use Rattle.up_model.specs.Answers.{after, next, is_expected, after_all}
-use Rattle.up_model.specs.Blocks.{IsPatient, unfinished}
+use Rattle.up_model.specs.Blocks.{ActsUnblocked, unfinished}
 use Rattle.up_model.specs.Chronicle.{Chronicle, Entry, Given, Queued, Handled, Offered, Fired, Finished, Made, Aimed, Failed, Entered, Ordered, Signalled, Outside, Entering, Spoilt, StartOn, StopOn}
 use Rattle.up_model.specs.Clock.{is_killed, kill_due, overdue, all_overdue, has_passed, kill_moment, now, milliseconds, kill, killing}
 use Rattle.up_model.specs.Configuration.{Configuration}
@@ -56,7 +56,7 @@ listed (Some event) = event ∷ []
 pub record Keeps (c : Chronicle) : Type 0 where
   pub waiting : (instance : ℕ) → is_blocking (state_of instance c) ≡ false → blocker instance c ≡ None
   pub single : (instance : ℕ) → unfinished instance c ≡ listed (blocker instance c)
-  pub patient : IsPatient c
+  pub patient : ActsUnblocked c
 
 -- an event that finishes is waited for no longer
 finished-listed : (event : ℕ) (waits : Option ℕ) → filter (λ other. not (other == event)) (listed waits) ≡ listed (without event waits)
@@ -553,5 +553,5 @@ pub reached-keeps : (config : Configuration) (inputs : List Input) → Keeps (af
 reached-keeps config inputs = after_all-keeps config [] inputs (record { waiting = λ instance apart. refl; single = λ instance. refl; patient = tt })
 
 -- so no instance does anything while it waits for its own event
-pub patient : (config : Configuration) (inputs : List Input) → IsPatient (after_all config [] inputs)
+pub patient : (config : Configuration) (inputs : List Input) → ActsUnblocked (after_all config [] inputs)
 patient config inputs = (reached-keeps config inputs).patient

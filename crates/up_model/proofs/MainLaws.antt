@@ -24,7 +24,7 @@ use Rattle.up_model.specs.declared.state.State.{State}
 use Rattle.up_model.specs.declared.state.State.TheVariants.{Waiting, Starting, PreStart, Spawned, PostStart, Running, PreStop, Stopping, Killed, PostStop}
 use Rattle.up_model.specs.declared.who.Who.{Who}
 use Rattle.up_model.specs.Answers.{after, next, awaits, is_expected, after_all}
-use Rattle.up_model.specs.Blocks.{IsLone}
+use Rattle.up_model.specs.Blocks.{HasOneMain}
 use Rattle.up_model.specs.Chronicle.{Chronicle, Entry, Given, Queued, Handled, Offered, Fired, Finished, Made, Aimed, Failed, Entered, Ordered, Signalled, Replied, Outside, StartOn, StopOn}
 use Rattle.up_model.specs.Clock.{all_overdue, kill, killing}
 use Rattle.up_model.specs.Commands.{Refused, Done, Target, Nobody, Concerns, refusal, target_of, start_at, start, holders_of, outcome_by, outcome_of, entries_of}
@@ -79,7 +79,7 @@ record Fits (p : ℕ) (c : Chronicle) : Type 0 where
 record Keeps (c : Chronicle) : Type 0 where
   single : Singles c
   fits : (who : Who) (p : ℕ) → instance_named who c ≡ Some p → Fits p c
-  lone : IsLone c
+  lone : HasOneMain c
 
 -- the file of an instance that is found stays as it is
 has-later : (who : Who) (p : ℕ) (e : Entry) (c : Chronicle) → instance_named who c ≡ Some p → has_main (file_of p c) ≡ true → has_main (file_of p (e ∷ c)) ≡ true
@@ -716,5 +716,5 @@ empty-keeps : (config : Configuration) → Keeps []
 empty-keeps config = record { single = λ job. tt; fits = λ who p found. record { alive = λ so. absurd (cc); asked = λ so. absurd (cc) }; lone = tt }
 
 -- so no instance orders its main while that lives
-pub lone : (config : Configuration) (inputs : List Input) → IsLone (after_all config [] inputs)
+pub lone : (config : Configuration) (inputs : List Input) → HasOneMain (after_all config [] inputs)
 lone config inputs = (after_all-keeps config [] inputs (empty-keeps config)).lone

@@ -15,14 +15,14 @@ unfinished instance (Finished event ∷ c) = filter (λ other. not (other == eve
 unfinished instance (entry ∷ c) = unfinished instance c
 
 -- when an instance ordered a process, or its main got a signal, each of these had finished
-abbrev pub IsPatient : Chronicle → Type 0
-IsPatient [] = ⊤
-IsPatient (Ordered instance process ∷ c) = (unfinished instance c ≡ []) × IsPatient c
-IsPatient (Signalled instance signal by_timer ∷ c) = (unfinished instance c ≡ []) × IsPatient c
-IsPatient (entry ∷ c) = IsPatient c
+abbrev pub ActsUnblocked : Chronicle → Type 0
+ActsUnblocked [] = ⊤
+ActsUnblocked (Ordered instance process ∷ c) = (unfinished instance c ≡ []) × ActsUnblocked c
+ActsUnblocked (Signalled instance signal by_timer ∷ c) = (unfinished instance c ≡ []) × ActsUnblocked c
+ActsUnblocked (entry ∷ c) = ActsUnblocked c
 
 -- an instance that ordered its main process had none that lived
-abbrev pub IsLone : Chronicle → Type 0
-IsLone [] = ⊤
-IsLone (Ordered instance Main ∷ c) = (lives instance Main c ≡ false) × IsLone c
-IsLone (entry ∷ c) = IsLone c
+abbrev pub HasOneMain : Chronicle → Type 0
+HasOneMain [] = ⊤
+HasOneMain (Ordered instance Main ∷ c) = (lives instance Main c ≡ false) × HasOneMain c
+HasOneMain (entry ∷ c) = HasOneMain c

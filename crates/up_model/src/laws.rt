@@ -1,7 +1,7 @@
 //! Laws: what holds of the names of commands, and of every run, whatever the jobs are and whatever is given.
 ghost use Rattle.std.specs.Prelude.{ℕ, ◌≡◌, ◌≤◌, true, length, List, [], Some};
 ghost use Rattle.up_model.specs.Answers.{after, after_all};
-ghost use Rattle.up_model.specs.Blocks.{IsLone, IsPatient};
+ghost use Rattle.up_model.specs.Blocks.{ActsUnblocked, HasOneMain};
 ghost use Rattle.up_model.specs.Chronicle.{Chronicle};
 ghost use Rattle.up_model.specs.Configuration.{Configuration};
 ghost use Rattle.up_model.specs.Due.{due};
@@ -54,12 +54,12 @@ pub fn orderly()
 /// An instance orders no process, and none of its processes gets a signal, between its `starting` or `stopping` event and that event's
 /// finish.
 pub fn blocks()
-    ensures { (config : Configuration) (inputs : List Input) → IsPatient (after_all config [] inputs) }
+    ensures { (config : Configuration) (inputs : List Input) → ActsUnblocked (after_all config [] inputs) }
 {}
 
 /// An instance doesn't order its main process while that lives.
 pub fn one_main()
-    ensures { (config : Configuration) (inputs : List Input) → IsLone (after_all config [] inputs) }
+    ensures { (config : Configuration) (inputs : List Input) → HasOneMain (after_all config [] inputs) }
 {}
 
 /// The processes that the instances may still order before they wait for an event become fewer by at least those that a step orders, whatever

@@ -8,11 +8,11 @@ mod jobs;
 mod outlet;
 pub mod pace;
 mod record;
+pub mod reporter;
 pub mod run;
 pub mod silence;
 mod socket;
-pub mod reporter;
 mod unsaid;
 
-pub use run::{Rounds, run_source};
 pub use reporter::ReportOptions;
+pub use run::{Rounds, run_source};

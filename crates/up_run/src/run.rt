@@ -15,9 +15,9 @@ use crate::jobs::read_jobs;
 use crate::outlet::Outlet;
 use crate::pace::{Pace, SHORT_PAUSE, is_idle};
 use crate::record::open_file;
+use crate::reporter::{ReportOptions, Reporter};
 use crate::silence::Silences;
 use crate::socket::say_no_socket;
-use crate::reporter::{Reporter, ReportOptions};
 use std::alloc::{AllocError, Global};
 use std::fs::{File, OpenFile, remove_file};
 use std::io::{Eprint, Write};
@@ -383,7 +383,13 @@ where
 /// the output can't be used; `Memory` if memory ran out. Neither the socket nor the processes are touched at the end.
 pub fn run_source<
     R: Files<File = File> + Net + Processes + Clock + Print + Eprint + AllocGlobal + Clone + Drop,
->(rt: &R, source: &str, socket: &str, rounds: Rounds, options: ReportOptions) -> io::Result<ExitStatus> {
+>(
+    rt: &R,
+    source: &str,
+    socket: &str,
+    rounds: Rounds,
+    options: ReportOptions,
+) -> io::Result<ExitStatus> {
     let jobs = read_jobs(rt, source)?;
     match print(rt, Ok(jobs.printed)) {
         Ok(printed) => run_found(rt, jobs.table, printed, (source, socket), rounds, options),

@@ -2,7 +2,7 @@
 use std::alloc::{AllocError, Global};
 use std::test::Fail;
 use up_command::{Invocation, parse_args, print_refusal};
-use up_run::{Rounds, ReportOptions};
+use up_run::{ReportOptions, Rounds};
 use up_text::{Env, Text};
 use up_tools::Kind;
 

@@ -5,4 +5,4 @@ use Rattle.up_chart.proofs.arrow.push_all_from_outside.Given as goal
 
 abbrev pub invariant-loop-event : goal.invariant-loop-event
 invariant-loop-event l = l.arrows.items
-    ≡ l.initial.arrows.items ++ flat_map (from_outside l.times l.alone l.row l.begun) (map (λ event. event.now) (take l.event-index l.events))
+    ≡ l.initial.arrows.items ++ flat_map (from_outside l.times l.alone l.row l.life_began) (map (λ event. event.now) (take l.event-index l.events))
