@@ -16,7 +16,7 @@ returns-in_ok-append-in-Some g c mode c' job s in_table at_hand =
     let named = job_name config c.args.index job in_table in
     let found = named_some {K = InstanceKey} (instance_place config c') c.in-Some.key (instance_named who c') (c.in-Some.ensures.place mode config c' job.name s named) in
     let own = c.in_ok-own-in-Some.ensures mode c' found.0 s found.2 in
-    c.in_ok-append-in-Some.ensures
+    c.in_ok-append-in-Some.ensures.ok
     ∙ ap (λ base. set_all base c.args.vars.now) (own ∙ sym (base-own config who c' found.0 found.1))
 
 pub returns-in-None : goal.returns-in-None
