@@ -1,7 +1,7 @@
 -- The first job, from one on, that hears of an event.
 use Rattle.std.proofs.Common.{◌≡◌, ℕ, zero, suc, ◌+◌, ◌-◌, ◌*◌, ◌<◌, ◌≤◌, ◌==◌, nat_le, nat_lt, Bool, true, false, not, ◌&&◌, ◌||◌, List, [], ◌∷◌, ◌++◌, length, map, drop, Option, None, Some, IfSome, slice_get, get_or, if◌then◌else◌, refl, sym, ◌∙◌, ap, arith, add-one, append_assoc, length-append, drop-cons, eq-eqb, eqb-true, ne_eqb, lt-ltb, ltb-true}
 use Rattle.std.specs.Prelude.{option_and_then}
-use Rattle.std.specs.List.{list_any}
+use Rattle.std.specs.List.{AllByRecursion, list_any}
 use Rattle.std.specs.List.Sorted.{IsPartitionPoint, IsPartitionedBy}
 use Rattle.std.specs.Str.{bytes_eq}
 use Rattle.std.proofs.lemmas.Bool.{and_parts, leb-true}
@@ -16,13 +16,18 @@ use Rattle.up_image.specs.Index.{named}
 use Rattle.up_image.specs.declared.index.Place.{Place}
 use Rattle.up_marks.specs.Agreeing.{naming}
 use Rattle.up_marks.specs.Naming.{naming_in, side_of, bit_of, rank, rank_of, of_expression, Rising}
-use Rattle.up_marks.specs.Ruling.{one_fails, may_match, may_match_in, nodes_in, leaf_of, leaf_in, admits_by, admits}
-use Rattle.up_model.specs.Configuration.{Configuration}
+use Rattle.up_marks.specs.Ruling.{may_hear, one_fails, may_match, may_match_in, nodes_in, leaf_of, leaf_in, admits_by, admits}
+use Rattle.up_model.specs.Chronicle.{Chronicle}
+use Rattle.up_model.specs.Configuration.{Configuration, job_named}
+use Rattle.up_model.specs.Instances.{Instance, instances_of}
 use Rattle.up_model.specs.declared.event.Event.{Event}
-use Rattle.up_book.specs.Hearers.{hears, first_from, has_job, IsNextJob, IsNextHearer}
+use Rattle.up_model.proofs.FileLaws.{AreMadeBy, are_by}
+use Rattle.up_book.specs.Hearers.{AreDeaf, IsDeaf, hears, first_from, has_job, IsNextJob, IsNextHearer}
+use Rattle.up_book.specs.Keeps.{AreDistinct}
 use Rattle.up_book.specs.Keys.{job_at}
 use Rattle.up_book.specs.Ledgers.{HasIndex}
 use Rattle.up_book.proofs.Keyed.{job-there}
+use Rattle.up_book.proofs.Outgoing.{named-there}
 
 bit-few : (b : Bool) → bit_of b ≤ 1
 bit-few true = omega arith
@@ -300,11 +305,35 @@ heard index config n job event its there =
     ∙ ap (λ (b : Bool). b || list_any (admits config.jobs event) (of_expression n false places)) starts
     ∙ ap (λ (b : Bool). may_match_in job.start_on event.name event.vars || b) stops
 
-pub next-hearer : (index : List Place) (config : Configuration) (event : Event) (from : ℕ) (next : Option ℕ) → HasIndex index config.jobs → IsNextJob (admits config.jobs event) from (named event.name index) next
-    → IsNextHearer config (Some event) from next
-next-hearer index config event from None its is = λ n job after there. sym (heard index config n job event its there) ∙ is n after
-next-hearer index config event from (Some next) its is = (
+-- each instance goes by the file that the table has of its job, so if that doesn't hear of an event none of them does
+or-first : (a b : Bool) → (a || b) ≡ false → a ≡ false
+or-first true b none = absurd cc
+or-first false b none = refl
+
+or-rest : (a b : Bool) → (a || b) ≡ false → b ≡ false
+or-rest true b none = absurd cc
+or-rest false b none = none
+
+one-some : {X : Type 0} {x y : X} → Some x ≡ Some y → x ≡ y
+one-some same = cc
+
+deaf-by : (event : Option Event) (file : Option JobDef) (job : JobDef) (its : List Instance) → file ≡ Some job → may_hear job.stop_on event ≡ false → AllByRecursion (λ x. file ≡ Some x.file) its → AreDeaf event its
+deaf-by event file job [] named deaf by = tt
+deaf-by event file job (x ∷ its) named deaf by =
+    (ap (λ (its_file : JobDef). may_hear its_file.stop_on event) (one-some (sym by.0 ∙ named)) ∙ deaf, deaf-by event file job its named deaf by.1)
+
+job-deaf : (config : Configuration) (c : Chronicle) (n : ℕ) (job : JobDef) (event : Option Event) → AreDistinct config.jobs → AreMadeBy config.jobs c → job_at config n ≡ Some job → hears job event ≡ false → IsDeaf job event c
+job-deaf config c n job event distinct made there none = (
+  or-first (may_hear job.start_on event) (may_hear job.stop_on event) none,
+  deaf-by event (job_named job.name config.jobs) job (instances_of job.name c) (named-there n config.jobs job (job-there config n job there) distinct) (or-rest (may_hear job.start_on event) (may_hear job.stop_on event) none)
+      (are_by config.jobs job.name c made),
+)
+
+pub next-hearer : (index : List Place) (config : Configuration) (c : Chronicle) (event : Event) (from : ℕ) (next : Option ℕ) → AreDistinct config.jobs → AreMadeBy config.jobs c → HasIndex index config.jobs
+    → IsNextJob (admits config.jobs event) from (named event.name index) next → IsNextHearer config (Some event) c from next
+next-hearer index config c event from None distinct made its is = λ n job after there. job-deaf config c n job (Some event) distinct made there (sym (heard index config n job event its there) ∙ is n after)
+next-hearer index config c event from (Some next) distinct made its is = (
   is.0,
-  (λ n job after before there. sym (heard index config n job event its there) ∙ is.1 n after before),
+  (λ n job after before there. job-deaf config c n job (Some event) distinct made there (sym (heard index config n job event its there) ∙ is.1 n after before)),
   (λ job there. sym (heard index config next job event its there) ∙ is.2),
 )

@@ -1,10 +1,12 @@
 -- Which jobs hear of an event.
 use Rattle.std.specs.Prelude.{◌≡◌, ◌<◌, ◌≤◌, ◌==◌, nat_le, ℕ, Bool, true, false, ◌&&◌, ◌||◌, List, [], ◌∷◌, Option, None, Some, if◌then◌else◌}
-use Rattle.std.specs.List.{list_any}
+use Rattle.std.specs.List.{AllByRecursion, list_any}
 use Rattle.up_conf.specs.declared.job.JobDef.{JobDef}
 use Rattle.up_image.specs.declared.index.Place.{Place}
 use Rattle.up_marks.specs.Ruling.{may_hear}
+use Rattle.up_model.specs.Chronicle.{Chronicle}
 use Rattle.up_model.specs.Configuration.{Configuration}
+use Rattle.up_model.specs.Instances.{Instance, instances_of}
 use Rattle.up_model.specs.declared.event.Event.{Event}
 use Rattle.up_book.specs.Keys.{job_at}
 
@@ -12,11 +14,19 @@ use Rattle.up_book.specs.Keys.{job_at}
 abbrev pub hears : JobDef → Option Event → Bool
 hears job event = may_hear job.start_on event || may_hear job.stop_on event
 
+-- no `stop on` of these instances, each by its own file, may match an event
+abbrev pub AreDeaf : Option Event → List Instance → Type 0
+AreDeaf event its = AllByRecursion (λ x. may_hear x.file.stop_on event ≡ false) its
+
+-- an event can't match an expression in force of a job: its `start on`, or the `stop on` of one of its instances
+abbrev pub IsDeaf : JobDef → Option Event → Chronicle → Type 0
+IsDeaf job event c = (may_hear job.start_on event ≡ false) × AreDeaf event (instances_of job.name c)
+
 -- the first job of a table, from an index on, that hears of an event: its index, or none
-abbrev pub IsNextHearer : Configuration → Option Event → (from : ℕ) → Option ℕ → Type 0
-IsNextHearer config event from None = (n : ℕ) (job : JobDef) → from ≤ n → job_at config n ≡ Some job → hears job event ≡ false
-IsNextHearer config event from (Some next) = (from ≤ next)
-    × ((n : ℕ) (job : JobDef) → from ≤ n → n < next → job_at config n ≡ Some job → hears job event ≡ false)
+abbrev pub IsNextHearer : Configuration → Option Event → Chronicle → (from : ℕ) → Option ℕ → Type 0
+IsNextHearer config event c from None = (n : ℕ) (job : JobDef) → from ≤ n → job_at config n ≡ Some job → IsDeaf job event c
+IsNextHearer config event c from (Some next) = (from ≤ next)
+    × ((n : ℕ) (job : JobDef) → from ≤ n → n < next → job_at config n ≡ Some job → IsDeaf job event c)
     × ((job : JobDef) → job_at config next ≡ Some job → hears job event ≡ true)
 
 -- the job of the first of these places that isn't below another job's, and that a test admits

@@ -31,7 +31,6 @@ ghost use Rattle.up_model.specs.Readings as read;
 ghost use Rattle.up_model.specs.Replies as replies;
 ghost use Rattle.up_model.specs.Seen as seen;
 ghost use Rattle.up_model.specs.Values.{Bytes};
-ghost use Rattle.up_model.proofs.FileLaws.{AreMadeBy};
 ghost use Rattle.up_model.proofs.NameLaws.{Singles};
 ghost use Rattle.up_text.specs.Scripts.{is_filled};
 
@@ -399,7 +398,7 @@ pub trait Book: Drop {
     fn next_hearer(&self, jobs: &[JobFile], event: EventId, from: usize) -> Option<usize>
         ensures next { (config : Configuration) (c : Chronicle) (e : ℕ) → stands self.now Stepping config c
             → jobs.now ≡ config.jobs
-            → event_place self.now c event ≡ Some e → IsNextHearer config (read.event_at e c) from result }
+            → event_place self.now c event ≡ Some e → IsNextHearer config (read.event_at e c) c from result }
         ensures later { IfSome result (λ next. from ≤ next) };
 
     /// No two instances of a job have one name. Does nothing.
@@ -529,8 +528,4 @@ pub trait Book: Drop {
     // no two jobs of the table have one name
     ghost distinct: { (book : Self) (mode : Mode) (config : Configuration) (c : Chronicle)
         → stands book mode config c → AreDistinct config.jobs };
-
-    // each instance was made by the file that the table has of its job
-    ghost made: { (book : Self) (mode : Mode) (config : Configuration) (c : Chronicle)
-        → stands book mode config c → AreMadeBy config.jobs c };
 }

@@ -460,6 +460,4 @@ impl Book for Ledger {
     ghost known = { λ ledger mode config c job s none. s.known job none };
 
     ghost distinct = { λ ledger mode config c s. s.past.lives.distinct };
-
-    ghost made = { λ ledger mode config c s. s.past.regular.made };
 }

@@ -5,13 +5,13 @@ use Rattle.std.proofs.lemmas.Option.{slice_get_read}
 use Rattle.up_conf.specs.declared.job.JobDef.{JobDef}
 use Rattle.up_job.specs.declared.instance_key.InstanceKey.{InstanceKey}
 use Rattle.up_book.specs.Keys.{job_at, name_at, instance_at, instance_place}
-use Rattle.up_book.specs.Keeps.{is_waiting, AreDistinct}
+use Rattle.up_book.specs.Keeps.{is_waiting}
 use Rattle.up_engine.proofs.HolderLemmas.{past-releasing}
 use Rattle.up_model.specs.declared.state.State.{State}
 use Rattle.up_model.specs.declared.state.State.TheVariants as state
 use Rattle.up_model.specs.Chronicle.{Chronicle, Entry, Entered, Signalled}
 use Rattle.up_model.specs.Clock.{kill, killing}
-use Rattle.up_model.specs.Configuration.{Configuration, job_named}
+use Rattle.up_model.specs.Configuration.{Configuration}
 use Rattle.up_model.specs.Instances.{Instance, instances_of}
 use Rattle.up_model.specs.Replies.{releasing}
 use Rattle.up_model.specs.Values.{Bytes}
@@ -19,7 +19,6 @@ use Rattle.up_model.specs.Readings.{entry_at, file_in, file_of}
 use Rattle.up_model.proofs.FileLaws.{HasFile, files}
 use Rattle.up_book.proofs.Keyed.{nth-get}
 use Rattle.up_book.proofs.One.{nth-all}
-use Rattle.up_book.proofs.Outgoing.{named-there}
 
 -- the name of a job of the table
 pub named_there : (config : Configuration) (jobs : List JobDef) (n : ℕ) (job : JobDef) → jobs ≡ config.jobs → n < length jobs → job ≡ get_or jobs n job
@@ -87,10 +86,6 @@ file-kept i e c job known = by_case (length c == i) refl
         let both : None ≡ Some job = sym none ∙ known in
         absurd cc
     by_case false apart = known
-
--- so is that of the job of an index
-pub found-at : (config : Configuration) (n : ℕ) (job : JobDef) → AreDistinct config.jobs → job_at config n ≡ Some job → job_named job.name config.jobs ≡ Some job
-found-at config n job distinct in_table = named-there n config.jobs job (nth-get n config.jobs ∙ in_table) distinct
 
 -- an instance that enters a state other than waiting stays
 entered_of : (job : Bytes) (i : ℕ) (to : State) (c : Chronicle) → is_waiting to ≡ false → instances_of job (Entered i to ∷ c) ≡ instances_of job c

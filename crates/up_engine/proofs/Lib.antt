@@ -9,6 +9,7 @@ pub mod TurnLemmas
 pub mod KeyLemmas
 pub mod MoveLemmas
 pub mod SetupLemmas
+pub mod Starting
 pub mod RunLemmas
 pub mod IsolationLemmas
 pub mod JobMoves

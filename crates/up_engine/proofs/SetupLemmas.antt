@@ -4,11 +4,9 @@ use Rattle.std.proofs.lemmas.Option.{slice_get-map, slice_get-get_or}
 use Rattle.std.proofs.lemmas.Slice.Eq.{bytes_eq-Decides}
 use Rattle.up_conf.specs.declared.job.JobDef.{JobDef}
 use Rattle.up_stanza.specs.declared.setting.Setting.{Setting}
-use Rattle.up_model.specs.Commands.{Concerns}
 use Rattle.up_model.specs.Configuration.{job_named}
 use Rattle.up_model.specs.Environments.{text_of, with_value, setting_value, with_settings, job_env, env_by_job}
 use Rattle.up_model.specs.Values.{Bytes, Bindings}
-use Rattle.up_model.specs.declared.who.Who.{Who}
 use Rattle.up_text.specs.declared.expansion.Expanded.TheVariants as expanded
 use Rattle.up_value.specs.declared.fault.TextFault.TheVariants.{BadExpansion}
 use Rattle.up_text.specs.Expanding.{Gives}
@@ -25,7 +23,6 @@ use Rattle.up_job.specs.Named.{named, position, AreInOrder, IsBelowAll}
 use Rattle.up_job.proofs.JobLemmas.{order-ascending}
 use Rattle.up_job.proofs.NamedLemmas.{below_not_same, present_here, absent_here, absent_beyond, named_here}
 use Rattle.std.specs.List.{AllByRecursion}
-use Rattle.up_model.proofs.FileLaws.{target_as_one}
 
 -- the settings from one on
 pub settings_left : (base : Bindings) (settings : List Setting) (i : ℕ) (d : Setting) (environment : Bindings) → i < length settings
@@ -104,11 +101,3 @@ gives_malformed (Expands text) (inl is) = absurd cc
 gives_malformed (Expands text) (inr is) = absurd cc
 gives_malformed (Lacks other) is = refl
 gives_malformed Malformed is = refl
-
-pub gives_target : (job : JobDef) (environment : Bindings) (who : Who) (e : Expansion) (name : Bytes) → Gives e (Ok (expanded.Text name))
-    → who ≡ record { job = job.name; instance = name } → Concerns job who environment ≡ target_as_one job environment e
-gives_target job environment who (Expands text) name (inl is) same = cc
-gives_target job environment who (Expands text) name (inr is) same = absurd cc
-gives_target job environment who (Lacks key) name (inl is) same = absurd cc
-gives_target job environment who (Lacks key) name (inr is) same = absurd cc
-gives_target job environment who Malformed name is same = absurd cc

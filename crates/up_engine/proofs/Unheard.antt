@@ -7,10 +7,11 @@ use Rattle.up_job.specs.declared.instance_key.InstanceKey.{InstanceKey}
 use Rattle.up_marks.specs.Ruling.{may_hear}
 use Rattle.up_marks.specs.Skipping.{Stops, Starts}
 use Rattle.up_marks.proofs.Ruled.{unheard-offer, holds-unheard}
+use Rattle.up_model.specs.declared.event.Event.{Event}
 use Rattle.up_model.specs.declared.event_id.EventId.{EventId}
 use Rattle.up_model.specs.declared.input.Input.TheVariants.{Turn}
 use Rattle.up_model.specs.Chronicle.{Chronicle, Expression, Given, Handled, Offered, StartOn, StopOn}
-use Rattle.up_model.specs.Configuration.{Configuration, job_named}
+use Rattle.up_model.specs.Configuration.{Configuration}
 use Rattle.up_model.specs.Due.{due}
 use Rattle.up_model.specs.Instances.{Instance, instances_of}
 use Rattle.up_model.specs.Life.{wait_in}
@@ -18,18 +19,19 @@ use Rattle.up_model.specs.Moves.{may_leave}
 use Rattle.up_model.specs.Offers.{stop_offer, start_offer}
 use Rattle.up_model.specs.Readings.{state_of, entry_at, event_of, event_at, file_of}
 use Rattle.up_model.specs.Seen.{seen, holds}
-use Rattle.up_book.specs.Hearers.{hears}
+use Rattle.up_model.specs.Values.{Bytes}
+use Rattle.up_book.specs.Hearers.{AreDeaf, IsDeaf}
 use Rattle.up_book.specs.Keeps.{AreDistinct}
 use Rattle.up_book.specs.Keys.{job_at, instance_at, instance_place}
 use Rattle.up_book.proofs.Keyed.{nth-get, job-there}
-use Rattle.up_model.proofs.FileLaws.{AreMadeBy, HasFile, files, are_by}
+use Rattle.up_model.proofs.FileLaws.{HasFile, files}
 use Rattle.up_engine.specs.Settling.{settle_one, settle_each, hear_stops, hear, hear_all}
 use Rattle.up_engine.specs.Unfired.{NoneHolds}
 use Rattle.up_engine.specs.Unheard.{AreUnheard}
 use Rattle.up_engine.proofs.Firing.{IsHandling}
 use Rattle.up_engine.proofs.Handling.{all_asked, all-apart}
 use Rattle.up_engine.proofs.Hearing.{Heard, nth-middle, asked-others, job-heard, distinct-after, each-still, handling-rest, all-left}
-use Rattle.up_engine.proofs.KeyLemmas.{job_name, placed, found-at}
+use Rattle.up_engine.proofs.KeyLemmas.{job_name, placed}
 use Rattle.up_engine.proofs.Passing.{over-offered}
 use Rattle.up_engine.proofs.Positions.{instance-here, drop-front}
 use Rattle.up_engine.proofs.Resting.{Rest, all-middle}
@@ -42,7 +44,6 @@ pub record PassesBy (stands : Chronicle → Type 0) (places : Chronicle → Even
   pub stop : (c : Chronicle) (key : InstanceKey) (job : JobDef) (i e : ℕ) → stands c → instance_place config c key ≡ Some i → file_of i c ≡ Some job → may_hear job.stop_on (event_at e c) ≡ false
       → stands (Offered (StopOn i) e ∷ c)
   pub events : (c : Chronicle) (x : Expression) (e : ℕ) (k : EventId) → places (Offered x e ∷ c) k ≡ places c k
-  pub made : (c : Chronicle) → stands c → AreMadeBy config.jobs c
 
 -- an offer isn't what was queued at a place
 pub none-later : (place : ℕ) (c : Chronicle) → length c ≤ place → entry_at place c ≡ None
@@ -70,33 +71,30 @@ record Passed (stands : Chronicle → Type 0) (places : Chronicle → EventId �
   pub stood : stands f
   pub known : places f event ≡ Some e
   pub told : event_at e f ≡ event_at e c
-  pub lists : instances_of job.name f ≡ instances_of job.name c
+  pub lists : (name : Bytes) → instances_of name f ≡ instances_of name c
   pub rest : Rest (instances_of job.name f) f
   pub untrue : NoneHolds config f
 
-passed-then : (stands : Chronicle → Type 0) (places : Chronicle → EventId → Option ℕ) (config : Configuration) (e : ℕ) (event : EventId) (job : JobDef) (c d f : Chronicle) → event_at e d ≡ event_at e c → instances_of job.name d ≡ instances_of job.name c
+passed-then : (stands : Chronicle → Type 0) (places : Chronicle → EventId → Option ℕ) (config : Configuration) (e : ℕ) (event : EventId) (job : JobDef) (c d f : Chronicle) → event_at e d ≡ event_at e c → ((name : Bytes) → instances_of name d ≡ instances_of name c)
     → Passed stands places config e event job d f → Passed stands places config e event job c f
-passed-then stands places config e event job c d f told lists p = record { stood = p.stood; known = p.known; told = p.told ∙ told; lists = p.lists ∙ lists; rest = p.rest; untrue = p.untrue }
+passed-then stands places config e event job c d f told lists p = record { stood = p.stood; known = p.known; told = p.told ∙ told; lists = λ name. p.lists name ∙ lists name; rest = p.rest; untrue = p.untrue }
 
 some-same : {X : Type 0} {x y : X} → Some x ≡ Some y → x ≡ y
 some-same e = cc
 
--- no instance's file has a `stop on` that hears of the event
-abbrev AreDeaf : ℕ → List Instance → Chronicle → Type 0
-AreDeaf e its c = AllByRecursion (λ x. may_hear x.file.stop_on (event_at e c) ≡ false) its
-
-deaf-offered : (e : ℕ) (its : List Instance) (c : Chronicle) (x : Expression) (p : ℕ) → AreDeaf e its c → AreDeaf e its (Offered x p ∷ c)
+-- an offer changes nothing about who hears of the event
+deaf-offered : (e : ℕ) (its : List Instance) (c : Chronicle) (x : Expression) (p : ℕ) → AreDeaf (event_at e c) its → AreDeaf (event_at e (Offered x p ∷ c)) its
 deaf-offered e [] c x p deaf = tt
 deaf-offered e (y ∷ its) c x p deaf = (ap (may_hear y.file.stop_on) (event-same x p e c) ∙ deaf.0, deaf-offered e its c x p deaf.1)
 
 passed-stops : (stands : Chronicle → Type 0) (places : Chronicle → EventId → Option ℕ) (config : Configuration) → PassesBy stands places config → (e : ℕ) (event : EventId) (n : ℕ) (job : JobDef) → job_at config n ≡ Some job
-    → (front its : List Instance) (c : Chronicle) → instances_of job.name c ≡ front ++ its → stands c → places c event ≡ Some e → AreDeaf e its c → Rest (instances_of job.name c) c → NoneHolds config c
+    → (front its : List Instance) (c : Chronicle) → instances_of job.name c ≡ front ++ its → stands c → places c event ≡ Some e → AreDeaf (event_at e c) its → Rest (instances_of job.name c) c → NoneHolds config c
     → Passed stands places config e event job c (hear_stops config its e c)
 passed-stops stands places config by e event n job there front [] c list stood known deaf rest untrue =
-    record { stood = stood; known = known; told = refl; lists = refl; rest = rest; untrue = untrue }
+    record { stood = stood; known = known; told = refl; lists = λ name. refl; rest = rest; untrue = untrue }
 passed-stops stands places config by e event n job there front (x ∷ its) c list stood known deaf rest untrue =
     subst (λ f. Passed stands places config e event job c (hear_stops config its e f)) (sym step)
-    (passed-then stands places config e event job c d (hear_stops config its e d) (event-same (StopOn x.place) e e c) refl
+    (passed-then stands places config e event job c d (hear_stops config its e d) (event-same (StopOn x.place) e e c) (λ name. refl)
     (passed-stops stands places config by e event n job there (front ++ x ∷ []) its d (list ∙ sym (append_assoc front (x ∷ []) its)) stood_d (by.events c (StopOn x.place) e event ∙ known)
     (deaf-offered e its c (StopOn x.place) e deaf.1) (rest-offered (instances_of job.name c) c (StopOn x.place) e rest) untrue_d))
   where
@@ -131,38 +129,23 @@ passed-stops stands places config by e event n job there front (x ∷ its) c lis
     untrue_d =
         none-stop-offered config x.file x.place e c its_own.0 its_own.1 (holds-unheard config x.file.stop_on (StopOn x.place) (StopOn x.place) e c deaf.0 ∙ false_yet) untrue
 
--- each instance goes by the file that the table has of its job, so if that doesn't hear of an event none of them does
-deaf-by : (e : ℕ) (file : Option JobDef) (job : JobDef) (its : List Instance) (c : Chronicle) → file ≡ Some job → may_hear job.stop_on (event_at e c) ≡ false → AllByRecursion (λ x. file ≡ Some x.file) its → AreDeaf e its c
-deaf-by e file job [] c named deaf by = tt
-deaf-by e file job (x ∷ its) c named deaf by =
-    (ap (λ (its_file : JobDef). may_hear its_file.stop_on (event_at e c)) (some-same (sym by.0 ∙ named)) ∙ deaf, deaf-by e file job its c named deaf by.1)
-
-or-first : (a b : Bool) → (a || b) ≡ false → a ≡ false
-or-first true b none = absurd cc
-or-first false b none = refl
-
-or-rest : (a b : Bool) → (a || b) ≡ false → b ≡ false
-or-rest true b none = absurd cc
-or-rest false b none = none
-
 -- so it stands for what the job makes of it
-passed-job : (stands : Chronicle → Type 0) (places : Chronicle → EventId → Option ℕ) (config : Configuration) → PassesBy stands places config → AreDistinct config.jobs → (e : ℕ) (event : EventId) (n : ℕ) (job : JobDef) → job_at config n ≡ Some job
-    → (c : Chronicle) → stands c → places c event ≡ Some e → hears job (event_at e c) ≡ false → Rest (instances_of job.name c) c → NoneHolds config c
-    → stands (hear config job e c) × (places (hear config job e c) event ≡ Some e) × (event_at e (hear config job e c) ≡ event_at e c)
-passed-job stands places config by distinct e event n job there c stood known deaf rest untrue =
-    let unnamed : may_hear job.stop_on (event_at e c) ≡ false = or-rest (may_hear job.start_on (event_at e c)) (may_hear job.stop_on (event_at e c)) deaf in
+passed-job : (stands : Chronicle → Type 0) (places : Chronicle → EventId → Option ℕ) (config : Configuration) → PassesBy stands places config → (e : ℕ) (event : EventId) (n : ℕ) (job : JobDef) → job_at config n ≡ Some job
+    → (c : Chronicle) → stands c → places c event ≡ Some e → IsDeaf job (event_at e c) c → Rest (instances_of job.name c) c → NoneHolds config c
+    → stands (hear config job e c) × (places (hear config job e c) event ≡ Some e) × (event_at e (hear config job e c) ≡ event_at e c) × ((name : Bytes) → instances_of name (hear config job e c) ≡ instances_of name c)
+passed-job stands places config by e event n job there c stood known deaf rest untrue =
     let f = hear_stops config (instances_of job.name c) e c in
-    let stops = deaf-by e (job_named job.name config.jobs) job (instances_of job.name c) c (found-at config n job distinct there) unnamed (are_by config.jobs job.name c (by.made c stood)) in
-    let p = passed-stops stands places config by e event n job there [] (instances_of job.name c) c refl stood known stops rest untrue in
+    let p = passed-stops stands places config by e event n job there [] (instances_of job.name c) c refl stood known deaf.1 rest untrue in
     let x : Expression = StartOn job.name in
     let g : Chronicle = Offered x e ∷ f in
-    let quiet : may_hear job.start_on (event_at e f) ≡ false = ap (may_hear job.start_on) p.told ∙ or-first (may_hear job.start_on (event_at e c)) (may_hear job.stop_on (event_at e c)) deaf in
+    let quiet : may_hear job.start_on (event_at e f) ≡ false = ap (may_hear job.start_on) p.told ∙ deaf.0 in
     let offer : start_offer config job e f ≡ Offered x e ∷ [] = unheard-offer config (Starts job) e f quiet (p.untrue.starts n job there) in
     let step : hear config job e c ≡ g =
     ap (λ es. settle_each (instances_of job.name (es ++ f)) (es ++ f)) offer ∙ each-still (instances_of job.name f) g (rest-offered (instances_of job.name f) f x e p.rest) in (
       subst stands (sym step) (by.start f n job e p.stood there quiet),
       ap (λ h. places h event) step ∙ by.events f x e event ∙ p.known,
       ap (event_at e) step ∙ event-same x e e f ∙ p.told,
+      (λ name. ap (instances_of name) step ∙ p.lists name),
     )
 
 -- a book stands for what the jobs before one have made of a chronicle
@@ -246,15 +229,23 @@ heard-one stands then_ places later config e event from job c distinct there h s
 record PassedOne (stands : Chronicle → Type 0) (places : Chronicle → EventId → Option ℕ) (config : Configuration) (e : ℕ) (event : EventId) (to : ℕ) (c d : Chronicle) : Type 0 where
   pub heard : HeardTo stands places config e event to c
   pub told : event_at e heard.d ≡ event_at e d
+  pub lists : (name : Bytes) → instances_of name heard.d ≡ instances_of name d
 
 passed-one : (stands : Chronicle → Type 0) (places : Chronicle → EventId → Option ℕ) (config : Configuration) → PassesBy stands places config → AreDistinct config.jobs → (e : ℕ) (event : EventId) (from : ℕ) (job : JobDef) (c : Chronicle)
-    → job_at config from ≡ Some job → (h : HeardTo stands places config e event from c) → hears job (event_at e h.d) ≡ false → PassedOne stands places config e event (from + 1) c h.d
+    → job_at config from ≡ Some job → (h : HeardTo stands places config e event from c) → IsDeaf job (event_at e h.d) h.d → PassedOne stands places config e event (from + 1) c h.d
 unfolding heard-one
 passed-one stands places config by distinct e event from job c there h deaf =
     let next = next-job config.jobs h.done h.todo from job h.split h.count (job-there config from job there) in
     let rest = handling-rest config e h.done job next.rest (all_asked h.todo h.d) h.d (h.split ∙ ap (λ js. h.done ++ js) next.list) h.handling in
-    let passed = passed-job stands places config by distinct e event from job there h.d h.stood h.known deaf rest h.untrue in
-    record { heard = heard-one stands stands places places config e event from job c distinct there h passed.0 passed.1; told = passed.2 }
+    let passed = passed-job stands places config by e event from job there h.d h.stood h.known deaf rest h.untrue in
+    record { heard = heard-one stands stands places places config e event from job c distinct there h passed.0 passed.1; told = passed.2; lists = passed.3 }
+
+-- who doesn't hear of the event still doesn't
+still-deaf : (job : JobDef) (event told : Option Event) (c d : Chronicle) → told ≡ event → ((name : Bytes) → instances_of name d ≡ instances_of name c) → IsDeaf job event c → IsDeaf job told d
+still-deaf job event told c d same lists deaf = (
+  ap (may_hear job.start_on) same ∙ deaf.0,
+  subst (AreDeaf told) (sym (lists job.name)) (subst (λ ev. AreDeaf ev (instances_of job.name c)) (sym same) deaf.1),
+)
 
 -- and all of them up to another
 record At (n : ℕ) (jobs : List JobDef) : Type 0 where
@@ -269,21 +260,21 @@ at-index (suc n) (job ∷ jobs) within =
     record { job = rest.job; there = rest.there }
 
 passed-more : (k : ℕ) (stands : Chronicle → Type 0) (places : Chronicle → EventId → Option ℕ) (config : Configuration) → PassesBy stands places config → AreDistinct config.jobs → (e : ℕ) (event : EventId) (from : ℕ) (c : Chronicle)
-    → k + from ≤ length config.jobs → (h : HeardTo stands places config e event from c) → AreUnheard config (event_at e h.d) from (k + from) → PassedOne stands places config e event (k + from) c h.d
+    → k + from ≤ length config.jobs → (h : HeardTo stands places config e event from c) → AreUnheard config (event_at e h.d) h.d from (k + from) → PassedOne stands places config e event (k + from) c h.d
 passed-more zero stands places config by distinct e event from c within h unheard =
     let same : from ≡ 0 + from = omega arith in
-    subst (λ m. PassedOne stands places config e event m c h.d) same (record { heard = h; told = refl })
+    subst (λ m. PassedOne stands places config e event m c h.d) same (record { heard = h; told = refl; lists = λ name. refl })
 passed-more (suc k) stands places config by distinct e event from c within h unheard =
     let here = at-index from config.jobs (omega (arith, within)) in
     let there : job_at config from ≡ Some here.job = sym (nth-get from config.jobs) ∙ here.there in
     let one = passed-one stands places config by distinct e event from here.job c there h (unheard from here.job (omega arith) (omega arith) there) in
     let rest = passed-more k stands places config by distinct e event (from + 1) c (omega (arith, within)) one.heard
-    (λ n job after before its. ap (hears job) one.told ∙ unheard n job (omega (arith, after)) (omega (arith, before)) its) in
+    (λ n job after before its. still-deaf job (event_at e h.d) (event_at e one.heard.d) h.d one.heard.d one.told one.lists (unheard n job (omega (arith, after)) (omega (arith, before)) its)) in
     let same : k + (from + 1) ≡ suc k + from = omega arith in
-    subst (λ m. PassedOne stands places config e event m c h.d) same (record { heard = rest.heard; told = rest.told ∙ one.told })
+    subst (λ m. PassedOne stands places config e event m c h.d) same (record { heard = rest.heard; told = rest.told ∙ one.told; lists = λ name. rest.lists name ∙ one.lists name })
 
 pub passed-to : (stands : Chronicle → Type 0) (places : Chronicle → EventId → Option ℕ) (config : Configuration) → PassesBy stands places config → AreDistinct config.jobs → (e : ℕ) (event : EventId) (from to : ℕ) (c : Chronicle) → from ≤ to
-    → to ≤ length config.jobs → (h : HeardTo stands places config e event from c) → AreUnheard config (event_at e h.d) from to → HeardTo stands places config e event to c
+    → to ≤ length config.jobs → (h : HeardTo stands places config e event from c) → AreUnheard config (event_at e h.d) h.d from to → HeardTo stands places config e event to c
 passed-to stands places config by distinct e event from to c up within h unheard =
     let sum : (to - from) + from ≡ to = omega (arith, up) in
     subst (λ m. HeardTo stands places config e event m c) sum

@@ -75,7 +75,7 @@ fn status_of<B: Book>(
     ensures { IfOk result (λ answer. (c : Chronicle) → B.stands book.now Resting setup.now c
         → answer ≡ answer_of (commands.status (commands.target_of setup.now job.now vars.now c) c)) }
 {
-    let target = target_of(alloc, setup, job, vars)?;
+    let target = target_of(alloc, setup, book, job, vars)?;
     let answer = status(alloc, book, target)?;
     Ok(answer)
 }

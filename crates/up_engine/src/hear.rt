@@ -175,9 +175,9 @@ fn next_hearer<'a, B: Book>(
 ) -> Option<(usize, &'a JobFile)>
     ensures next { (c : Chronicle) (e : ℕ) → B.stands book.now Stepping setup.now c
         → B.event_place book.now c event ≡ Some e
-        → MatchOption result (AreUnheard setup.now (event_at e c) from (length setup.now.jobs))
+        → MatchOption result (AreUnheard setup.now (event_at e c) c from (length setup.now.jobs))
         (λ found. (job_at setup.now found.0 ≡ Some found.1.now)
-        × AreUnheard setup.now (event_at e c) from found.0) }
+        × AreUnheard setup.now (event_at e c) c from found.0) }
     ensures hears { (c : Chronicle) (e : ℕ) → B.stands book.now Stepping setup.now c
         → B.event_place book.now c event ≡ Some e
         → IfSome result (λ found. hears found.1.now (event_at e c) ≡ true) }

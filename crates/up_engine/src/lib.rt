@@ -3,6 +3,7 @@
 
 mod due;
 mod engine;
+mod environment;
 mod events;
 mod fault;
 mod hear;

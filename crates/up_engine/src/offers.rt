@@ -15,6 +15,7 @@ ghost use Rattle.up_model.specs.Readings as read;
 ghost use Rattle.up_model.specs.Values.{Bytes};
 ghost use Rattle.up_text.specs.Scripts.{is_filled};
 
+use crate::environment::start_env;
 use crate::events::{add_instance, events_env, stop_env};
 use crate::life::is_start;
 use crate::setup::Setup;
@@ -285,6 +286,16 @@ fn start_by<B: Book>(
     let environment = events_env(alloc, base, book, holders.as_slice())?;
     match instance_name(alloc, file.job(), &environment)? {
         Some(name) => {
+            let keys = holders.as_slice();
+            let environment = start_env(
+                alloc,
+                setup,
+                book,
+                index,
+                name.as_str(),
+                environment,
+                keys,
+            )?;
             let holders = Holders::Taken(holders);
             start_called(book, index, file, name.as_str(), environment, holders)?;
         }

@@ -606,25 +606,25 @@ fn change<B: Book>(
     } = request;
     match command {
         Command::Start => {
-            let target = target_of(alloc, setup, name.as_str(), &vars)?;
+            let target = target_of(alloc, setup, book, name.as_str(), &vars)?;
             let holders = holders_of(wait);
             let concern = start(alloc, book, holders, target)?;
             Ok(concern)
         }
         Command::Stop => {
-            let target = target_of(alloc, setup, name.as_str(), &vars)?;
+            let target = target_of(alloc, setup, book, name.as_str(), &vars)?;
             let holders = holders_of(wait);
             let concern = stop(alloc, book, holders, vars, target)?;
             Ok(concern)
         }
         Command::Restart => {
-            let target = target_of(alloc, setup, name.as_str(), &vars)?;
+            let target = target_of(alloc, setup, book, name.as_str(), &vars)?;
             let holders = holders_of(wait);
             let concern = restart(alloc, book, holders, target)?;
             Ok(concern)
         }
         Command::Status => {
-            let target = target_of(alloc, setup, name.as_str(), &vars)?;
+            let target = target_of(alloc, setup, book, name.as_str(), &vars)?;
             let answer = status(alloc, book, target)?;
             book.reply(answer)?;
             Ok(Concern::Nobody)
@@ -648,7 +648,7 @@ fn change<B: Book>(
             Ok(Concern::Nobody)
         }
         Command::Reload => {
-            let target = target_of(alloc, setup, name.as_str(), &vars)?;
+            let target = target_of(alloc, setup, book, name.as_str(), &vars)?;
             reload(alloc, book, target)?;
             Ok(Concern::Nobody)
         }

@@ -206,6 +206,20 @@ impl Setup {
         find_job(self.files.as_slice(), name)
     }
 
+    /// The environment that init was started with.
+    pub(crate) fn base(&self) -> &Env
+        ensures { result.now ≡ self.now.base }
+    {
+        &self.base
+    }
+
+    /// The environment of a job by a file.
+    pub(crate) fn environment_by(&self, job: &JobDef) -> Result<Env, AllocError>
+        ensures { IfOk result (λ env. env ≡ job_env self.now.base job.now) }
+    {
+        environment_of(&self.base, job)
+    }
+
     /// The environment of the job at this index.
     pub(crate) fn environment_at(&self, index: usize) -> &Env
         ensures { (job : JobDefValue) → job_at self.now index ≡ Some job

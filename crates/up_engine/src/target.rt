@@ -1,18 +1,18 @@
 //! Whom a request names.
 ghost use Rattle.std.specs.Prelude.{◌≡◌, Some, IfOk};
-ghost use Rattle.up_book.specs.Keys.{job_at};
+ghost use Rattle.up_book.specs.Keys.{Mode, job_at};
 ghost use Rattle.up_conf.specs.declared.job.JobDef.{JobDef as JobValue};
 ghost use Rattle.up_engine.specs.Requests.{target_of as said_of, IsIndexed};
 ghost use Rattle.up_model.specs.Chronicle.{Chronicle};
 ghost use Rattle.up_model.specs.Commands as model;
 ghost use Rattle.up_model.specs.Configuration.{Configuration};
-ghost use Rattle.up_model.specs.Values.{Bindings};
-ghost use Rattle.up_model.proofs.FileLaws.{AreMadeBy};
 ghost use Rattle.up_text.specs.Expansion.{expand as expansion};
 
+use crate::environment::request_start_env;
 use crate::setup::Setup;
 use crate::texts::{unknown_job, unknown_parameter};
 use std::alloc::{AllocError, Global};
+use up_book::Book;
 use up_image::JobFile;
 use up_model::{JobDef, Who};
 use up_text::{Env, Expanded, Text, TextFault, expand};
@@ -48,21 +48,34 @@ fn who_of(job: &JobDef, instance: Text) -> Result<Who, AllocError>
 }
 
 // The instance whose name this environment gives.
-fn target_in<'a>(
+fn target_in<'a, B: Book>(
     alloc: Global,
+    setup: &Setup,
+    book: &B,
     index: usize,
     file: &'a JobFile,
     environment: Env,
+    vars: &Env,
 ) -> Result<Target<'a>, AllocError>
-    ensures target { IfOk result (λ target. (config : Configuration) (vars : Bindings) (c : Chronicle)
-        → environment ≡ model.request_env config file.now vars → AreMadeBy config.jobs c
-        → said_of target ≡ model.target_as config file.now vars (expansion file.now.instance environment) c) }
+    ensures target { IfOk result (λ target. (mode : Mode) (c : Chronicle)
+        → B.stands book.now mode setup.now c → job_at setup.now index ≡ Some file.now
+        → environment ≡ model.request_env setup.now file.now vars.now
+        → said_of target ≡ model.target_as setup.now file.now vars.now
+        (expansion file.now.instance environment) c) }
     ensures index { IfOk result (λ target. (config : Configuration)
         → job_at config index ≡ Some file.now → IsIndexed config target) }
 {
     let job = file.job();
     match expand(alloc, job.instance.as_str(), &environment) {
         Ok(Expanded::Text(name)) => {
+            let environment = request_start_env(
+                setup,
+                book,
+                index,
+                name.as_str(),
+                environment,
+                vars,
+            )?;
             let who = who_of(job, name)?;
             Ok(Target::Concerns {
                 index,
@@ -80,20 +93,21 @@ fn target_in<'a>(
 }
 
 /// The job of this name, and the instance whose name these variables give.
-pub(crate) fn target_of<'a>(
+pub(crate) fn target_of<'a, B: Book>(
     alloc: Global,
     setup: &'a Setup,
+    book: &B,
     name: &str,
     vars: &Env,
 ) -> Result<Target<'a>, AllocError>
-    ensures target { IfOk result (λ target. (c : Chronicle) → AreMadeBy setup.now.jobs c
+    ensures target { IfOk result (λ target. (mode : Mode) (c : Chronicle) → B.stands book.now mode setup.now c
         → said_of target ≡ model.target_of setup.now name.now vars.now c) }
     ensures index { IfOk result (λ target. IsIndexed setup.now target) }
 {
     match setup.job_named(name) {
         Some((index, file)) => {
             let environment = request_env(setup, index, vars)?;
-            let target = target_in(alloc, index, file, environment)?;
+            let target = target_in(alloc, setup, book, index, file, environment, vars)?;
             Ok(target)
         }
         None => Ok(Target::Nobody(unknown_job(alloc, name)?)),

@@ -24,7 +24,7 @@ hearers-preserved g c = record {
       let places = g.B.Book.event_place c.hearers.book in
       let h = c.hearers.invariant.heard c' e none untrue stood known in
       let next = c.in-Some.ensures.next h.d e h.stood h.known in
-      let by : PassesBy stands places config = record { start = c.passes_by.ensures.start config; stop = c.passes_by.ensures.stop config; events = c.passes_by.ensures.events; made = λ d s. g.met.B.Book.made c.hearers.book Stepping config d s } in
+      let by : PassesBy stands places config = record { start = c.passes_by.ensures.start config; stop = c.passes_by.ensures.stop config; events = c.passes_by.ensures.events } in
       let to = passed-to stands places config by c.names_differ.ensures e event c.hearers.from c.in-Some.index (Handled e ∷ Given Turn ∷ c') c.in-Some.ensures.within.0 (omega (arith, c.in-Some.ensures.within.1)) h next.1 in
       heard-one stands (g.B.Book.stands c.hear.new.book Stepping config) places (g.B.Book.event_place c.hear.new.book) config e event c.in-Some.index c.in-Some.file.now (Handled e ∷ Given Turn ∷ c') c.names_differ.ensures next.0 to
       (c.in_ok-hear.ensures.after to.d e to.stood next.0 to.known) (c.in_ok-hear.ensures.events to.d e event e to.stood next.0 to.known to.known);
@@ -42,7 +42,7 @@ returns-clause-after g c c' e none untrue stood known =
     let stands = g.B.Book.stands c.hearers.book Stepping config in
     let places = g.B.Book.event_place c.hearers.book in
     let h = c.hearers.invariant.heard c' e none untrue stood known in
-    let by : PassesBy stands places config = record { start = c.passes_by-2.ensures.start config; stop = c.passes_by-2.ensures.stop config; events = c.passes_by-2.ensures.events; made = λ d s. g.met.B.Book.made c.hearers.book Stepping config d s } in
+    let by : PassesBy stands places config = record { start = c.passes_by-2.ensures.start config; stop = c.passes_by-2.ensures.stop config; events = c.passes_by-2.ensures.events } in
     heard-last stands places config e event (Handled e ∷ Given Turn ∷ c')
     (passed-to stands places config by c.names_differ.ensures e event c.hearers.from (length config.jobs) (Handled e ∷ Given Turn ∷ c') c.hearers.invariant.within (omega arith) h (c.in_default.ensures.next h.d e h.stood h.known))
 
