@@ -18,6 +18,10 @@ hears job event = may_hear job.start_on event || may_hear job.stop_on event
 abbrev pub AreDeaf : Option Event → List Instance → Type 0
 AreDeaf event its = AllByRecursion (λ x. may_hear x.file.stop_on event ≡ false) its
 
+-- whether one of them may
+abbrev pub one_hears : Option Event → List Instance → Bool
+one_hears event its = list_any (λ x. may_hear x.file.stop_on event) its
+
 -- an event can't match an expression in force of a job: its `start on`, or the `stop on` of one of its instances
 abbrev pub IsDeaf : JobDef → Option Event → Chronicle → Type 0
 IsDeaf job event c = (may_hear job.start_on event ≡ false) × AreDeaf event (instances_of job.name c)
@@ -27,7 +31,7 @@ abbrev pub IsNextHearer : Configuration → Option Event → Chronicle → (from
 IsNextHearer config event c from None = (n : ℕ) (job : JobDef) → from ≤ n → job_at config n ≡ Some job → IsDeaf job event c
 IsNextHearer config event c from (Some next) = (from ≤ next)
     × ((n : ℕ) (job : JobDef) → from ≤ n → n < next → job_at config n ≡ Some job → IsDeaf job event c)
-    × ((job : JobDef) → job_at config next ≡ Some job → hears job event ≡ true)
+    × ((job : JobDef) → job_at config next ≡ Some job → (hears job event || one_hears event (instances_of job.name c)) ≡ true)
 
 -- the job of the first of these places that isn't below another job's, and that a test admits
 abbrev pub first_from : (admits : Place → Bool) → (from : ℕ) → List Place → Option ℕ

@@ -2,7 +2,9 @@
 ghost use Rattle.std.specs.Prelude.{◌≡◌, ◌≤◌, ◌<◌, ℕ, true, false, List, ◌∷◌, ◌++◌, [], map, length, Option, None, Some, is_some, option_map, OnOk, IsOk, IfOk, IfSome};
 ghost use Rattle.std.specs.Option.{option_copied, option_map_or};
 ghost use Rattle.up_book.specs.declared.holders.Holders.{Holders as HoldersValue};
-ghost use Rattle.up_book.specs.Asking.{given_place};
+ghost use Rattle.up_book.specs.Asking.{given_input, given_place};
+ghost use Rattle.up_model.specs.declared.input.Input.TheVariants as given_as;
+ghost use Rattle.up_model.specs.declared.loaded.Loaded.{Loaded as LoadedValue};
 ghost use Rattle.up_book.specs.Hearers.{IsNextHearer};
 ghost use Rattle.up_book.specs.Keeps.{AreDistinct, is_waiting};
 ghost use Rattle.up_book.specs.Keys.{Mode, Resting, Stepping, SpeaksOf, held_as, request_place, job_at, name_at, instance_at, instance_place};
@@ -19,7 +21,10 @@ ghost use Rattle.up_model.specs.declared.state.State.TheVariants as entered;
 ghost use Rattle.up_model.specs.Chronicle.{Chronicle, Expression as ExpressionValue};
 ghost use Rattle.up_model.specs.Chronicle as entry;
 ghost use Rattle.up_model.specs.Clock as clock;
-ghost use Rattle.up_model.specs.Configuration.{Configuration, job_named};
+ghost use Rattle.up_model.specs.Configuration.{Configuration, is_removed, job_named};
+ghost use Rattle.up_model.specs.Loads.{with_jobs};
+ghost use Rattle.up_job.specs.Named.{AreInOrder};
+ghost use Rattle.up_book.specs.Keys.{name_of};
 ghost use Rattle.up_model.specs.Environments.{env_of_job};
 ghost use Rattle.up_model.specs.Due.{turn_event, telling};
 ghost use Rattle.up_model.specs.Files.{names_in_order};
@@ -204,6 +209,12 @@ pub trait Book: Drop {
     /// The input was a request: it is answered.
     fn reply(&mut self, answer: Answer) -> Result<(), AllocError>
         ensures { OnOk result ((config : Configuration) (c : Chronicle) → stands self.old Stepping config c
+            → stands self.new Stepping config (entry.Replied (given_place c) answer ∷ c)) };
+
+    /// The input was a load: its client is answered.
+    fn reply_load(&mut self, id: u64, answer: Answer) -> Result<(), AllocError>
+        ensures { OnOk result ((config : Configuration) (c : Chronicle) (loaded : LoadedValue)
+            → stands self.old Stepping config c → given_input c ≡ Some (given_as.Load id loaded)
             → stands self.new Stepping config (entry.Replied (given_place c) answer ∷ c)) };
 
     /// A turn takes an event up. Takes no memory.
@@ -393,8 +404,16 @@ pub trait Book: Drop {
             → job_at config index ≡ Some file.now → instance_named (called file.now.name name.now) c ≡ None
             → event_place self.old c k ≡ Some j → event_place self.new (entry.Made file.now name.now ∷ c) k ≡ Some j) };
 
-    /// The first job of the table, from an index on, with an expression that names an event, by a leaf without a literal value that rules
-    /// the event out. Takes no memory.
+    /// These jobs come into force, by a load in this step: they are those that were read and those that go on, in byte order of names. What the
+    /// `start on` of those before had seen is forgotten, and instances go on by their own files.
+    fn load(&mut self, files: &[JobFile]) -> Result<(), AllocError>
+        requires { AreInOrder name_of files.now }
+        ensures { OnOk result ((config : Configuration) (c : Chronicle) (jobs : List JobValue)
+            → stands self.old Stepping config c → files.now ≡ (with_jobs jobs config c).jobs
+            → stands self.new Stepping (with_jobs jobs config c) (entry.Loaded jobs ∷ c)) };
+
+    /// The first job of the table, from an index on, with an expression, or an instance with a `stop on` by its own file, that names an event, by a leaf
+    /// without a literal value that rules the event out. Takes no memory.
     fn next_hearer(&self, jobs: &[JobFile], event: EventId, from: usize) -> Option<usize>
         ensures next { (config : Configuration) (c : Chronicle) (e : ℕ) → stands self.now Stepping config c
             → jobs.now ≡ config.jobs
@@ -409,6 +428,7 @@ pub trait Book: Drop {
     fn passes_by(&self)
         ensures start { (config : Configuration) (c : Chronicle) (n : ℕ) (job : JobValue) (e : ℕ)
             → stands self.now Stepping config c → job_at config n ≡ Some job
+            → is_removed config job.name ≡ false
             → may_hear job.start_on (read.event_at e c) ≡ false
             → stands self.now Stepping config (entry.Offered (entry.StartOn job.name) e ∷ c) }
         ensures stop { (config : Configuration) (c : Chronicle) (key : KeyValue) (job : JobValue) (i e : ℕ)
@@ -421,24 +441,24 @@ pub trait Book: Drop {
     /// An event is offered to the `stop on` of an instance; returns whether that is true then.
     fn offer_stop(
         &mut self,
-        job: &JobDef,
+        file: &JobFile,
         key: InstanceKey,
         event: EventId,
     ) -> Result<bool, AllocError>
         ensures after { OnOk result ((config : Configuration) (c : Chronicle) (i e : ℕ)
             → stands self.old Stepping config c
-            → instance_place config c key ≡ Some i → read.file_of i c ≡ Some job.now
+            → instance_place config c key ≡ Some i → read.file_of i c ≡ Some file.now
             → event_place self.old c event ≡ Some e
             → stands self.new Stepping config (entry.Offered (entry.StopOn i) e ∷ c)) }
         ensures holds { IfOk result (λ holds. (config : Configuration) (c : Chronicle) (i e : ℕ)
             → stands self.old Stepping config c
-            → instance_place config c key ≡ Some i → read.file_of i c ≡ Some job.now
+            → instance_place config c key ≡ Some i → read.file_of i c ≡ Some file.now
             → event_place self.old c event ≡ Some e
-            → holds ≡ seen.holds job.now.stop_on
+            → holds ≡ seen.holds file.now.stop_on
             (seen.seen config (entry.StopOn i) (entry.Offered (entry.StopOn i) e ∷ c))) }
         ensures events { OnOk result ((config : Configuration) (c : Chronicle) (i e : ℕ) (k : EventIdValue) (j : ℕ)
             → stands self.old Stepping config c
-            → instance_place config c key ≡ Some i → read.file_of i c ≡ Some job.now
+            → instance_place config c key ≡ Some i → read.file_of i c ≡ Some file.now
             → event_place self.old c event ≡ Some e → event_place self.old c k ≡ Some j
             → event_place self.new (entry.Offered (entry.StopOn i) e ∷ c) k ≡ Some j) };
 
@@ -453,16 +473,19 @@ pub trait Book: Drop {
     ) -> Result<bool, AllocError>
         ensures after { OnOk result ((config : Configuration) (c : Chronicle) (e : ℕ)
             → stands self.old Stepping config c → job_at config index ≡ Some job.now
+            → is_removed config job.now.name ≡ false
             → env.now ≡ env_of_job config job.now.name → event_place self.old c event ≡ Some e
             → stands self.new Stepping config (entry.Offered (entry.StartOn job.now.name) e ∷ c)) }
         ensures holds { IfOk result (λ holds. (config : Configuration) (c : Chronicle) (e : ℕ)
             → stands self.old Stepping config c → job_at config index ≡ Some job.now
+            → is_removed config job.now.name ≡ false
             → env.now ≡ env_of_job config job.now.name → event_place self.old c event ≡ Some e
             → holds ≡ seen.holds job.now.start_on
             (seen.seen config (entry.StartOn job.now.name)
             (entry.Offered (entry.StartOn job.now.name) e ∷ c))) }
         ensures events { OnOk result ((config : Configuration) (c : Chronicle) (e : ℕ) (k : EventIdValue) (j : ℕ)
             → stands self.old Stepping config c → job_at config index ≡ Some job.now
+            → is_removed config job.now.name ≡ false
             → env.now ≡ env_of_job config job.now.name → event_place self.old c event ≡ Some e
             → event_place self.old c k ≡ Some j
             → event_place self.new (entry.Offered (entry.StartOn job.now.name) e ∷ c) k ≡ Some j) };

@@ -1,6 +1,6 @@
 //! The book of an engine: what is kept of the past, and of the step that isn't over.
 ghost use Rattle.std.specs.Prelude.{◌≡◌, ◌++◌, ◌∷◌, ℕ, [], None, Some, map, IsOk, IfOk, OnOk};
-ghost use Rattle.up_book.specs.Keys.{Resting, Stepping};
+ghost use Rattle.up_book.specs.Keys.{Resting, Stepping, name_of};
 ghost use Rattle.up_book.specs.Ledgers.{HasIndex, Stands};
 ghost use Rattle.up_book.specs.Requesting.{OnMeans};
 ghost use Rattle.up_book.specs.Sending.{IsOrder, IsSignal};
@@ -8,7 +8,8 @@ ghost use Rattle.up_book.specs.Views.{kept_at};
 ghost use Rattle.up_job.specs.Lists.{nth};
 ghost use Rattle.up_conf.specs.declared.job.JobDef.{JobDef as JobValue};
 ghost use Rattle.up_model.specs.Chronicle.{Chronicle};
-ghost use Rattle.up_model.specs.Configuration.{Configuration};
+ghost use Rattle.up_model.specs.Configuration.{Configuration, started_with};
+ghost use Rattle.up_job.specs.Named.{AreInOrder};
 ghost use Rattle.up_model.specs.Due.{telling};
 ghost use Rattle.up_model.specs.Replies.{request_instance, status_if};
 ghost use Rattle.up_model.specs.Values.{Bindings};
@@ -23,7 +24,7 @@ use crate::step::{ActedOn, Step, push_emitted, put};
 use std::alloc::{AllocError, Global};
 use up_conf::JobDef;
 use up_event::TurnKind;
-use up_image::{JobFile, Table};
+use up_image::JobFile;
 use up_job::{InstanceKey, Instances};
 use up_marks::Index;
 use up_model::{Answer, Event, EventId, Failure, Goal, Input, Output, Process, State};
@@ -38,14 +39,21 @@ pub struct Ledger {
     pub(crate) alloc: Global,
     pub past: Past,
     pub index: Index,
+    // The leaves of the `stop on` of the instances that a load found, each as one of its job.
+    pub others: Index,
     pub step: Step,
 }
 
-fn index_of(alloc: Global, table: &Table) -> Result<Index, AllocError>
-    ensures { IfOk result (λ index. HasIndex index table.now) }
+fn index_of(alloc: Global, files: &[JobFile]) -> Result<Index, AllocError>
+    ensures { IfOk result (λ index. HasIndex index files.now) }
 {
-    let index = Index::of(alloc, table)?;
+    let index = Index::of(alloc, files)?;
     Ok(index)
+}
+
+fn others_of(alloc: Global, instances: &Instances) -> Result<Index, AllocError>
+{
+    Index::of_places(instances.stop_places(alloc)?)
 }
 
 // What is asked for by which a process of an instance is started.
@@ -83,16 +91,18 @@ fn signal_at(
 
 impl Ledger {
     /// Nothing has happened to the jobs of a table.
-    pub fn new(alloc: Global, table: &Table) -> Result<Self, AllocError>
-        ensures { IfOk result (λ ledger. (base : Bindings)
-            → Stands ledger Resting (record { base = base; jobs = table.now }) []) }
+    pub fn new(alloc: Global, files: &[JobFile]) -> Result<Self, AllocError>
+        requires { AreInOrder name_of files.now }
+        ensures { IfOk result (λ ledger. (base : Bindings) → Stands ledger Resting (started_with base files.now) []) }
     {
-        let index = index_of(alloc, table)?;
-        let past = Past::new(alloc, table)?;
+        let index = index_of(alloc, files)?;
+        let past = Past::new(alloc, files)?;
+        let others = Index::of_places(Vec::new(alloc))?;
         Ok(Ledger {
             alloc,
             past,
             index,
+            others,
             step: Step::none(alloc),
         })
     }
@@ -257,6 +267,11 @@ impl Book for Ledger {
         Ok(())
     }
 
+    fn reply_load(&mut self, id: u64, answer: Answer) -> Result<(), AllocError> {
+        reply(&mut self.step.outputs, id, answer)?;
+        Ok(())
+    }
+
     fn handle(&mut self, key: EventId) {
         self.past.handle(key)
     }
@@ -394,6 +409,13 @@ impl Book for Ledger {
         Ok(key)
     }
 
+    fn load(&mut self, files: &[JobFile]) -> Result<(), AllocError> {
+        self.past.load(self.alloc, files)?;
+        self.others = others_of(self.alloc, &self.past.instances)?;
+        self.index = Index::of(self.alloc, files)?;
+        Ok(())
+    }
+
     fn next_hearer(&self, jobs: &[JobFile], event: EventId, from: usize) -> Option<usize> {
         match self.past.event_at(event) {
             Some(event) => next_job(&self.index, jobs, event, from),
@@ -407,13 +429,11 @@ impl Book for Ledger {
 
     fn offer_stop(
         &mut self,
-        job: &JobDef,
+        file: &JobFile,
         key: InstanceKey,
         event: EventId,
     ) -> Result<bool, AllocError> {
-        let holds = self
-            .past
-            .offer_stop(self.alloc, &self.index, key, job, event)?;
+        let holds = self.past.offer_stop(self.alloc, key, file, event)?;
         Ok(holds)
     }
 

@@ -55,7 +55,8 @@ fn asked_in(input: &Input) -> Option<Asked>
         | Input::Refused { .. }
         | Input::Ended { .. }
         | Input::Clock(_)
-        | Input::Turn => None,
+        | Input::Turn
+        | Input::Load { .. } => None,
     }
 }
 

@@ -5,7 +5,7 @@ use std::alloc::{AllocError, Global};
 use up_stanza::{Action, Setting};
 use up_text::{Items, Text};
 
-fn copy_texts(alloc: Global, texts: &[Text]) -> Result<Items<Text>, AllocError>
+pub(crate) fn copy_texts(alloc: Global, texts: &[Text]) -> Result<Items<Text>, AllocError>
     ensures { IfOk result (λ copied. copied ≡ texts.now) }
 {
     let mut copied: Vec<Text> = Vec::new(alloc);

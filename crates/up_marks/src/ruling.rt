@@ -7,6 +7,7 @@ ghost use Rattle.up_text.specs.Bindings.{value_of};
 ghost use Rattle.up_marks.specs.Naming.{side_of};
 ghost use Rattle.up_marks.specs.Ruling as ruling;
 
+use crate::index::stop_leaves;
 use up_conf::JobDef;
 use up_expr::{Condition, Leaf, Node, Test};
 use up_image::{JobFile, Place};
@@ -161,4 +162,23 @@ pub fn admits(jobs: &[JobFile], place: &Place, event: &Event) -> bool
         Some(leaf) => !rules_out(leaf, &event.name, &event.vars),
         None => false,
     }
+}
+
+// Whether the leaf at a place of a file's `stop on` may match an event.
+fn admits_stop(file: &JobFile, place: &Place, event: &Event) -> bool
+    ensures { result ≡ ruling.admits_by event.now (ruling.leaf_in file.now.stop_on place.now.node) }
+{
+    match leaf_in(file.job().stop_on.as_ref(), usize::from(place.node)) {
+        Some(leaf) => !rules_out(leaf, &event.name, &event.vars),
+        None => false,
+    }
+}
+
+/// Whether an event may match a file's `stop on`: a leaf names it, and no literal value of that rules it out. Takes no memory.
+pub fn may_stop(file: &JobFile, event: &Event) -> bool
+    ensures { result ≡ ruling.may_match_in file.now.stop_on event.now.name event.now.vars }
+{
+    stop_leaves(file, &event.name)
+        .iter()
+        .any(|place| admits_stop(file, place, event))
 }
