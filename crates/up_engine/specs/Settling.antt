@@ -48,3 +48,7 @@ hear config job event c =
 abbrev pub hear_all : Configuration → List JobDef → (event : ℕ) → Chronicle → Chronicle
 hear_all config [] event c = c
 hear_all config (job ∷ jobs) event c = hear_all config jobs event (hear config job event c)
+
+-- the chronicle after an input that leaves the configuration as it is: its effect, and then what is due until nothing is
+unfoldable pub after_in : Configuration → Chronicle → Input → Chronicle
+after_in config c given = let d = effect config given c ++ c in settle (work config d) config d

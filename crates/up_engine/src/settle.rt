@@ -5,7 +5,6 @@ ghost use Rattle.up_book.specs.Keys.{Resting, Stepping, name_at, instance_at};
 ghost use Rattle.up_engine.specs.Free.{IsFree};
 ghost use Rattle.up_engine.specs.Settling as settling;
 ghost use Rattle.up_engine.specs.Unfired.{IsAtRest};
-ghost use Rattle.up_model.specs.Answers as answer;
 ghost use Rattle.up_model.specs.Chronicle.{Chronicle};
 ghost use Rattle.up_model.specs.Due.{effect};
 ghost use Rattle.up_model.specs.Instances.{Instance, instances_of};
@@ -87,7 +86,7 @@ fn settle_alone<B: Book>(
 }
 
 /// Takes an input in, and then does what is due until nothing is. Nothing was due before.
-#[tactic(auto, unfolding(up_model::specs::Answers::after))]
+#[tactic(auto, unfolding(crate::specs::Settling::after_in))]
 pub(crate) fn run_step<B: Book>(
     alloc: Global,
     setup: &Setup,
@@ -95,7 +94,7 @@ pub(crate) fn run_step<B: Book>(
     input: Input,
 ) -> Result<(), AllocError>
     ensures after { OnOk result ((c : Chronicle) → B.stands book.old Resting setup.now c → IsAtRest setup.now c
-        → B.stands book.new Stepping setup.now (answer.after setup.now c input)) }
+        → B.stands book.new Stepping setup.now (settling.after_in setup.now c input)) }
     ensures free { (c : Chronicle) → B.stands book.old Resting setup.now c → IsFree setup.now c input
         → IsOk result × B.stands book.new Stepping setup.now (effect setup.now input c ++ c) }
 {
