@@ -2,6 +2,7 @@ pub mod Entries
 pub mod FolderLemmas
 pub mod EventKeys
 pub mod AnswerLemmas
+pub mod LoadLemmas
 pub mod EventLemmas
 pub mod ClockLemmas
 pub mod HolderLemmas

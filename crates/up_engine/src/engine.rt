@@ -10,6 +10,7 @@ ghost use Rattle.up_model.specs.Chronicle.{Chronicle};
 ghost use Rattle.up_model.specs.Commands as commands;
 ghost use Rattle.up_model.specs.Configuration.{Configuration, started_with};
 ghost use Rattle.up_model.specs.Due as due;
+ghost use Rattle.up_model.specs.Due.{effect};
 ghost use Rattle.up_model.specs.Left.{is_calm};
 ghost use Rattle.up_model.specs.Loads.{in_force};
 ghost use Rattle.up_model.specs.Outputs.{outputs_of};

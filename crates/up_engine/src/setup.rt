@@ -1,17 +1,20 @@
 //! What an engine is made with.
-ghost use Rattle.std.specs.Prelude.{◌≡◌, ◌++◌, map, None, Some, slice_get, unwrap_or, IfOk, OnOk, IfSome, IfNone};
+ghost use Rattle.std.specs.Prelude.{◌≡◌, ◌++◌, is_some, not, map, None, Some, slice_get, unwrap_or, IfOk, OnOk, IfSome, IfNone};
 ghost use Rattle.std.specs.Option.{option_copied};
 ghost use Rattle.std.specs.Str.{bytes_eq};
 ghost use Rattle.up_book.specs.Keeps.{AreDistinct};
 ghost use Rattle.up_conf.specs.declared.job.JobDef.{JobDef as JobDefValue};
 ghost use Rattle.up_book.specs.Keys.{Mode, job_at, name_at};
 ghost use Rattle.up_conf.specs.Order.{in_order, is_below};
-ghost use Rattle.up_engine.specs.Naming.{name_of};
+ghost use Rattle.up_engine.specs.Naming.{AreOthers, name_of};
 ghost use Rattle.up_job.specs.Named.{AreInOrder};
 ghost use Rattle.up_job.specs.Named as by_name;
 ghost use Rattle.up_model.specs.Chronicle.{Chronicle};
 ghost use Rattle.up_model.specs.Configuration.{Configuration, is_removed, job_named, started_with};
 ghost use Rattle.up_model.specs.Files.{job_names};
+ghost use Rattle.up_model.specs.Instances.{instances_of};
+ghost use Rattle.up_model.specs.Values.{Bytes};
+ghost use Rattle.up_text.specs.Scripts.{is_filled};
 ghost use Rattle.up_model.specs.Loads.{goes_on, going_on, with_jobs, without_start};
 ghost use Rattle.up_model.specs.Environments.{with_value, setting_value, with_settings, job_env, env_by_job, env_of_job};
 
@@ -173,13 +176,32 @@ fn without_start(alloc: Global, file: &JobFile) -> Result<JobFile, AllocError>
     JobFile::new(alloc, job)
 }
 
+// Whether none of the jobs has this name.
+fn is_new(jobs: &[JobFile], name: &str) -> bool
+    requires { AreInOrder name_of jobs.now }
+    ensures { result ≡ not (is_some (job_named name.now jobs.now)) }
+{
+    match find_job(jobs, name) {
+        Some(_) => false,
+        None => true,
+    }
+}
+
+fn has_instances<B: Book>(book: &B, index: usize) -> bool
+    ensures { (mode : Mode) (config : Configuration) (c : Chronicle) (its : Bytes)
+        → B.stands book.now mode config c → name_at config index ≡ Some its
+        → result ≡ is_filled (instances_of its c) }
+{
+    book.count(index) > 0
+}
+
 // Whether a job goes on that new ones don't have.
 fn goes_on<B: Book>(new: &[JobFile], book: &B, index: usize, file: &JobFile) -> bool
     requires { AreInOrder name_of new.now }
     ensures { (mode : Mode) (config : Configuration) (c : Chronicle) → B.stands book.now mode config c
-        → job_at config index ≡ Some file.now → result ≡ goes_on new.now c file.now }
+        → name_at config index ≡ Some file.now.name → result ≡ goes_on new.now c file.now }
 {
-    find_job(new, file.job().name.as_str()).is_none() && book.count(index) > 0
+    is_new(new, file.job().name.as_str()) && has_instances(book, index)
 }
 
 // Those of these jobs that go on, which new ones don't have.
@@ -189,10 +211,13 @@ fn going_on<B: Book>(
     book: &B,
     old: &[JobFile],
 ) -> Result<Vec<JobFile>, AllocError>
-    requires { AreInOrder name_of new.now }
-    ensures { IfOk result (λ going. (mode : Mode) (config : Configuration) (c : Chronicle)
+    requires new { AreInOrder name_of new.now }
+    requires old { AreInOrder name_of old.now }
+    ensures going { IfOk result (λ going. (mode : Mode) (config : Configuration) (c : Chronicle)
         → B.stands book.now mode config c → old.now ≡ config.jobs
         → going.items ≡ going_on new.now old.now c) }
+    ensures order { IfOk result (λ going. AreInOrder name_of going.items) }
+    ensures others { IfOk result (λ going. AreOthers new.now going.items) }
 {
     let mut going = Vec::new(alloc);
     for (index, file) in old.iter().enumerate() {
@@ -213,14 +238,19 @@ fn names_of(alloc: Global, files: &[JobFile]) -> Result<Vec<Name>, AllocError>
     Ok(names)
 }
 
+// Sorts files by the byte order of their names.
+fn sort_files(files: &mut Vec<JobFile>) -> Result<(), AllocError>
+    ensures { OnOk result (files.new.items ≡ in_order name_of files.old.items) }
+{
+    files.sort_by(|file, other| file.job().name.as_str().cmp(other.job().name.as_str()))
+}
+
 // These files and those, in byte order of names.
-fn merged(mut files: Vec<JobFile>, others: Vec<JobFile>) -> Result<Vec<JobFile>, AllocError>
+fn merged(mut files: Vec<JobFile>, mut others: Vec<JobFile>) -> Result<Vec<JobFile>, AllocError>
     ensures { IfOk result (λ all. all.items ≡ in_order name_of (files.items ++ others.items)) }
 {
-    for file in others {
-        files.push(file)?;
-    }
-    files.sort_by(|file, other| file.job().name.as_str().cmp(other.job().name.as_str()))?;
+    files.append(&mut others)?;
+    sort_files(&mut files)?;
     Ok(files)
 }
 
@@ -273,7 +303,7 @@ impl Setup {
 
     /// The jobs, in byte order of names.
     pub(crate) fn jobs(&self) -> &[JobFile]
-        ensures { result.now ≡ self.now.jobs }
+        ensures jobs { result.now ≡ self.now.jobs }
         ensures order { AreInOrder name_of result.now }
     {
         self.files.as_slice()
