@@ -1,5 +1,6 @@
 -- What a load makes of a setup.
-use Rattle.std.proofs.Common.{◌≡◌, ◌<◌, ◌+◌, ◌∙◌, ℕ, Bool, true, false, not, ◌&&◌, nat_lt, zero, suc, take, List, [], ◌∷◌, ◌++◌, Option, None, Some, is_some, drop, length, map, filter, get_or, if◌then◌else◌, add-one, drop-cons, ap, refl, sym, subst, arith}
+use Rattle.std.proofs.Common.{◌≡◌, ◌<◌, ◌+◌, ◌∙◌, ℕ, Bool, true, false, not, ◌&&◌, nat_lt, ltb-true, lt-ltb, take, List, [], ◌∷◌, ◌++◌, Option, None, Some, is_some, drop, length, map, filter, get_or, if◌then◌else◌, add-one, drop-cons, ap, refl, sym, subst, arith}
+use Rattle.std.proofs.lemmas.Grind.{take_at_read}
 use Rattle.std.specs.List.{AllByRecursion}
 use Rattle.up_conf.specs.declared.job.JobDef.{JobDef}
 use Rattle.up_engine.specs.Naming.{AreOthers, name_of}
@@ -12,7 +13,8 @@ use Rattle.up_model.specs.Loads.{goes_on, going_on, is_load, without_start}
 use Rattle.up_model.specs.Values.{Bytes}
 use Rattle.up_conf.specs.Order.{in_order}
 use Rattle.up_model.specs.Files.{job_names}
-use Rattle.up_model.proofs.LoadLaws.{LoadsNothing}
+use Rattle.up_model.proofs.LoadLaws.{LoadsNothing, NoneNamed, found-none, distinct-both, sorted-order, order-distinct}
+use Rattle.up_model.proofs.LoadLaws as model
 use Rattle.up_text.specs.Scripts.{is_filled}
 use Rattle.std.proofs.Common.{bytes_eq}
 
@@ -61,24 +63,45 @@ is-new None filled goes = refl
 is-new (Some job) filled goes = absurd cc
 
 -- the names of one more
+names-append : (xs ys : List JobDef) → job_names (xs ++ ys) ≡ job_names xs ++ job_names ys
+names-append [] ys = refl
+names-append (x ∷ xs) ys = ap (λ names. x.name ∷ names) (names-append xs ys)
+
 pub names-one-more : (jobs : List JobDef) (i : ℕ) (job : JobDef) → i < length jobs → job ≡ get_or jobs i job → job_names (take (i + 1) jobs) ≡ job_names (take i jobs) ++ job.name ∷ []
-names-one-more jobs i job within here = ?
+names-one-more jobs i job within here =
+    let one : take (i + 1) jobs ≡ take i jobs ++ get_or jobs i job ∷ [] = (take_at_read jobs i job within).1 in
+    ap job_names (one ∙ ap (λ j. take i jobs ++ j ∷ []) (sym here)) ∙ names-append (take i jobs) (job ∷ [])
 
 pub filled-count : {X : Type 0} (xs : List X) (n : ℕ) → n ≡ length xs → nat_lt 0 n ≡ is_filled xs
 filled-count [] n same = rw same refl
-filled-count (x ∷ xs) n same = rw same refl
+filled-count (x ∷ xs) n same = lt-ltb 0 n (omega (arith, same))
 
 -- new jobs in order, and others in order, are in order once they are merged
-found-none : (name : Bytes) (jobs : List JobDef) → job_named name jobs ≡ None → AllByRecursion (λ other. bytes_eq other.name name ≡ false) jobs
-found-none name [] none = tt
-found-none name (job ∷ jobs) none = by_case (bytes_eq job.name name) refl none
-  where
-    by_case : (b : Bool) → bytes_eq job.name name ≡ b → (if b then Some job else job_named name jobs) ≡ None → (b ≡ false) × AllByRecursion (λ other. bytes_eq other.name name ≡ false) jobs
-    by_case true is h = absurd cc
-    by_case false is h = (refl, found-none name jobs h)
+-- these are the model's words for order
+below-to : (name : Bytes) (xs : List JobDef) → IsBelowAll name_of name xs → model.IsBelowAll (λ (job : JobDef). job.name) name xs
+below-to name [] below = tt
+below-to name (x ∷ xs) below = (below.0, below-to name xs below.1)
+
+to-model : (xs : List JobDef) → AreInOrder name_of xs → model.AreInOrder (λ (job : JobDef). job.name) xs
+to-model [] order = tt
+to-model (x ∷ xs) order = (below-to x.name xs order.0, to-model xs order.1)
+
+below-from : (name : Bytes) (xs : List JobDef) → model.IsBelowAll (λ (job : JobDef). job.name) name xs → IsBelowAll name_of name xs
+below-from name [] below = tt
+below-from name (x ∷ xs) below = (below.0, below-from name xs below.1)
+
+from-model : (xs : List JobDef) → model.AreInOrder (λ (job : JobDef). job.name) xs → AreInOrder name_of xs
+from-model [] order = tt
+from-model (x ∷ xs) order = (below-from x.name xs order.0, from-model xs order.1)
 
 pub merged-order : (new going : List JobDef) → AreInOrder name_of new → AreInOrder name_of going → AreOthers new going → AreInOrder name_of (in_order name_of (new ++ going))
-merged-order new going one other others = ?
+merged-order new going one other others =
+    from-model (in_order name_of (new ++ going))
+    (sorted-order (new ++ going) (distinct-both new going (order-distinct new (to-model new one)) (order-distinct going (to-model going other)) (apart going others)))
+  where
+    apart : (xs : List JobDef) → AreOthers new xs → AllByRecursion (λ y. NoneNamed y.name new) xs
+    apart [] others = tt
+    apart (x ∷ xs) others = (found-none x.name new others.0, apart xs others.1)
 
 -- an input that is no load loads nothing
 pub not-load : (given : Input) → is_load given ≡ false → LoadsNothing given

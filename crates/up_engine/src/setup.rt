@@ -1,5 +1,5 @@
 //! What an engine is made with.
-ghost use Rattle.std.specs.Prelude.{◌≡◌, ◌++◌, is_some, not, map, None, Some, slice_get, unwrap_or, IfOk, OnOk, IfSome, IfNone};
+ghost use Rattle.std.specs.Prelude.{◌≡◌, ◌++◌, is_some, not, true, map, None, Some, slice_get, unwrap_or, IfOk, OnOk, IfSome, IfNone};
 ghost use Rattle.std.specs.Option.{option_copied};
 ghost use Rattle.std.specs.Str.{bytes_eq};
 ghost use Rattle.up_book.specs.Keeps.{AreDistinct};
@@ -198,8 +198,9 @@ fn has_instances<B: Book>(book: &B, index: usize) -> bool
 // Whether a job goes on that new ones don't have.
 fn goes_on<B: Book>(new: &[JobFile], book: &B, index: usize, file: &JobFile) -> bool
     requires { AreInOrder name_of new.now }
-    ensures { (mode : Mode) (config : Configuration) (c : Chronicle) → B.stands book.now mode config c
+    ensures means { (mode : Mode) (config : Configuration) (c : Chronicle) → B.stands book.now mode config c
         → name_at config index ≡ Some file.now.name → result ≡ goes_on new.now c file.now }
+    ensures new { result ≡ true → job_named file.now.name new.now ≡ None }
 {
     is_new(new, file.job().name.as_str()) && has_instances(book, index)
 }

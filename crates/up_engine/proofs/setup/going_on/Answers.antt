@@ -1,9 +1,10 @@
-use Rattle.std.proofs.Common.{◌≡◌, ◌∙◌, ◌+◌, ◌++◌, ◌∷◌, List, [], drop, sym, ap, subst, arith, append_assoc, append-nil, true}
+use Rattle.std.proofs.Common.{Vec, Global, ◌≡◌, ◌∙◌, ◌+◌, ◌++◌, ◌∷◌, List, [], drop, sym, ap, subst, arith, append_assoc, append-nil, true}
 use Rattle.std.proofs.lemmas.List.{drop_all}
 use Rattle.up_engine.proofs.KeyLemmas.{named_there}
 use Rattle.up_engine.proofs.LoadLemmas.{going_kept, going_dropped, order-without, order-startless, order-left, others-push, is-new}
 use Rattle.up_engine.specs.Naming.{name_of}
 use Rattle.up_conf.specs.declared.job.JobDef.{JobDef}
+use Rattle.up_image.specs.declared.job_file.JobFile.{JobFile}
 use Rattle.up_job.specs.Named.{AreInOrder}
 use Rattle.up_model.specs.Loads.{going_on, without_start}
 use Rattle.up_engine.proofs.setup.going_on.Goals.{then-goes_on+in_ok-without_start+in_ok-push, else-goes_on}
@@ -18,8 +19,38 @@ loop-index-init g c = record {
 
 pub loop-index-preserved : goal.loop-index-preserved
 loop-index-preserved g c = elim c.if-goes_on.branch [
-  | then-goes_on+in_ok-without_start+in_ok-push w ↦ ?kept
-  | else-goes_on w ↦ ?dropped
+  | then-goes_on+in_ok-without_start+in_ok-push w ↦
+      let n = c.loop-index.index in
+      let job = c.index-old-index.result in
+      let within = c.loop-index-test.true in
+      let here = c.index-old-index.is in
+      let before = c.loop-index.invariant in
+      let pushed : c.if-goes_on.going.items ≡ c.loop-index.going.items ++ without_start job ∷ [] = ap (λ (going : Vec JobFile Global). going.items) w.going-is ∙ w.in_ok-push.ensures.items ∙ ap (λ file. c.loop-index.going.items ++ file ∷ []) w.in_ok-without_start.ensures in
+      record {
+        whole = λ mode config c' s are.
+            let named = named_there config c.args.old.now n job are within here in
+            let goes = sym (c.goes_on.ensures.means mode config c' s named) ∙ w.if-goes_on.true in
+            let rest = going_on c.args.new.now (drop (n + 1) c.args.old.now) c' in
+            ap (λ (going : List JobDef). going ++ rest) pushed ∙ append_assoc c.loop-index.going.items (without_start job ∷ []) rest
+            ∙ ap (λ left. c.loop-index.going.items ++ left) (sym (going_kept c.args.new.now c.args.old.now n job c' within here goes)) ∙ before.whole mode config c' s are;
+        order = subst (λ (going : List JobDef). AreInOrder name_of (going ++ drop (n + 1) c.args.old.now)) (sym pushed)
+            (order-startless c.loop-index.going.items job (drop (n + 1) c.args.old.now) (order-left c.loop-index.going.items c.args.old.now n job within here before.order));
+        others = rw pushed (others-push c.args.new.now c.loop-index.going.items job before.others (c.goes_on.ensures.new w.if-goes_on.true));
+      }
+  | else-goes_on w ↦
+      let n = c.loop-index.index in
+      let job = c.index-old-index.result in
+      let within = c.loop-index-test.true in
+      let here = c.index-old-index.is in
+      let before = c.loop-index.invariant in
+      record {
+        whole = λ mode config c' s are.
+            let named = named_there config c.args.old.now n job are within here in
+            let stays = sym (c.goes_on.ensures.means mode config c' s named) ∙ w.if-goes_on.false in
+            rw w.going-is (ap (λ left. c.loop-index.going.items ++ left) (sym (going_dropped c.args.new.now c.args.old.now n job c' within here stays)) ∙ before.whole mode config c' s are);
+        order = rw w.going-is (order-without c.loop-index.going.items job (drop (n + 1) c.args.old.now) (order-left c.loop-index.going.items c.args.old.now n job within here before.order));
+        others = rw w.going-is before.others;
+      }
 ]
 
 pub returns : goal.returns
