@@ -5,48 +5,42 @@ use Rattle.up_expr.specs.Truth.{Sight}
 use Rattle.up_conf.specs.declared.job.JobDef.{JobDef}
 use Rattle.up_stanza.specs.declared.process.Process.{Process}
 use Rattle.up_stanza.specs.declared.process.Process.TheVariants.{Main}
-use Rattle.up_model.specs.declared.failure.End.{End}
 use Rattle.up_model.specs.declared.failure.End.TheVariants as end
-use Rattle.up_model.specs.declared.failure.Failure.{Failure}
-use Rattle.up_model.specs.declared.failure.Verdict.{Verdict}
-use Rattle.up_model.specs.declared.failure.Verdict.TheVariants as verdict
 use Rattle.up_model.specs.declared.event.Event.{Event}
 use Rattle.up_model.specs.declared.input.Input.{Input}
 use Rattle.up_model.specs.declared.input.Input.TheVariants as input
 use Rattle.up_model.specs.declared.life.Entry as table
 use Rattle.up_model.specs.declared.life.JobEvent.{JobEvent}
-use Rattle.up_model.specs.declared.state.Goal.TheVariants.{Start, Stop}
+use Rattle.up_model.specs.declared.state.Goal.TheVariants.{Start}
 use Rattle.up_model.specs.declared.state.State.{State}
 use Rattle.up_model.specs.declared.state.State.TheVariants.{Starting, Stopping}
 use Rattle.up_model.specs.declared.who.Who.{Who}
 use Rattle.up_model.specs.Answers.{after, next, is_expected, after_all}
 use Rattle.up_model.specs.Blocks.{ActsUnblocked, unfinished}
-use Rattle.up_model.specs.Chronicle.{Chronicle, Entry, Given, Queued, Handled, Offered, Fired, Finished, Made, Aimed, Failed, Entered, Ordered, Signalled, Outside, Entering, Spoilt, StartOn, StopOn}
+use Rattle.up_model.specs.Chronicle.{Chronicle, Entry, Given, Queued, Offered, Fired, Finished, Made, Aimed, Entered, Ordered, Signalled, Outside, Entering, Spoilt, StartOn, StopOn}
 use Rattle.up_model.specs.Clock.{is_killed, kill_due, overdue, all_overdue, has_passed, kill_moment, now, milliseconds, kill, killing}
-use Rattle.up_model.specs.Configuration.{Configuration, is_removed}
-use Rattle.up_model.specs.Due.{due, end_of, telling, failed_event_of, finishing, turn_event, turn_of, effect, end_by}
+use Rattle.up_model.specs.Configuration.{Configuration}
+use Rattle.up_model.specs.Due.{due, turn_event, turn_of, effect, end_by}
 use Rattle.up_model.specs.Environments.{env_of_job, instance_name}
 use Rattle.up_model.specs.Events.{events_at, events_env, with_instance, stopped_by}
-use Rattle.up_model.specs.Held.{is_spoilt}
 use Rattle.up_model.specs.Instances.{Instance, instances_of, instance_named}
-use Rattle.up_model.specs.Judgement.{end_itself, keep_failure, fail, carry_out, verdict_on_end}
 use Rattle.up_model.specs.Life.{wait_in, entering}
 use Rattle.up_model.specs.Loads.{in_force, loading}
 use Rattle.up_model.specs.Moves.{has_process, job_event, emitting, ordering, enter, enter_whole, is_over, may_leave, next_of, who_of, move, move_of, move_in, move_first}
-use Rattle.up_model.specs.Offers.{is_open, stop_of, stop_by, stop_offer, stop_offer_in, max_instances, start_of, who_called, start_who, start_by, start_offer, start_offer_by, offering, offer_next, start_env}
-use Rattle.up_model.specs.Queue.{Live, queue}
-use Rattle.up_model.specs.Readings.{goal, state_of, failure, holders, is_blocking, without, blocker, lives}
+use Rattle.up_model.specs.Offers.{is_open, stop_of, stop_by, stop_offer, stop_offer_in, max_instances, start_of, who_called, start_who, start_by, start_offer, offering, offer_next, start_env}
+use Rattle.up_model.specs.Queue.{queue}
+use Rattle.up_model.specs.Readings.{goal, state_of, holders, is_blocking, without, blocker, lives}
 use Rattle.up_model.specs.Commands.{outcome_of, entries_of, is_running}
 use Rattle.up_model.specs.Files.{own_file, names_in_order}
-use Rattle.up_model.specs.Replies.{releasing, waiter, answering_waiter, unanswered, answering_last}
+use Rattle.up_model.specs.Replies.{releasing, unanswered, answering_last}
 use Rattle.up_model.specs.Seen.{seen, holds, taken, was_offered}
 use Rattle.up_model.specs.Predicates.{is_start, entries_if, or_else}
 use Rattle.up_model.specs.Values.{Bindings, Bytes}
 use Rattle.up_model.specs.Work.{work, settle}
-use Rattle.up_model.proofs.ReplyLaws.{Allows, releasing-all, answering_waiter-all, answering_hurried-all, start_of-all, stop_of-all, outcome-all}
+use Rattle.up_model.proofs.ReplyLaws.{Allows, releasing-all, answering_hurried-all, start_of-all, stop_of-all, outcome-all}
 use Rattle.up_model.proofs.Sparing.{all-append, all-if}
 use Rattle.up_model.proofs.EffectLaws.{AllowsEnds, AllowsTurns, end_of-all, turn_of-all, loading-all}
-use Rattle.up_model.proofs.JobOffers.{unless_removed, offer_in, offer_first, first-by-jobs}
+use Rattle.up_model.proofs.JobOffers.{offer_in, offer_first, first-by-jobs}
 
 -- an event, if there is one
 abbrev pub listed : Option ℕ → List ℕ
@@ -393,16 +387,9 @@ start_offer-idle config job event c =
 
 offer_in-keeps : (config : Configuration) (job : JobDef) (event : ℕ) (c : Chronicle) → Keeps c → Keeps (offer_in config job event c ++ c)
 offer_in-keeps config job event c keeps =
-    or_else-keeps (stop_offer_in config (instances_of job.name c) event c) (entries_if left (start_offer_by config (unless_removed (is_removed config job.name) job) event c)) c
+    or_else-keeps (stop_offer_in config (instances_of job.name c) event c) (entries_if (not (was_offered (StartOn job.name) c)) (start_offer config job event c)) c
     (stop_offer_in-keeps config (instances_of job.name c) event c keeps)
-    (if-keeps left (start_offer_by config (unless_removed (is_removed config job.name) job) event c) c (by_removal (is_removed config job.name)) keeps)
-  where
-    left : Bool
-    left = not (was_offered (StartOn job.name) c)
-
-    by_removal : (removed : Bool) → Keeps (start_offer_by config (unless_removed removed job) event c ++ c)
-    by_removal true = keeps
-    by_removal false = idles-keep (start_offer config job event c) c (start_offer-idle config job event c) keeps
+    (if-keeps (not (was_offered (StartOn job.name) c)) (start_offer config job event c) c (idles-keep (start_offer config job event c) c (start_offer-idle config job event c) keeps) keeps)
 
 offer_first-keeps : (config : Configuration) (jobs : List JobDef) (event : ℕ) (c : Chronicle) → Keeps c → Keeps (offer_first config jobs event c ++ c)
 offer_first-keeps config [] event c keeps = keeps

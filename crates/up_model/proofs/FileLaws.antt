@@ -1,25 +1,17 @@
 -- Files of names and instances: an instance goes by the file by which it was made, which has its job's name.
-use Rattle.std.proofs.Common.{◌≡◌, ℕ, ◌<◌, Bool, true, false, List, [], ◌∷◌, ◌++◌, length, Option, None, Some, if◌then◌else◌, bytes_eq, refl, sym, ◌∙◌, ap, codes, arith, eq-eqb}
+use Rattle.std.proofs.Common.{◌≡◌, ℕ, ◌<◌, Bool, true, false, List, [], ◌∷◌, length, Option, None, Some, if◌then◌else◌, bytes_eq, refl, sym, ◌∙◌, ap, arith, eq-eqb}
 use Rattle.std.specs.List.{AllByRecursion}
 use Rattle.up_conf.specs.declared.job.JobDef.{JobDef}
-use Rattle.up_stanza.specs.declared.process.Process.{Process}
-use Rattle.up_text.specs.Bindings.{set_all}
 use Rattle.up_text.specs.Expansion.{Expansion, Expands, Lacks, Malformed}
-use Rattle.up_model.specs.declared.failure.End.{End}
 use Rattle.up_model.specs.declared.state.State.TheVariants as state
-use Rattle.up_model.specs.declared.who.Who.{Who}
 use Rattle.up_model.specs.Chronicle.{Chronicle, Entry, Made, Entered}
 use Rattle.up_model.specs.Commands.{Target, Nobody, Concerns, target_as, target_in, target_of, known_target}
 use Rattle.up_model.specs.Configuration.{Configuration, job_named}
-use Rattle.up_model.specs.Due.{end_of, end_by}
-use Rattle.up_model.specs.Environments.{env_by_job, env_of_job, start_base, instance_name}
-use Rattle.up_model.specs.Events.{events_at, events_env}
 use Rattle.up_model.specs.Files.{file_in_force, known_file}
-use Rattle.up_model.specs.Instances.{Instance, with_instance, without_instance, instances_of, place_named, instance_named}
-use Rattle.up_model.specs.Offers.{start_env, start_by, start_who, who_called}
+use Rattle.up_model.specs.Instances.{Instance, with_instance, without_instance, instances_of}
 use Rattle.up_model.specs.Readings.{file_of}
 use Rattle.up_model.specs.Values.{Bytes, Bindings}
-use Rattle.up_model.proofs.NameLaws.{called, all-with}
+use Rattle.up_model.proofs.NameLaws.{all-with}
 use Rattle.up_model.proofs.Places.{bytes_same, older-other, all-without}
 
 -- a file that a name finds has that name

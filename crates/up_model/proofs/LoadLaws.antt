@@ -21,9 +21,9 @@ use Rattle.up_model.specs.Answers.{after}
 use Rattle.up_model.specs.Chronicle.{Chronicle, Entry, Given, Offered, Fired, Entered, Signalled, Loaded, Replied, StopOn}
 use Rattle.up_model.specs.Configuration.{Configuration, job_named}
 use Rattle.up_model.specs.Due.{due, effect}
-use Rattle.up_model.specs.Files.{job_names, names_in_order}
+use Rattle.up_model.specs.Files.{job_names}
 use Rattle.up_model.specs.Instances.{Instance, instances_of}
-use Rattle.up_model.specs.Life.{Wait, ForStart, ForEvent, ForAnswer, ForProcess, ForChange, ForMain, wait_in, entering}
+use Rattle.up_model.specs.Life.{Wait, ForStart, wait_in, entering}
 use Rattle.up_model.specs.Loads.{goes_on, going_on, with_jobs, without_start, in_force, loading}
 use Rattle.up_model.specs.Moves.{ordering, emitting, enter, enter_whole, is_over, may_leave, next_of, who_of, move, move_of, move_in, move_first}
 use Rattle.up_model.specs.Offers.{offering, offer_next}
@@ -201,7 +201,7 @@ going-kept name new (job ∷ jobs) c none gone = by_name (bytes_eq job.name name
     idle : bytes_eq job.name name ≡ true → goes_on new c job ≡ false → instances_of name c ≡ []
     idle same stays =
         let those : not (is_some (job_named name new)) && is_filled (instances_of name c) ≡ false =
-            subst (λ its. not (is_some (job_named its new)) && is_filled (instances_of its c) ≡ false) (bytes_same job.name name same) stays in
+        subst (λ its. not (is_some (job_named its new)) && is_filled (instances_of its c) ≡ false) (bytes_same job.name name same) stays in
         empty (instances_of name c) (subst (λ o. not (is_some o) && is_filled (instances_of name c) ≡ false) none those)
 
     with_rest : bytes_eq job.name name ≡ false → NoneNamed name jobs ⊎ (instances_of name c ≡ []) → ((bytes_eq job.name name ≡ false) × NoneNamed name jobs) ⊎ (instances_of name c ≡ [])

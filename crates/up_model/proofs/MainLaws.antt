@@ -5,12 +5,7 @@ use Rattle.up_expr.specs.Truth.{Sight}
 use Rattle.up_conf.specs.declared.job.JobDef.{JobDef}
 use Rattle.up_stanza.specs.declared.process.Process.{Process}
 use Rattle.up_stanza.specs.declared.process.Process.TheVariants as process
-use Rattle.up_model.specs.declared.failure.End.{End}
 use Rattle.up_model.specs.declared.failure.End.TheVariants as end
-use Rattle.up_model.specs.declared.failure.Failure.{Failure}
-use Rattle.up_model.specs.declared.failure.Verdict.{Verdict}
-use Rattle.up_model.specs.declared.failure.Verdict.TheVariants as verdict
-use Rattle.up_model.specs.declared.event.Event.{Event}
 use Rattle.up_model.specs.declared.input.Input.{Input}
 use Rattle.up_model.specs.declared.input.Input.TheVariants as input
 use Rattle.up_model.specs.declared.life.Entry as table
@@ -25,24 +20,22 @@ use Rattle.up_model.specs.declared.state.State.TheVariants.{Waiting, Starting, P
 use Rattle.up_model.specs.declared.who.Who.{Who}
 use Rattle.up_model.specs.Answers.{after, next, awaits, is_expected, after_all}
 use Rattle.up_model.specs.Blocks.{HasOneMain}
-use Rattle.up_model.specs.Chronicle.{Chronicle, Entry, Given, Queued, Handled, Offered, Fired, Finished, Made, Aimed, Failed, Entered, Ordered, Signalled, Replied, Outside, StartOn, StopOn}
-use Rattle.up_model.specs.Clock.{all_overdue, kill, killing}
+use Rattle.up_model.specs.Chronicle.{Chronicle, Entry, Given, Queued, Offered, Fired, Made, Aimed, Entered, Ordered, Signalled, Replied, Outside, StartOn, StopOn}
+use Rattle.up_model.specs.Clock.{all_overdue, killing}
 use Rattle.up_model.specs.Commands.{Refused, Done, Target, Nobody, Concerns, refusal, target_of, known_target, start_at, start, holders_of, outcome_by, outcome_of, entries_of}
-use Rattle.up_model.specs.Configuration.{Configuration, is_removed}
-use Rattle.up_model.specs.Due.{due, end_of, telling, failed_event_of, finishing, turn_event, turn_of, effect, end_by}
+use Rattle.up_model.specs.Configuration.{Configuration}
+use Rattle.up_model.specs.Due.{due, turn_event, turn_of, effect, end_by}
 use Rattle.up_model.specs.Environments.{env_of_job, instance_name}
 use Rattle.up_model.specs.Events.{events_at, events_env, with_instance, stopped_by}
 use Rattle.up_model.specs.Files.{own_file, names_in_order}
-use Rattle.up_model.specs.Held.{is_spoilt}
 use Rattle.up_model.specs.Instances.{Instance, instances_of, instance_named}
-use Rattle.up_model.specs.Judgement.{end_itself, keep_failure, fail, carry_out, verdict_on_end}
 use Rattle.up_model.specs.Life.{next_state, wait_in, entering}
 use Rattle.up_model.specs.Loads.{in_force, loading}
 use Rattle.up_model.specs.Moves.{has_process, emitting, ordering, enter, enter_whole, is_over, may_leave, next_of, who_of, move, move_of, move_in, move_first}
-use Rattle.up_model.specs.Offers.{is_open, stop_of, stop_by, stop_offer, stop_offer_in, max_instances, start_of, who_called, start_who, start_by, start_offer, start_offer_by, offering, offer_next, start_env}
-use Rattle.up_model.specs.Queue.{Live, queue}
-use Rattle.up_model.specs.Readings.{goal, state_of, failure, holders, made_at, file_of, speaks_of, is_awaited, pid_of, lives}
-use Rattle.up_model.specs.Replies.{releasing, waiter, answering_waiter, unanswered, answering_last}
+use Rattle.up_model.specs.Offers.{is_open, stop_of, stop_by, stop_offer, stop_offer_in, max_instances, start_of, who_called, start_who, start_by, start_offer, offering, offer_next, start_env}
+use Rattle.up_model.specs.Queue.{queue}
+use Rattle.up_model.specs.Readings.{goal, state_of, made_at, file_of, speaks_of, is_awaited, pid_of, lives}
+use Rattle.up_model.specs.Replies.{releasing, unanswered, answering_last}
 use Rattle.up_model.specs.Requests.{RequestValue}
 use Rattle.up_model.specs.Seen.{seen, holds, taken, was_offered}
 use Rattle.up_model.specs.Predicates.{same_process, same_who, is_start, entries_if, or_else}
@@ -52,10 +45,10 @@ use Rattle.up_model.proofs.BlockLaws.{five, and-left}
 use Rattle.up_model.proofs.FileLaws.{HasFile, files, file_of-later, IsCalled, target-called}
 use Rattle.up_model.proofs.NameLaws.{called, made-named, AreSingle, Singles, entered-singles, entered-named, made-singles, made-found}
 use Rattle.up_model.proofs.Places.{bytes_same}
-use Rattle.up_model.proofs.ReplyLaws.{Allows, releasing-all, answering_waiter-all, answering_hurried-all, start_of-all, stop_of-all, stop-all, restart-all, reload-all, status-all, emit-all}
+use Rattle.up_model.proofs.ReplyLaws.{Allows, releasing-all, answering_hurried-all, start_of-all, stop_of-all, stop-all, restart-all, reload-all, status-all, emit-all}
 use Rattle.up_model.proofs.Sparing.{all-append, all-if}
 use Rattle.up_model.proofs.EffectLaws.{AllowsEnds, AllowsTurns, end_of-all, killing-all, turn_of-all, loading-all}
-use Rattle.up_model.proofs.JobOffers.{unless_removed, offer_in, offer_first, first-by-jobs}
+use Rattle.up_model.proofs.JobOffers.{offer_in, offer_first, first-by-jobs}
 
 -- the states in which main may live
 abbrev may_live : State → Bool
@@ -555,16 +548,9 @@ start_offer-keeps config job event c keeps = by_case (holds job.start_on sights)
 
 offer_in-keeps : (config : Configuration) (job : JobDef) (event : ℕ) (c : Chronicle) → Keeps c → Keeps (offer_in config job event c ++ c)
 offer_in-keeps config job event c keeps =
-    or_else-keeps config (stop_offer_in config (instances_of job.name c) event c) (entries_if left (start_offer_by config (unless_removed (is_removed config job.name) job) event c)) c
+    or_else-keeps config (stop_offer_in config (instances_of job.name c) event c) (entries_if (not (was_offered (StartOn job.name) c)) (start_offer config job event c)) c
     (stop_offer_in-keeps config (instances_of job.name c) event c keeps)
-    (if-keeps config left (start_offer_by config (unless_removed (is_removed config job.name) job) event c) c (by_removal (is_removed config job.name)) keeps)
-  where
-    left : Bool
-    left = not (was_offered (StartOn job.name) c)
-
-    by_removal : (removed : Bool) → Keeps (start_offer_by config (unless_removed removed job) event c ++ c)
-    by_removal true = keeps
-    by_removal false = start_offer-keeps config job event c keeps
+    (if-keeps config (not (was_offered (StartOn job.name) c)) (start_offer config job event c) c (start_offer-keeps config job event c keeps) keeps)
 
 offer_first-keeps : (config : Configuration) (jobs : List JobDef) (event : ℕ) (c : Chronicle) → Keeps c → Keeps (offer_first config jobs event c ++ c)
 offer_first-keeps config [] event c keeps = keeps

@@ -1,29 +1,18 @@
 -- Each event is handled once, and finishes once, after it was handled.
-use Rattle.std.proofs.Common.{◌≡◌, ℕ, zero, suc, is_some, append_assoc, le_of_eq, not, ◌+◌, ◌<◌, ◌≤◌, ◌==◌, ◌⊎◌, inl, inr, Bool, true, false, List, [], ◌∷◌, ◌++◌, length, Option, None, Some, if◌then◌else◌, refl, sym, ◌∙◌, ap, subst, arith, eqb-true, eq-eqb}
+use Rattle.std.proofs.Common.{◌≡◌, ℕ, zero, suc, append_assoc, le_of_eq, ◌+◌, ◌<◌, ◌≤◌, ◌==◌, ◌⊎◌, inl, inr, Bool, true, false, List, [], ◌∷◌, ◌++◌, length, Option, None, Some, if◌then◌else◌, refl, sym, ◌∙◌, ap, subst, arith, eqb-true, eq-eqb}
 use Rattle.std.specs.List.{AllByRecursion}
-use Rattle.up_conf.specs.declared.job.JobDef.{JobDef}
-use Rattle.up_model.specs.declared.event.Event.{Event}
-use Rattle.up_model.specs.declared.failure.End.{End}
 use Rattle.up_model.specs.declared.failure.End.TheVariants as end
-use Rattle.up_model.specs.declared.failure.Failure.{Failure}
-use Rattle.up_model.specs.declared.failure.Verdict.{Verdict}
-use Rattle.up_model.specs.declared.failure.Verdict.TheVariants as verdict
-use Rattle.up_model.specs.declared.state.Goal.TheVariants.{Stop}
-use Rattle.up_stanza.specs.declared.process.Process.{Process}
 use Rattle.up_model.specs.declared.input.Input.{Input}
 use Rattle.up_model.specs.declared.input.Input.TheVariants as input
 use Rattle.up_model.specs.Configuration.{Configuration}
-use Rattle.up_model.specs.Chronicle.{Entry, Given, Aimed, Failed, Signalled, Queued, Handled, Finished, Outside}
-use Rattle.up_model.specs.Clock.{all_overdue, kill, killing}
-use Rattle.up_model.specs.Readings.{goal, failure, holders}
+use Rattle.up_model.specs.Chronicle.{Entry, Given, Queued, Handled, Finished, Outside}
+use Rattle.up_model.specs.Clock.{all_overdue, killing}
 use Rattle.up_model.specs.Queue.{Live, with_handled, without_event, queue}
 use Rattle.up_model.specs.Held.{is_held, is_spoilt}
 use Rattle.up_model.specs.Instances.{instance_named}
-use Rattle.up_model.specs.Judgement.{end_itself, keep_failure, fail, carry_out, verdict_on_end}
 use Rattle.up_model.specs.Commands.{outcome_of, entries_of}
-use Rattle.up_model.specs.Replies.{releasing, waiter, answering_waiter}
-use Rattle.up_model.specs.Predicates.{is_start, entries_if}
-use Rattle.up_model.specs.Due.{due, end_of, telling, failed_event_of, finishing, turn_event, turn_of, effect, end_by}
+use Rattle.up_model.specs.Replies.{waiter, answering_waiter}
+use Rattle.up_model.specs.Due.{due, telling, failed_event_of, finishing, turn_event, turn_of, effect, end_by}
 use Rattle.up_model.specs.Values.{Bytes}
 use Rattle.up_model.specs.Work.{work, settle}
 use Rattle.up_model.specs.Answers.{after, next, is_expected, after_all}
@@ -32,8 +21,8 @@ use Rattle.up_model.specs.Laws.{handled_times, finished_times, IsOrderly}
 use Rattle.up_model.specs.Loads.{in_force, loading}
 use Rattle.up_model.proofs.EffectLaws.{AllowsEnds, end_of-all, killing-all, telling-all, loading-all}
 use Rattle.up_model.proofs.HeldLaws.{held-given}
-use Rattle.up_model.proofs.Sparing.{all-append, all-weaker, all-if, IsOf}
-use Rattle.up_model.proofs.ReplyLaws.{Allows, releasing-all, answering_waiter-all, outcome-all}
+use Rattle.up_model.proofs.Sparing.{all-weaker, IsOf}
+use Rattle.up_model.proofs.ReplyLaws.{Allows, answering_waiter-all, outcome-all}
 use Rattle.up_model.proofs.WorkLaws.{IsAbout, due-about}
 use Rattle.up_model.proofs.QueueLaws.{queue_by_age, status, status-older, first_status, status-append, status-with_handled, status-with_handled_other, status-without_event, status-without_event_other, turn_event-status, turn_event-held}
 
