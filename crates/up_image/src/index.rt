@@ -7,8 +7,8 @@ ghost use Rattle.up_image.specs.declared.limits.TheConstants.{MAX_JOBS, MAX_NODE
 ghost use Rattle.up_image.specs.Index.{entries_of, entry_part, event_of, index_part, leaf_places, place_part, places_in, places_of, runs_of};
 
 use crate::bytes::{push_u16, push_u32, put_byte, put_text};
-use std::alloc::{AllocError, Global};
 use crate::job_file::JobFile;
+use std::alloc::{AllocError, Global};
 use up_conf::JobDef;
 use up_expr::{Condition, Node};
 use up_text::Name;

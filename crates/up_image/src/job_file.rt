@@ -4,7 +4,6 @@ ghost use Rattle.up_conf.specs.Order.{in_order};
 ghost use Rattle.up_image.specs.Index.{places_in};
 
 use crate::index::{Place, sorted_stops};
-
 use std::alloc::{AllocError, Global};
 use std::marker::Model;
 use std::rc::Rc;

@@ -111,7 +111,8 @@ impl Table {
     pub fn copy(&self, alloc: Global) -> Result<Self, AllocError>
         ensures { IfOk result (λ table. table ≡ self.now) }
     {
-        let jobs = copy_jobs(alloc, self.as_slice())?;
+        let Table { jobs } = self;
+        let jobs = copy_jobs(alloc, jobs.as_slice())?;
         Ok(Table { jobs })
     }
 
