@@ -137,8 +137,8 @@ pub(crate) fn sorted_stops(alloc: Global, job: &JobDef) -> Result<Vec<Place>, Al
     Ok(places)
 }
 
-// Sorts places by the byte order of their events.
-fn sort_places(places: &mut Vec<Place>) -> Result<(), AllocError>
+/// Sorts places by the byte order of the events that they name; those of one event stay in their order.
+pub fn sort_places(places: &mut Vec<Place>) -> Result<(), AllocError>
     ensures { OnOk result (places.new.items ≡ in_order (λ place. place.event) places.old.items) }
 {
     places.sort_by(|place, other| place.event.as_str().cmp(other.event.as_str()))

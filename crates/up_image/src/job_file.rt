@@ -43,9 +43,16 @@ impl JobFile {
     pub fn new(alloc: Global, job: JobDef) -> Result<Self, AllocError>
         ensures { IfOk result (λ file. file ≡ job) }
     {
-        let stops = sorted_stops(alloc, &job)?;
-        let shared = Rc::new(alloc, Indexed { job, stops })?;
-        Ok(JobFile { shared })
+        match sorted_stops(alloc, &job) {
+            Ok(stops) => {
+                let shared = Rc::new(alloc, Indexed { job, stops })?;
+                Ok(JobFile { shared })
+            }
+            Err(refused) => {
+                drop(job);
+                Err(refused)
+            }
+        }
     }
 
     /// The same file, for one more owner. Takes no memory, and is refused only to more owners than memory has room for.
