@@ -73,18 +73,19 @@ event-handled e p c = by_case (length c == e) refl
 
 -- a run that is down stopped at an input that isn't one of these, if the one at which it stopped isn't
 pub stops_at : (steps : List Step) (config : Configuration) (c : Chronicle) (inputs passed left : List Input) (given : Input)
-    → inputs ≡ passed ++ given ∷ left → steps ≡ answers config c passed → (IsFree config (after_all config c passed) given → ⊥) → StopsAtNoFree steps config c inputs
+    → inputs ≡ passed ++ given ∷ left → steps ≡ answers config c passed → (IsFree (in_force config (after_all config c passed)) (after_all config c passed) given → ⊥) → StopsAtNoFree steps config c inputs
 stops_at steps config c inputs passed left given whole so_far never = λ other rest is.
     let count : length steps ≡ length passed = ap length so_far ∙ length-answers config c passed in
     let front : take (length steps) inputs ≡ passed = rw (count, whole) (take-append_seam passed (given ∷ left)) in
     let back : drop (length steps) inputs ≡ given ∷ left = rw (count, whole) (drop-append_seam passed (given ∷ left)) in
     let both : given ∷ left ≡ other ∷ rest = sym back ∙ is in
     let same : given ≡ other = cc in
-    λ free. never (subst (λ x. IsFree config (after_all config c passed) x) (sym same) (rw front at free))
+    λ free. never (subst (λ x. IsFree (in_force config (after_all config c passed)) (after_all config c passed) x) (sym same) (rw front at free))
 
 -- no job hears of an event of which none does
-pub hears-none : (config : Configuration) (n : ℕ) (job : JobDef) (event : Option Event) → NoneHears config event → job_at config n ≡ Some job → hears job event ≡ true → ⊥
-hears-none config n job event none there heard = true-false (sym heard ∙ none n job there)
+pub hears-none : (config : Configuration) (n : ℕ) (job : JobDef) (event : Option Event) (c : Chronicle) → NoneHears config event c → job_at config n ≡ Some job
+    → (hears job event || one_hears event (instances_of job.name c)) ≡ true → ⊥
+hears-none config n job event c none there heard = true-false (sym heard ∙ none n job there)
 
 -- an event of which nobody is told: it concerns nobody, and no event tells of it
 pub unseen-told : (e : ℕ) (c : Chronicle) → EndsUnseen e c → failed_event_of e c ≡ None

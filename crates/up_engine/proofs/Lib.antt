@@ -29,6 +29,7 @@ pub mod Effects
 pub mod Unfired
 pub mod Hearing
 pub mod Untrue
+pub mod Loading
 pub mod LeftLemmas
 pub mod Quiet
 pub mod IdleLemmas

@@ -13,7 +13,8 @@ use Rattle.up_model.specs.Queue.{Live, queue}
 use Rattle.up_model.specs.Replies.{unanswered, answering_last}
 use Rattle.up_model.specs.Values.{Bytes}
 use Rattle.up_model.proofs.ReplyLaws.{answering_hurried-all}
-use Rattle.up_model.proofs.Settling.{after_rests}
+use Rattle.up_model.specs.Loads.{is_load}
+use Rattle.up_model.proofs.Settling.{settle_rests}
 use Rattle.up_book.specs.Keeps.{AreDistinct}
 use Rattle.up_engine.specs.Settling.{settle_all, after_in}
 use Rattle.up_engine.specs.Unfired.{NoneHolds, IsAtRest}
@@ -72,8 +73,9 @@ unfolding due
 rests-first config = ap (λ es. or_else es []) (none-moves config (names_in_order config []))
 
 -- so a step comes to rest
-pub rest-after : (config : Configuration) (given : Input) (c : Chronicle) → AreDistinct config.jobs → IsAtRest config c → IsAtRest config (after_in config c given)
-rest-after config given c distinct rest = record { rested = after_rests config c given; untrue = after-untrue config given c distinct rest.rested rest.untrue }
+pub rest-in : (config : Configuration) (given : Input) (c : Chronicle) → is_load given ≡ false → AreDistinct config.jobs → IsAtRest config c → IsAtRest config (after_in config c given)
+unfolding after_in
+rest-in config given c is distinct rest = record { rested = settle_rests config (effect config given c ++ c); untrue = after-untrue config given c distinct rest.rested rest.untrue }
 
 pub rest-first : (config : Configuration) → IsAtRest config []
 rest-first config = record { rested = rests-first config; untrue = none-first config }
