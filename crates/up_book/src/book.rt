@@ -21,7 +21,7 @@ ghost use Rattle.up_model.specs.declared.state.State.TheVariants as entered;
 ghost use Rattle.up_model.specs.Chronicle.{Chronicle, Expression as ExpressionValue};
 ghost use Rattle.up_model.specs.Chronicle as entry;
 ghost use Rattle.up_model.specs.Clock as clock;
-ghost use Rattle.up_model.specs.Configuration.{Configuration, is_removed, job_named};
+ghost use Rattle.up_model.specs.Configuration.{Configuration, job_named};
 ghost use Rattle.up_model.specs.Loads.{with_jobs};
 ghost use Rattle.up_job.specs.Named.{AreInOrder};
 ghost use Rattle.up_book.specs.Keys.{name_of};
@@ -428,7 +428,6 @@ pub trait Book: Drop {
     fn passes_by(&self)
         ensures start { (config : Configuration) (c : Chronicle) (n : ℕ) (job : JobValue) (e : ℕ)
             → stands self.now Stepping config c → job_at config n ≡ Some job
-            → is_removed config job.name ≡ false
             → may_hear job.start_on (read.event_at e c) ≡ false
             → stands self.now Stepping config (entry.Offered (entry.StartOn job.name) e ∷ c) }
         ensures stop { (config : Configuration) (c : Chronicle) (key : KeyValue) (job : JobValue) (i e : ℕ)
@@ -473,19 +472,16 @@ pub trait Book: Drop {
     ) -> Result<bool, AllocError>
         ensures after { OnOk result ((config : Configuration) (c : Chronicle) (e : ℕ)
             → stands self.old Stepping config c → job_at config index ≡ Some job.now
-            → is_removed config job.now.name ≡ false
             → env.now ≡ env_of_job config job.now.name → event_place self.old c event ≡ Some e
             → stands self.new Stepping config (entry.Offered (entry.StartOn job.now.name) e ∷ c)) }
         ensures holds { IfOk result (λ holds. (config : Configuration) (c : Chronicle) (e : ℕ)
             → stands self.old Stepping config c → job_at config index ≡ Some job.now
-            → is_removed config job.now.name ≡ false
             → env.now ≡ env_of_job config job.now.name → event_place self.old c event ≡ Some e
             → holds ≡ seen.holds job.now.start_on
             (seen.seen config (entry.StartOn job.now.name)
             (entry.Offered (entry.StartOn job.now.name) e ∷ c))) }
         ensures events { OnOk result ((config : Configuration) (c : Chronicle) (e : ℕ) (k : EventIdValue) (j : ℕ)
             → stands self.old Stepping config c → job_at config index ≡ Some job.now
-            → is_removed config job.now.name ≡ false
             → env.now ≡ env_of_job config job.now.name → event_place self.old c event ≡ Some e
             → event_place self.old c k ≡ Some j
             → event_place self.new (entry.Offered (entry.StartOn job.now.name) e ∷ c) k ≡ Some j) };

@@ -13,7 +13,7 @@ ghost use Rattle.up_job.specs.Lists.{nth, with_at};
 ghost use Rattle.up_marks.specs.Naming.{naming_in, of_expression};
 ghost use Rattle.up_model.specs.Chronicle.{Chronicle};
 ghost use Rattle.up_model.specs.Chronicle as entry;
-ghost use Rattle.up_model.specs.Configuration.{Configuration, is_removed};
+ghost use Rattle.up_model.specs.Configuration.{Configuration};
 ghost use Rattle.up_model.specs.Environments.{env_of_job};
 ghost use Rattle.up_model.specs.Readings as read;
 ghost use Rattle.up_model.specs.Seen as seen;
@@ -166,12 +166,12 @@ impl Past {
         id: EventId,
     ) -> Result<bool, AllocError>
         ensures after { OnOk result ((config : Configuration) (c : Chronicle) (e : ℕ) → Forgets self.old config c
-            → nth place config.jobs ≡ Some job.now → is_removed config job.now.name ≡ false → env.now ≡ env_of_job config job.now.name
+            → nth place config.jobs ≡ Some job.now → env.now ≡ env_of_job config job.now.name
             → HasLeaves index.now place true job.now.start_on → event_place self.old c id ≡ Some e
             → Forgets self.new config (entry.Offered (entry.StartOn job.now.name) e ∷ c)) }
         ensures holds { IfOk result (λ holds. (config : Configuration) (c : Chronicle) (e : ℕ)
             → Forgets self.old config c
-            → nth place config.jobs ≡ Some job.now → is_removed config job.now.name ≡ false → env.now ≡ env_of_job config job.now.name
+            → nth place config.jobs ≡ Some job.now → env.now ≡ env_of_job config job.now.name
             → HasLeaves index.now place true job.now.start_on → event_place self.old c id ≡ Some e
             → holds ≡ seen.holds job.now.start_on
             (seen.seen config (entry.StartOn job.now.name) (entry.Offered (entry.StartOn job.now.name) e ∷ c))) }

@@ -16,8 +16,7 @@ use Rattle.up_model.specs.declared.request.Command.TheVariants as command
 use Rattle.up_model.specs.declared.who.Who.{Who}
 use Rattle.up_model.specs.Chronicle.{Chronicle, Entry, Given, Queued, Handled, Finished, Ordered, Signalled}
 use Rattle.up_model.specs.Chronicle.{Replied, Entering}
-use Rattle.up_model.specs.Configuration.{Configuration}
-use Rattle.up_model.specs.Files.{file_in_force}
+use Rattle.up_model.specs.Configuration.{Configuration, job_named}
 use Rattle.up_model.specs.Held.{start_on_of}
 use Rattle.up_model.specs.Instances.{Instance, instances_of}
 use Rattle.up_model.specs.Outputs.{order_of, signal_of, reply_of}
@@ -46,7 +45,7 @@ stands_in_stops event (instance ∷ instances) =
 -- job's file in force, or the `stop on` of an instance that exists
 abbrev pub hears : Bytes → Configuration → (event : Bytes) → Chronicle → Bool
 hears job config event c =
-    stands_in event (start_on_of (file_in_force config job c)) || stands_in_stops event (instances_of job c)
+    stands_in event (start_on_of (job_named job config.jobs)) || stands_in_stops event (instances_of job c)
 
 -- whether a request of this kind names a job: the others name an event or nothing
 abbrev pub names_job : Command → Bool

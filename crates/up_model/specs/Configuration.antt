@@ -6,7 +6,7 @@ use Rattle.up_conf.specs.declared.job.JobDef.{JobDef}
 use Rattle.up_model.specs.Values.{Bytes, Bindings}
 
 -- The environment that init was started with, and in byte order of names the jobs in force, and those that a load removed while they had
--- instances, each by the last file of it that was in force. The latter are named too.
+-- instances: these by the last file of them that was in force, but without its `start on`. They are named too.
 pub record Configuration : Type 0 where
   pub base : Bindings
   pub jobs : List JobDef

@@ -28,10 +28,10 @@ abbrev pub own_file : Who → Chronicle → Option JobDef
 own_file who c = file_at (instance_named who c) c
 
 abbrev pub start_file_at : Configuration → Who → Option ℕ → Chronicle → Option JobDef
-start_file_at config who None c = file_in_force config who.job c
+start_file_at config who None c = job_named who.job config.jobs
 start_file_at config who (Some instance) c = file_of instance c
 
--- the file by which it starts: its own if it exists, else the one in force
+-- the file by which it starts: its own if it exists, else that of its job
 abbrev pub start_file : Configuration → Who → Chronicle → Option JobDef
 start_file config who c = start_file_at config who (instance_named who c) c
 

@@ -1,5 +1,5 @@
 -- Which jobs are in force, and what a load does (initctl(8), "reload-configuration").
-use Rattle.std.specs.Prelude.{ℕ, Bool, true, false, not, ◌&&◌, List, [], ◌∷◌, ◌++◌, filter, is_some, codes}
+use Rattle.std.specs.Prelude.{ℕ, Bool, true, false, not, ◌&&◌, List, [], ◌∷◌, ◌++◌, filter, map, None, is_some, codes}
 use Rattle.std.specs.Fmt.{decimal}
 use Rattle.up_conf.specs.declared.job.JobDef.{JobDef}
 use Rattle.up_conf.specs.Order.{in_order}
@@ -16,9 +16,13 @@ use Rattle.up_text.specs.Scripts.{is_filled}
 abbrev pub goes_on : (new : List JobDef) → Chronicle → JobDef → Bool
 goes_on new c job = not (is_some (job_named job.name new)) && is_filled (instances_of job.name c)
 
+-- a job that no event starts any more
+abbrev pub without_start : JobDef → JobDef
+without_start job = record job { start_on = None }
+
 -- those of the jobs before that go on
 abbrev pub going_on : (new old : List JobDef) → Chronicle → List JobDef
-going_on new old c = filter (goes_on new c) old
+going_on new old c = map without_start (filter (goes_on new c) old)
 
 -- the configuration with these jobs in force
 abbrev pub with_jobs : (new : List JobDef) → Configuration → Chronicle → Configuration
