@@ -44,6 +44,7 @@ pub mod Holdings
 pub mod Runs
 pub mod Deaf
 pub mod NextHearers
+pub mod Others
 pub mod Ledgers
 pub mod Acting
 pub mod Blocking

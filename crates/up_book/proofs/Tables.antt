@@ -1,4 +1,4 @@
--- What a table says of its jobs' names, and what is kept before anything has happened.
+-- What the order of jobs says of their names, and what is kept before anything has happened.
 use Rattle.std.proofs.Common.{◌≡◌, ℕ, zero, suc, ◌+◌, ◌<◌, ◌&&◌, Bool, true, false, List, [], ◌∷◌, ◌++◌, length, map, take, get_or, bytes_eq, Option, Some, slice_index_or, refl, sym, ◌∙◌, ap, subst, arith}
 use Rattle.std.specs.List.{AllByRecursion}
 use Rattle.up_conf.specs.declared.job.JobDef.{JobDef}
@@ -7,10 +7,7 @@ use Rattle.up_image.specs.declared.index.Place.{Place}
 use Rattle.up_job.specs.Lists.{nth}
 use Rattle.up_marks.specs.Naming.{of_expression, naming_in, side_of}
 use Rattle.up_book.specs.Ledgers.{HasIndex}
-use Rattle.up_image.specs.Definable.{are_ascending, are_definable, IsTable}
-use Rattle.up_job.specs.JobLists.{job_of, new_job}
 use Rattle.up_job.specs.Named.{AreInOrder, IsBelowAll}
-use Rattle.up_job.proofs.JobLemmas.{order-ascending}
 use Rattle.up_job.proofs.NamedLemmas.{below_not_same}
 use Rattle.up_marks.specs.Triggers.{Remembers}
 use Rattle.up_marks.specs.declared.mark.Mark.{Mark}
@@ -19,31 +16,20 @@ use Rattle.up_model.specs.Values.{Bytes}
 use Rattle.up_model.specs.declared.event_id.EventId.{EventId}
 use Rattle.up_book.specs.Counting.{start_uses}
 use Rattle.up_book.specs.Keeps.{AreDistinct}
+use Rattle.up_book.specs.Keys.{name_of}
 use Rattle.up_book.specs.Remembering.{StartsRemember}
 use Rattle.up_book.specs.Views.{Places}
 use Rattle.up_book.proofs.Beginning.{blank-unused}
 use Rattle.up_book.proofs.One.{apart-back}
 
-both-first : (a b : Bool) → (a && b) ≡ true → a ≡ true
-both-first true b h = refl
-both-first false b h = absurd cc
-
--- the names rise
-pub names-rise : (jobs : List JobDef) → IsTable jobs → are_ascending (map (λ job. job.name) jobs) ≡ true
-unfolding are_definable
-names-rise jobs table = both-first (are_ascending (map (λ (job : JobDef). job.name) jobs)) _ table.given
-
-below-apart : (name : Bytes) (jobs : List JobDef) → IsBelowAll job_of name (map new_job jobs) → AllByRecursion (λ other. bytes_eq other.name name ≡ false) jobs
+below-apart : (name : Bytes) (jobs : List JobDef) → IsBelowAll name_of name jobs → AllByRecursion (λ other. bytes_eq other.name name ≡ false) jobs
 below-apart name [] below = tt
 below-apart name (job ∷ jobs) below = (apart-back name job.name (below_not_same name job.name below.0), below-apart name jobs below.1)
 
-order-distinct : (jobs : List JobDef) → AreInOrder job_of (map new_job jobs) → AreDistinct jobs
+-- names in order differ
+pub order-distinct : (jobs : List JobDef) → AreInOrder name_of jobs → AreDistinct jobs
 order-distinct [] order = tt
 order-distinct (job ∷ jobs) order = (below-apart job.name jobs order.0, order-distinct jobs order.1)
-
--- so no two jobs have one
-pub table-distinct : (jobs : List JobDef) → IsTable jobs → AreDistinct jobs
-table-distinct jobs table = order-distinct jobs (order-ascending jobs (names-rise jobs table))
 
 -- one trigger more
 pub starts-more : (places : Places) (config : Configuration) (ts : List (Option (List Mark))) (t : Option (List Mark)) (jobs : List JobDef) (i : ℕ) (d : JobDef) → i < length jobs → StartsRemember places config [] ts (take i jobs)
