@@ -3,7 +3,7 @@ use Rattle.std.proofs.Common.{◌≡◌, ◌⊎◌, inl, inr, ℕ, Bool, true, f
 use Rattle.std.specs.List.{AllByRecursion}
 use Rattle.up_conf.specs.declared.job.JobDef.{JobDef}
 use Rattle.up_model.specs.Chronicle.{Chronicle, Entry, Offered, StartOn, StopOn}
-use Rattle.up_model.specs.Configuration.{Configuration, job_named}
+use Rattle.up_model.specs.Configuration.{Configuration, job_named, is_removed}
 use Rattle.up_model.specs.Files.{job_names, names_in_order}
 use Rattle.up_model.specs.Instances.{Instance, instances_of}
 use Rattle.up_model.specs.Offers.{is_open, stop_offer, stop_offer_in, start_offer, start_offer_by}
@@ -13,10 +13,15 @@ use Rattle.up_model.specs.Seen.{was_offered}
 use Rattle.up_model.specs.Values.{Bytes}
 use Rattle.up_model.proofs.Places.{bytes_same, bytes_refl}
 
+-- the file of a job that is in force, unless it was removed
+abbrev pub unless_removed : (removed : Bool) → JobDef → Option JobDef
+unless_removed removed job = if removed then None else Some job
+
 -- the event is offered to the first expression of a job
 abbrev pub offer_in : Configuration → JobDef → (event : ℕ) → Chronicle → List Entry
 offer_in config job event c =
-    or_else (stop_offer_in config (instances_of job.name c) event c) (entries_if (not (was_offered (StartOn job.name) c)) (start_offer config job event c))
+    or_else (stop_offer_in config (instances_of job.name c) event c)
+    (entries_if (not (was_offered (StartOn job.name) c)) (start_offer_by config (unless_removed (is_removed config job.name) job) event c))
 
 -- and to the first of these jobs
 abbrev pub offer_first : Configuration → List JobDef → (event : ℕ) → Chronicle → List Entry
@@ -31,15 +36,15 @@ offer_next config (Some event) c = offer_first config config.jobs event c
 abbrev AreShut : List Instance → Chronicle → Type 0
 AreShut its c = AllByRecursion (λ x. is_open x.place c ≡ false) its
 
-abbrev IsShut : Bytes → Chronicle → Type 0
-IsShut name c = AreShut (instances_of name c) c × (was_offered (StartOn name) c ≡ true)
+abbrev IsShut : Configuration → Bytes → Chronicle → Type 0
+IsShut config name c = AreShut (instances_of name c) c × ((is_removed config name ≡ true) ⊎ (was_offered (StartOn name) c ≡ true))
 
 -- an offer is something
 ends-some : (es : List Entry) (e : Entry) → es ++ e ∷ [] ≡ [] → ⊥
 ends-some [] e none = cc
 ends-some (x ∷ es) e none = cc
 
-or-parts : (es others : List Entry) → or_else es others ≡ [] → (es ≡ []) × (others ≡ [])
+pub or-parts : (es others : List Entry) → or_else es others ≡ [] → (es ≡ []) × (others ≡ [])
 or-parts [] others none = (refl, none)
 or-parts (e ∷ es) others none = absurd cc
 
@@ -58,53 +63,74 @@ shut-stops config (x ∷ its) event c none =
     let parts = or-parts (entries_if (is_open x.place c) (stop_offer config x.file x.place event c)) (stop_offer_in config its event c) none in
     (if-not (is_open x.place c) _ (Offered (StopOn x.place) event) parts.0, shut-stops config its event c parts.1)
 
-shut-job : (config : Configuration) (job : JobDef) (event : ℕ) (c : Chronicle) → offer_in config job event c ≡ [] → IsShut job.name c
-shut-job config job event c none =
-    let parts = or-parts (stop_offer_in config (instances_of job.name c) event c) (entries_if (not (was_offered (StartOn job.name) c)) (start_offer config job event c)) none in (
-      shut-stops config (instances_of job.name c) event c parts.0,
-      not-not (was_offered (StartOn job.name) c) (if-not (not (was_offered (StartOn job.name) c)) _ (Offered (StartOn job.name) event) parts.1),
-    )
+shut-job : (config : Configuration) (job : JobDef) (event : ℕ) (c : Chronicle) → offer_in config job event c ≡ [] → IsShut config job.name c
+shut-job config job event c none = (shut-stops config (instances_of job.name c) event c parts.0, by_case (is_removed config job.name) parts.1)
+  where
+    left : Bool
+    left = not (was_offered (StartOn job.name) c)
+
+    parts : (stop_offer_in config (instances_of job.name c) event c ≡ []) × (entries_if left (start_offer_by config (unless_removed (is_removed config job.name) job) event c) ≡ [])
+    parts = or-parts (stop_offer_in config (instances_of job.name c) event c) _ none
+
+    by_case : (removed : Bool) → entries_if left (start_offer_by config (unless_removed removed job) event c) ≡ [] → (removed ≡ true) ⊎ (was_offered (StartOn job.name) c ≡ true)
+    by_case true none = inl refl
+    by_case false none = inr (not-not (was_offered (StartOn job.name) c) (if-not left _ (Offered (StartOn job.name) event) none))
 
 -- and what is shut is offered nothing
 stops-none : (config : Configuration) (its : List Instance) (event : ℕ) (c : Chronicle) → AreShut its c → stop_offer_in config its event c ≡ []
 stops-none config [] event c shut = refl
 stops-none config (x ∷ its) event c shut = rw shut.0 (stops-none config its event c shut.1)
 
-job-none : (config : Configuration) (job : JobDef) (event : ℕ) (c : Chronicle) → IsShut job.name c → offer_in config job event c ≡ []
-job-none config job event c shut = rw (stops-none config (instances_of job.name c) event c shut.0, shut.1) refl
+-- a file that is in force unless the job was removed isn't offered anything by a job that is shut
+start-none : (config : Configuration) (removed offered : Bool) (file : Option JobDef) (event : ℕ) (c : Chronicle) → (removed ≡ true) ⊎ (offered ≡ true)
+    → entries_if (not offered) (start_offer_by config (if removed then None else file) event c) ≡ []
+start-none config removed true file event c shut = refl
+start-none config true false file event c shut = refl
+start-none config false false file event c (inl gone) = absurd cc
+start-none config false false file event c (inr offered) = absurd cc
 
-named-none : (config : Configuration) (name : Bytes) (event : ℕ) (c : Chronicle) → IsShut name c → model.offer_in config name event c ≡ []
-named-none config name event c shut = rw (stops-none config (instances_of name c) event c shut.0, shut.1) refl
+named-shut : (config : Configuration) (name : Bytes) (file : Option JobDef) (event : ℕ) (c : Chronicle) → IsShut config name c
+    → or_else (stop_offer_in config (instances_of name c) event c) (entries_if (not (was_offered (StartOn name) c)) (start_offer_by config (if is_removed config name then None else file) event c)) ≡ []
+named-shut config name file event c shut =
+    ap₂ or_else (stops-none config (instances_of name c) event c shut.0) (start-none config (is_removed config name) (was_offered (StartOn name) c) file event c shut.1)
+
+job-none : (config : Configuration) (job : JobDef) (event : ℕ) (c : Chronicle) → IsShut config job.name c → offer_in config job event c ≡ []
+job-none config job event c shut = named-shut config job.name (Some job) event c shut
+
+named-none : (config : Configuration) (name : Bytes) (event : ℕ) (c : Chronicle) → IsShut config name c → model.offer_in config name event c ≡ []
+named-none config name event c shut = named-shut config name (job_named name config.jobs) event c shut
 
 -- the first job of a name is offered what the name is
 job-same : (config : Configuration) (job : JobDef) (event : ℕ) (c : Chronicle) → job_named job.name config.jobs ≡ Some job
     → model.offer_in config job.name event c ≡ offer_in config job event c
 job-same config job event c found =
-    ap (λ file. or_else (stop_offer_in config (instances_of job.name c) event c) (entries_if (not (was_offered (StartOn job.name) c)) (start_offer_by config file event c))) found
+    ap (λ file. or_else (stop_offer_in config (instances_of job.name c) event c)
+    (entries_if (not (was_offered (StartOn job.name) c)) (start_offer_by config (if is_removed config job.name then None else file) event c))) found
 
 -- a job is the first of its name, or that is shut
-abbrev AllShut : List JobDef → Chronicle → Type 0
-AllShut jobs c = AllByRecursion (λ job. IsShut job.name c) jobs
+abbrev AllShut : Configuration → List JobDef → Chronicle → Type 0
+AllShut config jobs c = AllByRecursion (λ job. IsShut config job.name c) jobs
 
-first-or-shut : (done : List JobDef) (job : JobDef) (jobs : List JobDef) (c : Chronicle) → AllShut done c → (job_named job.name (done ++ job ∷ jobs) ≡ Some job) ⊎ IsShut job.name c
-first-or-shut [] job jobs c shut = inl (rw (bytes_refl job.name) refl)
-first-or-shut (first ∷ done) job jobs c shut = by_case (bytes_eq first.name job.name) refl (first-or-shut done job jobs c shut.1)
+first-or-shut : (config : Configuration) (done : List JobDef) (job : JobDef) (jobs : List JobDef) (c : Chronicle) → AllShut config done c
+    → (job_named job.name (done ++ job ∷ jobs) ≡ Some job) ⊎ IsShut config job.name c
+first-or-shut config [] job jobs c shut = inl (rw (bytes_refl job.name) refl)
+first-or-shut config (first ∷ done) job jobs c shut = by_case (bytes_eq first.name job.name) refl (first-or-shut config done job jobs c shut.1)
   where
-    by_case : (b : Bool) → bytes_eq first.name job.name ≡ b → (job_named job.name (done ++ job ∷ jobs) ≡ Some job) ⊎ IsShut job.name c
-        → ((if b then Some first else job_named job.name (done ++ job ∷ jobs)) ≡ Some job) ⊎ IsShut job.name c
-    by_case true same ih = inr (subst (λ name. IsShut name c) (bytes_same first.name job.name same) shut.0)
+    by_case : (b : Bool) → bytes_eq first.name job.name ≡ b → (job_named job.name (done ++ job ∷ jobs) ≡ Some job) ⊎ IsShut config job.name c
+        → ((if b then Some first else job_named job.name (done ++ job ∷ jobs)) ≡ Some job) ⊎ IsShut config job.name c
+    by_case true same ih = inr (subst (λ name. IsShut config name c) (bytes_same first.name job.name same) shut.0)
     by_case false differs ih = ih
 
-shut-append : (done : List JobDef) (job : JobDef) (c : Chronicle) → AllShut done c → IsShut job.name c → AllShut (done ++ job ∷ []) c
-shut-append [] job c shut one = (one, tt)
-shut-append (first ∷ done) job c shut one = (shut.0, shut-append done job c shut.1 one)
+shut-append : (config : Configuration) (done : List JobDef) (job : JobDef) (c : Chronicle) → AllShut config done c → IsShut config job.name c → AllShut config (done ++ job ∷ []) c
+shut-append config [] job c shut one = (one, tt)
+shut-append config (first ∷ done) job c shut one = (shut.0, shut-append config done job c shut.1 one)
 
-goes-on : (config : Configuration) (done jobs : List JobDef) (event : ℕ) (c : Chronicle) → config.jobs ≡ done ++ jobs → AllShut done c
+goes-on : (config : Configuration) (done jobs : List JobDef) (event : ℕ) (c : Chronicle) → config.jobs ≡ done ++ jobs → AllShut config done c
     → model.offer_first config (job_names jobs) event c ≡ offer_first config jobs event c
 goes-on config done [] event c split shut = refl
 goes-on config done (job ∷ jobs) event c split shut =
-    by_kind (first-or-shut done job jobs c shut)
-    (λ one. goes-on config (done ++ job ∷ []) jobs event c (split ∙ sym (append_assoc done (job ∷ []) jobs)) (shut-append done job c shut one))
+    by_kind (first-or-shut config done job jobs c shut)
+    (λ one. goes-on config (done ++ job ∷ []) jobs event c (split ∙ sym (append_assoc done (job ∷ []) jobs)) (shut-append config done job c shut one))
   where
     named : List Entry
     named = model.offer_in config job.name event c
@@ -115,11 +141,11 @@ goes-on config done (job ∷ jobs) event c split shut =
     rest : List Entry
     rest = offer_first config jobs event c
 
-    by_result : (es : List Entry) → offer_in config job event c ≡ es → named ≡ es → (IsShut job.name c → others ≡ rest) → or_else named others ≡ or_else (offer_in config job event c) rest
+    by_result : (es : List Entry) → offer_in config job event c ≡ es → named ≡ es → (IsShut config job.name c → others ≡ rest) → or_else named others ≡ or_else (offer_in config job event c) rest
     by_result [] none same next = ap₂ or_else same (next (shut-job config job event c none)) ∙ ap (λ es. or_else es rest) (sym none)
     by_result (e ∷ es) some same next = ap (λ xs. or_else xs others) same ∙ sym (ap (λ xs. or_else xs rest) some)
 
-    by_kind : (job_named job.name (done ++ job ∷ jobs) ≡ Some job) ⊎ IsShut job.name c → (IsShut job.name c → others ≡ rest) → or_else named others ≡ or_else (offer_in config job event c) rest
+    by_kind : (job_named job.name (done ++ job ∷ jobs) ≡ Some job) ⊎ IsShut config job.name c → (IsShut config job.name c → others ≡ rest) → or_else named others ≡ or_else (offer_in config job event c) rest
     by_kind (inl found) next =
         by_result (offer_in config job event c) refl (job-same config job event c (ap (job_named job.name) split ∙ found)) next
     by_kind (inr one) next =

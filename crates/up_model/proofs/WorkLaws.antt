@@ -3,12 +3,12 @@ use Rattle.std.proofs.Common.{◌≡◌, ℕ, ◌+◌, ◌*◌, ◌<◌, ◌≤�
 use Rattle.std.specs.List.{AllByRecursion}
 use Rattle.up_conf.specs.declared.job.JobDef.{JobDef}
 use Rattle.up_model.specs.Chronicle.{Chronicle, Entry, Given, Replied, StartOn}
-use Rattle.up_model.specs.Configuration.{Configuration}
+use Rattle.up_model.specs.Configuration.{Configuration, is_removed}
 use Rattle.up_model.specs.Due.{due}
 use Rattle.up_model.specs.Files.{names_in_order, job_names}
 use Rattle.up_model.specs.Instances.{Instance, instances_of, all_instances}
 use Rattle.up_model.specs.Moves.{may_leave, move, move_of, move_in, move_first}
-use Rattle.up_model.specs.Offers.{is_open, stop_offer, stop_offer_in, start_offer, offering, offer_next}
+use Rattle.up_model.specs.Offers.{is_open, stop_offer, stop_offer_in, start_offer, start_offer_by, offering, offer_next}
 use Rattle.up_model.specs.Readings.{goal, state_of, blocker}
 use Rattle.up_model.specs.Replies.{asked, was_answered, unless_answered, unanswered, request_instance, status_if, answering_hurried, answering_last}
 use Rattle.up_model.specs.declared.request.Answer.{Answer}
@@ -16,7 +16,7 @@ use Rattle.up_model.specs.Seen.{was_offered}
 use Rattle.up_model.specs.Predicates.{entries_if, or_else}
 use Rattle.up_model.specs.Values.{Bytes}
 use Rattle.up_model.specs.Work.{offer_work, instance_work, work_in, start_work, starts_work, answer_work, work}
-use Rattle.up_model.proofs.JobOffers.{offer_in, offer_first, first-by-jobs}
+use Rattle.up_model.proofs.JobOffers.{unless_removed, offer_in, offer_first, first-by-jobs}
 use Rattle.up_model.proofs.FileLaws.{files-named}
 use Rattle.up_model.proofs.MoveLaws.{moves-few, Lessens, move-lessens}
 use Rattle.up_model.proofs.OfferLaws.{stop_offer-lessens, start_offer-lessens}
@@ -111,9 +111,22 @@ not-false false h = refl
 -- so does the first offer to a job
 offer_in-lessens : (config : Configuration) (job : JobDef) (event : ℕ) (c : Chronicle) → (offer_in config job event c ≡ []) ⊎ Lessens true job.name c (offer_in config job event c)
 offer_in-lessens config job event c =
-    or_else-either (Lessens true job.name c) (stop_offer_in config (instances_of job.name c) event c) (entries_if (not (was_offered (StartOn job.name) c)) (start_offer config job event c))
+    or_else-either (Lessens true job.name c) (stop_offer_in config (instances_of job.name c) event c)
+    (entries_if left (start_offer_by config (unless_removed (is_removed config job.name) job) event c))
     (stop_offer_in-lessens config job.name (instances_of job.name c) event c (files-named job.name c) (all-counted (instances_of job.name c)))
-    (entries_if-either (Lessens true job.name c) (not (was_offered (StartOn job.name) c)) (start_offer config job event c) (λ left. start_offer-lessens config job event c (not-false _ left)))
+    (by_removal (is_removed config job.name))
+  where
+    left : Bool
+    left = not (was_offered (StartOn job.name) c)
+
+    none : (b : Bool) → entries_if {X = Entry} b [] ≡ []
+    none true = refl
+    none false = refl
+
+    by_removal : (removed : Bool) → (entries_if left (start_offer_by config (unless_removed removed job) event c) ≡ [])
+        ⊎ Lessens true job.name c (entries_if left (start_offer_by config (unless_removed removed job) event c))
+    by_removal true = inl (none left)
+    by_removal false = entries_if-either (Lessens true job.name c) left (start_offer config job event c) (λ is. start_offer-lessens config job event c (not-false _ is))
 
 -- so the first offer lowers the work
 offer_first-lowers : (config : Configuration) (jobs : List JobDef) (event : ℕ) (c : Chronicle) → (offer_first config jobs event c ≡ []) ⊎ Lowers true (job_names jobs) c (offer_first config jobs event c)

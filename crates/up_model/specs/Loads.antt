@@ -3,6 +3,8 @@ use Rattle.std.specs.Prelude.{ℕ, Bool, true, false, not, ◌&&◌, List, [], �
 use Rattle.std.specs.Fmt.{decimal}
 use Rattle.up_conf.specs.declared.job.JobDef.{JobDef}
 use Rattle.up_conf.specs.Order.{in_order}
+use Rattle.up_model.specs.declared.input.Input.{Input}
+use Rattle.up_model.specs.declared.input.Input.TheVariants as input
 use Rattle.up_model.specs.declared.loaded.Loaded.{Loaded as LoadedValue}
 use Rattle.up_model.specs.declared.loaded.Loaded.TheVariants as loaded
 use Rattle.up_model.specs.Chronicle.{Chronicle, Entry, Loaded, Replied}
@@ -38,6 +40,11 @@ abbrev pub in_force : (start : Configuration) → Chronicle → Configuration
 in_force start [] = start
 in_force start (Loaded jobs ∷ c) = with_jobs jobs (in_force start c) c
 in_force start (entry ∷ c) = in_force start c
+
+-- whether an input is a load
+abbrev pub is_load : Input → Bool
+is_load (input.Load id loaded) = true
+is_load given = false
 
 -- a load that isn't carried out is answered so
 abbrev pub not_loaded : (given : ℕ) → (text : Bytes) → List Entry
