@@ -45,6 +45,9 @@ pub mod Runs
 pub mod Deaf
 pub mod NextHearers
 pub mod Others
+pub mod Loading
+pub mod StopHoles
+pub mod LoadedLedgers
 pub mod Ledgers
 pub mod Acting
 pub mod Blocking

@@ -396,12 +396,13 @@ pub trait Book: Drop {
             → job_at config index ≡ Some file.now → instance_named (called file.now.name name.now) c ≡ None
             → event_place self.old c k ≡ Some j → event_place self.new (entry.Made file.now name.now ∷ c) k ≡ Some j) };
 
-    /// These jobs come into force, by a load in this step: they are those that were read and those that go on, in byte order of names. What the
+    /// These jobs come into force, by a load in this step, in which no request has acted on an instance: they are those that were read and those that go on, in byte order of names. What the
     /// `start on` of those before had seen is forgotten, and instances go on by their own files.
     fn load(&mut self, files: &[JobFile]) -> Result<(), AllocError>
         requires { AreInOrder name_of files.now }
         ensures { OnOk result ((config : Configuration) (c : Chronicle) (jobs : List JobValue)
-            → stands self.old Stepping config c → files.now ≡ (with_jobs jobs config c).jobs
+            → stands self.old Stepping config c → replies.request_instance c ≡ None
+            → files.now ≡ (with_jobs jobs config c).jobs
             → stands self.new Stepping (with_jobs jobs config c) (entry.Loaded jobs ∷ c)) };
 
     /// The first job of the table, from an index on, with an expression, or an instance with a `stop on` by its own file, that names an event, by a leaf

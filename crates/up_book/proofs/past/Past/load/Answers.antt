@@ -1,0 +1,7 @@
+use Rattle.std.proofs.Common.{◌∙◌, refl}
+use Rattle.up_book.proofs.Loading.{forgets-loaded}
+use Rattle.up_book.proofs.past.Past.load.Goals as goal
+
+pub returns : goal.returns
+returns c config c' jobs f same =
+    forgets-loaded c.args.self.now _ config c' jobs c.args.files.now f c.requires same c.in_ok-replace.ensures c.in_ok-starts.ensures c.in_ok-free_starts.ensures refl
