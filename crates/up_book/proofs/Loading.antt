@@ -230,7 +230,7 @@ uses-all id (j ∷ olds) defs distinct apart idle =
     let f : Bytes → ℕ = λ name. kept_uses id (instances_in name (j ∷ olds)) in
     let g : Bytes → ℕ = λ name. kept_uses id (instances_in name olds) in
     let one = sum-one f g j.name (kept_uses id j.instances) defs distinct (λ other differs. ap (λ (b : Bool). kept_uses id (list_of (if b then Some j else named job_of other olds))) differs)
-        (ap (λ (b : Bool). kept_uses id (list_of (if b then Some j else named job_of j.name olds))) (bytes_refl j.name)) (ap (kept_uses id) (none-in j.name olds apart.0)) in
+    (ap (λ (b : Bool). kept_uses id (list_of (if b then Some j else named job_of j.name olds))) (bytes_refl j.name)) (ap (kept_uses id) (none-in j.name olds apart.0)) in
     one ∙ by_case (is_some (job_named j.name defs)) refl (uses-all id olds defs distinct apart.1 idle.1)
   where
     by_case : (b : Bool) → is_some (job_named j.name defs) ≡ b → sum_named (λ name. kept_uses id (instances_in name olds)) defs ≡ uses id olds
@@ -307,7 +307,7 @@ forgets-loaded book after config c jobs files f order same does starts events re
     counted id =
         let enough : (one : EventId) → holder_uses one freeing ≤ holds_of one book.events = λ one. omega (arith, all-used one book.starts.items, f.counted one) in
         let stayed_uses : uses id after.instances ≡ uses id book.instances = ap (uses id) stays ∙ uses-stayed id book.instances new.jobs
-            ∙ uses-all id book.instances new.jobs distinct (all-apart old c book.instances config.jobs f.lives.jobs f.lives.distinct) (all-idle old c id new.jobs book.instances config.jobs f.lives.jobs known) in
+        ∙ uses-all id book.instances new.jobs distinct (all-apart old c book.instances config.jobs f.lives.jobs f.lives.distinct) (all-idle old c id new.jobs book.instances config.jobs f.lives.jobs known) in
         omega (
           arith,
           ap (holds_of id) events,

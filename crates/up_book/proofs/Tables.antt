@@ -7,8 +7,10 @@ use Rattle.up_image.specs.declared.index.Place.{Place}
 use Rattle.up_job.specs.Lists.{nth}
 use Rattle.up_marks.specs.Naming.{of_expression, naming_in, side_of}
 use Rattle.up_book.specs.Ledgers.{HasIndex}
+use Rattle.up_image.specs.Definable.{are_ascending, are_definable, IsTable}
+use Rattle.up_conf.specs.Order.{is_below}
 use Rattle.up_job.specs.Named.{AreInOrder, IsBelowAll}
-use Rattle.up_job.proofs.NamedLemmas.{below_not_same}
+use Rattle.up_job.proofs.NamedLemmas.{below_not_same, below_trans}
 use Rattle.up_marks.specs.Triggers.{Remembers}
 use Rattle.up_marks.specs.declared.mark.Mark.{Mark}
 use Rattle.up_model.specs.Configuration.{Configuration}
@@ -21,6 +23,45 @@ use Rattle.up_book.specs.Remembering.{StartsRemember}
 use Rattle.up_book.specs.Views.{Places}
 use Rattle.up_book.proofs.Beginning.{blank-unused}
 use Rattle.up_book.proofs.One.{apart-back}
+
+both-first : (a b : Bool) → (a && b) ≡ true → a ≡ true
+both-first true b h = refl
+both-first false b h = absurd cc
+
+-- the names of a table rise
+pub names-rise : (jobs : List JobDef) → IsTable jobs → are_ascending (map (λ job. job.name) jobs) ≡ true
+unfolding are_definable
+names-rise jobs table = both-first (are_ascending (map (λ (job : JobDef). job.name) jobs)) _ table.given
+
+below-rising : (name : Bytes) (jobs : List JobDef) → are_ascending (name ∷ map (λ job. job.name) jobs) ≡ true → IsBelowAll name_of name jobs
+below-rising name [] up = tt
+below-rising name (job ∷ []) up = by_case (is_below name job.name) refl up
+  where
+    by_case : (b : Bool) → is_below name job.name ≡ b → (b && true) ≡ true → (is_below name job.name ≡ true) × Unit {0}
+    by_case true e h = (e, tt)
+    by_case false e h = absurd cc
+below-rising name (job ∷ next ∷ jobs) up = by_case (below-rising name (next ∷ jobs)) (is_below name job.name) refl (is_below job.name next.name) refl up
+  where
+    by_case : (are_ascending (name ∷ map (λ (j : JobDef). j.name) (next ∷ jobs)) ≡ true → IsBelowAll name_of name (next ∷ jobs)) → (b : Bool) → is_below name job.name ≡ b → (d : Bool) → is_below job.name next.name ≡ d
+        → (b && (d && are_ascending (next.name ∷ map (λ (j : JobDef). j.name) jobs))) ≡ true → (is_below name job.name ≡ true) × IsBelowAll name_of name (next ∷ jobs)
+    by_case ih true e true f h =
+        let further : is_below name next.name ≡ true = below_trans name job.name next.name e f in
+        (e, ih (rw further h))
+    by_case ih true e false f h = absurd cc
+    by_case ih false e d f h = absurd cc
+
+order-rising : (jobs : List JobDef) → are_ascending (map (λ job. job.name) jobs) ≡ true → AreInOrder name_of jobs
+order-rising [] up = tt
+order-rising (job ∷ []) up = (tt, tt)
+order-rising (job ∷ next ∷ jobs) up =
+    (below-rising job.name (next ∷ jobs) up, order-rising (next ∷ jobs) (rest (is_below job.name next.name) up))
+  where
+    rest : (b : Bool) → (b && are_ascending (next.name ∷ map (λ (j : JobDef). j.name) jobs)) ≡ true → are_ascending (next.name ∷ map (λ (j : JobDef). j.name) jobs) ≡ true
+    rest true h = h
+    rest false h = absurd cc
+
+pub table-order : (jobs : List JobDef) → IsTable jobs → AreInOrder name_of jobs
+table-order jobs table = order-rising jobs (names-rise jobs table)
 
 below-apart : (name : Bytes) (jobs : List JobDef) → IsBelowAll name_of name jobs → AllByRecursion (λ other. bytes_eq other.name name ≡ false) jobs
 below-apart name [] below = tt

@@ -61,7 +61,9 @@ pub(crate) fn next_job(index: &Index, jobs: &[JobFile], event: &Event, from: usi
 fn one_stops(instances: &[Instance], event: &Event) -> bool
     ensures { result ≡ one_stops event.now instances.now }
 {
-    instances.iter().any(|instance| may_stop(&instance.file, event))
+    instances
+        .iter()
+        .any(|instance| may_stop(&instance.file, event))
 }
 
 // The job of the first of these places with an instance that an event may stop. Each job is asked once.
