@@ -7,7 +7,7 @@ ghost use Rattle.up_conf.specs.Jobs.{with_new_item, with_new_items, is_silent, p
 ghost use Rattle.up_conf.specs.Gathering.{others_after};
 
 use crate::both::both;
-use crate::copies::{copy_action, copy_setting, copy_texts};
+use crate::copies::copy_action;
 use crate::job::JobDef;
 use std::alloc::{AllocError, Global};
 use std::marker::Model;
@@ -293,8 +293,8 @@ impl<'a> Outline<'a> {
     }
 }
 
-// What a job says, without its name and its keys.
-fn outline_of<'a>(job: &'a JobDef, normal: Items<Exit>) -> Outline<'a>
+/// What a job says, without its name and its keys, with these exits as its own.
+pub(crate) fn outline_of<'a>(job: &'a JobDef, normal: Items<Exit>) -> Outline<'a>
     requires { normal ≡ job.now.normal }
     ensures { result ≡ record job.now { name = []; env = []; export = [] } }
 {
@@ -316,38 +316,5 @@ fn outline_of<'a>(job: &'a JobDef, normal: Items<Exit>) -> Outline<'a>
         post_stop: job.post_stop.as_ref(),
         start_on: job.start_on.as_ref(),
         stop_on: job.stop_on.as_ref(),
-    }
-}
-
-fn copy_exits(alloc: Global, exits: &[Exit]) -> Result<Items<Exit>, AllocError>
-    ensures { IfOk result (λ copied. copied ≡ exits.now) }
-{
-    let mut copied: Vec<Exit> = Vec::new(alloc);
-    for exit in exits {
-        copied.push(*exit)?;
-    }
-    Ok(Items::new(copied))
-}
-
-fn copy_settings(alloc: Global, settings: &[Setting]) -> Result<Items<Setting>, AllocError>
-    ensures { IfOk result (λ copied. copied ≡ settings.now) }
-{
-    let mut copied: Vec<Setting> = Vec::new(alloc);
-    for setting in settings {
-        copied.push(copy_setting(alloc, setting)?)?;
-    }
-    Ok(Items::new(copied))
-}
-
-impl JobDef {
-    /// An equal value in memory of its own.
-    pub fn copy(&self, alloc: Global) -> Result<Self, AllocError>
-        ensures { IfOk result (λ job. job ≡ self.now) }
-    {
-        let name = self.name.copy()?;
-        let env = copy_settings(alloc, self.env.as_slice())?;
-        let export = copy_texts(alloc, self.export.as_slice())?;
-        let normal = copy_exits(alloc, self.normal.as_slice())?;
-        outline_of(self, normal).into_job(alloc, name, env, export)
     }
 }

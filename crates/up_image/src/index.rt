@@ -7,8 +7,8 @@ ghost use Rattle.up_image.specs.declared.limits.TheConstants.{MAX_JOBS, MAX_NODE
 ghost use Rattle.up_image.specs.Index.{entries_of, entry_part, event_of, index_part, leaf_places, place_part, places_in, places_of, runs_of};
 
 use crate::bytes::{push_u16, push_u32, put_byte, put_text};
-use std::alloc::{AllocError, Global};
 use crate::job_file::JobFile;
+use std::alloc::{AllocError, Global};
 use up_conf::JobDef;
 use up_expr::{Condition, Node};
 use up_text::Name;
@@ -137,8 +137,8 @@ pub(crate) fn sorted_stops(alloc: Global, job: &JobDef) -> Result<Vec<Place>, Al
     Ok(places)
 }
 
-// Sorts places by the byte order of their events.
-fn sort_places(places: &mut Vec<Place>) -> Result<(), AllocError>
+/// Sorts places by the byte order of the events that they name; those of one event stay in their order.
+pub fn sort_places(places: &mut Vec<Place>) -> Result<(), AllocError>
     ensures { OnOk result (places.new.items ≡ in_order (λ place. place.event) places.old.items) }
 {
     places.sort_by(|place, other| place.event.as_str().cmp(other.event.as_str()))

@@ -4,7 +4,6 @@ ghost use Rattle.up_conf.specs.Order.{in_order};
 ghost use Rattle.up_image.specs.Index.{places_in};
 
 use crate::index::{Place, sorted_stops};
-
 use std::alloc::{AllocError, Global};
 use std::marker::Model;
 use std::rc::Rc;
@@ -44,9 +43,16 @@ impl JobFile {
     pub fn new(alloc: Global, job: JobDef) -> Result<Self, AllocError>
         ensures { IfOk result (λ file. file ≡ job) }
     {
-        let stops = sorted_stops(alloc, &job)?;
-        let shared = Rc::new(alloc, Indexed { job, stops })?;
-        Ok(JobFile { shared })
+        match sorted_stops(alloc, &job) {
+            Ok(stops) => {
+                let shared = Rc::new(alloc, Indexed { job, stops })?;
+                Ok(JobFile { shared })
+            }
+            Err(refused) => {
+                drop(job);
+                Err(refused)
+            }
+        }
     }
 
     /// The same file, for one more owner. Takes no memory, and is refused only to more owners than memory has room for.

@@ -23,11 +23,18 @@ list_of (Some job) = job.instances
 abbrev pub new_job : JobDef → JobInstances
 new_job job = record { name = job.name; instances = [] }
 
+abbrev pub file_name : JobDef → Bytes
+file_name job = job.name
+
 -- by name
 
 -- the instances of a job
 abbrev pub instances_in : Bytes → List JobInstances → List Instance
 instances_in job jobs = list_of (named job_of job jobs)
+
+-- a job of this file, with the instances of the one of its name
+abbrev pub kept_job : List JobInstances → JobDef → JobInstances
+kept_job jobs job = record { name = job.name; instances = instances_in job.name jobs }
 
 -- the instances of one job changed so, and those of no other job
 abbrev pub Changes : Bytes → (List Instance → List Instance) → List JobInstances → List JobInstances → Type 0

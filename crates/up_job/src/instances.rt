@@ -1,11 +1,10 @@
 //! The instances of all jobs.
-ghost use Rattle.std.specs.Prelude.{◌≡◌, ◌+◌, ◌++◌, ◌<◌, ◌≤◌, [], ◌∷◌, length, map, true, IsSome, IfOk, IfErr, OnOk, OnErr, MatchResult, Some, None};
+ghost use Rattle.std.specs.Prelude.{◌≡◌, ◌+◌, ◌<◌, ◌≤◌, [], ◌∷◌, length, map, true, IsSome, IfOk, IfErr, OnOk, OnErr, MatchResult, Some, None};
 ghost use Rattle.std.specs.Option.{option_copied};
 ghost use Rattle.up_conf.specs.Order.{is_below};
-ghost use Rattle.up_conf.specs.declared.job.JobDef.{JobDef as JobDefValue};
 ghost use Rattle.up_job.specs.Changes.{changed};
 ghost use Rattle.up_job.specs.InstanceLists.{max_instances, named, new_instance, refusal, with_change, with_instance, without, IsInstanceList};
-ghost use Rattle.up_job.specs.JobLists.{job_of, new_job, instances_in, stops_of, stop_places, Changes};
+ghost use Rattle.up_job.specs.JobLists.{file_name, job_of, new_job, instances_in, Changes};
 ghost use Rattle.up_job.specs.Named as by_name;
 
 use crate::change::Change;
@@ -14,7 +13,7 @@ use crate::instance::{Instance, new_instance};
 use crate::instance_list::InstanceList;
 use std::alloc::{AllocError, Global};
 use std::marker::Model;
-use up_image::{JobFile, Place, add_stops};
+use up_image::JobFile;
 use up_marks::Trigger;
 use up_text::Name;
 
@@ -65,8 +64,8 @@ fn position(jobs: &[JobInstances], name: &Name) -> usize
     jobs.partition_point(|job| is_before(job.name.as_str(), name.as_str()))
 }
 
-// Where a job stands, or else where it belongs.
-fn place(jobs: &[JobInstances], name: &Name) -> Result<usize, usize>
+/// Where a job stands, or else where it belongs.
+pub(crate) fn place(jobs: &[JobInstances], name: &Name) -> Result<usize, usize>
     requires { by_name.AreInOrder job_of jobs.now }
     ensures place { MatchResult result (λ at. at ≡ by_name.position job_of name.now jobs.now)
         (λ at. at ≡ by_name.position job_of name.now jobs.now) }
@@ -101,53 +100,6 @@ fn empty_jobs(alloc: Global, jobs: &[JobFile]) -> Result<Vec<JobInstances>, Allo
         all.push(empty_job(alloc, &job.job().name)?)?;
     }
     Ok(all)
-}
-
-// The list of a job of this name, which is left without an instance, or an empty one.
-fn take_job(alloc: Global, jobs: &mut [JobInstances], name: &Name) -> Result<JobInstances, AllocError>
-{
-    match place(jobs, name) {
-        Ok(at) => {
-            let empty = empty_job(alloc, name)?;
-            Ok(std::mem::replace(&mut jobs[at], empty))
-        }
-        Err(_) => empty_job(alloc, name),
-    }
-}
-
-// The lists of these jobs.
-fn taken(alloc: Global, olds: &mut Vec<JobInstances>, jobs: &[JobFile]) -> Result<Vec<JobInstances>, AllocError>
-{
-    let mut all = Vec::with_capacity(alloc, jobs.len())?;
-    for job in jobs {
-        all.push(take_job(alloc, olds.as_mut_slice(), &job.job().name)?)?;
-    }
-    Ok(all)
-}
-
-// Appends the leaves of the `stop on` of these instances, as those of the job with this number.
-fn add_stops_of(places: &mut Vec<Place>, number: u16, instances: &[Instance]) -> Result<(), AllocError>
-    ensures { OnOk result (places.new.items ≡ places.old.items ++ stops_of number instances.now) }
-{
-    for instance in instances {
-        add_stops(places, number, instance.file.job())?;
-    }
-    Ok(())
-}
-
-fn stop_places(alloc: Global, jobs: &[JobInstances]) -> Result<Vec<Place>, AllocError>
-    ensures { IfOk result (λ places. places.items ≡ stop_places 0 jobs.now) }
-{
-    let mut places = Vec::new(alloc);
-    let mut number: u16 = 0;
-    for job in jobs {
-        add_stops_of(&mut places, number, job.instances.as_slice())?;
-        match number.checked_add(1) {
-            Some(next) => number = next,
-            None => return Err(AllocError),
-        }
-    }
-    Ok(places)
 }
 
 // A job with its first instance.
@@ -255,7 +207,7 @@ impl Instances {
 
     /// No instance of these jobs.
     pub fn of_jobs(alloc: Global, jobs: &[JobFile]) -> Result<Self, AllocError>
-        requires { by_name.AreInOrder (λ (job : JobDefValue). job.name) jobs.now }
+        requires { by_name.AreInOrder file_name jobs.now }
         ensures { IfOk result (λ instances. instances ≡ map new_job jobs.now) }
     {
         let jobs = empty_jobs(alloc, jobs)?;
@@ -263,26 +215,6 @@ impl Instances {
             jobs,
             alarm: u128::MAX,
         })
-    }
-
-    /// The instances stay of these jobs, which come in place of those before. Where memory is refused some instances may be lost.
-    pub fn replace(&mut self, alloc: Global, jobs: &[JobFile]) -> Result<(), AllocError>
-        requires { by_name.AreInOrder (λ (job : JobDefValue). job.name) jobs.now }
-        ensures { OnOk result (self.new ≡ map (λ (job : JobDefValue).
-            record { name = job.name; instances = instances_in job.name self.old }) jobs.now) }
-    {
-        self.alarm = 0;
-        let kept = taken(alloc, &mut self.jobs, jobs)?;
-        self.jobs = kept;
-        Ok(())
-    }
-
-    /// The leaves of the `stop on` of each instance, by its own file, each as one of the job at the instance's place. It is refused to more jobs
-    /// than can be numbered, as if memory ran out.
-    pub fn stop_places(&self, alloc: Global) -> Result<Vec<Place>, AllocError>
-        ensures { IfOk result (λ places. places.items ≡ stop_places 0 self.now) }
-    {
-        stop_places(alloc, self.jobs.as_slice())
     }
 
     /// The instances of a job.

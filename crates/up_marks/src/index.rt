@@ -11,7 +11,7 @@ ghost use Rattle.up_marks.specs.Naming.{Rising, from_expression, rank, rank_of, 
 
 use std::alloc::{AllocError, Global};
 use std::marker::Model;
-use up_image::{JobFile, MAX_JOBS, Place, places_of_files};
+use up_image::{JobFile, MAX_JOBS, Place, places_of_files, sort_places};
 use up_text::Name;
 
 /// The leaves of all jobs. Contracts see their places in byte order of the events that they name.
@@ -129,7 +129,7 @@ impl Index {
         ensures { IfOk result (λ index. (name : Bytes) → named name index ≡ named name places.items) }
     {
         let mut places = places;
-        places.sort_by(|place, other| place.event.as_str().cmp(other.event.as_str()))?;
+        sort_places(&mut places)?;
         Ok(Index { places })
     }
 
