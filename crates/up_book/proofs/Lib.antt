@@ -46,7 +46,6 @@ pub mod Deaf
 pub mod NextHearers
 pub mod Others
 pub mod Loading
-pub mod StopHoles
 pub mod LoadedLedgers
 pub mod Ledgers
 pub mod Acting

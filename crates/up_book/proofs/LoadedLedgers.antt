@@ -1,5 +1,5 @@
 -- What a ledger stands for after a load.
-use Rattle.std.proofs.Common.{◌≡◌, ◌⊎◌, inl, inr, ⊥, ℕ, zero, suc, ◌==◌, true, List, [], ◌∷◌, map, Option, None, Some, refl, sym, ◌∙◌, ap, subst}
+use Rattle.std.proofs.Common.{◌≡◌, ◌⊎◌, inl, inr, ℕ, zero, suc, ◌==◌, true, List, [], ◌∷◌, map, Option, None, Some, refl, sym, ◌∙◌, ap, subst}
 use Rattle.std.specs.List.{AllByRecursion}
 use Rattle.up_conf.specs.declared.job.JobDef.{JobDef}
 use Rattle.up_image.specs.Index.{named}
@@ -28,7 +28,7 @@ use Rattle.up_book.proofs.Keyed.{job-there}
 use Rattle.up_book.proofs.Lists.{map-nth, nth-map}
 use Rattle.up_book.proofs.Outgoing.{silent-out}
 use Rattle.up_book.proofs.StepFrames.{asked-later, unheld-later}
-use Rattle.up_book.proofs.StopHoles.{any-stop_place}
+use Rattle.up_job.proofs.StopLemmas.{any-stop_place}
 
 all-nth : (P : Kept → Type 0) (ks : List Kept) → ((at : ℕ) (k : Kept) → nth at ks ≡ Some k → P k) → AllByRecursion P ks
 all-nth P [] each = tt

@@ -411,8 +411,10 @@ impl Book for Ledger {
 
     fn load(&mut self, files: &[JobFile]) -> Result<(), AllocError> {
         self.past.load(self.alloc, files)?;
-        self.others = others_of(self.alloc, &self.past.instances)?;
-        self.index = index_of(self.alloc, files)?;
+        let others = others_of(self.alloc, &self.past.instances)?;
+        self.others = others;
+        let index = index_of(self.alloc, files)?;
+        self.index = index;
         Ok(())
     }
 

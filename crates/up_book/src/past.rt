@@ -262,7 +262,8 @@ impl Past {
             → Forgets self.new (with_jobs jobs config c) (entry.Loaded jobs ∷ c)) }
     {
         free_starts(alloc, &mut self.events, self.starts.as_slice())?;
-        self.starts = triggers_of(alloc, files)?;
+        let starts = triggers_of(alloc, files)?;
+        self.starts = starts;
         self.instances.replace(alloc, files)?;
         Ok(())
     }
