@@ -62,7 +62,7 @@ use Rattle.up_book.proofs.Keyed.{place-keyed, job-there}
 use Rattle.up_book.proofs.Leaving.{forgets-answered, forgets-gone}
 use Rattle.up_book.proofs.Making.{position-so}
 use Rattle.up_book.proofs.Lifecycle.{keeps-made, keeps-left}
-use Rattle.up_book.proofs.One.{There, there}
+use Rattle.up_book.proofs.One.{There, there, its-file}
 use Rattle.up_book.proofs.Outgoing.{IsSilent, entering-out, named-there, ordered-out, signalled-out, silent-out, status-known}
 use Rattle.up_book.proofs.Requested.{IsPlain, Mentions, status-apart, status-left, left-gone, other-gone, gone-later, on-later}
 use Rattle.up_book.proofs.Runs.{IsMild, step-released}
@@ -79,7 +79,7 @@ stood ledger mode config c f index step found = record { past = f; index = index
 
 -- instances that stay are found
 pub found-same : (others : List Place) (config : Configuration) (c d : Chronicle) → ((job : Bytes) → instances_of job d ≡ instances_of job c) → AreFound others config c → AreFound others config d
-found-same others config c d same found n job there = subst (AllByRecursion (IsFound others n job)) (sym (same job.name)) (found n job there)
+found-same others config c d same found = record { each = λ n job there. subst (AllByRecursion (IsFound others n job)) (sym (same job.name)) (found.each n job there) }
 
 -- a release leaves the instances
 pub mild-instances : (job : Bytes) (i : ℕ) (failed : Bool) (c : Chronicle) → instances_of job (releasing i failed c ++ c) ≡ instances_of job c
@@ -97,23 +97,23 @@ waiter-instances job (Some request) spoilt c = refl
 
 -- a new instance goes by the table
 pub found-made : (others : List Place) (config : Configuration) (c : Chronicle) (place : ℕ) (file : JobDef) (name : Bytes) → AreDistinct config.jobs → job_at config place ≡ Some file → AreFound others config c → AreFound others config (Made file name ∷ c)
-found-made others config c place file name distinct made found n job there = by_case (bytes_eq file.name job.name) refl (found n job there)
+found-made others config c place file name distinct made found = record { each = λ n job there. by_case n job there (bytes_eq file.name job.name) refl (found.each n job there) }
   where
     new : Instance
     new = record { place = length c; name = name; file = file }
 
-    by_case : (b : Bool) → bytes_eq file.name job.name ≡ b → AllByRecursion (IsFound others n job) (instances_of job.name c)
+    by_case : (n : ℕ) (job : JobDef) → job_at config n ≡ Some job → (b : Bool) → bytes_eq file.name job.name ≡ b → AllByRecursion (IsFound others n job) (instances_of job.name c)
         → AllByRecursion (IsFound others n job) (if b then with_instance new (instances_of job.name c) else instances_of job.name c)
-    by_case true same all =
+    by_case n job there true same all =
         let its : job_named file.name config.jobs ≡ Some file = named-there place config.jobs file (job-there config place file made) distinct in
         let mine : job_named job.name config.jobs ≡ Some job = named-there n config.jobs job (job-there config n job there) distinct in
         let one : file ≡ job = same-job (sym its ∙ ap (λ its_name. job_named its_name config.jobs) (bytes_same file.name job.name same) ∙ mine) in
         all-with (IsFound others n job) new (instances_of job.name c) (inl (ap (λ (j : JobDef). j.stop_on) one)) all
-    by_case false differs all = all
+    by_case n job there false differs all = all
 
 -- those that one has left are found
 pub found-left : (others : List Place) (config : Configuration) (c : Chronicle) (i : ℕ) → AreFound others config c → AreFound others config (Entered i state.Waiting ∷ c)
-found-left others config c i found n job there = all-without (IsFound others n job) i (instances_of job.name c) (found n job there)
+found-left others config c i found = record { each = λ n job there. all-without (IsFound others n job) i (instances_of job.name c) (found.each n job there) }
 
 -- a key of the table is one of what is kept
 pub keyed : (past : Past) (config : Configuration) (c : Chronicle) (key : InstanceKey) (i : ℕ) → Forgets past config c → instance_place config c key ≡ Some i → standing.instance_place past c key ≡ Some i

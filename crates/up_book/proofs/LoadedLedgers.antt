@@ -20,6 +20,7 @@ use Rattle.up_book.specs.declared.step.ActedOn.TheVariants.{Exists, Gone}
 use Rattle.up_book.specs.declared.step.Asked.{Asked}
 use Rattle.up_book.specs.Hearers.{AreFound, IsCovered, IsFound, has_place}
 use Rattle.up_book.specs.Keeps.{KeepsJobs}
+use Rattle.up_book.specs.Keys.{job_at}
 use Rattle.up_book.specs.Requesting.{OnMeans}
 use Rattle.up_book.specs.Steps.{Asks}
 use Rattle.up_book.specs.Summaries.{Summary, JobSummary, summary, job_summary}
@@ -46,15 +47,10 @@ covered-found places c others n job (k ∷ ks) (x ∷ xs) same all =
     (inr (subst (λ (s : Summary). IsCovered others n s.file.stop_on) first all.0), covered-found places c others n job ks xs rest all.1)
 
 pub loaded-found : (others : List Place) (places : Places) (its : List JobInstances) (config : Configuration) (c : Chronicle) → KeepsJobs places its config c → ((name : Bytes) → named name others ≡ named name (stop_places 0 its)) → AreFound others config c
-loaded-found others places its config c keeps same n job there =
-    let summed = map-nth (job_summary c) n config.jobs job (job-there config n job there) in
-    let viewed : nth n (map (job_view places) its) ≡ Some (job_summary c job) = ap (nth n) keeps ∙ summed in
-    let mine = nth-map (job_view places) n its (job_summary c job) viewed in
-    covered-found places c others n job mine.0.instances (instances_of job.name c) (ap (λ (s : JobSummary). s.instances) mine.2)
-    (all-nth (λ k. IsCovered others n k.file.stop_on) mine.0.instances (λ at k found. covered mine.0 mine.1 at k found))
+loaded-found others places its config c keeps same = record { each = each }
   where
-    covered : (j : JobInstances) → nth n its ≡ Some j → (at : ℕ) (k : Kept) → nth at j.instances ≡ Some k → IsCovered others n k.file.stop_on
-    covered j listed at k found name = by_naming (naming_in k.file.stop_on name) refl
+    covered : (n : ℕ) (j : JobInstances) → nth n its ≡ Some j → (at : ℕ) (k : Kept) → nth at j.instances ≡ Some k → IsCovered others n k.file.stop_on
+    covered n j listed at k found name = by_naming (naming_in k.file.stop_on name) refl
       where
         by_naming : (nodes : List ℕ) → naming_in k.file.stop_on name ≡ nodes → (naming_in k.file.stop_on name ≡ []) ⊎ (has_place n (named name others) ≡ true)
         by_naming [] is = inl is
@@ -64,6 +60,14 @@ loaded-found others places its config c keeps same n job there =
             some none =
                 let both : node ∷ nodes ≡ [] = sym is ∙ none in
                 absurd cc
+
+    each : (n : ℕ) (job : JobDef) → job_at config n ≡ Some job → AllByRecursion (IsFound others n job) (instances_of job.name c)
+    each n job there =
+        let summed = map-nth (job_summary c) n config.jobs job (job-there config n job there) in
+        let viewed : nth n (map (job_view places) its) ≡ Some (job_summary c job) = ap (nth n) keeps ∙ summed in
+        let mine = nth-map (job_view places) n its (job_summary c job) viewed in
+        covered-found places c others n job mine.0.instances (instances_of job.name c) (ap (λ (s : JobSummary). s.instances) mine.2)
+        (all-nth (λ k. IsCovered others n k.file.stop_on) mine.0.instances (λ at k found. covered n mine.0 mine.1 at k found))
 
 -- a load asks for nothing, and concerns no instance
 pub step-loaded : (outputs : List Output) (asked : Option Asked) (on : Option ActedOn) (config new : Configuration) (c : Chronicle) (jobs : List JobDef) → request_instance c ≡ None → Asks outputs asked on config c

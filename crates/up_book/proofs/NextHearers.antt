@@ -379,7 +379,7 @@ job-deaf : (index others : List Place) (places : Places) (its : List JobInstance
 job-deaf index others places its config c event n job h there unheard quiet =
     let none : hears job (Some event) ≡ false = sym (heard index config n job event h.index there) ∙ unheard in (
       or-first (may_hear job.start_on (Some event)) (may_hear job.stop_on (Some event)) none,
-      deaf-found others n job event (instances_of job.name c) (h.found n job there) (or-rest (may_hear job.start_on (Some event)) (may_hear job.stop_on (Some event)) none)
+      deaf-found others n job event (instances_of job.name c) (h.found.each n job there) (or-rest (may_hear job.start_on (Some event)) (may_hear job.stop_on (Some event)) none)
           (λ placed. sym (one-stops places its config c event n job h.keeps there) ∙ asked-vain (λ m. one_stops event (instances_at m its)) n (named event.name others) placed quiet),
     )
 
@@ -397,7 +397,7 @@ placed test n [] some = absurd cc
 placed test n (x ∷ xs) some = by_job (x.job == n) (test x.job) refl refl some (placed test n xs)
   where
     by_job : (b d : Bool) → (x.job == n) ≡ b → test x.job ≡ d → ((b && d) || has_job (λ x. test x.job) n xs) ≡ true → (has_job (λ x. test x.job) n xs ≡ true → test n ≡ true) → test n ≡ true
-    by_job true true same yes some ih = ap test (sym (eqb-true x.job n same)) ∙ yes
+    by_job true true same admitted some ih = ap test (sym (eqb-true x.job n same)) ∙ admitted
     by_job true false same isnt some ih = ih some
     by_job false d differs is some ih = ih some
 

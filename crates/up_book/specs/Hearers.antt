@@ -82,5 +82,5 @@ IsCovered places job condition = (name : Bytes) → (naming_in condition name �
 abbrev pub IsFound : (others : List Place) → (n : ℕ) → JobDef → Instance → Type 0
 IsFound others n job x = (x.file.stop_on ≡ job.stop_on) ⊎ IsCovered others n x.file.stop_on
 
-abbrev pub AreFound : (others : List Place) → Configuration → Chronicle → Type 0
-AreFound others config c = (n : ℕ) (job : JobDef) → job_at config n ≡ Some job → AllByRecursion (IsFound others n job) (instances_of job.name c)
+pub record AreFound (others : List Place) (config : Configuration) (c : Chronicle) : Type 0 where
+  pub each : (n : ℕ) (job : JobDef) → job_at config n ≡ Some job → AllByRecursion (IsFound others n job) (instances_of job.name c)

@@ -1,4 +1,4 @@
-use Rattle.std.proofs.Common.{subst, sym, IfSome, ◌≤◌}
+use Rattle.std.proofs.Common.{subst, sym, Some, IfSome, ◌≤◌}
 use Rattle.up_image.specs.Index.{named}
 use Rattle.up_marks.specs.Ruling.{admits}
 use Rattle.up_model.specs.Queue.{queue}
@@ -14,7 +14,7 @@ returns-in-Some-clause-next c config c' e s same known =
     let places = place_of ledger.past.events (queue c') in
     let h : Hearable ledger.index ledger.others places ledger.past.instances config c' = record { keeps = s.past.lives.jobs; index = s.index; found = s.found } in
     subst (λ o. IsNextHearer config o c' c.args.from c.lesser_of.result) (c.in-Some.ensures config c' e s.past known)
-    (subst (IsNextHearer config _ c' c.args.from) (sym c.lesser_of.ensures)
+    (subst (IsNextHearer config (Some event) c' c.args.from) (sym c.lesser_of.ensures)
     (next-hearer ledger.index ledger.others places ledger.past.instances config c' event c.args.from c.next_job.result c.next_other.result h
     (subst (λ jobs. IsNextJob (admits jobs event) c.args.from (named event.name ledger.index) c.next_job.result) same c.next_job.ensures) c.next_other.ensures))
 
