@@ -99,13 +99,13 @@ order-with_at place f same jobs = order-names job_of jobs (with_at place f jobs)
 
 -- the jobs of files in order are in order
 below_all-files : (f : JobDef → JobInstances) → ((job : JobDef) → job_of (f job) ≡ file_name job) → (name : Bytes) (jobs : List JobDef) → IsBelowAll file_name name jobs → IsBelowAll job_of name (map f jobs)
-below_all-files f same name [] below = tt
-below_all-files f same name (job ∷ jobs) below = (subst (λ k. is_below name k ≡ true) (sym (same job)) below.0, below_all-files f same name jobs below.1)
+below_all-files f keeps name [] below = tt
+below_all-files f keeps name (job ∷ jobs) below = (subst (λ k. is_below name k ≡ true) (sym (keeps job)) below.0, below_all-files f keeps name jobs below.1)
 
 pub order-files : (f : JobDef → JobInstances) → ((job : JobDef) → job_of (f job) ≡ file_name job) → (jobs : List JobDef) → AreInOrder file_name jobs → AreInOrder job_of (map f jobs)
-order-files f same [] order = tt
-order-files f same (job ∷ jobs) order =
-    (subst (λ k. IsBelowAll job_of k (map f jobs)) (sym (same job)) (below_all-files f same job.name jobs order.0), order-files f same jobs order.1)
+order-files f keeps [] order = tt
+order-files f keeps (job ∷ jobs) order =
+    (subst (λ k. IsBelowAll job_of k (map f jobs)) (sym (keeps job)) (below_all-files f keeps job.name jobs order.0), order-files f keeps jobs order.1)
 
 -- no job is another one after an event has finished
 pub order-unblocked : (id : EventId) (jobs : List JobInstances) → AreInOrder job_of jobs → AreInOrder job_of (map (unblocked_in id) jobs)

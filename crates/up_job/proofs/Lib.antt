@@ -7,5 +7,5 @@ pub mod TimerLemmas
 pub mod AlarmLemmas
 pub mod WaitLemmas
 pub mod Blocked
-pub mod Replacing
+pub mod KeptLists
 pub mod StopLemmas

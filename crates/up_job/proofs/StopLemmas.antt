@@ -1,5 +1,5 @@
 -- The places of the leaves that may stop instances.
-use Rattle.std.proofs.Common.{◌≡◌, ⊥, ℕ, zero, suc, ◌+◌, ◌<◌, ◌≤◌, ◌==◌, false, true, ◌||◌, Bool, List, [], ◌∷◌, ◌++◌, length, take, get_or, Some, refl, sym, ◌∙◌, ap, subst, arith, append_assoc}
+use Rattle.std.proofs.Common.{◌≡◌, ℕ, zero, suc, ◌+◌, ◌<◌, ◌≤◌, ◌==◌, false, true, ◌||◌, Bool, List, [], ◌∷◌, ◌++◌, length, take, get_or, Some, refl, sym, ◌∙◌, ap, subst, arith, append_assoc}
 use Rattle.std.specs.List.{list_any}
 use Rattle.std.proofs.lemmas.List.{append-nil, take_more, length-take-le}
 use Rattle.up_image.specs.declared.index.Place.{Place}
@@ -76,7 +76,7 @@ any-stop_of n name (y ∷ ys) zero x there some =
     let same : x ≡ y = cc in
     any-parts n name (places_in n false y.file.stop_on) (stops_of n ys)
     ∙ any-or-left (list_any (is_of n) (named name (places_in n false y.file.stop_on))) (list_any (is_of n) (named name (stops_of n ys)))
-        (any_named_stop n y.file.stop_on name (subst (λ (z : Instance). naming_in z.file.stop_on name ≡ [] → ⊥) same some))
+    (any_named_stop n y.file.stop_on name (subst (λ (z : Instance). naming_in z.file.stop_on name ≡ [] → ⊥) same some))
 any-stop_of n name (y ∷ ys) (suc at) x there some =
     any-parts n name (places_in n false y.file.stop_on) (stops_of n ys)
     ∙ any-or-right (list_any (is_of n) (named name (places_in n false y.file.stop_on))) (list_any (is_of n) (named name (stops_of n ys))) (any-stop_of n name ys at x there some)
@@ -89,14 +89,16 @@ any-from low zero name (other ∷ jobs) job at x there its some =
     let e : low ≡ low + 0 = omega arith in
     any-parts (low + 0) name (stops_of low other.instances) (stop_places (suc low) jobs)
     ∙ any-or-left (list_any (is_of (low + 0)) (named name (stops_of low other.instances))) (list_any (is_of (low + 0)) (named name (stop_places (suc low) jobs)))
-        (subst (λ m. list_any (is_of m) (named name (stops_of low other.instances)) ≡ true) e
-        (any-stop_of low name other.instances at x (subst (λ (j : JobInstances). nth at j.instances ≡ Some x) same its) some))
+    (subst (λ m. list_any (is_of m) (named name (stops_of low other.instances)) ≡ true) e
+    (any-stop_of low name other.instances at x (subst (λ (j : JobInstances). nth at j.instances ≡ Some x) same its) some))
 any-from low (suc k) name (other ∷ jobs) job at x there its some =
     let e : suc low + k ≡ low + suc k = omega arith in
     any-parts (low + suc k) name (stops_of low other.instances) (stop_places (suc low) jobs)
     ∙ any-or-right (list_any (is_of (low + suc k)) (named name (stops_of low other.instances))) (list_any (is_of (low + suc k)) (named name (stop_places (suc low) jobs)))
-        (subst (λ m. list_any (is_of m) (named name (stop_places (suc low) jobs)) ≡ true) e (any-from (suc low) k name jobs job at x there its some))
+    (subst (λ m. list_any (is_of m) (named name (stop_places (suc low) jobs)) ≡ true) e (any-from (suc low) k name jobs job at x there its some))
 
 pub any-stop_place : (n : ℕ) (name : Bytes) (jobs : List JobInstances) (job : JobInstances) (at : ℕ) (x : Instance) → nth n jobs ≡ Some job → nth at job.instances ≡ Some x → (naming_in x.file.stop_on name ≡ [] → ⊥)
     → list_any (λ (place : Place). place.job == n) (named name (stop_places 0 jobs)) ≡ true
-any-stop_place n name jobs job at x there its some = any-from 0 n name jobs job at x there its some
+any-stop_place n name jobs job at x there its some =
+    let e : 0 + n ≡ n = omega arith in
+    subst (λ m. list_any (is_of m) (named name (stop_places 0 jobs)) ≡ true) e (any-from 0 n name jobs job at x there its some)

@@ -24,7 +24,7 @@ get-past (x ∷ before) xs n i is =
     let m : n ≡ suc (length before + i) = omega (arith, is) in
     ap (slice_get (x ∷ before ++ xs)) m ∙ get-past before xs (length before + i) i refl
 
-any-append : {X : Type 0} (p : X → Bool) (xs ys : List X) → list_any p (xs ++ ys) ≡ (list_any p xs || list_any p ys)
+pub any-append : {X : Type 0} (p : X → Bool) (xs ys : List X) → list_any p (xs ++ ys) ≡ (list_any p xs || list_any p ys)
 any-append p [] ys = refl
 any-append p (x ∷ xs) ys = by_case (p x) (any-append p xs ys)
   where

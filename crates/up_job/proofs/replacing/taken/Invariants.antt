@@ -1,7 +1,7 @@
 use Rattle.std.proofs.Common.{◌≡◌, map, take, drop}
 use Rattle.up_job.specs.JobLists.{job_of, kept_job}
 use Rattle.up_job.specs.Named.{AreInOrder}
-use Rattle.up_job.proofs.Replacing.{AreKept}
+use Rattle.up_job.proofs.KeptLists.{AreKept}
 use Rattle.up_job.proofs.replacing.taken.Given as goal
 
 -- the jobs so far have the instances of the old ones, and those to come find theirs
