@@ -2,9 +2,7 @@
 ghost use Rattle.std.specs.Prelude.{◌≡◌, ◌≤◌, ◌<◌, ℕ, true, false, List, ◌∷◌, ◌++◌, [], map, length, Option, None, Some, is_some, option_map, OnOk, IsOk, IfOk, IfSome};
 ghost use Rattle.std.specs.Option.{option_copied, option_map_or};
 ghost use Rattle.up_book.specs.declared.holders.Holders.{Holders as HoldersValue};
-ghost use Rattle.up_book.specs.Asking.{given_input, given_place};
-ghost use Rattle.up_model.specs.declared.input.Input.TheVariants as given_as;
-ghost use Rattle.up_model.specs.declared.loaded.Loaded.{Loaded as LoadedValue};
+ghost use Rattle.up_book.specs.Asking.{given_place};
 ghost use Rattle.up_book.specs.Hearers.{IsNextHearer};
 ghost use Rattle.up_book.specs.Keeps.{AreDistinct, is_waiting};
 ghost use Rattle.up_book.specs.Keys.{Mode, Resting, Stepping, SpeaksOf, held_as, request_place, job_at, name_at, instance_at, instance_place};
@@ -206,15 +204,9 @@ pub trait Book: Drop {
             → stands self.new Stepping config
             (entry.Queued (entry.Outside (length c)) event ∷ entry.Given input ∷ c)) };
 
-    /// The input was a request: it is answered.
+    /// The input was a request, or a load: its client is answered.
     fn reply(&mut self, answer: Answer) -> Result<(), AllocError>
         ensures { OnOk result ((config : Configuration) (c : Chronicle) → stands self.old Stepping config c
-            → stands self.new Stepping config (entry.Replied (given_place c) answer ∷ c)) };
-
-    /// The input was a load: its client is answered.
-    fn reply_load(&mut self, id: u64, answer: Answer) -> Result<(), AllocError>
-        ensures { OnOk result ((config : Configuration) (c : Chronicle) (loaded : LoadedValue)
-            → stands self.old Stepping config c → given_input c ≡ Some (given_as.Load id loaded)
             → stands self.new Stepping config (entry.Replied (given_place c) answer ∷ c)) };
 
     /// A turn takes an event up. Takes no memory.
@@ -404,12 +396,13 @@ pub trait Book: Drop {
             → job_at config index ≡ Some file.now → instance_named (called file.now.name name.now) c ≡ None
             → event_place self.old c k ≡ Some j → event_place self.new (entry.Made file.now name.now ∷ c) k ≡ Some j) };
 
-    /// These jobs come into force, by a load in this step: they are those that were read and those that go on, in byte order of names. What the
+    /// These jobs come into force, by a load in this step, in which no request has acted on an instance: they are those that were read and those that go on, in byte order of names. What the
     /// `start on` of those before had seen is forgotten, and instances go on by their own files.
     fn load(&mut self, files: &[JobFile]) -> Result<(), AllocError>
         requires { AreInOrder name_of files.now }
         ensures { OnOk result ((config : Configuration) (c : Chronicle) (jobs : List JobValue)
-            → stands self.old Stepping config c → files.now ≡ (with_jobs jobs config c).jobs
+            → stands self.old Stepping config c → replies.request_instance c ≡ None
+            → files.now ≡ (with_jobs jobs config c).jobs
             → stands self.new Stepping (with_jobs jobs config c) (entry.Loaded jobs ∷ c)) };
 
     /// The first job of the table, from an index on, with an expression, or an instance with a `stop on` by its own file, that names an event, by a leaf

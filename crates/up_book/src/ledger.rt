@@ -5,6 +5,8 @@ ghost use Rattle.up_book.specs.Ledgers.{HasIndex, Stands};
 ghost use Rattle.up_book.specs.Requesting.{OnMeans};
 ghost use Rattle.up_book.specs.Sending.{IsOrder, IsSignal};
 ghost use Rattle.up_book.specs.Views.{kept_at};
+ghost use Rattle.up_image.specs.Index.{named};
+ghost use Rattle.up_job.specs.JobLists.{stop_places};
 ghost use Rattle.up_job.specs.Lists.{nth};
 ghost use Rattle.up_conf.specs.declared.job.JobDef.{JobDef as JobValue};
 ghost use Rattle.up_model.specs.Chronicle.{Chronicle};
@@ -12,10 +14,10 @@ ghost use Rattle.up_model.specs.Configuration.{Configuration, started_with};
 ghost use Rattle.up_job.specs.Named.{AreInOrder};
 ghost use Rattle.up_model.specs.Due.{telling};
 ghost use Rattle.up_model.specs.Replies.{request_instance, status_if};
-ghost use Rattle.up_model.specs.Values.{Bindings};
+ghost use Rattle.up_model.specs.Values.{Bindings, Bytes};
 
 use crate::book::Book;
-use crate::hearers::next_job;
+use crate::hearers::{lesser_of, next_job, next_other};
 use crate::holders::{Holders, holders_by};
 use crate::orders::{order_of, signal_of};
 use crate::past::Past;
@@ -51,9 +53,12 @@ fn index_of(alloc: Global, files: &[JobFile]) -> Result<Index, AllocError>
     Ok(index)
 }
 
+// An index of the leaves of the instances' `stop on`.
 fn others_of(alloc: Global, instances: &Instances) -> Result<Index, AllocError>
+    ensures { IfOk result (λ others. (name : Bytes) → named name others ≡ named name (stop_places 0 instances.now)) }
 {
-    Index::of_places(instances.stop_places(alloc)?)
+    let places = instances.stop_places(alloc)?;
+    Index::of_places(places)
 }
 
 // What is asked for by which a process of an instance is started.
@@ -267,11 +272,6 @@ impl Book for Ledger {
         Ok(())
     }
 
-    fn reply_load(&mut self, id: u64, answer: Answer) -> Result<(), AllocError> {
-        reply(&mut self.step.outputs, id, answer)?;
-        Ok(())
-    }
-
     fn handle(&mut self, key: EventId) {
         self.past.handle(key)
     }
@@ -411,14 +411,19 @@ impl Book for Ledger {
 
     fn load(&mut self, files: &[JobFile]) -> Result<(), AllocError> {
         self.past.load(self.alloc, files)?;
-        self.others = others_of(self.alloc, &self.past.instances)?;
-        self.index = Index::of(self.alloc, files)?;
+        let others = others_of(self.alloc, &self.past.instances)?;
+        self.others = others;
+        let index = index_of(self.alloc, files)?;
+        self.index = index;
         Ok(())
     }
 
     fn next_hearer(&self, jobs: &[JobFile], event: EventId, from: usize) -> Option<usize> {
         match self.past.event_at(event) {
-            Some(event) => next_job(&self.index, jobs, event, from),
+            Some(event) => lesser_of(
+                next_job(&self.index, jobs, event, from),
+                next_other(&self.others, &self.past.instances, event, from),
+            ),
             None => None,
         }
     }
@@ -477,7 +482,7 @@ impl Book for Ledger {
         std::mem::replace(&mut self.step.outputs, Vec::new(self.alloc))
     }
 
-    ghost known = { λ ledger mode config c job s none. s.known job none };
+    ghost known = { λ ledger mode config c job s none. s.past.regular.known job none };
 
     ghost distinct = { λ ledger mode config c s. s.past.lives.distinct };
 }

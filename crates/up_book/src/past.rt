@@ -1,6 +1,7 @@
 //! A book that forgets.
 ghost use Rattle.std.specs.Prelude.{◌≡◌, ℕ, List, ◌∷◌, [], map, Some, false, true, length, option_map, nat_lt, if◌then◌else◌, IfOk, IfNone, OnSome, OnOk};
 ghost use Rattle.up_job.specs.Lists.{nth};
+ghost use Rattle.up_conf.specs.declared.job.JobDef.{JobDef as JobValue};
 ghost use Rattle.up_model.specs.Due.{turn_event};
 ghost use Rattle.up_model.specs.Instances.{instance_named};
 ghost use Rattle.up_book.specs.Regular.{called};
@@ -15,6 +16,7 @@ ghost use Rattle.up_model.specs.Chronicle as entry;
 ghost use Rattle.up_model.specs.Clock as clock;
 ghost use Rattle.up_model.specs.Configuration.{Configuration, started_with};
 ghost use Rattle.up_job.specs.Named.{AreInOrder};
+ghost use Rattle.up_model.specs.Loads.{with_jobs};
 ghost use Rattle.up_model.specs.Queue.{queue};
 ghost use Rattle.up_model.specs.Readings as read;
 ghost use Rattle.up_event.specs.LiveEvents.{with_change, as_handled, named, without, outcome_of, AreDistinct};
@@ -38,7 +40,7 @@ ghost use Rattle.up_model.specs.Values.{Bindings};
 ghost use Rattle.up_model.specs.declared.state.Goal.TheVariants as aim;
 ghost use Rattle.up_model.specs.declared.state.State.TheVariants as entered;
 ghost use Rattle.up_marks.specs.Triggers.{kept_by};
-ghost use Rattle.up_book.specs.Holding.{freed, all_changed, as_holders};
+ghost use Rattle.up_book.specs.Holding.{freed, all_changed, all_kept, as_holders};
 ghost use Rattle.up_model.specs.Replies.{waiter_in};
 
 use crate::holding::{free_all_of, free_held, free_ids, hold_all};
@@ -127,6 +129,7 @@ fn triggers_of(alloc: Global, jobs: &[JobFile]) -> Result<Vec<Trigger>, AllocErr
 
 // What these expressions keep is freed.
 fn free_starts(alloc: Global, events: &mut Events, starts: &[Trigger]) -> Result<(), AllocError>
+    ensures { OnOk result (events.new ≡ all_changed (freed false) (as_holders (all_kept starts.now)) events.old) }
 {
     for start in starts {
         let kept = start.kept(alloc)?;
@@ -253,9 +256,14 @@ impl Past {
 
     /// These jobs come into force. What the `start on` of those before keep is freed, and instances go on.
     pub(crate) fn load(&mut self, alloc: Global, files: &[JobFile]) -> Result<(), AllocError>
+        requires { AreInOrder name_of files.now }
+        ensures { OnOk result ((config : Configuration) (c : Chronicle) (jobs : List JobValue)
+            → Forgets self.old config c → files.now ≡ (with_jobs jobs config c).jobs
+            → Forgets self.new (with_jobs jobs config c) (entry.Loaded jobs ∷ c)) }
     {
         free_starts(alloc, &mut self.events, self.starts.as_slice())?;
-        self.starts = triggers_of(alloc, files)?;
+        let starts = triggers_of(alloc, files)?;
+        self.starts = starts;
         self.instances.replace(alloc, files)?;
         Ok(())
     }

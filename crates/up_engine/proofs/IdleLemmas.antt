@@ -13,7 +13,7 @@ use Rattle.up_model.specs.Queue.{Live, queue}
 use Rattle.up_model.proofs.HeldLaws.{held-given}
 use Rattle.up_book.specs.Keys.{Resting}
 use Rattle.up_book.proofs.Giving.{forgets-turn}
-use Rattle.up_book.proofs.Ledgers.{stood}
+use Rattle.up_book.proofs.Ledgers.{found-same, stood}
 use Rattle.up_engine.specs.declared.engine.Engine.{Engine}
 use Rattle.up_engine.specs.Stands.{Stands}
 use Rattle.up_engine.proofs.Unfired.{none-entry}
@@ -37,7 +37,8 @@ idle-stands : (engine : Engine) (start : Configuration) (c : Chronicle) → Stan
 idle-stands engine start c s none = let config = in_force start c in record {
   up = s.up;
   setup = s.setup;
-  past = stood engine.book Resting config (Given Turn ∷ c) (forgets-turn engine.book.past config c s.past.past) s.past.index tt ?found;
+  past = stood engine.book Resting config (Given Turn ∷ c) (forgets-turn engine.book.past config c s.past.past) s.past.index tt
+      (found-same engine.book.others config c (Given Turn ∷ c) (λ job. refl) s.past.found);
   rest = record { rested = subst (λ d. due config d ≡ []) (idle-effect config c none) (idle-due config c none s.rest.rested); untrue = none-entry config (Given Turn) c tt s.rest.untrue };
 }
 

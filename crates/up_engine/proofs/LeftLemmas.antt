@@ -36,8 +36,7 @@ sound_after config other old new given sound forces steps =
 
 -- what is left by what is kept is what the chronicle says
 pub left_told : (config : Configuration) (book : Ledger) (c : Chronicle) → Stands book Resting config c → left_of_jobs book.past.instances ≡ left c
-left_told config book c s =
-    left-kept (place_of book.past.events (queue c)) book.past.instances config c s.past.lives.jobs s.past.lives.distinct s.past.regular.known
+left_told config book c s = left-kept (place_of book.past.events (queue c)) book.past.instances config c s.past.lives.jobs s.past.lives.distinct s.past.regular.known
 
 -- and the step leaves fewer processes to be ordered, by those that it orders
 pub left_after : (config other : Configuration) (old new : Ledger) (given : Input) (outputs : List Output) → is_calm given ≡ true → ∥ Rests config old ∥₁
