@@ -1,15 +1,12 @@
 //! What a load does (initctl(8), `reload-configuration`).
-ghost use Rattle.std.specs.Prelude.{◌≡◌, ◌∷◌, ◌++◌, length, true, false, [], OnOk};
-ghost use Rattle.up_book.specs.Asking.{given_input};
+ghost use Rattle.std.specs.Prelude.{◌≡◌, ◌∷◌, ◌++◌, length, true, OnOk};
 ghost use Rattle.up_book.specs.Keys.{Stepping};
-ghost use Rattle.up_conf.specs.declared.job.JobDef.{JobDef as JobValue};
 ghost use Rattle.up_model.specs.Chronicle.{Chronicle};
 ghost use Rattle.up_model.specs.Chronicle as entry;
 ghost use Rattle.up_model.specs.Configuration.{Configuration};
 ghost use Rattle.up_model.specs.Due.{effect};
-ghost use Rattle.up_model.specs.Loads.{in_force, is_load, loading, with_jobs};
-ghost use Rattle.up_model.specs.declared.input.Input.TheVariants as given_as;
-ghost use Rattle.up_model.specs.declared.loaded.Loaded.{Loaded as LoadedValue};
+ghost use Rattle.up_model.specs.Loads.{in_force, is_load, loading, not_loaded, with_jobs};
+ghost use Rattle.up_model.specs.declared.input.Input.{Input as InputValue};
 ghost use Rattle.up_model.specs.declared.loaded.Loaded.TheVariants as loaded_as;
 
 use crate::setup::Setup;
@@ -25,33 +22,28 @@ fn load_files<B: Book>(
     alloc: Global,
     setup: &mut Setup,
     book: &mut B,
-    id: u64,
     table: Table,
 ) -> Result<(), AllocError>
-    ensures setup { OnOk result ((c : Chronicle)
-        → B.stands book.old Stepping setup.old (entry.Given (given_as.Load id (loaded_as.Files table)) ∷ c)
-        → setup.new ≡ with_jobs table setup.old (entry.Given (given_as.Load id (loaded_as.Files table)) ∷ c)) }
-    ensures book { OnOk result ((c : Chronicle)
-        → B.stands book.old Stepping setup.old (entry.Given (given_as.Load id (loaded_as.Files table)) ∷ c)
-        → B.stands book.new Stepping setup.new (loading (length c) (loaded_as.Files table)
-        ++ entry.Given (given_as.Load id (loaded_as.Files table)) ∷ c)) }
+    ensures setup { OnOk result ((c : Chronicle) (given : InputValue) → B.stands book.old Stepping setup.old (entry.Given given ∷ c)
+        → setup.new ≡ with_jobs table setup.old (entry.Given given ∷ c)) }
+    ensures book { OnOk result ((c : Chronicle) (given : InputValue) → B.stands book.old Stepping setup.old (entry.Given given ∷ c)
+        → B.stands book.new Stepping setup.new (loading (length c) (loaded_as.Files table) ++ entry.Given given ∷ c)) }
 {
     let next = setup.load(alloc, book, table)?;
     book.load(next.jobs())?;
     *setup = next;
     let text = no_text(alloc);
-    book.reply_load(id, Answer { ok: true, text })?;
+    book.reply(Answer { ok: true, text })?;
     Ok(())
 }
 
 // The client is answered that nothing was loaded.
-fn refuse_load<B: Book>(book: &mut B, id: u64, text: Text) -> Result<(), AllocError>
-    ensures { OnOk result ((config : Configuration) (c : Chronicle) (loaded : LoadedValue)
-        → B.stands book.old Stepping config (entry.Given (given_as.Load id loaded) ∷ c)
-        → B.stands book.new Stepping config (entry.Replied (length c) (record { ok = false; text = text })
-        ∷ entry.Given (given_as.Load id loaded) ∷ c)) }
+fn refuse_load<B: Book>(book: &mut B, text: Text) -> Result<(), AllocError>
+    ensures { OnOk result ((config : Configuration) (c : Chronicle) (given : InputValue)
+        → B.stands book.old Stepping config (entry.Given given ∷ c)
+        → B.stands book.new Stepping config (not_loaded (length c) text ++ entry.Given given ∷ c)) }
 {
-    book.reply_load(id, Answer { ok: false, text })?;
+    book.reply(Answer { ok: false, text })?;
     Ok(())
 }
 
@@ -59,27 +51,23 @@ fn load_or_refuse<B: Book>(
     alloc: Global,
     setup: &mut Setup,
     book: &mut B,
-    id: u64,
     loaded: Loaded,
 ) -> Result<(), AllocError>
-    ensures setup { OnOk result ((start : Configuration) (c : Chronicle)
-        → setup.old ≡ in_force start c
-        → B.stands book.old Stepping setup.old (entry.Given (given_as.Load id loaded) ∷ c)
-        → setup.new ≡ in_force start (loading (length c) loaded ++ entry.Given (given_as.Load id loaded) ∷ c)) }
-    ensures book { OnOk result ((c : Chronicle)
-        → B.stands book.old Stepping setup.old (entry.Given (given_as.Load id loaded) ∷ c)
-        → B.stands book.new Stepping setup.new (loading (length c) loaded
-        ++ entry.Given (given_as.Load id loaded) ∷ c)) }
+    ensures setup { OnOk result ((start : Configuration) (c : Chronicle) (given : InputValue) → setup.old ≡ in_force start c
+        → B.stands book.old Stepping setup.old (entry.Given given ∷ c)
+        → setup.new ≡ in_force start (loading (length c) loaded ++ entry.Given given ∷ c)) }
+    ensures book { OnOk result ((c : Chronicle) (given : InputValue) → B.stands book.old Stepping setup.old (entry.Given given ∷ c)
+        → B.stands book.new Stepping setup.new (loading (length c) loaded ++ entry.Given given ∷ c)) }
 {
     match loaded {
-        Loaded::Files(table) => load_files(alloc, setup, book, id, table)?,
+        Loaded::Files(table) => load_files(alloc, setup, book, table)?,
         Loaded::Refused(number) => {
             let text = configuration_refused(alloc, number)?;
-            refuse_load(book, id, text)?;
+            refuse_load(book, text)?;
         }
         Loaded::Unread => {
             let text = configuration_not_read(alloc)?;
-            refuse_load(book, id, text)?;
+            refuse_load(book, text)?;
         }
     }
     Ok(())
@@ -117,7 +105,7 @@ pub(crate) fn load<B: Book>(
         → B.stands book.new Stepping setup.new (effect setup.old given c ++ c)) }
 {
     match given {
-        Input::Load { id, loaded } => load_or_refuse(alloc, setup, book, id, loaded)?,
+        Input::Load { loaded, .. } => load_or_refuse(alloc, setup, book, loaded)?,
         Input::Emit(_)
         | Input::Request { .. }
         | Input::Spawned { .. }

@@ -10,3 +10,4 @@ pub mod Splitting
 pub mod Stepping
 pub mod Texts
 pub mod Written
+mod Loadless

@@ -163,6 +163,10 @@ fn push_statement(text: &mut Vec<u8>, input: &Input) -> Result<(), AllocError>
             push_decimal(text, *reading)
         }
         Input::Turn => push(text, "turn"),
+        Input::Load { id, .. } => {
+            push(text, "load ")?;
+            push_decimal(text, *id)
+        }
     }
 }
 
