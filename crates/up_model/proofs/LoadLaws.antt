@@ -1,5 +1,5 @@
 -- Loads: which configuration is in force along a run, which jobs a load leaves in force, and that nothing is due after one.
-use Rattle.std.proofs.Common.{◌≡◌, ◌⊎◌, inl, inr, ℕ, zero, suc, Bool, true, false, not, ◌&&◌, List, [], ◌∷◌, ◌++◌, Option, None, Some, is_some, filter, length, if◌then◌else◌, bytes_eq, refl, sym, ◌∙◌, ap, subst}
+use Rattle.std.proofs.Common.{◌≡◌, ◌⊎◌, inl, inr, ℕ, zero, suc, Bool, true, false, not, ◌&&◌, List, [], ◌∷◌, ◌++◌, Option, None, Some, is_some, filter, map, length, if◌then◌else◌, bytes_eq, refl, sym, ◌∙◌, ap, subst}
 use Rattle.std.specs.List.{AllByRecursion}
 use Rattle.std.specs.Ordering.{is_lt, nat_cmp}
 use Rattle.std.specs.declared.cmp.Ordering.{Ordering}
@@ -24,7 +24,7 @@ use Rattle.up_model.specs.Due.{due, effect}
 use Rattle.up_model.specs.Files.{job_names, names_in_order}
 use Rattle.up_model.specs.Instances.{Instance, instances_of}
 use Rattle.up_model.specs.Life.{Wait, ForStart, ForEvent, ForAnswer, ForProcess, ForChange, ForMain, wait_in, entering}
-use Rattle.up_model.specs.Loads.{goes_on, going_on, with_jobs, in_force, loading}
+use Rattle.up_model.specs.Loads.{goes_on, going_on, without_start, with_jobs, in_force, loading}
 use Rattle.up_model.specs.Moves.{ordering, emitting, enter, enter_whole, is_over, may_leave, next_of, who_of, move, move_of, move_in, move_first}
 use Rattle.up_model.specs.Offers.{offering, offer_next}
 use Rattle.up_model.specs.Predicates.{entries_if, or_else}
@@ -208,10 +208,13 @@ going-kept name new (job ∷ jobs) c none gone = by_name (bytes_eq job.name name
     with_rest differs (inl rest) = inl (differs, rest)
     with_rest differs (inr none_there) = inr none_there
 
-    by_name : (b : Bool) → bytes_eq job.name name ≡ b → (goes : Bool) → goes_on new c job ≡ goes → NoneNamed name (if goes then job ∷ going_on new jobs c else going_on new jobs c)
+    by_name : (b : Bool) → bytes_eq job.name name ≡ b → (goes : Bool) → goes_on new c job ≡ goes
+        → NoneNamed name (map without_start (if goes then job ∷ filter (goes_on new c) jobs else filter (goes_on new c) jobs))
         → (NoneNamed name (going_on new jobs c) → NoneNamed name jobs ⊎ (instances_of name c ≡ []))
         → ((bytes_eq job.name name ≡ false) × NoneNamed name jobs) ⊎ (instances_of name c ≡ [])
-    by_name true same true goes gone ih = absurd cc
+    by_name true same true goes gone ih =
+        let differs : bytes_eq job.name name ≡ false = gone.0 in
+        absurd cc
     by_name true same false goes gone ih = inr (idle same goes)
     by_name false differs true goes gone ih = with_rest differs (ih gone.1)
     by_name false differs false goes gone ih = with_rest differs (ih gone)
@@ -297,9 +300,18 @@ distinct-filter f (x ∷ xs) distinct = by_case (f x) (distinct-filter f xs dist
     by_case true rest = (all-filter (λ other. bytes_eq other.name x.name ≡ false) f xs distinct.0, rest)
     by_case false rest = rest
 
+-- a job without its `start on` has its name
+all-startless : (P : JobDef → Type 0) → ((x : JobDef) → P x → P (without_start x)) → (xs : List JobDef) → AllByRecursion P xs → AllByRecursion P (map without_start xs)
+all-startless P stays [] all = tt
+all-startless P stays (x ∷ xs) all = (stays x all.0, all-startless P stays xs all.1)
+
+distinct-startless : (xs : List JobDef) → AreDistinct xs → AreDistinct (map without_start xs)
+distinct-startless [] distinct = tt
+distinct-startless (x ∷ xs) distinct = (all-startless (λ other. bytes_eq other.name x.name ≡ false) (λ other apart. apart) xs distinct.0, distinct-startless xs distinct.1)
+
 -- those that go on have names that the new ones don't have
 pub going-others : (new old : List JobDef) (c : Chronicle) → AllByRecursion (λ y. NoneNamed y.name new) (going_on new old c)
-going-others new old c = filter-all (λ y. NoneNamed y.name new) (goes_on new c) fresh old
+going-others new old c = all-startless (λ y. NoneNamed y.name new) (λ y none. none) (filter (goes_on new c) old) (filter-all (λ y. NoneNamed y.name new) (goes_on new c) fresh old)
   where
     by_case : (o : Option JobDef) (filled : Bool) → not (is_some o) && filled ≡ true → o ≡ None
     by_case None filled is = refl
@@ -310,7 +322,7 @@ going-others new old c = filter-all (λ y. NoneNamed y.name new) (goes_on new c)
 
 together-distinct : (new : List JobDef) (config : Configuration) (c : Chronicle) → AreDistinct new → AreDistinct config.jobs → AreDistinct (new ++ going_on new config.jobs c)
 together-distinct new config c one other =
-    distinct-both new (going_on new config.jobs c) one (distinct-filter (goes_on new c) config.jobs other) (going-others new config.jobs c)
+    distinct-both new (going_on new config.jobs c) one (distinct-startless (filter (goes_on new c) config.jobs) (distinct-filter (goes_on new c) config.jobs other)) (going-others new config.jobs c)
 
 -- so no two have one after a load
 pub loaded-distinct : (new : List JobDef) (config : Configuration) (c : Chronicle) → AreDistinct new → AreDistinct config.jobs → AreDistinct (with_jobs new config c).jobs
