@@ -211,7 +211,9 @@ going-kept name new (job ∷ jobs) c none gone = by_name (bytes_eq job.name name
     by_name : (b : Bool) → bytes_eq job.name name ≡ b → (goes : Bool) → goes_on new c job ≡ goes → NoneNamed name (map without_start (if goes then job ∷ filter (goes_on new c) jobs else filter (goes_on new c) jobs))
         → (NoneNamed name (going_on new jobs c) → NoneNamed name jobs ⊎ (instances_of name c ≡ []))
         → ((bytes_eq job.name name ≡ false) × NoneNamed name jobs) ⊎ (instances_of name c ≡ [])
-    by_name true same true goes gone ih = absurd cc
+    by_name true same true goes gone ih =
+        let differs : bytes_eq job.name name ≡ false = gone.0 in
+        absurd cc
     by_name true same false goes gone ih = inr (idle same goes)
     by_name false differs true goes gone ih = with_rest differs (ih gone.1)
     by_name false differs false goes gone ih = with_rest differs (ih gone)
