@@ -1,6 +1,6 @@
 //! How each job hears of the event that a turn takes up.
-ghost use Rattle.std.specs.Prelude.{◌≡◌, ◌≤◌, ◌<◌, ℕ, true, ◌++◌, ◌∷◌, [], length, Some, IsOk, IfOk, IfSome, MatchOption, OnOk};
-ghost use Rattle.up_book.specs.Hearers.{hears};
+ghost use Rattle.std.specs.Prelude.{◌≡◌, ◌≤◌, ◌<◌, ◌||◌, ℕ, true, ◌++◌, ◌∷◌, [], length, Some, IsOk, IfOk, IfSome, MatchOption, OnOk};
+ghost use Rattle.up_book.specs.Hearers.{hears, one_hears};
 ghost use Rattle.up_model.specs.declared.event_id.EventId.{EventId as EventIdValue};
 ghost use Rattle.up_book.specs.Keys.{Stepping, job_at, name_at, instance_at};
 ghost use Rattle.up_engine.specs.Free.{NoneHears};

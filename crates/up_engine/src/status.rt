@@ -156,7 +156,8 @@ fn lines_of<B: Book>(alloc: Global, setup: &Setup, book: &B) -> Result<Vec<Text>
         → lines.items ≡ model.list_lines setup.now (job_names setup.now.jobs) c) }
 {
     let mut lines = Vec::new(alloc);
-    for (index, file) in setup.jobs().iter().enumerate() {
+    let jobs = setup.jobs();
+    for (index, file) in jobs.iter().enumerate() {
         add_job(alloc, setup, book, index, file.job(), &mut lines)?;
     }
     Ok(lines)
