@@ -396,8 +396,8 @@ pub trait Book: Drop {
             → job_at config index ≡ Some file.now → instance_named (called file.now.name name.now) c ≡ None
             → event_place self.old c k ≡ Some j → event_place self.new (entry.Made file.now name.now ∷ c) k ≡ Some j) };
 
-    /// These jobs come into force, by a load in this step, in which no request has acted on an instance: they are those that were read and those that go on, in byte order of names. What the
-    /// `start on` of those before had seen is forgotten, and instances go on by their own files.
+    /// These jobs come into force, in byte order of names: by a load, in a step in which no request has acted on an instance. What each
+    /// `start on` had seen is forgotten, and instances go on by their own files.
     fn load(&mut self, files: &[JobFile]) -> Result<(), AllocError>
         requires { AreInOrder name_of files.now }
         ensures { OnOk result ((config : Configuration) (c : Chronicle) (jobs : List JobValue)
@@ -405,8 +405,8 @@ pub trait Book: Drop {
             → files.now ≡ (with_jobs jobs config c).jobs
             → stands self.new Stepping (with_jobs jobs config c) (entry.Loaded jobs ∷ c)) };
 
-    /// The first job of the table, from an index on, with an expression, or an instance with a `stop on` by its own file, that names an event, by a leaf
-    /// without a literal value that rules the event out. Takes no memory.
+    /// The first job of the table, from an index on, with an expression that names an event, or an instance whose own `stop on` does, by
+    /// a leaf without a literal value that rules the event out. Takes no memory.
     fn next_hearer(&self, jobs: &[JobFile], event: EventId, from: usize) -> Option<usize>
         ensures next { (config : Configuration) (c : Chronicle) (e : ℕ) → stands self.now Stepping config c
             → jobs.now ≡ config.jobs

@@ -1,4 +1,4 @@
-use Rattle.std.proofs.Common.{◌∙◌, ◌∷◌, sym, ap, subst, List}
+use Rattle.std.proofs.Common.{◌∙◌, ◌∷◌, sym, ap, refl, subst, List}
 use Rattle.up_job.specs.declared.holder.Holder.{Holder}
 use Rattle.up_book.specs.Holding.{holders_by}
 use Rattle.up_book.proofs.Acting.{step-aimed}

@@ -1,4 +1,4 @@
-use Rattle.std.proofs.Common.{◌∙◌, ap}
+use Rattle.std.proofs.Common.{◌∙◌, ap, refl}
 use Rattle.up_model.specs.Queue.{queue}
 use Rattle.up_book.specs.Eventing.{place_of}
 use Rattle.up_book.proofs.Ledgers.{found-same, stood}

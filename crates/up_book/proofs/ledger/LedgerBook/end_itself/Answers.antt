@@ -1,4 +1,4 @@
-use Rattle.std.proofs.Common.{[], ◌∷◌, sym, subst}
+use Rattle.std.proofs.Common.{[], ◌∷◌, sym, refl, subst}
 use Rattle.up_model.specs.Readings.{holders}
 use Rattle.up_model.specs.declared.state.Goal.TheVariants.{Stop}
 use Rattle.up_book.proofs.Acting.{step-aimed}

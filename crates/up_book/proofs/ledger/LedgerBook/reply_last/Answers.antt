@@ -1,4 +1,5 @@
 use Rattle.std.proofs.Common.{◌≡◌, ◌∙◌, sym, ap, refl, ◌∷◌, ◌++◌, [], true, subst, List}
+use Rattle.up_model.specs.Instances.{instances_of}
 use Rattle.up_model.specs.Chronicle.{Entry}
 use Rattle.up_model.specs.Replies.{answering_hurried, answering_last}
 use Rattle.up_model.specs.declared.output.Output.TheVariants.{Reply}
