@@ -28,10 +28,7 @@ fn hears(alloc: Global, file: &JobFile, name: &str) -> Result<(usize, bool), Fai
         name: Name::new(alloc, name)?,
         vars: Env::new(alloc),
     };
-    let heard = (
-        stop_leaves(file, &event.name).len(),
-        may_stop(file, &event),
-    );
+    let heard = (stop_leaves(file, &event.name).len(), may_stop(file, &event));
     drop(event);
     Ok(heard)
 }

@@ -117,11 +117,7 @@ fn find_each(index: &Index, places: &[Place], times: usize) -> usize {
 }
 
 /// Looks up the leaves that name an event.
-pub(crate) fn find_all(
-    alloc: Global,
-    files: &[JobFile],
-    times: usize,
-) -> Result<usize, FileFault> {
+pub(crate) fn find_all(alloc: Global, files: &[JobFile], times: usize) -> Result<usize, FileFault> {
     let places = places_of(alloc, files)?;
     let index = Index::of(alloc, files)?;
     Ok(find_each(&index, places.as_slice(), times))
