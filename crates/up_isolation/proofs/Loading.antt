@@ -225,7 +225,8 @@ like_loaded job config other jobs c d like = record {
     f = Loaded (jobs_called job jobs)
 
 -- the client of a load is none of the job's
-not-asked : (job : Bytes) (id : ℕ) (its : LoadedValue) (es c : Chronicle) → (es ≡ []) → was_asked job (request_at (length c) (es ++ Given (input.Load id its) ∷ c)) ≡ false
+not-asked : (job : Bytes) (id : ℕ) (its : LoadedValue) (es c : Chronicle) → (es ≡ [])
+    → was_asked job (request_at (length c) (es ++ Given (input.Load id its) ∷ c)) ≡ false
 not-asked job id its es c none = rw (none, eq-eqb (length c) (length c) refl) refl
 
 -- so a load is noticed as one of the job's files, and nothing is then offered or to be answered
