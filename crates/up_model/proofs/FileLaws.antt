@@ -1,12 +1,13 @@
 -- Files of names and instances: an instance goes by the file by which it was made, which has its job's name.
-use Rattle.std.proofs.Common.{◌≡◌, ℕ, ◌<◌, Bool, true, false, List, [], ◌∷◌, length, Option, None, Some, if◌then◌else◌, bytes_eq, refl, sym, ◌∙◌, ap, arith, eq-eqb}
+use Rattle.std.proofs.Common.{◌≡◌, ℕ, ◌<◌, Bool, true, false, ◌&&◌, not, List, [], ◌∷◌, length, Option, None, Some, if◌then◌else◌, bytes_eq, refl, sym, ◌∙◌, ap, arith, eq-eqb}
 use Rattle.std.specs.List.{AllByRecursion}
 use Rattle.up_conf.specs.declared.job.JobDef.{JobDef}
 use Rattle.up_text.specs.Expansion.{Expansion, Expands, Lacks, Malformed}
 use Rattle.up_model.specs.declared.state.State.TheVariants as state
+use Rattle.up_text.specs.Scripts.{is_filled}
 use Rattle.up_model.specs.Chronicle.{Chronicle, Entry, Made, Entered}
 use Rattle.up_model.specs.Commands.{Target, Nobody, Concerns, target_as, target_in, target_of, known_target}
-use Rattle.up_model.specs.Configuration.{Configuration, job_named}
+use Rattle.up_model.specs.Configuration.{Configuration, job_named, is_removed}
 use Rattle.up_model.specs.Files.{file_in_force, known_file}
 use Rattle.up_model.specs.Instances.{Instance, with_instance, without_instance, instances_of}
 use Rattle.up_model.specs.Readings.{file_of}
@@ -28,6 +29,21 @@ named-name name (its ∷ jobs) job found = by_case (bytes_eq its.name name) refl
 -- so it is the one that its own name finds
 pub named-again : (name : Bytes) (jobs : List JobDef) (job : JobDef) → job_named name jobs ≡ Some job → job_named job.name jobs ≡ Some job
 named-again name jobs job found = ap (λ n. job_named n jobs) (named-name name jobs job found) ∙ found
+
+-- so does one in force, and one that requests know
+pub in_force-name : (config : Configuration) (name : Bytes) (c : Chronicle) (job : JobDef) → file_in_force config name c ≡ Some job → job.name ≡ name
+in_force-name config name c job found = by_case (is_removed config name) found
+  where
+    by_case : (b : Bool) → (if b then None else job_named name config.jobs) ≡ Some job → job.name ≡ name
+    by_case true found = absurd cc
+    by_case false found = named-name name config.jobs job found
+
+pub known-name : (config : Configuration) (name : Bytes) (c : Chronicle) (job : JobDef) → known_file config name c ≡ Some job → job.name ≡ name
+known-name config name c job found = by_case (is_removed config name && not (is_filled (instances_of name c))) found
+  where
+    by_case : (b : Bool) → (if b then None else job_named name config.jobs) ≡ Some job → job.name ≡ name
+    by_case true found = absurd cc
+    by_case false found = named-name name config.jobs job found
 
 -- the file of an instance stays as it is
 pub file_of-later : (p : ℕ) (e : Entry) (c : Chronicle) → p < length c → file_of p (e ∷ c) ≡ file_of p c

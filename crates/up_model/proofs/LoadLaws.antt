@@ -75,8 +75,13 @@ settle-in_force start (suc n) config c = settle-in_force start n config (due con
 
 -- nor is the effect of an input that loads nothing
 abbrev pub LoadsNothing : Input → Type 0
-LoadsNothing (input.Load id its) = ⊥
+LoadsNothing (input.Load id (loaded.Files jobs)) = ⊥
 LoadsNothing given = Unit {0}
+
+refused-no_load : (given : ℕ) (id : ℕ) (its : LoadedValue) → LoadsNothing (input.Load id its) → AllByRecursion IsNoLoad (loading given its)
+refused-no_load given id (loaded.Files jobs) nothing = absurd nothing
+refused-no_load given id (loaded.Refused number) nothing = (tt, tt)
+refused-no_load given id loaded.Unread nothing = (tt, tt)
 
 no_load-turns : AllowsTurns IsNoLoad
 no_load-turns = record {
@@ -98,7 +103,8 @@ no_load-turns = record {
 
 pub effect-no_load : (config : Configuration) (given : Input) (c : Chronicle) → LoadsNothing given → AllByRecursion IsNoLoad (effect config given c)
 effect-no_load config given c nothing =
-    effect-all IsNoLoad no_load-turns (λ file name. tt) (λ place signal by_timer. tt) (λ its. tt) config given c (λ id its is. absurd (subst LoadsNothing is nothing))
+    effect-all IsNoLoad no_load-turns (λ file name. tt) (λ place signal by_timer. tt) (λ its. tt) config given c
+    (λ id its is. refused-no_load (length c) id its (subst LoadsNothing is nothing))
 
 pub effect-in_force : (start config : Configuration) (given : Input) (c : Chronicle) → LoadsNothing given → in_force start (effect config given c ++ c) ≡ in_force start c
 effect-in_force start config given c nothing = in_force-append start (effect config given c) c (effect-no_load config given c nothing)
@@ -140,7 +146,7 @@ put-all P less x (y ∷ ys) all = by_case (less y x) all (put-all P less x ys)
     by_case true all ih = let rest = ih all.1 in (rest.0, (all.0, rest.1))
     by_case false all ih = all
 
-all-order : (P : JobDef → Type 0) (less : JobDef → JobDef → Bool) (xs : List JobDef) → AllByRecursion P xs → AllByRecursion P (sort_by_order less xs)
+pub all-order : (P : JobDef → Type 0) (less : JobDef → JobDef → Bool) (xs : List JobDef) → AllByRecursion P xs → AllByRecursion P (sort_by_order less xs)
 all-order P less [] all = tt
 all-order P less (x ∷ xs) all = all-put P less x (sort_by_order less xs) all.0 (all-order P less xs all.1)
 
