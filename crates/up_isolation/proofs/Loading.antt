@@ -2,9 +2,13 @@
 use Rattle.std.proofs.Common.{◌≡◌, ℕ, Bool, true, false, not, ◌&&◌, List, [], ◌∷◌, ◌++◌, Option, is_some, filter, map, length, if◌then◌else◌}
 use Rattle.std.proofs.Common.{bytes_eq, refl, sym, ◌∙◌, ap, ap₂, subst, arith, eq-eqb}
 use Rattle.std.specs.List.{AllByRecursion}
+use Rattle.std.specs.Ordering.{is_lt, is_eq, nat_cmp}
+use Rattle.std.specs.declared.cmp.Ordering.{Ordering}
+use Rattle.std.specs.declared.cmp.Ordering.TheVariants.{Less, Equal, Greater}
+use Rattle.std.specs.Cmp.Lexicographic.{slice_cmp}
+use Rattle.std.proofs.lemmas.Map.Text.{is_eq-slice_cmp}
 use Rattle.up_conf.specs.declared.job.JobDef.{JobDef}
 use Rattle.up_conf.specs.Order.{is_below, put_by, sort_by_order}
-use Rattle.up_image.proofs.PlaceOrder.{below_not_same}
 use Rattle.up_text.specs.Scripts.{is_filled}
 use Rattle.up_model.specs.declared.input.Input.{Input}
 use Rattle.up_model.specs.declared.input.Input.TheVariants as input
@@ -50,6 +54,12 @@ called-append job (x ∷ xs) ys = by_case (bytes_eq x.name job) (called-append j
     by_case true ih = ap (λ rest. x ∷ rest) ih
     by_case false ih = ih
 
+-- what is less isn't equal
+not-both : (o : Ordering) → is_lt o ≡ true → is_eq o ≡ true → ⊥
+not-both Less below same = cc
+not-both Equal below same = cc
+not-both Greater below same = cc
+
 called-put : (job : Bytes) (x : JobDef) (xs : List JobDef) → jobs_called job (put_by less x xs) ≡ jobs_called job (x ∷ xs)
 called-put job x [] = refl
 called-put job x (y ∷ ys) = by_less (is_below y.name x.name) refl (called-put job x ys)
@@ -58,10 +68,7 @@ called-put job x (y ∷ ys) = by_less (is_below y.name x.name) refl (called-put 
     alike is are below =
         let same : y.name ≡ x.name = bytes_same y.name job is ∙ sym (bytes_same x.name job are) in
         let equal : bytes_eq y.name x.name ≡ true = ap (λ name. bytes_eq name x.name) same ∙ bytes_refl x.name in
-        clash (bytes_eq y.name x.name) equal (below_not_same y.name x.name below)
-      where
-        clash : (b : Bool) → b ≡ true → b ≡ false → ⊥
-        clash b one other = cc
+        not-both (slice_cmp nat_cmp y.name x.name) below (is_eq-slice_cmp y.name x.name ∙ equal)
 
     after : (a b : Bool) → bytes_eq y.name job ≡ a → bytes_eq x.name job ≡ b → is_below y.name x.name ≡ true
         → jobs_called job (put_by less x ys) ≡ (if b then x ∷ jobs_called job ys else jobs_called job ys)
