@@ -49,6 +49,8 @@ unheld-entry config condition x (Fired other its) c is unheld = by_case (same_ex
     by_case : (b : Bool) → holds condition (if b then [] else seen config x c) ≡ false
     by_case true = unseen condition
     by_case false = unheld
+unheld-entry config condition (StartOn job) (Loaded jobs) c is unheld = unseen condition
+unheld-entry config condition (StopOn i) (Loaded jobs) c is unheld = unheld
 unheld-entry config condition x e c is unheld = unheld
 
 unseen-entry : (config : Configuration) (x : Expression) (e : Entry) (c : Chronicle) → IsUnoffered e → seen config x c ≡ [] → seen config x (e ∷ c) ≡ []
@@ -58,6 +60,8 @@ unseen-entry config x (Fired other its) c is none = by_case (same_expression oth
     by_case : (b : Bool) → (if b then [] else seen config x c) ≡ []
     by_case true = refl
     by_case false = none
+unseen-entry config (StartOn job) (Loaded jobs) c is none = refl
+unseen-entry config (StopOn i) (Loaded jobs) c is none = none
 unseen-entry config x e c is none = none
 
 -- the file of an instance that was made before an entry

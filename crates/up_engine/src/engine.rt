@@ -120,6 +120,7 @@ impl Engine {
         ensures { IfOk result (λ engine. Stands engine (started_with base table) []) }
     {
         let setup = Setup::new(alloc, table, base)?;
+        setup.is_ordered();
         let book = Ledger::new(alloc, setup.jobs())?;
         Ok(Engine {
             alloc,

@@ -30,6 +30,7 @@ fn load_files<B: Book>(
         → B.stands book.new Stepping setup.new (loading (length c) (loaded_as.Files table) ++ entry.Given given ∷ c)) }
 {
     let next = setup.load(alloc, book, table)?;
+    next.is_ordered();
     book.load(next.jobs())?;
     *setup = next;
     let text = no_text(alloc);

@@ -281,6 +281,7 @@ impl Setup {
             → setup ≡ with_jobs table self.now c) }
     {
         table.is_given();
+        self.is_ordered();
         let base = self.base.copy()?;
         let new = table.into_files(alloc)?;
         let going = going_on(alloc, new.as_slice(), book, self.jobs())?;
@@ -304,10 +305,16 @@ impl Setup {
 
     /// The jobs, in byte order of names.
     pub(crate) fn jobs(&self) -> &[JobFile]
-        ensures jobs { result.now ≡ self.now.jobs }
-        ensures order { AreInOrder name_of result.now }
+        ensures { result.now ≡ self.now.jobs }
     {
         self.files.as_slice()
+    }
+
+    /// They are in this order.
+    pub(crate) fn is_ordered(&self)
+        ensures { AreInOrder name_of self.now.jobs }
+    {
+        let _files = &self.files;
     }
 
     /// No two jobs have one name.

@@ -14,7 +14,7 @@ loop-index-preserved g c mode c' s =
     let jobs = c.jobs.result.now in
     let n = c.loop-index.index in
     let job = c.index-jobs-index.result in
-    let named = named_there config jobs n job c.jobs.ensures.jobs c.loop-index-test.true c.index-jobs-index.is in
+    let named = named_there config jobs n job c.jobs.ensures c.loop-index-test.true c.index-jobs-index.is in
     let its = instances_of job.name c' in
     let rest = list_lines config (job_names (drop (n + 1) jobs)) c' in
     ap (λ lines. lines ++ rest) (rw c.job.ensures at (c.in_ok-add_job.ensures mode c' s (rw c.job.ensures named)))
@@ -28,4 +28,4 @@ returns g c mode c' s =
     let n = c.loop-index.index in
     let over : drop n c.jobs.result.now ≡ [] = drop_all n c.jobs.result.now (omega arith) in
     sym (append-nil c.loop-index.lines.items) ∙ ap (λ js. c.loop-index.lines.items ++ list_lines config (job_names js) c') (sym over) ∙ c.loop-index.invariant mode c' s
-    ∙ ap (λ js. list_lines config (job_names js) c') c.jobs.ensures.jobs
+    ∙ ap (λ js. list_lines config (job_names js) c') c.jobs.ensures

@@ -4,10 +4,12 @@ use Rattle.up_book.specs.Ledgers.{Stands}
 use Rattle.up_conf.specs.declared.job.JobDef.{JobDef}
 use Rattle.up_model.specs.Configuration.{Configuration, started_with}
 use Rattle.up_engine.proofs.Untrue.{rest-first}
+use Rattle.up_engine.specs.Naming.{name_of}
+use Rattle.up_job.specs.Named.{AreInOrder}
 use Rattle.up_engine.proofs.engine.Engine.new.Goals as goal
 
 pub new-requires : goal.new-requires
-new-requires c = c.jobs.ensures.order
+new-requires c = subst (AreInOrder name_of) (sym c.jobs.ensures) c.is_ordered.ensures
 
 pub invariant_of-result : goal.invariant_of-result
 invariant_of-result c = record {

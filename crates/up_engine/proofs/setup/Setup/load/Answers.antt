@@ -7,7 +7,7 @@ use Rattle.up_model.specs.Environments.{job_env}
 use Rattle.up_engine.proofs.setup.Setup.load.Goals as goal
 
 pub going_on-requires : goal.going_on-requires
-going_on-requires g c = record { new = subst (AreInOrder name_of) (sym (c.as_slice.ensures.value ∙ c.in_ok-new.ensures)) (table-order c.args.table c.is_given.ensures); old = c.jobs.ensures.order }
+going_on-requires g c = record { new = subst (AreInOrder name_of) (sym (c.as_slice.ensures.value ∙ c.in_ok-new.ensures)) (table-order c.args.table c.is_given.ensures); old = subst (AreInOrder name_of) (sym c.jobs.ensures) c.is_ordered.ensures }
 
 pub invariant_of-result : goal.invariant_of-result
 invariant_of-result g c = (
