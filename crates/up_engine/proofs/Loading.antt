@@ -6,6 +6,7 @@ use Rattle.up_engine.proofs.LoadLemmas.{not-load}
 use Rattle.up_engine.proofs.Untrue.{rest-in}
 use Rattle.up_engine.proofs.Unfired.{none-entry, none-loaded}
 use Rattle.up_book.specs.Keeps.{AreDistinct}
+use Rattle.up_book.specs.Keys.{SpeaksOf}
 use Rattle.up_conf.specs.declared.job.JobDef.{JobDef}
 use Rattle.up_model.specs.declared.input.Input.{Input}
 use Rattle.up_model.specs.declared.input.Input.TheVariants as input
@@ -40,6 +41,23 @@ loaded-after start c (input.Refused who process) is have none = absurd cc
 loaded-after start c (input.Ended who process how) is have none = absurd cc
 loaded-after start c (input.Clock reading) is have none = absurd cc
 loaded-after start c input.Turn is have none = absurd cc
+
+-- the same by the configuration that is in force
+pub loaded-whole : (start config : Configuration) (c : Chronicle) (given : Input) → config ≡ in_force start c → is_load given ≡ true → HaveJobs config.jobs c → due config c ≡ []
+    → effect config given c ++ c ≡ after start c given
+loaded-whole start config c given same is have none =
+    ap (λ conf. effect conf given c ++ c) same ∙ loaded-after start c given is (subst (λ (conf : Configuration). HaveJobs conf.jobs c) same have) (ap (λ conf. due conf c) (sym same) ∙ none)
+
+-- a load speaks of no process
+pub speaks-load : (config : Configuration) (given : Input) (c : Chronicle) → is_load given ≡ true → SpeaksOf config None given c
+speaks-load config (input.Load id its) c is = tt
+speaks-load config (input.Emit event) c is = tt
+speaks-load config (input.Request id request) c is = tt
+speaks-load config (input.Spawned who process pid) c is = absurd cc
+speaks-load config (input.Refused who process) c is = absurd cc
+speaks-load config (input.Ended who process how) c is = absurd cc
+speaks-load config (input.Clock reading) c is = tt
+speaks-load config input.Turn c is = tt
 
 -- no expression is true after a load
 loaded-untrue : (start : Configuration) (id : ℕ) (its : LoadedValue) (c : Chronicle) → NoneHolds (in_force start c) c

@@ -2,12 +2,7 @@ use Rattle.std.proofs.Common.{◌∷◌, ◌∙◌, true, length, sym, ap, subst
 use Rattle.up_book.specs.Keys.{Stepping}
 use Rattle.up_model.specs.Chronicle.{Chronicle, Given, Loaded, Replied}
 use Rattle.up_model.specs.Configuration.{Configuration}
-use Rattle.up_engine.specs.Naming.{name_of}
-use Rattle.up_job.specs.Named.{AreInOrder}
 use Rattle.up_engine.proofs.load.load_files.Goals as goal
-
-pub load-2-requires : goal.load-2-requires
-load-2-requires g c = subst (AreInOrder name_of) (sym c.jobs.ensures) c.is_ordered.ensures
 
 pub returns-clause-book : goal.returns-clause-book
 returns-clause-book g c c' given s =

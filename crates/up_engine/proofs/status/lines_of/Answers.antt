@@ -11,10 +11,10 @@ use Rattle.up_engine.proofs.status.lines_of.Goals as goal
 pub loop-index-preserved : goal.loop-index-preserved
 loop-index-preserved g c mode c' s =
     let config = c.args.setup.now in
-    let jobs = c.jobs.result.now in
+    let jobs = c.jobs-jobs.result.now in
     let n = c.loop-index.index in
     let job = c.index-jobs-index.result in
-    let named = named_there config jobs n job c.jobs.ensures c.loop-index-test.true c.index-jobs-index.is in
+    let named = named_there config jobs n job c.jobs-jobs.ensures c.loop-index-test.true c.index-jobs-index.is in
     let its = instances_of job.name c' in
     let rest = list_lines config (job_names (drop (n + 1) jobs)) c' in
     ap (λ lines. lines ++ rest) (rw c.job.ensures at (c.in_ok-add_job.ensures mode c' s (rw c.job.ensures named)))
@@ -26,6 +26,6 @@ pub returns : goal.returns
 returns g c mode c' s =
     let config = c.args.setup.now in
     let n = c.loop-index.index in
-    let over : drop n c.jobs.result.now ≡ [] = drop_all n c.jobs.result.now (omega arith) in
+    let over : drop n c.jobs-jobs.result.now ≡ [] = drop_all n c.jobs-jobs.result.now (omega arith) in
     sym (append-nil c.loop-index.lines.items) ∙ ap (λ js. c.loop-index.lines.items ++ list_lines config (job_names js) c') (sym over) ∙ c.loop-index.invariant mode c' s
-    ∙ ap (λ js. list_lines config (job_names js) c') c.jobs.ensures
+    ∙ ap (λ js. list_lines config (job_names js) c') c.jobs-jobs.ensures

@@ -1,7 +1,7 @@
 use Rattle.std.proofs.Common.{◌∙◌, sym, ap, subst, map}
 use Rattle.up_engine.specs.Naming.{AreOthers, name_of}
 use Rattle.up_engine.proofs.LoadLemmas.{merged-order}
-use Rattle.up_engine.proofs.SetupLemmas.{table-order}
+use Rattle.up_book.proofs.Tables.{table-order}
 use Rattle.up_job.specs.Named.{AreInOrder}
 use Rattle.up_model.specs.Environments.{job_env}
 use Rattle.up_engine.proofs.setup.Setup.load.Goals as goal
