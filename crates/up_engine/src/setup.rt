@@ -20,9 +20,9 @@ ghost use Rattle.up_model.specs.Environments.{with_value, setting_value, with_se
 
 use std::alloc::{AllocError, Global};
 use std::marker::Model;
+use up_book::Book;
 use up_conf::{JobDef, Setting};
 use up_image::{JobFile, Table};
-use up_book::Book;
 use up_text::{Env, Name, Text};
 
 /// The jobs, the names of those that a load removed, the environment that init was started with, and on top of that the one of each job,

@@ -39,5 +39,11 @@ returns-in_err-concern-in-Finish-clause-free g c config c' e s known found free 
 pub returns-in-Handle-clause-free : goal.returns-in-Handle-clause-free
 returns-in-Handle-clause-free g c config c' e s known found free =
     let is : is_finish c.args.kind ≡ false = ap is_finish c.in-Handle.is in
-    rw is (e, (c.handle.ensures.events config c' e s known, λ n job there.
-    ap (λ event. hears job event || one_hears event (instances_of job.name c')) (event-handled e e (Given Turn ∷ c')) ∙ (rw is at free) n job there))
+    rw is (
+      e,
+      (
+        c.handle.ensures.events config c' e s known,
+        λ n job there.
+            ap (λ event. hears job event || one_hears event (instances_of job.name c')) (event-handled e e (Given Turn ∷ c')) ∙ (rw is at free) n job there,
+      ),
+    )

@@ -46,7 +46,7 @@ returns-in-Reload-clause-after g c c' given s asked =
     let config = c.args.setup.now in
     let d : Chronicle = Given given ∷ c' in
     let target : said_of c.in_ok-target-in-Reload.target ≡ known_target config c.request.inside.name c.request.inside.vars d =
-        subst (λ n. said_of c.in_ok-target-in-Reload.target ≡ known_target config n c.request.inside.vars d) c.as_str-in-Reload.ensures (c.in_ok-target-in-Reload.ensures.target Stepping d s) in
+    subst (λ n. said_of c.in_ok-target-in-Reload.target ≡ known_target config n c.request.inside.vars d) c.as_str-in-Reload.ensures (c.in_ok-target-in-Reload.ensures.target Stepping d s) in
     let done = c.in_ok-reload-in-Reload.ensures config c' given s c.in_ok-target-in-Reload.ensures.index in
     let told = subst (λ t. g.B.Book.stands c.reload.new.book Stepping config (entries_of (length c') (reload (length c') t d) ++ d)) target done in
     subst (λ r. g.B.Book.stands c.reload.new.book Stepping config (entries_of (length c') (outcome_of config (length c') r d) ++ d)) c.request.view_is
@@ -57,7 +57,7 @@ returns-in-Status-clause-after g c c' given s asked =
     let config = c.args.setup.now in
     let d : Chronicle = Given given ∷ c' in
     let target : said_of c.in_ok-target-in-Status.target ≡ known_target config c.request.inside.name c.request.inside.vars d =
-        subst (λ n. said_of c.in_ok-target-in-Status.target ≡ known_target config n c.request.inside.vars d) c.as_str-in-Status.ensures (c.in_ok-target-in-Status.ensures.target Stepping d s) in
+    subst (λ n. said_of c.in_ok-target-in-Status.target ≡ known_target config n c.request.inside.vars d) c.as_str-in-Status.ensures (c.in_ok-target-in-Status.ensures.target Stepping d s) in
     let answer = c.in_ok-answer-in-Status.ensures Stepping config d s c.in_ok-target-in-Status.ensures.index in
     let told = subst (λ a. g.B.Book.stands c.reply.new.self Stepping config (Replied (length c') a ∷ d)) answer (c.in_ok-reply-in-Status.ensures config d s) in
     let whose = said_of c.in_ok-target-in-Status.target in

@@ -13,6 +13,6 @@ pub invariant_of-result : goal.invariant_of-result
 invariant_of-result g c = (
   c.in_ok-environments.ensures ∙ ap (map (job_env c.in_ok-base.base)) c.as_slice-3.ensures.value,
   subst (AreInOrder name_of) (sym c.in_ok-files.ensures)
-  (merged-order c.in_ok-new.new.items c.in_ok-going.going.items (subst (AreInOrder name_of) (sym c.in_ok-new.ensures) (table-order c.args.table c.is_given.ensures)) c.in_ok-going.ensures.order
-  (subst (λ js. AreOthers js c.in_ok-going.going.items) c.as_slice.ensures.value c.in_ok-going.ensures.others)),
+      (merged-order c.in_ok-new.new.items c.in_ok-going.going.items (subst (AreInOrder name_of) (sym c.in_ok-new.ensures) (table-order c.args.table c.is_given.ensures)) c.in_ok-going.ensures.order
+      (subst (λ js. AreOthers js c.in_ok-going.going.items) c.as_slice.ensures.value c.in_ok-going.ensures.others)),
 )
