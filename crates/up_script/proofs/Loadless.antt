@@ -1,17 +1,17 @@
 -- No statement of a script gives a load.
-use Rattle.std.proofs.Common.{◌≡◌, ℕ, ◌+◌, ◌-◌, zero, suc, Bool, true, false, List, [], ◌∷◌, ◌++◌, Option, None, Some, option_map, option_and_then, Result, Ok, Err, replicate, bytes_eq, codes, if◌then◌else◌, take, drop, slice_get, refl, sym, subst}
+use Rattle.std.proofs.Common.{◌≡◌, ℕ, ◌+◌, ◌-◌, zero, suc, Bool, true, false, List, [], ◌∷◌, ◌++◌, Option, None, Some, option_map, option_and_then, Result, Ok, Err, replicate, bytes_eq, codes, if◌then◌else◌, take, drop, refl, sym, subst}
 use Rattle.std.specs.List.{AllByRecursion, prefix_len, concat}
+use Rattle.up_text.specs.Comments.{without_comments}
+use Rattle.up_text.specs.Lexemes.{Lexeme, stanzas}
 use Rattle.up_conf.specs.Numbers.{number_in}
+use Rattle.up_stanza.specs.declared.process.Process.{Process}
 use Rattle.up_model.specs.declared.input.Input.{Input}
 use Rattle.up_model.specs.declared.input.Input.TheVariants as input
 use Rattle.up_model.specs.Loads.{is_load}
-use Rattle.up_text.specs.Comments.{without_comments}
-use Rattle.up_text.specs.Lexemes.{Lexeme, stanzas}
 use Rattle.up_model.specs.declared.process.How.{How}
 use Rattle.up_model.specs.declared.request.Request.{Request}
 use Rattle.up_model.specs.declared.who.Who.{Who}
 use Rattle.up_model.specs.Requests.{command_named}
-use Rattle.up_stanza.specs.declared.process.Process.{Process}
 use Rattle.up_script.specs.Bundle.{lines_of}
 use Rattle.up_script.specs.Requests.{request_of, request_by}
 use Rattle.up_script.specs.Script.{who_named, process_of, how_of, emit_of, spawned_of, refused_of, ended_of, clock_of, input_of, turns_of, inputs_of}
@@ -21,6 +21,7 @@ use Rattle.up_script.specs.Variables.{vars_of, name_in}
 abbrev pub IsLoadless : Input → Type 0
 IsLoadless given = is_load given ≡ false
 
+-- what is read of a line or of several, if anything is, has none
 abbrev One : Option Input → Type 0
 One None = Unit {0}
 One (Some given) = IsLoadless given
@@ -165,11 +166,3 @@ script-loadless line script inputs is =
     let texts = prefix_len is_text lines in
     let steps = stanzas (concat (take texts lines)) in
     subst All (sym is) (left (line + texts) (drop texts lines) (inputs_from line steps) (from line steps))
-
--- and none of such inputs is one
-pub loadless-at : (inputs : List Input) (i : ℕ) (given : Input) → AllByRecursion IsLoadless inputs → slice_get inputs i ≡ Some given → IsLoadless given
-loadless-at [] i given all here = absurd (cc)
-loadless-at (first ∷ inputs) zero given all here =
-    let same : first ≡ given = cc in
-    subst IsLoadless same all.0
-loadless-at (first ∷ inputs) (suc i) given all here = loadless-at inputs i given all.1 here
