@@ -1,5 +1,5 @@
 //! Whether inputs are the same.
-ghost use Rattle.std.specs.Prelude.{◌≡◌, ◌<◌, List, Some, true, length, slice_get, ℕ};
+ghost use Rattle.std.specs.Prelude.{◌≡◌, ◌<◌, List, Some, true, false, length, slice_get, ℕ};
 ghost use Rattle.std.specs.List.{AllByRecursion};
 ghost use Rattle.up_model.specs.Loads.{is_load};
 
