@@ -54,7 +54,10 @@ const REMOVED: [Row; 17] = [
     ),
 ];
 
-const BOTH: &'static [(&'static str, &'static str)] = &[("a.conf", "start on A and B\nexec /bin/d\n")];
+const BOTH: &'static [(&'static str, &'static str)] = &[(
+    "a.conf",
+    "start on A and B\nexec /bin/d\n",
+)];
 
 // What a `start on` had seen is forgotten, though the file is the same.
 const FORGOTTEN: [Row; 7] = [
@@ -92,11 +95,16 @@ const REFUSED: [Row; 6] = [
     ),
 ];
 
-const NEW_FILE: &'static [(&'static str, &'static str)] =
-    &[("a.conf", "start on go\nstop on halt\nrespawn\nexec /bin/e\n")];
+const NEW_FILE: &'static [(&'static str, &'static str)] = &[(
+    "a.conf",
+    "start on go\nstop on halt\nrespawn\nexec /bin/e\n",
+)];
 
-// An instance goes by the file by which it was made until it is over: by its `stop on`, and by what it runs.
-const OWN_FILE: [Row; 18] = [
+const SPAWN_E: &'static str =
+    "spawn a() Main [/bin/e ] in / silent=false UPSTART_EVENTS=go UPSTART_JOB=a UPSTART_INSTANCE=; ";
+
+// An instance goes by the file by which it was made until it is over. The next one has the new file.
+const OWN_FILE: [Row; 28] = [
     (Given::Emit("go"), "", 1, true),
     (Given::Turn, STARTING, 2, true),
     (Given::Turn, "", 2, true),
@@ -113,15 +121,21 @@ const OWN_FILE: [Row; 18] = [
     // and it doesn't respawn
     (Given::Ended(How::Exit(0)), STOPPING, 1, true),
     (Given::Turn, "", 1, true),
-    (
-        Given::Turn,
-        "stopped JOB=a INSTANCE= RESULT=ok; ",
-        1,
-        true,
-    ),
+    (Given::Turn, "stopped JOB=a INSTANCE= RESULT=ok; ", 1, true),
     (Given::Turn, "", 1, true),
     (Given::Turn, "", 0, false),
+    (Given::Emit("go"), "", 1, true),
+    (Given::Turn, STARTING, 2, true),
+    (Given::Turn, "", 2, true),
+    (Given::Turn, SPAWN_E, 1, false),
+    (Given::Spawned(101), STARTED, 2, true),
+    (Given::Turn, "", 1, true),
+    (Given::Turn, "", 1, true),
     (Given::Turn, "", 0, false),
+    // it respawns
+    (Given::Ended(How::Exit(0)), STOPPING, 1, true),
+    (Given::Turn, "", 1, true),
+    (Given::Turn, STARTING, 1, true),
 ];
 
 static CASES: [Case; 4] = [
