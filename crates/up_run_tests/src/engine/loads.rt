@@ -100,8 +100,11 @@ const NEW_FILE: &'static [(&'static str, &'static str)] = &[(
     "start on go\nstop on halt\nrespawn\nexec /bin/e\n",
 )];
 
-// An instance goes by the file by which it was made until it is over: by its `stop on`, and by what it runs.
-const OWN_FILE: [Row; 18] = [
+const SPAWN_E: &'static str =
+    "spawn a() Main [/bin/e ] in / silent=false UPSTART_EVENTS=go UPSTART_JOB=a UPSTART_INSTANCE=; ";
+
+// An instance goes by the file by which it was made until it is over. The next one has the new file.
+const OWN_FILE: [Row; 28] = [
     (Given::Emit("go"), "", 1, true),
     (Given::Turn, STARTING, 2, true),
     (Given::Turn, "", 2, true),
@@ -121,7 +124,18 @@ const OWN_FILE: [Row; 18] = [
     (Given::Turn, "stopped JOB=a INSTANCE= RESULT=ok; ", 1, true),
     (Given::Turn, "", 1, true),
     (Given::Turn, "", 0, false),
+    (Given::Emit("go"), "", 1, true),
+    (Given::Turn, STARTING, 2, true),
+    (Given::Turn, "", 2, true),
+    (Given::Turn, SPAWN_E, 1, false),
+    (Given::Spawned(101), STARTED, 2, true),
+    (Given::Turn, "", 1, true),
+    (Given::Turn, "", 1, true),
     (Given::Turn, "", 0, false),
+    // it respawns
+    (Given::Ended(How::Exit(0)), STOPPING, 1, true),
+    (Given::Turn, "", 1, true),
+    (Given::Turn, STARTING, 1, true),
 ];
 
 static CASES: [Case; 4] = [
