@@ -51,6 +51,7 @@ answered-in (Some (input.Refused who its)) was = refl
 answered-in (Some (input.Ended who its how)) was = refl
 answered-in (Some (input.Clock reading)) was = refl
 answered-in (Some input.Turn) was = refl
+answered-in (Some (input.Load id loaded)) was = refl
 
 -- the request of the step is answered
 pub step-answered : (outputs more : List Output) (asked : Option Asked) (on : Option ActedOn) (config : Configuration) (c : Chronicle) (answer : Answer) → reply_of (id_at (given_place c) c) answer ≡ more → Asks outputs asked on config c
@@ -72,6 +73,7 @@ number-in (input.Refused who its) was = refl
 number-in (input.Ended who its how) was = refl
 number-in (input.Clock reading) was = refl
 number-in input.Turn was = refl
+number-in (input.Load id loaded) was = refl
 
 -- before the first input there is no request
 none-given : (place : ℕ) (c : Chronicle) → given_input c ≡ None → id_at place c ≡ None
@@ -177,6 +179,7 @@ answered-else r answer c apart = by_input (given_input c) refl
     by_input (Some (input.Ended who its how)) is = refl
     by_input (Some (input.Clock reading)) is = refl
     by_input (Some input.Turn) is = refl
+    by_input (Some (input.Load id loaded)) is = refl
 
 pub step-waiter : (outputs : List Output) (asked : Option Asked) (on : Option ActedOn) (config : Configuration) (c : Chronicle) (e : ℕ) (spoilt : Bool) → Asks outputs asked on config (Finished e ∷ c)
     → Asks (outputs ++ waiter_replies (number_of (waiter e c) c) spoilt) asked on config (answering_waiter (waiter e c) spoilt ++ Finished e ∷ c)

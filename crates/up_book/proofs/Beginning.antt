@@ -63,7 +63,7 @@ forgets-nothing book config distinct jobs starts unused events reading = record 
     origins = tt;
     unspoilt = λ event past. refl;
     singles = λ job. tt;
-    made = tt;
+    known = λ job none. refl;
     falling = λ instance. tt;
   };
   reading = reading;

@@ -12,7 +12,7 @@ use Rattle.up_model.specs.declared.event_id.EventId.{EventId}
 use Rattle.up_model.specs.declared.input.Input.TheVariants as input
 use Rattle.up_model.specs.Chronicle.{Chronicle, Entry, Origin, Given, Queued, StartOn, StopOn}
 use Rattle.up_model.specs.Configuration.{Configuration, job_named}
-use Rattle.up_model.specs.Files.{file_in_force, job_names, names_in_order}
+use Rattle.up_model.specs.Files.{job_names, names_in_order}
 use Rattle.up_model.specs.Held.{held_by, held_by_instances, held_by_job, held_by_jobs, has, is_held, start_on_of}
 use Rattle.up_model.specs.Instances.{Instance, instances_of}
 use Rattle.up_model.specs.Readings.{entry_at, holders}
@@ -168,7 +168,7 @@ jobs-used places config c id p origin event (j ∷ its) [] (job ∷ jobs) names 
 jobs-used places config c id p origin event (j ∷ its) (t ∷ ts) (job ∷ jobs) names queued same stops starts found =
     let first : job_view places j ≡ job_summary c job = cc in
     let rest : map (job_view places) its ≡ map (job_summary c) jobs = cc in
-    let keeps = kept (start_on_of (file_in_force config job.name c)) (seen config (StartOn job.name) c) in
+    let keeps = kept (start_on_of (job_named job.name config.jobs)) (seen config (StartOn job.name) c) in
     omega (
       arith,
       count-append p (held_by_job config job.name c) (held_by_jobs config (job_names jobs) c),

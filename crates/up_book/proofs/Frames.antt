@@ -5,7 +5,7 @@ use Rattle.up_conf.specs.declared.job.JobDef.{JobDef}
 use Rattle.up_model.specs.declared.input.Input.TheVariants as input
 use Rattle.up_model.specs.declared.state.Goal.TheVariants.{Start, Stop}
 use Rattle.up_model.specs.declared.state.State.TheVariants as state
-use Rattle.up_model.specs.Chronicle.{Chronicle, Entry, Given, Queued, Handled, Offered, Fired, Finished, Made, Aimed, Restarted, Released, Failed, Respawned, Entered, Ordered, Signalled, Replied, Outside, Entering, Spoilt}
+use Rattle.up_model.specs.Chronicle.{Chronicle, Entry, Given, Queued, Handled, Offered, Fired, Finished, Made, Aimed, Restarted, Released, Failed, Respawned, Entered, Ordered, Signalled, Replied, Loaded, Outside, Entering, Spoilt}
 use Rattle.up_model.specs.Configuration.{Configuration}
 use Rattle.up_model.specs.Instances.{Instance}
 use Rattle.up_model.specs.Readings.{holders}
@@ -25,6 +25,7 @@ concerns i (Given (input.Emit event)) = false
 concerns i (Given (input.Request id request)) = false
 concerns i (Given (input.Clock reading)) = false
 concerns i (Given input.Turn) = false
+concerns i (Given (input.Load id loaded)) = false
 concerns i (Given (input.Spawned who its pid)) = true
 concerns i (Given (input.Refused who its)) = true
 concerns i (Given (input.Ended who its how)) = true
@@ -45,6 +46,7 @@ concerns i (Entered other to) = other == i
 concerns i (Ordered other its) = other == i
 concerns i (Signalled other signal by_timer) = other == i
 concerns i (Replied request answer) = false
+concerns i (Loaded jobs) = false
 
 pub spared : (e : Entry) (c : Chronicle) (x : Instance) → concerns x.place e ≡ false → HoldsOlder x.place c
     → summary (e ∷ c) x ≡ summary c x
@@ -52,6 +54,7 @@ spared (Given (input.Emit event)) c x apart older = rw (holding-later (Given (in
 spared (Given (input.Request id request)) c x apart older = rw (holding-later (Given (input.Request id request)) c (holders x.place c) older) refl
 spared (Given (input.Clock reading)) c x apart older = rw (holding-later (Given (input.Clock reading)) c (holders x.place c) older) refl
 spared (Given input.Turn) c x apart older = rw (holding-later (Given input.Turn) c (holders x.place c) older) refl
+spared (Given (input.Load id loaded)) c x apart older = rw (holding-later (Given (input.Load id loaded)) c (holders x.place c) older) refl
 spared (Given (input.Spawned who its pid)) c x apart older = absurd cc
 spared (Given (input.Refused who its)) c x apart older = absurd cc
 spared (Given (input.Ended who its how)) c x apart older = absurd cc
@@ -75,3 +78,4 @@ spared (Ordered other its) c x apart older = rw (apart, holding-later (Ordered o
 spared (Signalled other signal true) c x apart older = rw (apart, holding-later (Signalled other signal true) c (holders x.place c) older) refl
 spared (Signalled other signal false) c x apart older = rw (apart, holding-later (Signalled other signal false) c (holders x.place c) older) refl
 spared (Replied request answer) c x apart older = rw (holding-later (Replied request answer) c (holders x.place c) older) refl
+spared (Loaded jobs) c x apart older = rw (holding-later (Loaded jobs) c (holders x.place c) older) refl

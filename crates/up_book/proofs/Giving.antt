@@ -2,6 +2,7 @@
 use Rattle.std.proofs.Common.{◌≡◌, ℕ, ◌∷◌, length, Option, None, Some, option_map, if◌then◌else◌, nat_lt, refl, sym, ◌∙◌, ap}
 use Rattle.up_job.specs.Changes.{changed}
 use Rattle.up_job.specs.JobLists.{changed_at}
+use Rattle.up_model.specs.declared.loaded.Loaded.{Loaded}
 use Rattle.up_model.specs.declared.input.Input.{Input}
 use Rattle.up_model.specs.declared.input.Input.TheVariants as input
 use Rattle.up_model.specs.declared.who.Who.{Who}
@@ -26,6 +27,10 @@ use Rattle.up_book.proofs.Starting.{same-trigger}
 use Rattle.up_book.proofs.Triggers.{remembered-later, remembered-changed}
 use Rattle.up_book.proofs.Whole.{Passes, passing, unseen, keeps-past, forgets-lives, forgets-passing, uses-same}
 use Rattle.up_model.proofs.QueueLaws.{queue_by_age}
+
+pub forgets-load : (book : Past) (config : Configuration) (c : Chronicle) (id : ℕ) (its : Loaded) → Forgets book config c → Forgets book config (Given (input.Load id its) ∷ c)
+forgets-load book config c id its f =
+    forgets-passing book config c (Given (input.Load id its)) f (passing config c (Given (input.Load id its)) (λ i. refl) (λ job. refl) (λ x. refl)) tt refl tt (λ p. refl) refl
 
 pub forgets-turn : (book : Past) (config : Configuration) (c : Chronicle) → Forgets book config c → Forgets book config (Given input.Turn ∷ c)
 forgets-turn book config c f = forgets-passing book config c (Given input.Turn) f (passing config c (Given input.Turn) (λ i. refl) (λ job. refl) (λ x. refl)) tt refl tt (λ p. refl) refl

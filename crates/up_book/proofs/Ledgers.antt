@@ -1,5 +1,5 @@
 -- What a ledger stands for, one entry or one run of entries later.
-use Rattle.std.proofs.Common.{◌≡◌, ℕ, ◌+◌, ◌<◌, ◌==◌, ◌&&◌, Bool, true, false, List, [], ◌∷◌, ◌++◌, length, map, Option, None, Some, is_some, option_map, bytes_eq, if◌then◌else◌, refl, sym, ◌∙◌, ap, subst, arith, eqb-true, append_assoc}
+use Rattle.std.proofs.Common.{◌≡◌, inl, ℕ, ◌+◌, ◌<◌, ◌==◌, ◌&&◌, Bool, true, false, List, [], ◌∷◌, ◌++◌, length, map, Option, None, Some, is_some, option_map, bytes_eq, if◌then◌else◌, refl, sym, ◌∙◌, ap, subst, arith, eqb-true, append_assoc}
 use Rattle.std.specs.List.{AllByRecursion}
 use Rattle.up_conf.specs.declared.job.JobDef.{JobDef}
 use Rattle.up_stanza.specs.declared.process.Process.{Process}
@@ -13,20 +13,21 @@ use Rattle.up_model.specs.declared.state.State.{State}
 use Rattle.up_model.specs.declared.state.State.TheVariants as state
 use Rattle.up_model.specs.Chronicle.{Chronicle, Entry, Given, Queued, Made, Released, Failed, Entered, Ordered, Signalled, Replied, Outside, Entering}
 use Rattle.up_model.specs.Configuration.{Configuration, job_named}
-use Rattle.up_model.specs.Instances.{Instance, instances_of, all_instances}
+use Rattle.up_model.specs.Instances.{Instance, with_instance, instances_of, all_instances}
 use Rattle.up_model.specs.Outputs.{outputs_of}
 use Rattle.up_model.specs.Queue.{queue}
 use Rattle.up_model.specs.Readings.{entry_at, file_of, holders, id_of, id_at}
-use Rattle.up_model.specs.Replies.{answering, releasing, if_waits, request_in, request_instance, status_if, status_of, waiter_in}
+use Rattle.up_model.specs.Replies.{answering, answering_waiter, releasing, if_waits, request_in, request_instance, status_if, status_of, waiter_in}
 use Rattle.up_model.specs.Values.{Bytes}
-use Rattle.up_model.proofs.Places.{count}
+use Rattle.up_model.proofs.Places.{count, bytes_same, all-without}
+use Rattle.up_model.proofs.NameLaws.{all-with}
 use Rattle.up_job.specs.InstanceLists.{new_instance}
 use Rattle.up_job.specs.JobLists.{position_at, job_of}
 use Rattle.up_job.specs.Lists.{nth}
 use Rattle.up_job.specs.declared.instance.Instance.{Instance as Kept}
 use Rattle.up_job.specs.declared.instance_key.InstanceKey.{InstanceKey}
 use Rattle.up_job.specs.declared.instances.JobInstances.{JobInstances}
-use Rattle.up_model.proofs.FileLaws.{AreMadeBy, are_by}
+use Rattle.up_image.specs.declared.index.Place.{Place}
 use Rattle.up_book.specs.declared.ledger.Ledger.{Ledger}
 use Rattle.up_book.specs.declared.past.Past.{Past}
 use Rattle.up_book.specs.declared.step.ActedOn.{ActedOn}
@@ -34,8 +35,9 @@ use Rattle.up_book.specs.declared.step.ActedOn.TheVariants.{Exists, Gone}
 use Rattle.up_book.specs.declared.step.Asked.{Asked}
 use Rattle.up_book.specs.Asking.{asked_in, asked_of, waiter_of}
 use Rattle.up_book.specs.Eventing.{number_of, place_of}
+use Rattle.up_book.specs.Hearers.{IsFound, AreFound}
 use Rattle.up_book.specs.Holding.{held_by_kept}
-use Rattle.up_book.specs.Keeps.{is_waiting, HoldsOlder}
+use Rattle.up_book.specs.Keeps.{is_waiting, AreDistinct, HoldsOlder}
 use Rattle.up_book.specs.Keys.{Mode, Stepping, job_at, instance_place, request_place, held_as}
 use Rattle.up_book.specs.declared.holders.Holders.{Holders}
 use Rattle.up_book.specs.declared.holders.Holders.TheVariants.{Taken, Client, Nobody}
@@ -60,7 +62,7 @@ use Rattle.up_book.proofs.Keyed.{place-keyed, job-there}
 use Rattle.up_book.proofs.Leaving.{forgets-answered, forgets-gone}
 use Rattle.up_book.proofs.Making.{position-so}
 use Rattle.up_book.proofs.Lifecycle.{keeps-made, keeps-left}
-use Rattle.up_book.proofs.One.{There, there, its-file, nth-all}
+use Rattle.up_book.proofs.One.{There, there, its-file}
 use Rattle.up_book.proofs.Outgoing.{IsSilent, entering-out, named-there, ordered-out, signalled-out, silent-out, status-known}
 use Rattle.up_book.proofs.Requested.{IsPlain, Mentions, status-apart, status-left, left-gone, other-gone, gone-later, on-later}
 use Rattle.up_book.proofs.Runs.{IsMild, step-released}
@@ -68,18 +70,50 @@ use Rattle.up_book.proofs.Standing.{same-entry}
 use Rattle.up_book.proofs.Shifting.{kept-name, key-made, key-left}
 use Rattle.up_book.proofs.StepFrames.{Spares, IsUnasked, asks-same, step-silent, step-more, there-exists}
 
--- no job but those of the table has instances
-pub unknown-none : (jobs : List JobDef) (job : Bytes) (c : Chronicle) → AreMadeBy jobs c → job_named job jobs ≡ None → instances_of job c ≡ []
-unknown-none jobs job c made none = by_list (instances_of job c) (are_by jobs job c made)
-  where
-    by_list : (xs : List Instance) → AllByRecursion (λ x. job_named job jobs ≡ Some x.file) xs → xs ≡ []
-    by_list [] by = refl
-    by_list (x ∷ xs) by =
-        let both : None ≡ Some x.file = sym none ∙ by.0 in
-        absurd cc
+same-job : {a b : JobDef} → Some a ≡ Some b → a ≡ b
+same-job e = cc
 
-pub stood : (ledger : Ledger) (mode : Mode) (config : Configuration) (c : Chronicle) → Forgets ledger.past config c → HasIndex ledger.index config.jobs → IsStepIn mode ledger.step config c → Stands ledger mode config c
-stood ledger mode config c f index step = record { past = f; index = index; step = step; known = λ job none. unknown-none config.jobs job c f.regular.made none }
+pub stood : (ledger : Ledger) (mode : Mode) (config : Configuration) (c : Chronicle) → Forgets ledger.past config c → HasIndex ledger.index config.jobs → IsStepIn mode ledger.step config c → AreFound ledger.others config c
+    → Stands ledger mode config c
+stood ledger mode config c f index step found = record { past = f; index = index; step = step; found = found }
+
+-- instances that stay are found
+pub found-same : (others : List Place) (config : Configuration) (c d : Chronicle) → ((job : Bytes) → instances_of job d ≡ instances_of job c) → AreFound others config c → AreFound others config d
+found-same others config c d same found = record { each = λ n job there. subst (AllByRecursion (IsFound others n job)) (sym (same job.name)) (found.each n job there) }
+
+-- a release leaves the instances
+pub mild-instances : (job : Bytes) (i : ℕ) (failed : Bool) (c : Chronicle) → instances_of job (releasing i failed c ++ c) ≡ instances_of job c
+mild-instances job i failed c = same-append (instances_of job) IsMild (λ e d is. instances-mild e d is) (releasing i failed c) c (releasing-all IsMild (λ request answer. tt) i failed tt c)
+  where
+    instances-mild : (e : Entry) (d : Chronicle) → IsMild e → instances_of job (e ∷ d) ≡ instances_of job d
+    instances-mild (Released instance failed) d is = refl
+    instances-mild (Replied request answer) d is = refl
+    instances-mild e d is = absurd is
+
+-- and so does the answer to a client that waited
+pub waiter-instances : (job : Bytes) (its : Option ℕ) (spoilt : Bool) (c : Chronicle) → instances_of job (answering_waiter its spoilt ++ c) ≡ instances_of job c
+waiter-instances job None spoilt c = refl
+waiter-instances job (Some request) spoilt c = refl
+
+-- a new instance goes by the table
+pub found-made : (others : List Place) (config : Configuration) (c : Chronicle) (place : ℕ) (file : JobDef) (name : Bytes) → AreDistinct config.jobs → job_at config place ≡ Some file → AreFound others config c → AreFound others config (Made file name ∷ c)
+found-made others config c place file name distinct made found = record { each = λ n job there. by_case n job there (bytes_eq file.name job.name) refl (found.each n job there) }
+  where
+    new : Instance
+    new = record { place = length c; name = name; file = file }
+
+    by_case : (n : ℕ) (job : JobDef) → job_at config n ≡ Some job → (b : Bool) → bytes_eq file.name job.name ≡ b → AllByRecursion (IsFound others n job) (instances_of job.name c)
+        → AllByRecursion (IsFound others n job) (if b then with_instance new (instances_of job.name c) else instances_of job.name c)
+    by_case n job there true same all =
+        let its : job_named file.name config.jobs ≡ Some file = named-there place config.jobs file (job-there config place file made) distinct in
+        let mine : job_named job.name config.jobs ≡ Some job = named-there n config.jobs job (job-there config n job there) distinct in
+        let one : file ≡ job = same-job (sym its ∙ ap (λ its_name. job_named its_name config.jobs) (bytes_same file.name job.name same) ∙ mine) in
+        all-with (IsFound others n job) new (instances_of job.name c) (inl (ap (λ (j : JobDef). j.stop_on) one)) all
+    by_case n job there false differs all = all
+
+-- those that one has left are found
+pub found-left : (others : List Place) (config : Configuration) (c : Chronicle) (i : ℕ) → AreFound others config c → AreFound others config (Entered i state.Waiting ∷ c)
+found-left others config c i found = record { each = λ n job there. all-without (IsFound others n job) i (instances_of job.name c) (found.each n job there) }
 
 -- a key of the table is one of what is kept
 pub keyed : (past : Past) (config : Configuration) (c : Chronicle) (key : InstanceKey) (i : ℕ) → Forgets past config c → instance_place config c key ≡ Some i → standing.instance_place past c key ≡ Some i
@@ -94,27 +128,20 @@ exists-so past config c key i f found = there-exists (place_of past.events (queu
 pub older-so : (past : Past) (config : Configuration) (c : Chronicle) (key : InstanceKey) (i : ℕ) → Forgets past config c → instance_place config c key ≡ Some i → i < length c
 older-so past config c key i f found = place-older (place_of past.events (queue c)) past.instances config c key i f.lives (keyed past config c key i f found)
 
--- the file of an instance is that of its job in the table
-pub in-table : (past : Past) (config : Configuration) (c : Chronicle) (key : InstanceKey) (i : ℕ) (job : JobDef) → Forgets past config c → instance_place config c key ≡ Some i → file_of i c ≡ Some job
-    → nth key.job config.jobs ≡ Some job
-in-table past config c key i job f found file =
-    let t = there-so past config c key i f found in
-    let by = nth-all (λ y. job_named t.job.name config.jobs ≡ Some y.file) key.at (instances_of t.job.name c) t.its t.in_instances (are_by config.jobs t.job.name c f.regular.made) in
-    t.in_jobs ∙ sym (named-there key.job config.jobs t.job t.in_jobs f.lives.distinct) ∙ by
-    ∙ ap Some (its-file (place_of past.events (queue c)) past.instances config c key i job t file)
-
 -- an entry that asks for nothing
 pub silent : (old : Ledger) (past : Past) (config : Configuration) (c : Chronicle) (e : Entry) → Stands old Stepping config c → Forgets past config (e ∷ c) → IsSilent e → IsPlain e → Spares config c e
     → Stands (record old { past = past }) Stepping config (e ∷ c)
 silent old past config c e s f still plain spares = stood (record old { past = past }) Stepping config (e ∷ c) f s.index (step-silent old.step.outputs.items old.step.asked old.step.on config c e still plain spares s.step)
+    (found-same old.others config c (e ∷ c) spares.instances s.found)
 
 -- one that asks for something more
-pub more : (old new : Ledger) (config : Configuration) (c : Chronicle) (e : Entry) (outs : List Output) → Stands old Stepping config c → Forgets new.past config (e ∷ c) → new.index ≡ old.index → IsUnasked e → IsPlain e → Spares config c e
+pub more : (old new : Ledger) (config : Configuration) (c : Chronicle) (e : Entry) (outs : List Output) → Stands old Stepping config c → Forgets new.past config (e ∷ c) → new.index ≡ old.index → new.others ≡ old.others → IsUnasked e → IsPlain e → Spares config c e
     → outputs_of (e ∷ c) ≡ outputs_of c ++ outs → new.step.outputs.items ≡ old.step.outputs.items ++ outs → new.step.asked ≡ old.step.asked → new.step.on ≡ old.step.on → Stands new Stepping config (e ∷ c)
-more old new config c e outs s f index unasked plain spares out outputs asked on =
+more old new config c e outs s f index others unasked plain spares out outputs asked on =
     stood new Stepping config (e ∷ c) f (subst (λ its. HasIndex its config.jobs) (sym index) s.index)
     (asks-same (old.step.outputs.items ++ outs) new.step.outputs.items old.step.asked new.step.asked old.step.on new.step.on config (e ∷ c) outputs asked on
     (step-more old.step.outputs.items outs old.step.asked old.step.on config c e unasked plain spares out s.step))
+    (subst (λ its. AreFound its config (e ∷ c)) (sym others) (found-same old.others config c (e ∷ c) spares.instances s.found))
 
 -- entries by which keys stand where they stood
 pub calm : (config : Configuration) (c : Chronicle) (e : Entry) → ((job : Bytes) → instances_of job (e ∷ c) ≡ instances_of job c) → ((i : ℕ) → holders i (e ∷ c) ≡ holders i c) → ((i : ℕ) → Mentions i e ≡ false) → Spares config c e
@@ -129,9 +156,6 @@ pub spares-entered : (config : Configuration) (c : Chronicle) (i : ℕ) (to : St
 spares-entered config c i to is exists = record { instances = λ job. entered-instances job i to c is; holders = λ j. refl; apart = λ j gone. other-gone j i c gone exists }
 
 -- an order
-same-job : {a b : JobDef} → Some a ≡ Some b → a ≡ b
-same-job e = cc
-
 pub ordered : (past : Past) (config : Configuration) (c : Chronicle) (key : InstanceKey) (i : ℕ) (job : JobDef) (its : Process) (out : Option Output) → Forgets past config c → instance_place config c key ≡ Some i
     → file_of i c ≡ Some job → IsOrder job (kept_at key past.instances) its out → outputs_of (Ordered i its ∷ c) ≡ outputs_of c ++ listed out
 ordered past config c key i job its out f found file is =
@@ -333,6 +357,7 @@ number-waits g d given there = ap (λ o. number_of (if_waits g (request_in o)) d
     by_input (input.Ended who its how) here = refl
     by_input (input.Clock reading) here = refl
     by_input input.Turn here = refl
+    by_input (input.Load id loaded) here = refl
 
 pub waiter-known : (c : Chronicle) (given : Input) (event : Event)
     → number_of (waiter_in (Some (Queued (Outside (length c)) event)) (Queued (Outside (length c)) event ∷ Given given ∷ c)) (Queued (Outside (length c)) event ∷ Given given ∷ c) ≡ waiter_of (asked_of (Given given ∷ c))

@@ -1,5 +1,5 @@
 -- The processes that may still be ordered are counted by what is kept.
-use Rattle.std.proofs.Common.{◌≡◌, ℕ, ◌+◌, ◌==◌, Bool, true, false, List, [], ◌∷◌, length, map, Option, None, Some, is_some, option_map, bytes_eq, if◌then◌else◌, refl, sym, ◌∙◌, ap, subst, arith}
+use Rattle.std.proofs.Common.{◌≡◌, ℕ, zero, ◌+◌, ◌==◌, Bool, true, false, List, [], ◌∷◌, length, map, Option, None, Some, is_some, option_map, bytes_eq, if◌then◌else◌, refl, sym, ◌∙◌, ap, subst, arith}
 use Rattle.std.specs.List.{AllByRecursion}
 use Rattle.up_conf.specs.declared.job.JobDef.{JobDef}
 use Rattle.up_model.specs.declared.state.State.TheVariants as state
@@ -9,7 +9,6 @@ use Rattle.up_model.specs.Instances.{Instance, is_before, with_instance, without
 use Rattle.up_model.specs.Left.{left_in, left_at, left_among, left}
 use Rattle.up_model.specs.Readings.{blocker}
 use Rattle.up_model.specs.Values.{Bytes}
-use Rattle.up_model.proofs.FileLaws.{AreMadeBy}
 use Rattle.up_model.proofs.Places.{bytes_same, bytes_refl}
 use Rattle.up_job.specs.declared.instances.JobInstances.{JobInstances}
 use Rattle.up_job.specs.declared.instance.Instance.{Instance as Kept}
@@ -94,14 +93,68 @@ sums-made f (job ∷ jobs) file name c distinct some = by_case (bytes_eq job.nam
         let rest = ih some in
         rw (back job.name file.name differs) (omega (arith, rest))
 
+-- over those that are of these jobs
+abbrev sum_in : (ℕ → ℕ) → List JobDef → List Instance → ℕ
+sum_in f jobs [] = 0
+sum_in f jobs (x ∷ xs) = (if is_some (job_named x.file.name jobs) then f x.place else 0) + sum_in f jobs xs
+
+none-if : (b : Bool) → (if b then zero else zero) ≡ 0
+none-if true = refl
+none-if false = refl
+
+in-without : (f : ℕ → ℕ) (i : ℕ) (jobs : List JobDef) (xs : List Instance) → sum_in f jobs (without_instance i xs) ≡ sum_in (but i f) jobs xs
+in-without f i jobs [] = refl
+in-without f i jobs (x ∷ xs) = by_case (x.place == i) (in-without f i jobs xs)
+  where
+    some : Bool
+    some = is_some (job_named x.file.name jobs)
+
+    by_case : (b : Bool) → sum_in f jobs (without_instance i xs) ≡ sum_in (but i f) jobs xs
+        → sum_in f jobs (if b then without_instance i xs else x ∷ without_instance i xs) ≡ (if some then (if b then 0 else f x.place) else 0) + sum_in (but i f) jobs xs
+    by_case true ih = omega (arith, ih, none-if some)
+    by_case false ih = omega (arith, ih)
+
+none-named : (name : Bytes) (jobs : List JobDef) → is_some (job_named name jobs) ≡ false → AllByRecursion (λ other. bytes_eq other.name name ≡ false) jobs
+none-named name [] none = tt
+none-named name (job ∷ jobs) none = by_case (bytes_eq job.name name) refl none (none-named name jobs)
+  where
+    by_case : (b : Bool) → bytes_eq job.name name ≡ b → is_some (if b then Some job else job_named name jobs) ≡ false
+        → (is_some (job_named name jobs) ≡ false → AllByRecursion (λ other. bytes_eq other.name name ≡ false) jobs)
+        → (bytes_eq job.name name ≡ false) × AllByRecursion (λ other. bytes_eq other.name name ≡ false) jobs
+    by_case true same none ih = absurd cc
+    by_case false differs none ih = (differs, ih none)
+
+in-jobs : (f : ℕ → ℕ) (jobs : List JobDef) (c : Chronicle) → AreDistinct jobs → sum_in f jobs (all_instances c) ≡ job_sums f jobs c
+in-jobs f jobs [] distinct = sym (sums-none f jobs)
+in-jobs f jobs (Made file name ∷ c) distinct = by_case (is_some (job_named file.name jobs)) refl (in-jobs f jobs c distinct)
+  where
+    by_case : (b : Bool) → is_some (job_named file.name jobs) ≡ b → sum_in f jobs (all_instances c) ≡ job_sums f jobs c
+        → (if b then f (length c) else 0) + sum_in f jobs (all_instances c) ≡ job_sums f jobs (Made file name ∷ c)
+    by_case true some ih = omega (arith, ih, sums-made f jobs file name c distinct some)
+    by_case false none ih = omega (arith, ih, sums-past f jobs file name c (none-named file.name jobs none))
+in-jobs f jobs (Entered i state.Waiting ∷ c) distinct =
+    in-without f i jobs (all_instances c) ∙ in-jobs (but i f) jobs c distinct ∙ sym (sums-left f i jobs c)
+in-jobs f jobs (entry ∷ c) distinct = in-jobs f jobs c distinct ∙ sym (sums-same f jobs c (entry ∷ c) (λ name. refl))
+
+-- where a job that isn't among these has none
+abbrev one : ℕ → ℕ
+one place = 1
+
+all-named : (f : ℕ → ℕ) (jobs : List JobDef) (xs : List Instance) → ((file : JobDef) → job_named file.name jobs ≡ None → sum_in one (file ∷ []) xs ≡ 0) → sum_in f jobs xs ≡ sum f xs
+all-named f jobs [] none = refl
+all-named f jobs (x ∷ xs) none = by_case (job_named x.file.name jobs) refl (all-named f jobs xs (λ file unnamed. omega (arith, none file unnamed)))
+  where
+    by_case : (o : Option JobDef) → job_named x.file.name jobs ≡ o → sum_in f jobs xs ≡ sum f xs → (if is_some o then f x.place else 0) + sum_in f jobs xs ≡ f x.place + sum f xs
+    by_case (Some job) is ih = omega (arith, ih)
+    by_case None is ih =
+        let mine : is_some (if bytes_eq x.file.name x.file.name then Some x.file else None) ≡ true = ap (λ (b : Bool). is_some (if b then Some x.file else None)) (bytes_refl x.file.name) in
+        let some : 1 + sum_in one (x.file ∷ []) xs ≡ 0 = ap (λ (b : Bool). (if b then 1 else 0) + sum_in one (x.file ∷ []) xs) (sym mine) ∙ none x.file is in
+        absurd (omega arith)
+
 -- a sum over all instances is one over the jobs
-pub sum-all : (f : ℕ → ℕ) (jobs : List JobDef) (c : Chronicle) → AreDistinct jobs → AreMadeBy jobs c → sum f (all_instances c) ≡ job_sums f jobs c
-sum-all f jobs [] distinct named = sym (sums-none f jobs)
-sum-all f jobs (Made file name ∷ c) distinct made =
-    omega (arith, sum-all f jobs c distinct made.1, sums-made f jobs file name c distinct (ap is_some made.0))
-sum-all f jobs (Entered i state.Waiting ∷ c) distinct named =
-    sum-without f i (all_instances c) ∙ sum-all (but i f) jobs c distinct named ∙ sym (sums-left f i jobs c)
-sum-all f jobs (entry ∷ c) distinct named = sum-all f jobs c distinct named ∙ sym (sums-same f jobs c (entry ∷ c) (λ name. refl))
+pub sum-all : (f : ℕ → ℕ) (jobs : List JobDef) (c : Chronicle) → AreDistinct jobs → ((job : Bytes) → job_named job jobs ≡ None → instances_of job c ≡ []) → sum f (all_instances c) ≡ job_sums f jobs c
+sum-all f jobs c distinct known =
+    sym (all-named f jobs (all_instances c) (λ file none. in-jobs one (file ∷ []) c (tt, tt) ∙ ap (λ xs. sum one xs + 0) (known file.name none))) ∙ in-jobs f jobs c distinct
 
 -- by summaries
 abbrev left_by : Summary → ℕ
@@ -140,7 +193,8 @@ among [] c = refl
 among (x ∷ xs) c = rw (among xs c) refl
 
 -- what is kept counts what may still be ordered
-pub left-kept : (places : Places) (jobs : List JobInstances) (config : Configuration) (c : Chronicle) → KeepsJobs places jobs config c → AreDistinct config.jobs → AreMadeBy config.jobs c → left_of_jobs jobs ≡ left c
+pub left-kept : (places : Places) (jobs : List JobInstances) (config : Configuration) (c : Chronicle) → KeepsJobs places jobs config c → AreDistinct config.jobs
+    → ((job : Bytes) → job_named job config.jobs ≡ None → instances_of job c ≡ []) → left_of_jobs jobs ≡ left c
 unfolding left
-left-kept places jobs config c keeps distinct named =
-    sym (jobs-by places jobs) ∙ ap left_by_jobs keeps ∙ summed-by config c config.jobs ∙ sym (sum-all (λ p. left_at p c) config.jobs c distinct named) ∙ sym (among (all_instances c) c)
+left-kept places jobs config c keeps distinct known =
+    sym (jobs-by places jobs) ∙ ap left_by_jobs keeps ∙ summed-by config c config.jobs ∙ sym (sum-all (λ p. left_at p c) config.jobs c distinct known) ∙ sym (among (all_instances c) c)

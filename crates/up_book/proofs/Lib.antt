@@ -44,6 +44,9 @@ pub mod Holdings
 pub mod Runs
 pub mod Deaf
 pub mod NextHearers
+pub mod Others
+pub mod Loading
+pub mod LoadedLedgers
 pub mod Ledgers
 pub mod Acting
 pub mod Blocking

@@ -1,5 +1,5 @@
 -- The first job, from one on, that hears of an event.
-use Rattle.std.proofs.Common.{◌≡◌, ℕ, zero, suc, ◌+◌, ◌-◌, ◌*◌, ◌<◌, ◌≤◌, ◌==◌, nat_le, nat_lt, Bool, true, false, not, ◌&&◌, ◌||◌, List, [], ◌∷◌, ◌++◌, length, map, drop, Option, None, Some, IfSome, slice_get, get_or, if◌then◌else◌, refl, sym, ◌∙◌, ap, arith, add-one, append_assoc, length-append, drop-cons, eq-eqb, eqb-true, ne_eqb, lt-ltb, ltb-true}
+use Rattle.std.proofs.Common.{◌≡◌, ◌⊎◌, inl, inr, ℕ, zero, suc, ◌+◌, ◌-◌, ◌*◌, ◌<◌, ◌≤◌, ◌==◌, nat_le, nat_lt, Bool, true, false, not, ◌&&◌, ◌||◌, List, [], ◌∷◌, ◌++◌, length, map, drop, Option, None, Some, IfSome, slice_get, get_or, if◌then◌else◌, refl, sym, ◌∙◌, ap, arith, add-one, append_assoc, length-append, drop-cons, eq-eqb, eqb-true, ne_eqb, lt-ltb, ltb-true, ltb-false}
 use Rattle.std.specs.Prelude.{option_and_then}
 use Rattle.std.specs.List.{AllByRecursion, list_any}
 use Rattle.std.specs.List.Sorted.{IsPartitionPoint, IsPartitionedBy}
@@ -18,18 +18,23 @@ use Rattle.up_marks.specs.Agreeing.{naming}
 use Rattle.up_marks.specs.Naming.{naming_in, side_of, bit_of, rank, rank_of, of_expression, Rising}
 use Rattle.up_marks.specs.Ruling.{may_hear, one_fails, may_match, may_match_in, nodes_in, leaf_of, leaf_in, admits_by, admits}
 use Rattle.up_model.specs.Chronicle.{Chronicle}
-use Rattle.up_model.specs.Configuration.{Configuration, job_named}
+use Rattle.up_model.specs.Configuration.{Configuration}
 use Rattle.up_model.specs.Instances.{Instance, instances_of}
 use Rattle.up_model.specs.declared.event.Event.{Event}
-use Rattle.up_model.proofs.FileLaws.{AreMadeBy, are_by}
-use Rattle.up_book.specs.Hearers.{AreDeaf, IsDeaf, hears, first_from, has_job, IsNextJob, IsNextHearer}
-use Rattle.up_book.specs.Keeps.{AreDistinct}
+use Rattle.up_book.specs.Hearers.{AreDeaf, IsDeaf, IsFound, AreFound, hears, one_hears, one_stops, has_stop, has_place, lesser, first_from, has_job, IsNextJob, IsNextHearer}
+use Rattle.up_book.specs.Keeps.{KeepsJobs}
 use Rattle.up_book.specs.Keys.{job_at}
 use Rattle.up_book.specs.Ledgers.{HasIndex}
 use Rattle.up_book.proofs.Keyed.{job-there}
-use Rattle.up_book.proofs.Outgoing.{named-there}
+use Rattle.up_book.specs.Summaries.{Summary, JobSummary, summary, job_summary}
+use Rattle.up_book.specs.Views.{Places, view, job_view}
+use Rattle.up_book.proofs.Lists.{map-nth, nth-map}
+use Rattle.up_job.specs.JobLists.{instances_at, list_of}
+use Rattle.up_job.specs.Lists.{nth}
+use Rattle.up_job.specs.declared.instance.Instance.{Instance as Kept}
+use Rattle.up_job.specs.declared.instances.JobInstances.{JobInstances}
 
-bit-few : (b : Bool) → bit_of b ≤ 1
+pub bit-few : (b : Bool) → bit_of b ≤ 1
 bit-few true = omega arith
 bit-few false = omega arith
 
@@ -63,7 +68,7 @@ first_left admits_ from places i d within =
     ap (first_from admits_ from) one
 
 -- those of earlier jobs don't count
-not-le : (a b : ℕ) → b < a → nat_le a b ≡ false
+pub not-le : (a b : ℕ) → b < a → nat_le a b ≡ false
 not-le a b less = by_case (nat_le a b) refl
   where
     by_case : (r : Bool) → nat_le a b ≡ r → r ≡ false
@@ -305,7 +310,6 @@ heard index config n job event its there =
     ∙ ap (λ (b : Bool). b || list_any (admits config.jobs event) (of_expression n false places)) starts
     ∙ ap (λ (b : Bool). may_match_in job.start_on event.name event.vars || b) stops
 
--- each instance goes by the file that the table has of its job, so if that doesn't hear of an event none of them does
 or-first : (a b : Bool) → (a || b) ≡ false → a ≡ false
 or-first true b none = absurd cc
 or-first false b none = refl
@@ -314,26 +318,124 @@ or-rest : (a b : Bool) → (a || b) ≡ false → b ≡ false
 or-rest true b none = absurd cc
 or-rest false b none = none
 
-one-some : {X : Type 0} {x y : X} → Some x ≡ Some y → x ≡ y
-one-some same = cc
+or-some : (a b : Bool) → a ≡ true → (a || b) ≡ true
+or-some true b some = refl
+or-some false b some = absurd cc
 
-deaf-by : (event : Option Event) (file : Option JobDef) (job : JobDef) (its : List Instance) → file ≡ Some job → may_hear job.stop_on event ≡ false → AllByRecursion (λ x. file ≡ Some x.file) its → AreDeaf event its
-deaf-by event file job [] named deaf by = tt
-deaf-by event file job (x ∷ its) named deaf by =
-    (ap (λ (its_file : JobDef). may_hear its_file.stop_on event) (one-some (sym by.0 ∙ named)) ∙ deaf, deaf-by event file job its named deaf by.1)
+-- what is kept of the instances of a job tells whether one of them hears
+pub record Hearable (leaves others : List Place) (places : Places) (its : List JobInstances) (config : Configuration) (c : Chronicle) : Type 0 where
+  pub keeps : KeepsJobs places its config c
+  pub index : HasIndex leaves config.jobs
+  pub found : AreFound others config c
 
-job-deaf : (config : Configuration) (c : Chronicle) (n : ℕ) (job : JobDef) (event : Option Event) → AreDistinct config.jobs → AreMadeBy config.jobs c → job_at config n ≡ Some job → hears job event ≡ false → IsDeaf job event c
-job-deaf config c n job event distinct made there none = (
-  or-first (may_hear job.start_on event) (may_hear job.stop_on event) none,
-  deaf-by event (job_named job.name config.jobs) job (instances_of job.name c) (named-there n config.jobs job (job-there config n job there) distinct) (or-rest (may_hear job.start_on event) (may_hear job.stop_on event) none)
-      (are_by config.jobs job.name c made),
-)
+one-same : (places : Places) (c : Chronicle) (event : Event) (ks : List Kept) (xs : List Instance) → map (view places) ks ≡ map (summary c) xs → one_stops event ks ≡ one_hears (Some event) xs
+one-same places c event [] [] same = refl
+one-same places c event [] (x ∷ xs) same = absurd cc
+one-same places c event (k ∷ ks) [] same = absurd cc
+one-same places c event (k ∷ ks) (x ∷ xs) same =
+    let first : view places k ≡ summary c x = cc in
+    let rest : map (view places) ks ≡ map (summary c) xs = cc in
+    ap (λ (s : Summary). may_match_in s.file.stop_on event.name event.vars || one_stops event ks) first
+    ∙ ap (λ (b : Bool). may_match_in x.file.stop_on event.name event.vars || b) (one-same places c event ks xs rest)
 
-pub next-hearer : (index : List Place) (config : Configuration) (c : Chronicle) (event : Event) (from : ℕ) (next : Option ℕ) → AreDistinct config.jobs → AreMadeBy config.jobs c → HasIndex index config.jobs
-    → IsNextJob (admits config.jobs event) from (named event.name index) next → IsNextHearer config (Some event) c from next
-next-hearer index config c event from None distinct made its is = λ n job after there. job-deaf config c n job (Some event) distinct made there (sym (heard index config n job event its there) ∙ is n after)
-next-hearer index config c event from (Some next) distinct made its is = (
-  is.0,
-  (λ n job after before there. job-deaf config c n job (Some event) distinct made there (sym (heard index config n job event its there) ∙ is.1 n after before)),
-  (λ job there. sym (heard index config next job event its there) ∙ is.2),
-)
+one-stops : (places : Places) (its : List JobInstances) (config : Configuration) (c : Chronicle) (event : Event) (n : ℕ) (job : JobDef) → KeepsJobs places its config c → job_at config n ≡ Some job
+    → one_stops event (instances_at n its) ≡ one_hears (Some event) (instances_of job.name c)
+one-stops places its config c event n job keeps there =
+    let summed = map-nth (job_summary c) n config.jobs job (job-there config n job there) in
+    let viewed : nth n (map (job_view places) its) ≡ Some (job_summary c job) = ap (nth n) keeps ∙ summed in
+    let mine = nth-map (job_view places) n its (job_summary c job) viewed in
+    ap (λ o. one_stops event (list_of o)) mine.1 ∙ one-same places c event mine.0.instances (instances_of job.name c) (ap (λ (s : JobSummary). s.instances) mine.2)
+
+-- a job that has a place was asked
+asked-vain : (test : ℕ → Bool) (n : ℕ) (xs : List Place) → has_place n xs ≡ true → has_job (λ x. test x.job) n xs ≡ false → test n ≡ false
+asked-vain test n [] there none = absurd cc
+asked-vain test n (x ∷ xs) there none = by_job (x.job == n) refl there none (asked-vain test n xs)
+  where
+    by_job : (b : Bool) → (x.job == n) ≡ b → (b || has_place n xs) ≡ true → ((b && test x.job) || has_job (λ x. test x.job) n xs) ≡ false
+        → (has_place n xs ≡ true → has_job (λ x. test x.job) n xs ≡ false → test n ≡ false) → test n ≡ false
+    by_job true same there none ih = ap test (sym (eqb-true x.job n same)) ∙ or-first (test x.job) _ none
+    by_job false differs there none ih = ih there none
+
+-- an instance that is found hears nothing if neither its job's leaves nor those of its own do
+deaf-found : (others : List Place) (n : ℕ) (job : JobDef) (event : Event) (its : List Instance) → AllByRecursion (IsFound others n job) its → may_match_in job.stop_on event.name event.vars ≡ false
+    → (has_place n (named event.name others) ≡ true → one_hears (Some event) its ≡ false) → AreDeaf (Some event) its
+deaf-found others n job event [] found deaf quiet = tt
+deaf-found others n job event (x ∷ its) found deaf quiet =
+    (by_file found.0, deaf-found others n job event its found.1 deaf (λ there. or-rest mine (one_hears (Some event) its) (quiet there)))
+  where
+    mine : Bool
+    mine = may_match_in x.file.stop_on event.name event.vars
+
+    by_place : ((naming_in x.file.stop_on event.name ≡ []) ⊎ (has_place n (named event.name others) ≡ true)) → mine ≡ false
+    by_place (inl none) = sym (any-naming-in event x.file.stop_on) ∙ ap (list_any (admits_in event (nodes_in x.file.stop_on))) none
+    by_place (inr there) = or-first mine (one_hears (Some event) its) (quiet there)
+
+    by_file : IsFound others n job x → mine ≡ false
+    by_file (inl same) = ap (λ s. may_match_in s event.name event.vars) same ∙ deaf
+    by_file (inr covered) = by_place (covered event.name)
+
+job-deaf : (index others : List Place) (places : Places) (its : List JobInstances) (config : Configuration) (c : Chronicle) (event : Event) (n : ℕ) (job : JobDef) → Hearable index others places its config c → job_at config n ≡ Some job
+    → has_job (admits config.jobs event) n (named event.name index) ≡ false → has_job (has_stop its event) n (named event.name others) ≡ false → IsDeaf job (Some event) c
+job-deaf index others places its config c event n job h there unheard quiet =
+    let none : hears job (Some event) ≡ false = sym (heard index config n job event h.index there) ∙ unheard in (
+      or-first (may_hear job.start_on (Some event)) (may_hear job.stop_on (Some event)) none,
+      deaf-found others n job event (instances_of job.name c) (h.found.each n job there) (or-rest (may_hear job.start_on (Some event)) (may_hear job.stop_on (Some event)) none)
+          (λ placed. sym (one-stops places its config c event n job h.keeps there) ∙ asked-vain (λ m. one_stops event (instances_at m its)) n (named event.name others) placed quiet),
+    )
+
+-- a job that an option passed wasn't admitted
+abbrev IsPassed : ℕ → Option ℕ → Type 0
+IsPassed n None = Unit {0}
+IsPassed n (Some next) = n < next
+
+passed-none : (admits_ : Place → Bool) (from : ℕ) (xs : List Place) (next : Option ℕ) (n : ℕ) → IsNextJob admits_ from xs next → from ≤ n → IsPassed n next → has_job admits_ n xs ≡ false
+passed-none admits_ from xs None n is after passed = is n after
+passed-none admits_ from xs (Some next) n is after passed = is.1 n after passed
+
+placed : (test : ℕ → Bool) (n : ℕ) (xs : List Place) → has_job (λ x. test x.job) n xs ≡ true → test n ≡ true
+placed test n [] some = absurd cc
+placed test n (x ∷ xs) some = by_job (x.job == n) (test x.job) refl refl some (placed test n xs)
+  where
+    by_job : (b d : Bool) → (x.job == n) ≡ b → test x.job ≡ d → ((b && d) || has_job (λ x. test x.job) n xs) ≡ true → (has_job (λ x. test x.job) n xs ≡ true → test n ≡ true) → test n ≡ true
+    by_job true true same admitted some ih = ap test (sym (eqb-true x.job n same)) ∙ admitted
+    by_job true false same isnt some ih = ih some
+    by_job false d differs is some ih = ih some
+
+pub next-hearer : (index others : List Place) (places : Places) (its : List JobInstances) (config : Configuration) (c : Chronicle) (event : Event) (from : ℕ) (a b : Option ℕ) → Hearable index others places its config c
+    → IsNextJob (admits config.jobs event) from (named event.name index) a → IsNextJob (has_stop its event) from (named event.name others) b → IsNextHearer config (Some event) c from (lesser a b)
+next-hearer index others places its config c event from a b h of_index of_others = by_next a b of_index of_others
+  where
+    deaf : (a b : Option ℕ) → IsNextJob (admits config.jobs event) from (named event.name index) a → IsNextJob (has_stop its event) from (named event.name others) b
+        → (n : ℕ) (job : JobDef) → from ≤ n → job_at config n ≡ Some job → IsPassed n a → IsPassed n b → IsDeaf job (Some event) c
+    deaf a b one other n job after there first second =
+        job-deaf index others places its config c event n job h there (passed-none (admits config.jobs event) from (named event.name index) a n one after first) (passed-none (has_stop its event) from (named event.name others) b n other after second)
+
+    by_file : (next : ℕ) (job : JobDef) → job_at config next ≡ Some job → has_job (admits config.jobs event) next (named event.name index) ≡ true → (hears job (Some event) || one_hears (Some event) (instances_of job.name c)) ≡ true
+    by_file next job there some = or-some (hears job (Some event)) _ (sym (heard index config next job event h.index there) ∙ some)
+
+    by_own : (next : ℕ) (job : JobDef) → job_at config next ≡ Some job → has_job (has_stop its event) next (named event.name others) ≡ true → (hears job (Some event) || one_hears (Some event) (instances_of job.name c)) ≡ true
+    by_own next job there some =
+        ap (λ (b : Bool). hears job (Some event) || b) (sym (one-stops places its config c event next job h.keeps there) ∙ placed (λ m. one_stops event (instances_at m its)) next (named event.name others) some) ∙ or-true (hears job (Some event))
+
+    by_next : (a b : Option ℕ) → IsNextJob (admits config.jobs event) from (named event.name index) a → IsNextJob (has_stop its event) from (named event.name others) b → IsNextHearer config (Some event) c from (lesser a b)
+    by_next None None one other = λ n job after there. deaf None None one other n job after there tt tt
+    by_next None (Some next) one other = (other.0, (λ n job after before there. deaf None (Some next) one other n job after there tt before), (λ job there. by_own next job there other.2))
+    by_next (Some next) None one other = (one.0, (λ n job after before there. deaf (Some next) None one other n job after there before tt), (λ job there. by_file next job there one.2))
+    by_next (Some first) (Some second) one other = by_order (nat_lt second first) refl
+      where
+        by_order : (b : Bool) → nat_lt second first ≡ b → IsNextHearer config (Some event) c from (if b then Some second else Some first)
+        by_order true less =
+            let before = ltb-true second first less in
+            (other.0, (λ n job after sooner there. deaf (Some first) (Some second) one other n job after there (omega (arith, before, sooner)) sooner), (λ job there. by_own second job there other.2))
+        by_order false not_ =
+            let upto : first ≤ second = omega (arith, ltb-false second first not_) in
+            (one.0, (λ n job after sooner there. deaf (Some first) (Some second) one other n job after there sooner (omega (arith, upto, sooner))), (λ job there. by_file first job there one.2))
+
+pub lesser-later : (from : ℕ) (a b : Option ℕ) → IfSome a (λ n. from ≤ n) → IfSome b (λ n. from ≤ n) → IfSome (lesser a b) (λ n. from ≤ n)
+lesser-later from None b one other = other
+lesser-later from (Some first) None one other = one
+lesser-later from (Some first) (Some second) one other = by_order (nat_lt second first)
+  where
+    by_order : (b : Bool) → IfSome (if b then Some second else Some first) (λ n. from ≤ n)
+    by_order true = other
+    by_order false = one

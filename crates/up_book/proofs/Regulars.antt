@@ -1,14 +1,17 @@
 -- A chronicle stays one that a run brings about.
-use Rattle.std.proofs.Common.{◌≡◌, ℕ, ◌<◌, ◌≤◌, ◌==◌, nat_lt, Bool, true, false, List, [], ◌∷◌, length, if◌then◌else◌, refl, sym, subst, arith, ne_eqb}
+use Rattle.std.proofs.Common.{◌≡◌, ℕ, ◌<◌, ◌≤◌, ◌==◌, nat_lt, Bool, true, false, List, [], ◌∷◌, length, None, Some, bytes_eq, if◌then◌else◌, refl, sym, ◌∙◌, ap, subst, arith, ne_eqb}
 use Rattle.std.proofs.lemmas.Bool.{ltb-true}
 use Rattle.std.specs.List.{AllByRecursion}
 use Rattle.up_model.specs.declared.input.Input.TheVariants as input
 use Rattle.up_model.specs.Chronicle.{Chronicle, Entry, Given, Queued, Made, Released, Respawned, Entered, Outside}
 use Rattle.up_model.specs.Clock.{now}
-use Rattle.up_model.specs.Configuration.{Configuration}
+use Rattle.up_model.specs.Configuration.{Configuration, job_named}
 use Rattle.up_model.specs.Held.{has, is_spoilt}
+use Rattle.up_model.specs.Instances.{with_instance, without_instance, instances_of}
 use Rattle.up_model.specs.Readings.{holders}
-use Rattle.up_model.proofs.FileLaws.{AreMadeBy}
+use Rattle.up_model.specs.Values.{Bytes}
+use Rattle.up_model.specs.declared.state.State.TheVariants as state
+use Rattle.up_model.proofs.Places.{bytes_same}
 use Rattle.up_model.proofs.NameLaws.{Singles, entered-singles, made-singles}
 use Rattle.up_book.specs.Regular.{AreOlderOrigins, IsRegular, MayFollow}
 use Rattle.up_job.specs.Moments.{moments_of, Falls}
@@ -41,9 +44,18 @@ origins-next : (config : Configuration) (c : Chronicle) (e : Entry) → AreOlder
 origins-next config c (Queued (Outside given) event) origins follow = (follow, origins)
 origins-next config c e origins follow = origins
 
-made-next : (config : Configuration) (c : Chronicle) (e : Entry) → AreMadeBy config.jobs c → MayFollow config c e → AreMadeBy config.jobs (e ∷ c)
-made-next config c (Made file name) made follow = (follow.1, made)
-made-next config c e made follow = made
+-- a job that the table hasn't gets no instance
+known-next : (config : Configuration) (c : Chronicle) (e : Entry) → ((job : Bytes) → job_named job config.jobs ≡ None → instances_of job c ≡ []) → MayFollow config c e
+    → (job : Bytes) → job_named job config.jobs ≡ None → instances_of job (e ∷ c) ≡ []
+known-next config c (Made file name) known follow job none = by_case (bytes_eq file.name job) refl
+  where
+    by_case : (b : Bool) → bytes_eq file.name job ≡ b → (if b then with_instance (record { place = length c; name = name; file = file }) (instances_of job c) else instances_of job c) ≡ []
+    by_case true same =
+        let both : None ≡ Some file = sym none ∙ ap (λ n. job_named n config.jobs) (sym (bytes_same file.name job same)) ∙ follow.1 in
+        absurd cc
+    by_case false differs = known job none
+known-next config c (Entered i state.Waiting) known follow job none = ap (without_instance i) (known job none)
+known-next config c e known follow job none = known job none
 
 unspoilt-next : (config : Configuration) (c : Chronicle) (e : Entry) → ((event : ℕ) → length c ≤ event → is_spoilt event c ≡ false) → MayFollow config c e → (event : ℕ) → length (e ∷ c) ≤ event → is_spoilt event (e ∷ c) ≡ false
 unspoilt-next config c (Released i true) unspoilt follow event past =
@@ -63,6 +75,6 @@ regular-next config c e r follow = record {
   origins = origins-next config c e r.origins follow;
   unspoilt = unspoilt-next config c e r.unspoilt follow;
   singles = singles-next config c e r.singles follow;
-  made = made-next config c e r.made follow;
+  known = known-next config c e r.known follow;
   falling = falling-next config c e r.falling follow;
 }

@@ -108,6 +108,7 @@ released-asked i failed c unheld =
     by_input (Some (input.Ended who its how)) is = refl
     by_input (Some (input.Clock reading)) is = refl
     by_input (Some input.Turn) is = refl
+    by_input (Some (input.Load id loaded)) is = refl
 
 abbrev IsReply : Entry → Type 0
 IsReply (Replied request answer) = Unit {0}

@@ -176,6 +176,7 @@ due-some c id due =
     by_input (Some (input.Ended who its how)) is due = absurd cc
     by_input (Some (input.Clock reading)) is due = absurd cc
     by_input (Some input.Turn) is due = absurd cc
+    by_input (Some (input.Load n loaded)) is due = absurd cc
 
 pub due-none : (c : Chronicle) → due_of (asked_of c) ≡ None → unanswered c ≡ None
 due-none c due = unanswered-by c ∙ by_input (given_input c) refl due
@@ -200,3 +201,4 @@ due-none c due = unanswered-by c ∙ by_input (given_input c) refl due
     by_input (Some (input.Ended who its how)) is due = ap (λ its. unless_answered (hurried_in g its) c) is
     by_input (Some (input.Clock reading)) is due = ap (λ its. unless_answered (hurried_in g its) c) is
     by_input (Some input.Turn) is due = ap (λ its. unless_answered (hurried_in g its) c) is
+    by_input (Some (input.Load n loaded)) is due = ap (λ its. unless_answered (hurried_in g its) c) is

@@ -3,6 +3,7 @@ use Rattle.std.specs.List.{AllByRecursion}
 use Rattle.std.specs.Prelude.{◌≡◌, ℕ, ◌==◌, Bool, true, false, not, ◌&&◌, [], ◌∷◌, List, Option, None, Some, option_map, length, if◌then◌else◌}
 use Rattle.up_model.specs.declared.input.Input.{Input}
 use Rattle.up_model.specs.declared.input.Input.TheVariants as input
+use Rattle.up_model.specs.declared.request.Command.TheVariants.{ReloadConfiguration}
 use Rattle.up_model.specs.Chronicle.{Chronicle, Given}
 use Rattle.up_model.specs.Readings.{holders}
 use Rattle.up_model.specs.Replies.{was_answered}
@@ -21,10 +22,12 @@ given_place [] = 0
 given_place (Given its ∷ c) = length c
 given_place (entry ∷ c) = given_place c
 
--- the request that it is. Of a client that doesn't wait it is known whether it was answered
+-- The request that it is. Of a client that doesn't wait it is known whether it was answered; that of a load is answered by the load alone.
 abbrev pub asked_in : Option Input → (answered : Bool) → Option Asked
 asked_in (Some (input.Request id request)) answered =
     Some (record { id = id; command = request.command; waits = request.wait; answered = answered && not request.wait })
+asked_in (Some (input.Load id loaded)) answered =
+    Some (record { id = id; command = ReloadConfiguration; waits = false; answered = true })
 asked_in other answered = None
 
 abbrev pub asked_of : Chronicle → Option Asked

@@ -1,12 +1,14 @@
 -- Events that are held once more, or once less.
 use Rattle.std.specs.List.{AllByRecursion}
-use Rattle.std.specs.Prelude.{◌≡◌, ◌==◌, Bool, true, is_some, List, [], ◌∷◌, map, Option, None, Some, if◌then◌else◌}
+use Rattle.std.specs.Prelude.{◌≡◌, ◌==◌, Bool, true, is_some, List, [], ◌∷◌, ◌++◌, map, Option, None, Some, if◌then◌else◌}
 use Rattle.up_event.specs.declared.live.LiveEvent.{LiveEvent}
 use Rattle.up_event.specs.LiveEvents.{named, with_change, without_hold}
 use Rattle.up_model.specs.declared.event_id.EventId.{EventId}
 use Rattle.up_job.specs.declared.holder.Holder.{Holder}
 use Rattle.up_job.specs.declared.holder.Holder.TheVariants as holder
 use Rattle.up_job.specs.declared.instance.Instance.{Instance as Kept}
+use Rattle.up_marks.specs.Triggers.{kept_by}
+use Rattle.up_marks.specs.declared.mark.Mark.{Mark}
 use Rattle.up_book.specs.Asking.{client_of}
 use Rattle.up_book.specs.Counting.{event_of}
 use Rattle.up_book.specs.declared.holders.Holders.{Holders}
@@ -38,6 +40,11 @@ AllLive events its =
 -- these events, as holders
 abbrev pub as_holders : List EventId → List Holder
 as_holders ids = map holder.Event ids
+
+-- what several expressions keep
+abbrev pub all_kept : List (Option (List Mark)) → List EventId
+all_kept [] = []
+all_kept (trigger ∷ triggers) = kept_by trigger ++ all_kept triggers
 
 -- those who hold an instance in a step that was asked for so
 abbrev pub holders_by : Holders → Option Asked → List Holder

@@ -17,6 +17,9 @@ pub data Mode : Type 0 where
   Resting : Mode
   Stepping : Mode
 
+abbrev pub name_of : JobDef → Bytes
+name_of job = job.name
+
 -- the job at an index of the table, and its name
 abbrev pub job_at : Configuration → ℕ → Option JobDef
 job_at config job = slice_get config.jobs job

@@ -1,5 +1,6 @@
 -- What a ledger stands for.
 use Rattle.std.specs.Prelude.{◌≡◌, ℕ, true, false, List, [], None, Some, ⊤}
+use Rattle.up_book.specs.Hearers.{AreFound}
 use Rattle.up_book.specs.Hearing.{HasLeaves}
 use Rattle.up_book.specs.Keys.{Mode, Resting, Stepping}
 use Rattle.up_book.specs.Standing.{Forgets}
@@ -10,9 +11,7 @@ use Rattle.up_conf.specs.declared.job.JobDef.{JobDef}
 use Rattle.up_image.specs.declared.index.Place.{Place}
 use Rattle.up_job.specs.Lists.{nth}
 use Rattle.up_model.specs.Chronicle.{Chronicle}
-use Rattle.up_model.specs.Configuration.{Configuration, job_named}
-use Rattle.up_model.specs.Instances.{instances_of}
-use Rattle.up_model.specs.Values.{Bytes}
+use Rattle.up_model.specs.Configuration.{Configuration}
 
 -- an index has the leaves of each of these jobs' expressions
 pub record HasIndex (index : List Place) (jobs : List JobDef) : Type 0 where
@@ -28,5 +27,5 @@ pub record Stands (ledger : Ledger) (mode : Mode) (config : Configuration) (c : 
   pub past : Forgets ledger.past config c
   pub index : HasIndex ledger.index config.jobs
   pub step : IsStepIn mode ledger.step config c
-  -- no job but those of the table has instances
-  pub known : (job : Bytes) → job_named job config.jobs ≡ None → instances_of job c ≡ []
+  -- the index and the others have the `stop on` of each instance
+  pub found : AreFound ledger.others config c

@@ -6,10 +6,9 @@ use Rattle.up_model.specs.Chronicle.{Chronicle, Entry, Queued, Outside, Made, Re
 use Rattle.up_model.specs.Clock.{now}
 use Rattle.up_model.specs.Configuration.{Configuration, job_named}
 use Rattle.up_model.specs.Held.{is_spoilt}
-use Rattle.up_model.specs.Instances.{instance_named}
+use Rattle.up_model.specs.Instances.{instances_of, instance_named}
 use Rattle.up_model.specs.Readings.{holders}
 use Rattle.up_model.specs.Values.{Bytes}
-use Rattle.up_model.proofs.FileLaws.{AreMadeBy}
 use Rattle.up_model.proofs.NameLaws.{Singles}
 use Rattle.up_job.specs.Moments.{moments_of, Falls}
 
@@ -26,8 +25,8 @@ pub record IsRegular (config : Configuration) (c : Chronicle) : Type 0 where
   pub origins : AreOlderOrigins c
   pub unspoilt : (event : ℕ) → length c ≤ event → is_spoilt event c ≡ false
   pub singles : Singles c
-  -- each instance was made by the file of one of the jobs
-  pub made : AreMadeBy config.jobs c
+  -- no job but those of the table has instances
+  pub known : (job : Bytes) → job_named job config.jobs ≡ None → instances_of job c ≡ []
   pub falling : (instance : ℕ) → Falls (now c) (moments_of instance c)
 
 -- what may be the next entry of one

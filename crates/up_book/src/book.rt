@@ -20,6 +20,9 @@ ghost use Rattle.up_model.specs.Chronicle.{Chronicle, Expression as ExpressionVa
 ghost use Rattle.up_model.specs.Chronicle as entry;
 ghost use Rattle.up_model.specs.Clock as clock;
 ghost use Rattle.up_model.specs.Configuration.{Configuration, job_named};
+ghost use Rattle.up_model.specs.Loads.{with_jobs};
+ghost use Rattle.up_job.specs.Named.{AreInOrder};
+ghost use Rattle.up_book.specs.Keys.{name_of};
 ghost use Rattle.up_model.specs.Environments.{env_of_job};
 ghost use Rattle.up_model.specs.Due.{turn_event, telling};
 ghost use Rattle.up_model.specs.Files.{names_in_order};
@@ -201,7 +204,7 @@ pub trait Book: Drop {
             → stands self.new Stepping config
             (entry.Queued (entry.Outside (length c)) event ∷ entry.Given input ∷ c)) };
 
-    /// The input was a request: it is answered.
+    /// The input was a request, or a load: its client is answered.
     fn reply(&mut self, answer: Answer) -> Result<(), AllocError>
         ensures { OnOk result ((config : Configuration) (c : Chronicle) → stands self.old Stepping config c
             → stands self.new Stepping config (entry.Replied (given_place c) answer ∷ c)) };
@@ -393,8 +396,17 @@ pub trait Book: Drop {
             → job_at config index ≡ Some file.now → instance_named (called file.now.name name.now) c ≡ None
             → event_place self.old c k ≡ Some j → event_place self.new (entry.Made file.now name.now ∷ c) k ≡ Some j) };
 
-    /// The first job of the table, from an index on, with an expression that names an event, by a leaf without a literal value that rules
-    /// the event out. Takes no memory.
+    /// These jobs come into force, in byte order of names: by a load, in a step in which no request has acted on an instance. What each
+    /// `start on` had seen is forgotten, and instances go on by their own files.
+    fn load(&mut self, files: &[JobFile]) -> Result<(), AllocError>
+        requires { AreInOrder name_of files.now }
+        ensures { OnOk result ((config : Configuration) (c : Chronicle) (jobs : List JobValue)
+            → stands self.old Stepping config c → replies.request_instance c ≡ None
+            → files.now ≡ (with_jobs jobs config c).jobs
+            → stands self.new Stepping (with_jobs jobs config c) (entry.Loaded jobs ∷ c)) };
+
+    /// The first job of the table, from an index on, with an expression that names an event, or an instance whose own `stop on` does, by
+    /// a leaf without a literal value that rules the event out. Takes no memory.
     fn next_hearer(&self, jobs: &[JobFile], event: EventId, from: usize) -> Option<usize>
         ensures next { (config : Configuration) (c : Chronicle) (e : ℕ) → stands self.now Stepping config c
             → jobs.now ≡ config.jobs
@@ -421,24 +433,24 @@ pub trait Book: Drop {
     /// An event is offered to the `stop on` of an instance; returns whether that is true then.
     fn offer_stop(
         &mut self,
-        job: &JobDef,
+        file: &JobFile,
         key: InstanceKey,
         event: EventId,
     ) -> Result<bool, AllocError>
         ensures after { OnOk result ((config : Configuration) (c : Chronicle) (i e : ℕ)
             → stands self.old Stepping config c
-            → instance_place config c key ≡ Some i → read.file_of i c ≡ Some job.now
+            → instance_place config c key ≡ Some i → read.file_of i c ≡ Some file.now
             → event_place self.old c event ≡ Some e
             → stands self.new Stepping config (entry.Offered (entry.StopOn i) e ∷ c)) }
         ensures holds { IfOk result (λ holds. (config : Configuration) (c : Chronicle) (i e : ℕ)
             → stands self.old Stepping config c
-            → instance_place config c key ≡ Some i → read.file_of i c ≡ Some job.now
+            → instance_place config c key ≡ Some i → read.file_of i c ≡ Some file.now
             → event_place self.old c event ≡ Some e
-            → holds ≡ seen.holds job.now.stop_on
+            → holds ≡ seen.holds file.now.stop_on
             (seen.seen config (entry.StopOn i) (entry.Offered (entry.StopOn i) e ∷ c))) }
         ensures events { OnOk result ((config : Configuration) (c : Chronicle) (i e : ℕ) (k : EventIdValue) (j : ℕ)
             → stands self.old Stepping config c
-            → instance_place config c key ≡ Some i → read.file_of i c ≡ Some job.now
+            → instance_place config c key ≡ Some i → read.file_of i c ≡ Some file.now
             → event_place self.old c event ≡ Some e → event_place self.old c k ≡ Some j
             → event_place self.new (entry.Offered (entry.StopOn i) e ∷ c) k ≡ Some j) };
 

@@ -1,13 +1,14 @@
 //! Which jobs hear of an event.
 ghost use Rattle.std.specs.Prelude.{◌≡◌, ◌≤◌, ◌&&◌, length, nat_le, nat_lt, true, false};
 ghost use Rattle.std.specs.List.Sorted.{IsPartitionPoint};
-ghost use Rattle.up_book.specs.Hearers.{IsNextJob, first_from};
+ghost use Rattle.up_book.specs.Hearers.{IsNextJob, first_from, has_stop, lesser, one_stops};
 ghost use Rattle.up_image.specs.Index.{named};
 ghost use Rattle.up_marks.specs.Naming.{Rising};
 ghost use Rattle.up_marks.specs.Ruling.{admits};
 
 use up_image::{JobFile, Place};
-use up_marks::{Index, admits};
+use up_job::{Instance, Instances};
+use up_marks::{Index, admits, may_stop};
 use up_model::Event;
 
 // How many of these places are of earlier jobs.
@@ -54,4 +55,68 @@ pub(crate) fn next_job(index: &Index, jobs: &[JobFile], event: &Event, from: usi
     ensures { IsNextJob (admits jobs.now event.now) from (named event.now.name index.now) result }
 {
     next_job_in(jobs, index.places(&event.name), event, from)
+}
+
+// Whether an event may match the `stop on` of one of these instances, each by its own file.
+fn one_stops(instances: &[Instance], event: &Event) -> bool
+    ensures { result ≡ one_stops event.now instances.now }
+{
+    instances
+        .iter()
+        .any(|instance| may_stop(&instance.file, event))
+}
+
+// The job of the first of these places with an instance that an event may stop. Each job is asked once.
+fn first_other(instances: &Instances, places: &[Place], event: &Event, from: usize) -> Option<usize>
+    requires { Rising 0 places.now }
+    ensures { result ≡ first_from (has_stop instances.now event.now) from places.now }
+{
+    let mut from = from;
+    for place in places {
+        let job = usize::from(place.job);
+        if from <= job {
+            if one_stops(instances.of_job(job), event) {
+                return Some(job);
+            }
+            from = job + 1;
+        }
+    }
+    None
+}
+
+// The first job from one on that has one of these places, and an instance that an event may stop.
+fn next_other_in(
+    instances: &Instances,
+    places: &[Place],
+    event: &Event,
+    from: usize,
+) -> Option<usize>
+    requires { Rising 0 places.now }
+    ensures { IsNextJob (has_stop instances.now event.now) from places.now result }
+{
+    let (_, later) = places.split_at(earlier_len(places, from));
+    first_other(instances, later, event, from)
+}
+
+/// The first job from one on that has places of the event in an index, and an instance that the event may stop. Takes no memory.
+pub(crate) fn next_other(
+    others: &Index,
+    instances: &Instances,
+    event: &Event,
+    from: usize,
+) -> Option<usize>
+    ensures { IsNextJob (has_stop instances.now event.now) from (named event.now.name others.now) result }
+{
+    next_other_in(instances, others.places(&event.name), event, from)
+}
+
+/// The lesser of two, if there are two.
+pub(crate) fn lesser_of(one: Option<usize>, other: Option<usize>) -> Option<usize>
+    ensures { result ≡ lesser one other }
+{
+    match (one, other) {
+        (None, other) => other,
+        (Some(one), None) => Some(one),
+        (Some(one), Some(other)) => Some(if other < one { other } else { one }),
+    }
 }

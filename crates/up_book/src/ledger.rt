@@ -1,20 +1,23 @@
 //! The book of an engine: what is kept of the past, and of the step that isn't over.
 ghost use Rattle.std.specs.Prelude.{◌≡◌, ◌++◌, ◌∷◌, ℕ, [], None, Some, map, IsOk, IfOk, OnOk};
-ghost use Rattle.up_book.specs.Keys.{Resting, Stepping};
+ghost use Rattle.up_book.specs.Keys.{Resting, Stepping, name_of};
 ghost use Rattle.up_book.specs.Ledgers.{HasIndex, Stands};
 ghost use Rattle.up_book.specs.Requesting.{OnMeans};
 ghost use Rattle.up_book.specs.Sending.{IsOrder, IsSignal};
 ghost use Rattle.up_book.specs.Views.{kept_at};
+ghost use Rattle.up_image.specs.Index.{named};
+ghost use Rattle.up_job.specs.JobLists.{stop_places};
 ghost use Rattle.up_job.specs.Lists.{nth};
 ghost use Rattle.up_conf.specs.declared.job.JobDef.{JobDef as JobValue};
 ghost use Rattle.up_model.specs.Chronicle.{Chronicle};
-ghost use Rattle.up_model.specs.Configuration.{Configuration};
+ghost use Rattle.up_model.specs.Configuration.{Configuration, started_with};
+ghost use Rattle.up_job.specs.Named.{AreInOrder};
 ghost use Rattle.up_model.specs.Due.{telling};
 ghost use Rattle.up_model.specs.Replies.{request_instance, status_if};
-ghost use Rattle.up_model.specs.Values.{Bindings};
+ghost use Rattle.up_model.specs.Values.{Bindings, Bytes};
 
 use crate::book::Book;
-use crate::hearers::next_job;
+use crate::hearers::{lesser_of, next_job, next_other};
 use crate::holders::{Holders, holders_by};
 use crate::orders::{order_of, signal_of};
 use crate::past::Past;
@@ -23,7 +26,7 @@ use crate::step::{ActedOn, Step, push_emitted, put};
 use std::alloc::{AllocError, Global};
 use up_conf::JobDef;
 use up_event::TurnKind;
-use up_image::{JobFile, Table};
+use up_image::JobFile;
 use up_job::{InstanceKey, Instances};
 use up_marks::Index;
 use up_model::{Answer, Event, EventId, Failure, Goal, Input, Output, Process, State};
@@ -38,14 +41,24 @@ pub struct Ledger {
     pub(crate) alloc: Global,
     pub past: Past,
     pub index: Index,
+    // The leaves of the `stop on` of the instances that a load found, each as one of its job.
+    pub others: Index,
     pub step: Step,
 }
 
-fn index_of(alloc: Global, table: &Table) -> Result<Index, AllocError>
-    ensures { IfOk result (λ index. HasIndex index table.now) }
+fn index_of(alloc: Global, files: &[JobFile]) -> Result<Index, AllocError>
+    ensures { IfOk result (λ index. HasIndex index files.now) }
 {
-    let index = Index::of(alloc, table)?;
+    let index = Index::of(alloc, files)?;
     Ok(index)
+}
+
+// An index of the leaves of the instances' `stop on`.
+fn others_of(alloc: Global, instances: &Instances) -> Result<Index, AllocError>
+    ensures { IfOk result (λ others. (name : Bytes) → named name others ≡ named name (stop_places 0 instances.now)) }
+{
+    let places = instances.stop_places(alloc)?;
+    Index::of_places(places)
 }
 
 // What is asked for by which a process of an instance is started.
@@ -83,16 +96,18 @@ fn signal_at(
 
 impl Ledger {
     /// Nothing has happened to the jobs of a table.
-    pub fn new(alloc: Global, table: &Table) -> Result<Self, AllocError>
-        ensures { IfOk result (λ ledger. (base : Bindings)
-            → Stands ledger Resting (record { base = base; jobs = table.now }) []) }
+    pub fn new(alloc: Global, files: &[JobFile]) -> Result<Self, AllocError>
+        requires { AreInOrder name_of files.now }
+        ensures { IfOk result (λ ledger. (base : Bindings) → Stands ledger Resting (started_with base files.now) []) }
     {
-        let index = index_of(alloc, table)?;
-        let past = Past::new(alloc, table)?;
+        let index = index_of(alloc, files)?;
+        let past = Past::new(alloc, files)?;
+        let others = Index::of_places(Vec::new(alloc))?;
         Ok(Ledger {
             alloc,
             past,
             index,
+            others,
             step: Step::none(alloc),
         })
     }
@@ -394,9 +409,21 @@ impl Book for Ledger {
         Ok(key)
     }
 
+    fn load(&mut self, files: &[JobFile]) -> Result<(), AllocError> {
+        self.past.load(self.alloc, files)?;
+        let others = others_of(self.alloc, &self.past.instances)?;
+        self.others = others;
+        let index = index_of(self.alloc, files)?;
+        self.index = index;
+        Ok(())
+    }
+
     fn next_hearer(&self, jobs: &[JobFile], event: EventId, from: usize) -> Option<usize> {
         match self.past.event_at(event) {
-            Some(event) => next_job(&self.index, jobs, event, from),
+            Some(event) => lesser_of(
+                next_job(&self.index, jobs, event, from),
+                next_other(&self.others, &self.past.instances, event, from),
+            ),
             None => None,
         }
     }
@@ -407,13 +434,11 @@ impl Book for Ledger {
 
     fn offer_stop(
         &mut self,
-        job: &JobDef,
+        file: &JobFile,
         key: InstanceKey,
         event: EventId,
     ) -> Result<bool, AllocError> {
-        let holds = self
-            .past
-            .offer_stop(self.alloc, &self.index, key, job, event)?;
+        let holds = self.past.offer_stop(self.alloc, key, file, event)?;
         Ok(holds)
     }
 
@@ -457,7 +482,7 @@ impl Book for Ledger {
         std::mem::replace(&mut self.step.outputs, Vec::new(self.alloc))
     }
 
-    ghost known = { λ ledger mode config c job s none. s.known job none };
+    ghost known = { λ ledger mode config c job s none. s.past.regular.known job none };
 
     ghost distinct = { λ ledger mode config c s. s.past.lives.distinct };
 }

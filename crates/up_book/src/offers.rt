@@ -10,7 +10,7 @@ ghost use Rattle.up_image.specs.Index.{named};
 ghost use Rattle.up_job.specs.JobLists.{changed_at};
 ghost use Rattle.up_job.specs.Lending.{with_stop_on};
 ghost use Rattle.up_job.specs.Lists.{nth, with_at};
-ghost use Rattle.up_marks.specs.Naming.{of_expression};
+ghost use Rattle.up_marks.specs.Naming.{naming_in, of_expression};
 ghost use Rattle.up_model.specs.Chronicle.{Chronicle};
 ghost use Rattle.up_model.specs.Chronicle as entry;
 ghost use Rattle.up_model.specs.Configuration.{Configuration};
@@ -23,8 +23,9 @@ use crate::holding::{free_ids, hold_times};
 use crate::past::Past;
 use std::alloc::{AllocError, Global};
 use up_conf::JobDef;
+use up_image::JobFile;
 use up_job::InstanceKey;
-use up_marks::{Firing, Index, Offer};
+use up_marks::{Firing, Index, Offer, stop_leaves};
 use up_model::EventId;
 use up_text::{Env, Items};
 
@@ -57,9 +58,8 @@ impl Past {
     fn offer_to_stop(
         &mut self,
         alloc: Global,
-        index: &Index,
         key: InstanceKey,
-        job: &JobDef,
+        file: &JobFile,
         id: EventId,
         env: &Env,
     ) -> Result<Offer, AllocError>
@@ -67,19 +67,17 @@ impl Past {
           instances = changed_at key (with_stop_on (trigger_at key self.new.instances)) self.old.instances;
         }) }
         ensures hears { IfOk result (λ offer. (live : LiveEventValue) → named_event id self.old.events ≡ Some live
-            → Hears (trigger_at key self.old.instances) (trigger_at key self.new.instances) job.now.stop_on
-            (map (λ place. place.node) (of_expression key.job false (named live.event.name index.now)))
-            id live.event env.now offer) }
+            → Hears (trigger_at key self.old.instances) (trigger_at key self.new.instances) file.now.stop_on
+            (naming_in file.now.stop_on live.event.name) id live.event env.now offer) }
     {
-        let number = number_of(key.job)?;
         match self.events.find(id) {
             Some(live) => {
-                let leaves = index.leaves(&live.event.name, number, false);
+                let leaves = stop_leaves(file, &live.event.name);
                 let offer = offer_to_stop(
                     &mut self.instances,
                     key,
                     alloc,
-                    &job.stop_on,
+                    &file.job().stop_on,
                     leaves,
                     id,
                     &live.event,
@@ -95,25 +93,24 @@ impl Past {
     pub(crate) fn offer_stop(
         &mut self,
         alloc: Global,
-        index: &Index,
         key: InstanceKey,
-        job: &JobDef,
+        file: &JobFile,
         id: EventId,
     ) -> Result<bool, AllocError>
         ensures after { OnOk result ((config : Configuration) (c : Chronicle) (i e : ℕ) → Forgets self.old config c
-            → instance_place self.old c key ≡ Some i → read.file_of i c ≡ Some job.now
-            → HasLeaves index.now key.job false job.now.stop_on → event_place self.old c id ≡ Some e
+            → instance_place self.old c key ≡ Some i → read.file_of i c ≡ Some file.now
+            → event_place self.old c id ≡ Some e
             → Forgets self.new config (entry.Offered (entry.StopOn i) e ∷ c)) }
         ensures holds { IfOk result (λ holds. (config : Configuration) (c : Chronicle) (i e : ℕ)
             → Forgets self.old config c
-            → instance_place self.old c key ≡ Some i → read.file_of i c ≡ Some job.now
-            → HasLeaves index.now key.job false job.now.stop_on → event_place self.old c id ≡ Some e
-            → holds ≡ seen.holds job.now.stop_on
+            → instance_place self.old c key ≡ Some i → read.file_of i c ≡ Some file.now
+            → event_place self.old c id ≡ Some e
+            → holds ≡ seen.holds file.now.stop_on
             (seen.seen config (entry.StopOn i) (entry.Offered (entry.StopOn i) e ∷ c))) }
         ensures places { OnOk result (SamePlaces self.new.events self.old.events) }
     {
         let env = self.env_copy(alloc, key)?;
-        let offer = self.offer_to_stop(alloc, index, key, job, id, &env)?;
+        let offer = self.offer_to_stop(alloc, key, file, id, &env)?;
         hold_times(&mut self.events, id, offer.kept)?;
         Ok(offer.holds)
     }

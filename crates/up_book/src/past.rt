@@ -1,6 +1,7 @@
 //! A book that forgets.
 ghost use Rattle.std.specs.Prelude.{◌≡◌, ℕ, List, ◌∷◌, [], map, Some, false, true, length, option_map, nat_lt, if◌then◌else◌, IfOk, IfNone, OnSome, OnOk};
 ghost use Rattle.up_job.specs.Lists.{nth};
+ghost use Rattle.up_conf.specs.declared.job.JobDef.{JobDef as JobValue};
 ghost use Rattle.up_model.specs.Due.{turn_event};
 ghost use Rattle.up_model.specs.Instances.{instance_named};
 ghost use Rattle.up_book.specs.Regular.{called};
@@ -13,7 +14,9 @@ ghost use Rattle.up_model.specs.declared.who.Who.{Who as WhoValue};
 ghost use Rattle.up_model.specs.Chronicle.{Chronicle};
 ghost use Rattle.up_model.specs.Chronicle as entry;
 ghost use Rattle.up_model.specs.Clock as clock;
-ghost use Rattle.up_model.specs.Configuration.{Configuration};
+ghost use Rattle.up_model.specs.Configuration.{Configuration, started_with};
+ghost use Rattle.up_job.specs.Named.{AreInOrder};
+ghost use Rattle.up_model.specs.Loads.{with_jobs};
 ghost use Rattle.up_model.specs.Queue.{queue};
 ghost use Rattle.up_model.specs.Readings as read;
 ghost use Rattle.up_event.specs.LiveEvents.{with_change, as_handled, named, without, outcome_of, AreDistinct};
@@ -22,7 +25,7 @@ ghost use Rattle.up_model.specs.Held.{is_held};
 ghost use Rattle.up_book.specs.Eventing.{SamePlaces, finished_at, number_of};
 ghost use Rattle.up_model.specs.declared.event_id.EventId.{EventId as EventIdValue};
 ghost use Rattle.up_book.specs.Keeps.{is_waiting, AreOlder};
-ghost use Rattle.up_book.specs.Keys.{SpeaksOf};
+ghost use Rattle.up_book.specs.Keys.{SpeaksOf, name_of};
 ghost use Rattle.up_job.specs.InstanceLists.{new_instance};
 ghost use Rattle.up_job.specs.JobLists.{with_made, removed_at, position_at};
 ghost use Rattle.up_job.specs.declared.instance.Instance.{Instance as InstanceValue};
@@ -37,14 +40,14 @@ ghost use Rattle.up_model.specs.Values.{Bindings};
 ghost use Rattle.up_model.specs.declared.state.Goal.TheVariants as aim;
 ghost use Rattle.up_model.specs.declared.state.State.TheVariants as entered;
 ghost use Rattle.up_marks.specs.Triggers.{kept_by};
-ghost use Rattle.up_book.specs.Holding.{freed, all_changed, as_holders};
+ghost use Rattle.up_book.specs.Holding.{freed, all_changed, all_kept, as_holders};
 ghost use Rattle.up_model.specs.Replies.{waiter_in};
 
-use crate::holding::{free_all_of, free_held, hold_all};
+use crate::holding::{free_all_of, free_held, free_ids, hold_all};
 use std::alloc::{AllocError, Global};
 use up_conf::JobDef;
 use up_event::{Events, Finished, TurnKind};
-use up_image::{JobFile, Table};
+use up_image::JobFile;
 use up_job::{Change, Holder, Instance, InstanceKey, Instances};
 use up_marks::Trigger;
 use up_model::{Event, EventId, Failure, Goal, Input, Process, State};
@@ -112,29 +115,39 @@ fn take_out(events: &mut Events, id: EventId) -> Option<Finished>
 }
 
 // What the `start on` of each job remembers before anything has happened.
-fn triggers_of(alloc: Global, jobs: &[JobDef]) -> Result<Vec<Trigger>, AllocError>
+fn triggers_of(alloc: Global, jobs: &[JobFile]) -> Result<Vec<Trigger>, AllocError>
     ensures { IfOk result (λ triggers. (places : Places) (config : Configuration)
         → StartsRemember places config [] triggers.items jobs.now) }
 {
     let mut triggers = Vec::new(alloc);
-    for job in jobs {
-        let trigger = Trigger::new(alloc, &job.start_on)?;
+    for file in jobs {
+        let trigger = Trigger::new(alloc, &file.job().start_on)?;
         triggers.push(trigger)?;
     }
     Ok(triggers)
+}
+
+// What these expressions keep is freed.
+fn free_starts(alloc: Global, events: &mut Events, starts: &[Trigger]) -> Result<(), AllocError>
+    ensures { OnOk result (events.new ≡ all_changed (freed false) (as_holders (all_kept starts.now)) events.old) }
+{
+    for start in starts {
+        let kept = start.kept(alloc)?;
+        free_ids(events, kept.as_slice());
+    }
+    Ok(())
 }
 
 impl Past {
     ghost use Rattle.up_book.specs.Standing.{Forgets, event_place, instance_place};
 
     /// Nothing has happened to the jobs of a table.
-    pub(crate) fn new(alloc: Global, table: &Table) -> Result<Self, AllocError>
-        ensures { IfOk result (λ past. (base : Bindings)
-            → Forgets past (record { base = base; jobs = table.now }) []) }
+    pub(crate) fn new(alloc: Global, files: &[JobFile]) -> Result<Self, AllocError>
+        requires { AreInOrder name_of files.now }
+        ensures { IfOk result (λ past. (base : Bindings) → Forgets past (started_with base files.now) []) }
     {
-        table.is_given();
-        let instances = Instances::of_jobs(alloc, table.as_slice())?;
-        let starts = triggers_of(alloc, table.as_slice())?;
+        let instances = Instances::of_jobs(alloc, files)?;
+        let starts = triggers_of(alloc, files)?;
         Ok(Past {
             instances,
             starts,
@@ -237,7 +250,22 @@ impl Past {
             Input::Emit(_) => {}
             Input::Request { .. } => {}
             Input::Turn => {}
+            Input::Load { .. } => {}
         }
+    }
+
+    /// These jobs come into force. What the `start on` of those before keep is freed, and instances go on.
+    pub(crate) fn load(&mut self, alloc: Global, files: &[JobFile]) -> Result<(), AllocError>
+        requires { AreInOrder name_of files.now }
+        ensures { OnOk result ((config : Configuration) (c : Chronicle) (jobs : List JobValue)
+            → Forgets self.old config c → files.now ≡ (with_jobs jobs config c).jobs
+            → Forgets self.new (with_jobs jobs config c) (entry.Loaded jobs ∷ c)) }
+    {
+        free_starts(alloc, &mut self.events, self.starts.as_slice())?;
+        let starts = triggers_of(alloc, files)?;
+        self.starts = starts;
+        self.instances.replace(alloc, files)?;
+        Ok(())
     }
 
     fn spawned_if(&mut self, on: Option<InstanceKey>, process: Process, pid: u32)

@@ -16,7 +16,7 @@ use up_model::{Command, Event, Input, Output};
 use up_text::Text;
 
 /// A request of which a step is the answer: the number under which it is answered, what it asks, whether its client waits, and whether
-/// it was answered in this step.
+/// it was answered in this step. A load is one too, which nothing but the load itself answers.
 #[derive(Clone, Copy, Debug)]
 pub struct Asked {
     pub id: u64,
@@ -49,6 +49,12 @@ fn asked_in(input: &Input) -> Option<Asked>
             command: request.command,
             waits: request.wait,
             answered: false,
+        }),
+        Input::Load { id, .. } => Some(Asked {
+            id: *id,
+            command: Command::ReloadConfiguration,
+            waits: false,
+            answered: true,
         }),
         Input::Emit(_)
         | Input::Spawned { .. }

@@ -2,10 +2,11 @@
 ghost use Rattle.std.specs.Prelude.{◌≡◌, IfOk};
 
 use std::alloc::{AllocError, Global};
-use up_stanza::{Action, Setting};
+use up_stanza::{Action, Exit, Setting};
 use up_text::{Items, Text};
 
-fn copy_texts(alloc: Global, texts: &[Text]) -> Result<Items<Text>, AllocError>
+/// Equal texts in memory of their own.
+pub(crate) fn copy_texts(alloc: Global, texts: &[Text]) -> Result<Items<Text>, AllocError>
     ensures { IfOk result (λ copied. copied ≡ texts.now) }
 {
     let mut copied: Vec<Text> = Vec::new(alloc);
@@ -46,4 +47,29 @@ pub(crate) fn copy_setting(alloc: Global, setting: &Setting) -> Result<Setting, 
     let key = Text::from_str(alloc, setting.key.as_str())?;
     let value = copy_value(&setting.value)?;
     Ok(Setting { key, value })
+}
+
+/// Equal exits in memory of their own.
+pub(crate) fn copy_exits(alloc: Global, exits: &[Exit]) -> Result<Items<Exit>, AllocError>
+    ensures { IfOk result (λ copied. copied ≡ exits.now) }
+{
+    let mut copied: Vec<Exit> = Vec::new(alloc);
+    for exit in exits {
+        copied.push(*exit)?;
+    }
+    Ok(Items::new(copied))
+}
+
+/// Equal settings in memory of their own.
+pub(crate) fn copy_settings(
+    alloc: Global,
+    settings: &[Setting],
+) -> Result<Items<Setting>, AllocError>
+    ensures { IfOk result (λ copied. copied ≡ settings.now) }
+{
+    let mut copied: Vec<Setting> = Vec::new(alloc);
+    for setting in settings {
+        copied.push(copy_setting(alloc, setting)?)?;
+    }
+    Ok(Items::new(copied))
 }

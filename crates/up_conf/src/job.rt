@@ -1,5 +1,9 @@
 //! What the files of a job say of it.
+ghost use Rattle.std.specs.Prelude.{◌≡◌, IfOk};
 
+use crate::copies::{copy_exits, copy_settings, copy_texts};
+use crate::outline::outline_of;
+use std::alloc::{AllocError, Global};
 use up_expr::Condition;
 use up_stanza::{Action, Exit, Limit, Setting, Signal};
 use up_text::{Items, Name, Text};
@@ -41,4 +45,17 @@ pub struct JobDef {
     pub start_on: Option<Condition>,
     /// The events that stop an instance of it.
     pub stop_on: Option<Condition>,
+}
+
+impl JobDef {
+    /// An equal value in memory of its own.
+    pub fn copy(&self, alloc: Global) -> Result<Self, AllocError>
+        ensures { IfOk result (λ job. job ≡ self.now) }
+    {
+        let name = self.name.copy()?;
+        let env = copy_settings(alloc, self.env.as_slice())?;
+        let export = copy_texts(alloc, self.export.as_slice())?;
+        let normal = copy_exits(alloc, self.normal.as_slice())?;
+        outline_of(self, normal).into_job(alloc, name, env, export)
+    }
 }

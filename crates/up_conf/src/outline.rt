@@ -292,3 +292,29 @@ impl<'a> Outline<'a> {
         }
     }
 }
+
+/// What a job says, without its name and its keys, with these exits as its own.
+pub(crate) fn outline_of<'a>(job: &'a JobDef, normal: Items<Exit>) -> Outline<'a>
+    requires { normal ≡ job.now.normal }
+    ensures { result ≡ record job.now { name = []; env = []; export = [] } }
+{
+    Outline {
+        task: job.task,
+        respawn: job.respawn,
+        silent: job.silent,
+        instance: Some(&job.instance),
+        dir: Some(&job.dir),
+        limit: job.limit,
+        kill_signal: job.kill_signal,
+        kill_timeout: job.kill_timeout,
+        reload_signal: job.reload_signal,
+        normal,
+        main: job.main.as_ref(),
+        pre_start: job.pre_start.as_ref(),
+        post_start: job.post_start.as_ref(),
+        pre_stop: job.pre_stop.as_ref(),
+        post_stop: job.post_stop.as_ref(),
+        start_on: job.start_on.as_ref(),
+        stop_on: job.stop_on.as_ref(),
+    }
+}

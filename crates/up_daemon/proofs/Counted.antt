@@ -56,6 +56,7 @@ ends_append (input.Spawned who process pid ∷ inputs) more = ends_append inputs
 ends_append (input.Refused who process ∷ inputs) more = ends_append inputs more
 ends_append (input.Clock now ∷ inputs) more = ends_append inputs more
 ends_append (input.Turn ∷ inputs) more = ends_append inputs more
+ends_append (input.Load id loaded ∷ inputs) more = ends_append inputs more
 
 -- a call of the host
 did : (start : DaemonState) (due : ℕ) (host : Calls Happened) (door : Calls Passed) (fed : List Input) (gave : List (List Output)) (left : List Output) (entry : Happened)

@@ -20,6 +20,7 @@ request_more first next (input.Refused who process ∷ inputs) request are = req
 request_more first next (input.Ended who process how ∷ inputs) request are = request_more first next inputs request are
 request_more first next (input.Clock now ∷ inputs) request are = request_more first next inputs request are
 request_more first next (input.Turn ∷ inputs) request are = request_more first next inputs request are
+request_more first next (input.Load id loaded ∷ inputs) request are = request_more first next inputs request are
 
 -- another input more
 other_more : (first next : ℕ) (inputs : List Input) (given : Input) → (AreNumbered next (given ∷ []) next) → AreNumbered first inputs next
@@ -32,6 +33,7 @@ other_more first next (input.Refused who process ∷ inputs) given other are = o
 other_more first next (input.Ended who process how ∷ inputs) given other are = other_more first next inputs given other are
 other_more first next (input.Clock now ∷ inputs) given other are = other_more first next inputs given other are
 other_more first next (input.Turn ∷ inputs) given other are = other_more first next inputs given other are
+other_more first next (input.Load id loaded ∷ inputs) given other are = other_more first next inputs given other are
 
 -- whatever a round did so far, its requests are numbered
 pub numbered : (config : Configuration) (c : Chronicle) (start : DaemonState) (part : Part) (state : RoundState)

@@ -76,6 +76,7 @@ requests_append (input.Refused who process ∷ inputs) given = requests_append i
 requests_append (input.Ended who process how ∷ inputs) given = requests_append inputs given
 requests_append (input.Clock now ∷ inputs) given = requests_append inputs given
 requests_append (input.Turn ∷ inputs) given = requests_append inputs given
+requests_append (input.Load id loaded ∷ inputs) given = requests_append inputs given
 
 pub record Stand (start : DaemonState) (early : Type 0) (clients : List Peer) (next : ℕ) (log : Log) (left : List Output) (door : List Passed) : Type 0 where
   pub exchanges : List Exchange

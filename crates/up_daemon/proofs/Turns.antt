@@ -3,6 +3,7 @@ use Rattle.std.proofs.Common.{◌≡◌, ◌≢◌, ◌∙◌, sym, Bool, true, 
 use Rattle.up_model.specs.Chronicle.{Chronicle}
 use Rattle.up_model.specs.Configuration.{Configuration}
 use Rattle.up_model.specs.Due.{turn_event}
+use Rattle.up_model.specs.Loads.{in_force}
 use Rattle.up_model.specs.Queue.{queue}
 
 not_some : {A : Type 0} (found : Option A) → is_some found ≡ false → found ≡ None
@@ -13,10 +14,10 @@ not_none : {A : Type 0} (found : Option A) → is_some found ≡ true → found 
 not_none None is none = cc
 not_none (Some event) is none = cc
 
-pub none_is : (config : Configuration) (c : Chronicle) (has : Bool) → has ≡ is_some (turn_event config (queue c) c) → has ≡ false
-    → turn_event config (queue c) c ≡ None
-none_is config c has is none = not_some (turn_event config (queue c) c) (sym is ∙ none)
+pub none_is : (config : Configuration) (c : Chronicle) (has : Bool) → has ≡ is_some (turn_event (in_force config c) (queue c) c) → has ≡ false
+    → turn_event (in_force config c) (queue c) c ≡ None
+none_is config c has is none = not_some (turn_event (in_force config c) (queue c) c) (sym is ∙ none)
 
-pub some_is : (config : Configuration) (c : Chronicle) (has : Bool) → has ≡ is_some (turn_event config (queue c) c) → has ≡ true
-    → turn_event config (queue c) c ≢ None
-some_is config c has is some = not_none (turn_event config (queue c) c) (sym is ∙ some)
+pub some_is : (config : Configuration) (c : Chronicle) (has : Bool) → has ≡ is_some (turn_event (in_force config c) (queue c) c) → has ≡ true
+    → turn_event (in_force config c) (queue c) c ≢ None
+some_is config c has is some = not_none (turn_event (in_force config c) (queue c) c) (sym is ∙ some)

@@ -29,6 +29,7 @@ ends_in (input.Spawned who process pid ∷ inputs) = ends_in inputs
 ends_in (input.Refused who process ∷ inputs) = ends_in inputs
 ends_in (input.Clock now ∷ inputs) = ends_in inputs
 ends_in (input.Turn ∷ inputs) = ends_in inputs
+ends_in (input.Load id loaded ∷ inputs) = ends_in inputs
 
 -- a count of faults after so many more
 abbrev pub faults_after : ℕ → ℕ → ℕ

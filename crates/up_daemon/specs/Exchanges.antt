@@ -120,6 +120,7 @@ requests_in (input.Refused who process ∷ inputs) = requests_in inputs
 requests_in (input.Ended who process how ∷ inputs) = requests_in inputs
 requests_in (input.Clock now ∷ inputs) = requests_in inputs
 requests_in (input.Turn ∷ inputs) = requests_in inputs
+requests_in (input.Load id loaded ∷ inputs) = requests_in inputs
 
 -- the requests that entered, the oldest first
 abbrev pub requests_of : List Exchange → List Input

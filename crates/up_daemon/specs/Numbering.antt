@@ -14,3 +14,4 @@ AreNumbered first (input.Refused who process ∷ inputs) next = AreNumbered firs
 AreNumbered first (input.Ended who process how ∷ inputs) next = AreNumbered first inputs next
 AreNumbered first (input.Clock now ∷ inputs) next = AreNumbered first inputs next
 AreNumbered first (input.Turn ∷ inputs) next = AreNumbered first inputs next
+AreNumbered first (input.Load id loaded ∷ inputs) next = AreNumbered first inputs next

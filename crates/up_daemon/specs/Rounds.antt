@@ -7,6 +7,7 @@ use Rattle.up_model.specs.Answers.{answer, after_all}
 use Rattle.up_model.specs.Chronicle.{Chronicle}
 use Rattle.up_model.specs.Configuration.{Configuration}
 use Rattle.up_model.specs.Due.{turn_event}
+use Rattle.up_model.specs.Loads.{in_force}
 use Rattle.up_model.specs.Queue.{queue}
 use Rattle.up_model.specs.Requests.{RequestValue}
 use Rattle.up_model.specs.declared.event.Event.{Event}
@@ -107,12 +108,12 @@ pub data Reaches (config : Configuration) (c : Chronicle) (start : DaemonState) 
       → Reaches config c start TakingRequests state → Reaches config c start (TakingTurns 0) state
   -- then the queue of events turns, until a turn would touch no event, or as often as may be
   TakesTurn : (turns : ℕ) → (outputs : List Output) → (state : RoundState) → state.left ≡ [] → turns < most_turns
-      → turn_event config (queue (after_all config c state.fed)) (after_all config c state.fed) ≢ None
+      → turn_event (in_force config (after_all config c state.fed)) (queue (after_all config c state.fed)) (after_all config c state.fed) ≢ None
       → outputs ≡ outputs_in (answer config (after_all config c state.fed) input.Turn)
       → Reaches config c start (TakingTurns turns) state
       → Reaches config c start (TakingTurns (turns + 1)) (with_input input.Turn outputs state)
   HasTurned : (turns : ℕ) → (state : RoundState) → state.left ≡ []
-      → (turns ≡ most_turns) ⊎ (turn_event config (queue (after_all config c state.fed)) (after_all config c state.fed) ≡ None)
+      → (turns ≡ most_turns) ⊎ (turn_event (in_force config (after_all config c state.fed)) (queue (after_all config c state.fed)) (after_all config c state.fed) ≡ None)
       → Reaches config c start (TakingTurns turns) state
       → Reaches config c start (WritingTo state.clients) (with_clients [] state)
   -- each for whom bytes wait is written to once; it is closed if the write fails

@@ -102,7 +102,7 @@ impl Work {
             → starts_left self.new (reverse stack.new.items) ≤ starts_left self.old
             (reverse stack.old.items)) }
     {
-        let told = given.copy()?;
+        let told = given.copy(self.alloc)?;
         let outputs = outputs_of(self.alloc, &mut self.engine, given)?;
         push_copies(self.alloc, &outputs, stack)?;
         self.log.add(told, outputs)?;

@@ -206,6 +206,7 @@ fn push_input(text: &mut Vec<u8>, input: &Input) -> Result<(), AllocError> {
         Input::Ended { .. } => push(text, "ended\n"),
         Input::Clock(_) => push(text, "clock\n"),
         Input::Turn => push(text, "turn\n"),
+        Input::Load { .. } => push(text, "load\n"),
     }
 }
 

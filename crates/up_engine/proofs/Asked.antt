@@ -24,7 +24,7 @@ use Rattle.up_model.proofs.Sparing.{same-append}
 use Rattle.up_engine.proofs.Quiet.{none-asked, stays-quiet}
 use Rattle.up_model.specs.Chronicle.{Chronicle, Entry, Given, Queued, Made, Aimed, Restarted, Signalled, Replied, Outside}
 use Rattle.up_model.specs.Queue.{queue}
-use Rattle.up_model.specs.Commands.{Outcome, Refused, Told, Done, Target, Nobody, Concerns, entries_of, start_at, stop_at, restart_at, start, stop, restart, is_running, refusal, status, status_at, stopped_text, reload, reload_at, reloading, target_of, listing, version_text, max_events, outcome_by, outcome_of}
+use Rattle.up_model.specs.Commands.{Outcome, Refused, Told, Done, Target, Nobody, Concerns, entries_of, start_at, stop_at, restart_at, start, stop, restart, is_running, refusal, status, status_at, stopped_text, reload, reload_at, reloading, listing, version_text, max_events, outcome_by, outcome_of, known_target}
 use Rattle.up_model.specs.Configuration.{Configuration}
 use Rattle.up_model.specs.Due.{due, effect}
 use Rattle.up_model.specs.Events.{with_instance as with_variables}
@@ -298,7 +298,7 @@ answered-due its config id request c is answered none =
     d = Given (input.Request id request) ∷ c
 
     target : Target
-    target = target_of config request.name request.vars d
+    target = known_target config request.name request.vars d
 
     by_command : (its : Command) → IsAnswered its → due config (entries_of (length c) (outcome_by its config (length c) request d) ++ d) ≡ []
     by_command command.Status answered = outcome-due config id request (status target d) c (status-told target d) none

@@ -16,6 +16,8 @@ use Rattle.up_model.specs.Chronicle.{Chronicle, Entry, Given, Queued, Handled, F
 use Rattle.up_model.specs.Clock.{all_overdue, kill, killing}
 use Rattle.up_model.specs.Commands.{outcome_of, entries_of}
 use Rattle.up_model.specs.Configuration.{Configuration}
+use Rattle.up_model.specs.Loads.{loading}
+use Rattle.up_model.proofs.EffectLaws.{loading-all}
 use Rattle.up_model.specs.Due.{due, end_of, telling, failed_event_of, finishing, turn_event, turn_of, effect, end_by}
 use Rattle.up_model.specs.Files.{own_file, names_in_order}
 use Rattle.up_model.specs.Held.{is_spoilt}
@@ -143,6 +145,8 @@ effect-of config (input.Clock reading) c none =
 effect-of config input.Turn c none =
     let event = turn_event config (queue.queue c) c in
     record { entries = turn_of event (Given input.Turn ∷ c); whole = refl; none = turn-none event (Given input.Turn ∷ c) none }
+effect-of config (input.Load id loaded) c none =
+    record { entries = loading (length c) loaded; whole = refl; none = loading-all TakesNone (λ request answer. tt) (λ jobs. tt) (length c) loaded }
 
 pub effect-offers : (config : Configuration) (given : Input) (c : Chronicle) → (IsTaking config given c → ⊥) → offering (effect config given c ++ c) ≡ None
 effect-offers config given c none =

@@ -17,7 +17,7 @@ use Rattle.up_conf.specs.Jobs.{job_of}
 use Rattle.up_conf.specs.Order.{is_below, put_by, sort_by_order}
 use Rattle.up_image.specs.Compiling.{has_twice, read_paths}
 use Rattle.up_image.proofs.Repeats.{bytes_eq-flip, or-false, or_parts}
-use Rattle.up_isolation.specs.Isolation.{jobs_called}
+use Rattle.up_isolation.specs.Views.{jobs_called}
 use Rattle.up_isolation.proofs.Ones.{AreApart, one-called}
 use Rattle.std.proofs.Common.{◌≤◌}
 use Rattle.up_model.specs.Values.{Bytes}

@@ -1,5 +1,5 @@
 -- What a step comes to that takes no memory.
-use Rattle.std.proofs.Common.{◌≡◌, ◌==◌, ℕ, Bool, true, false, List, [], ◌∷◌, ◌++◌, length, take, drop, Option, None, Some, if◌then◌else◌, refl, sym, ◌∙◌, ap, subst, arith, eqb-true}
+use Rattle.std.proofs.Common.{◌≡◌, ◌==◌, ◌||◌, ℕ, Bool, true, false, List, [], ◌∷◌, ◌++◌, length, take, drop, Option, None, Some, if◌then◌else◌, refl, sym, ◌∙◌, ap, subst, arith, eqb-true}
 use Rattle.std.proofs.Math.Seq.{take-append_seam, drop-append_seam}
 use Rattle.up_model.specs.declared.event.Event.{Event}
 use Rattle.up_model.specs.declared.input.Input.{Input}
@@ -9,11 +9,13 @@ use Rattle.up_model.specs.Answers.{is_expected, answers, after_all}
 use Rattle.up_model.specs.Chronicle.{Chronicle, Given, Handled}
 use Rattle.up_model.specs.Configuration.{Configuration}
 use Rattle.up_model.specs.Due.{turn_event, turn_of, failed_event_of, finishing, effect}
+use Rattle.up_model.specs.Instances.{instances_of}
+use Rattle.up_model.specs.Loads.{in_force}
 use Rattle.up_model.specs.Outputs.{outputs_of}
 use Rattle.up_model.specs.Queue.{Live, queue}
 use Rattle.up_model.specs.Readings.{entry_at, event_of, event_at}
 use Rattle.up_conf.specs.declared.job.JobDef.{JobDef}
-use Rattle.up_book.specs.Hearers.{hears}
+use Rattle.up_book.specs.Hearers.{hears, one_hears}
 use Rattle.up_book.specs.Keys.{job_at}
 use Rattle.up_book.specs.Unblocking.{IsBlockedBy}
 use Rattle.up_job.specs.declared.instance_key.InstanceKey.{InstanceKey}
@@ -39,6 +41,7 @@ free-expected config c (input.Request id request) free = absurd free
 free-expected config c (input.Spawned who process pid) free = absurd free
 free-expected config c (input.Refused who process) free = absurd free
 free-expected config c (input.Ended who process how) free = absurd free
+free-expected config c (input.Load id loaded) free = absurd free
 
 -- its effect asks for nothing
 turn-outputs : (config : Configuration) (e : ℕ) (handled : Bool) (c : Chronicle) → IsFreeOf config e handled (Given input.Turn ∷ c)
@@ -62,6 +65,7 @@ free-outputs config c (input.Request id request) free = absurd free
 free-outputs config c (input.Spawned who process pid) free = absurd free
 free-outputs config c (input.Refused who process) free = absurd free
 free-outputs config c (input.Ended who process how) free = absurd free
+free-outputs config c (input.Load id loaded) free = absurd free
 
 -- an event that is taken up is the one that was queued
 pub event-handled : (e p : ℕ) (c : Chronicle) → event_at e (Handled p ∷ c) ≡ event_at e c
@@ -73,18 +77,19 @@ event-handled e p c = by_case (length c == e) refl
 
 -- a run that is down stopped at an input that isn't one of these, if the one at which it stopped isn't
 pub stops_at : (steps : List Step) (config : Configuration) (c : Chronicle) (inputs passed left : List Input) (given : Input)
-    → inputs ≡ passed ++ given ∷ left → steps ≡ answers config c passed → (IsFree config (after_all config c passed) given → ⊥) → StopsAtNoFree steps config c inputs
+    → inputs ≡ passed ++ given ∷ left → steps ≡ answers config c passed → (IsFree (in_force config (after_all config c passed)) (after_all config c passed) given → ⊥) → StopsAtNoFree steps config c inputs
 stops_at steps config c inputs passed left given whole so_far never = λ other rest is.
     let count : length steps ≡ length passed = ap length so_far ∙ length-answers config c passed in
     let front : take (length steps) inputs ≡ passed = rw (count, whole) (take-append_seam passed (given ∷ left)) in
     let back : drop (length steps) inputs ≡ given ∷ left = rw (count, whole) (drop-append_seam passed (given ∷ left)) in
     let both : given ∷ left ≡ other ∷ rest = sym back ∙ is in
     let same : given ≡ other = cc in
-    λ free. never (subst (λ x. IsFree config (after_all config c passed) x) (sym same) (rw front at free))
+    λ free. never (subst (λ x. IsFree (in_force config (after_all config c passed)) (after_all config c passed) x) (sym same) (rw front at free))
 
 -- no job hears of an event of which none does
-pub hears-none : (config : Configuration) (n : ℕ) (job : JobDef) (event : Option Event) → NoneHears config event → job_at config n ≡ Some job → hears job event ≡ true → ⊥
-hears-none config n job event none there heard = true-false (sym heard ∙ none n job there)
+pub hears-none : (config : Configuration) (n : ℕ) (job : JobDef) (event : Option Event) (c : Chronicle) → NoneHears config event c → job_at config n ≡ Some job
+    → (hears job event || one_hears event (instances_of job.name c)) ≡ true → ⊥
+hears-none config n job event c none there heard = true-false (sym heard ∙ none n job there)
 
 -- an event of which nobody is told: it concerns nobody, and no event tells of it
 pub unseen-told : (e : ℕ) (c : Chronicle) → EndsUnseen e c → failed_event_of e c ≡ None

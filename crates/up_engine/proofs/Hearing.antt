@@ -9,7 +9,6 @@ use Rattle.up_model.specs.declared.state.State.TheVariants.{Waiting}
 use Rattle.up_model.specs.declared.who.Who.{Who}
 use Rattle.up_model.specs.Chronicle.{Chronicle, Entry, Given, Handled, Offered, Fired, Made, Aimed, Entered, StartOn}
 use Rattle.up_model.specs.Configuration.{Configuration}
-use Rattle.up_model.specs.Answers.{after}
 use Rattle.up_model.specs.Due.{due, effect}
 use Rattle.up_model.specs.Events as events_of
 use Rattle.up_model.specs.Events.{events_at}
@@ -30,7 +29,7 @@ use Rattle.up_book.specs.Keeps.{AreDistinct}
 use Rattle.up_book.proofs.One.{IsKnown, known-all, called, none-of-others, apart-back}
 use Rattle.up_job.specs.Lists.{nth}
 use Rattle.up_engine.specs.Offering.{Asked, OfStop, OfStart}
-use Rattle.up_engine.specs.Settling.{settle_one, settle_each, settle_all, hear_stops, hear_start, hear, hear_all, ListsAfter}
+use Rattle.up_engine.specs.Settling.{settle_one, settle_each, settle_all, hear_stops, hear_start, hear, hear_all, ListsAfter, after_in}
 use Rattle.up_book.proofs.Keyed.{nth-get}
 use Rattle.up_engine.specs.Unfired.{NoneHolds}
 use Rattle.up_model.proofs.FileLaws.{HasFile, files}
@@ -466,11 +465,11 @@ heard-rested config e c distinct none =
 
 -- what is after an input that takes an event up, and after any other
 pub after-taken : (config : Configuration) (given : Input) (c : Chronicle) (e : ℕ) → AreDistinct config.jobs → due config c ≡ [] → effect config given c ++ c ≡ Handled e ∷ Given Turn ∷ c
-    → hear_all config config.jobs e (Handled e ∷ Given Turn ∷ c) ≡ after config c given
-unfolding after
+    → hear_all config config.jobs e (Handled e ∷ Given Turn ∷ c) ≡ after_in config c given
+unfolding after_in
 after-taken config given c e distinct none same = (heard-rested config e c distinct none).0 ∙ ap (rested config) (sym same)
 
 pub after-other : (config : Configuration) (given : Input) (c : Chronicle) → AreDistinct config.jobs → offering (effect config given c ++ c) ≡ None
-    → answering_last (settle_all config.jobs (effect config given c ++ c)) ++ settle_all config.jobs (effect config given c ++ c) ≡ after config c given
-unfolding after
+    → answering_last (settle_all config.jobs (effect config given c ++ c)) ++ settle_all config.jobs (effect config given c ++ c) ≡ after_in config c given
+unfolding after_in
 after-other config given c distinct none = settled-rested config (effect config given c ++ c) distinct none

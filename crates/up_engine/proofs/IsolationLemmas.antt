@@ -8,9 +8,9 @@ use Rattle.up_engine.specs.declared.run.Run.{Run}
 use Rattle.up_engine.specs.Stands.{RunMeans, StepsMean}
 use Rattle.up_engine.proofs.FolderLemmas.{one-named}
 use Rattle.up_image.specs.Compiling.{Compiles}
-use Rattle.up_isolation.specs.Isolation.{IsUnique, MeanTheSame, jobs_called}
+use Rattle.up_isolation.specs.Isolation.{IsUnique, MeanTheSame}
 use Rattle.up_isolation.specs.Steps.{AreStepsOf, deeds_by_step, joined, orders_of, outputs_in}
-use Rattle.up_isolation.specs.Views.{deeds, view}
+use Rattle.up_isolation.specs.Views.{deeds, jobs_called, view}
 use Rattle.up_isolation.proofs.Orders.{orders-run}
 use Rattle.up_isolation.proofs.Runs.{law-isolation}
 use Rattle.up_isolation.proofs.Stepping.{deeds-run, steps-of}

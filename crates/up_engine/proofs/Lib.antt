@@ -2,6 +2,7 @@ pub mod Entries
 pub mod FolderLemmas
 pub mod EventKeys
 pub mod AnswerLemmas
+pub mod LoadLemmas
 pub mod EventLemmas
 pub mod ClockLemmas
 pub mod HolderLemmas
@@ -28,6 +29,7 @@ pub mod Effects
 pub mod Unfired
 pub mod Hearing
 pub mod Untrue
+pub mod Loading
 pub mod LeftLemmas
 pub mod Quiet
 pub mod IdleLemmas

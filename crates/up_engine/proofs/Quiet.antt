@@ -9,7 +9,6 @@ use Rattle.up_model.specs.declared.input.Input.{Input}
 use Rattle.up_model.specs.declared.input.Input.TheVariants as input
 use Rattle.up_model.specs.Chronicle.{Chronicle, Entry, Given, Queued, Handled, Finished, Made, Aimed, Restarted, Entered, Ordered, Signalled, Outside, Entering}
 use Rattle.up_model.specs.Clock.{all_overdue, kill, killing}
-use Rattle.up_model.specs.Answers.{after}
 use Rattle.up_model.specs.Configuration.{Configuration}
 use Rattle.up_model.specs.Due.{due, turn_event, effect}
 use Rattle.up_model.specs.Files.{names_in_order}
@@ -24,6 +23,7 @@ use Rattle.up_model.specs.Values.{Bytes}
 use Rattle.up_model.specs.Work.{work}
 use Rattle.up_model.proofs.Settling.{settle_still}
 use Rattle.up_model.proofs.Sparing.{same-append, all-append}
+use Rattle.up_engine.specs.Settling.{after_in}
 use Rattle.up_engine.proofs.JobMoves.{move_first}
 use Rattle.up_engine.proofs.Effects.{none-due}
 use Rattle.up_engine.proofs.Firing.{stay-still, still-stay}
@@ -145,8 +145,8 @@ unfolding effect
 idle-due config c none rests = rw none (quiet-due config (Given input.Turn ∷ []) c (tt, tt) refl refl rests)
 
 -- so the step is done
-pub after-quiet : (config : Configuration) (given : Input) (c : Chronicle) → due config (effect config given c ++ c) ≡ [] → effect config given c ++ c ≡ after config c given
-unfolding after
+pub after-quiet : (config : Configuration) (given : Input) (c : Chronicle) → due config (effect config given c ++ c) ≡ [] → effect config given c ++ c ≡ after_in config c given
+unfolding after_in
 after-quiet config given c none =
     let d = effect config given c ++ c in
     sym (settle_still (work config d) config d none)

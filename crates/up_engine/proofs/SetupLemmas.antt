@@ -15,12 +15,8 @@ use Rattle.up_book.specs.Keeps.{AreDistinct}
 use Rattle.up_book.proofs.Keyed.{nth-get}
 use Rattle.up_book.proofs.One.{apart-back}
 use Rattle.up_book.proofs.Outgoing.{named-there}
-use Rattle.up_book.proofs.Tables.{names-rise}
 use Rattle.up_engine.specs.Naming.{name_of}
-use Rattle.up_image.specs.Definable.{IsTable}
-use Rattle.up_job.specs.JobLists.{job_of, new_job}
 use Rattle.up_job.specs.Named.{named, position, AreInOrder, IsBelowAll}
-use Rattle.up_job.proofs.JobLemmas.{order-ascending}
 use Rattle.up_job.proofs.NamedLemmas.{below_not_same, present_here, absent_here, absent_beyond, named_here}
 use Rattle.std.specs.List.{AllByRecursion}
 
@@ -54,19 +50,7 @@ none-there jobs name n job order at within here differs =
 pub none-beyond : (jobs : List JobDef) (name : Bytes) (n : ℕ) → n ≡ position name_of name jobs → length jobs ≤ n → job_named name jobs ≡ None
 none-beyond jobs name n at past = sym (named-job name jobs) ∙ absent_beyond name_of name jobs n at past
 
--- the jobs of a table are in order
-below-all : (name : Bytes) (jobs : List JobDef) → IsBelowAll job_of name (map new_job jobs) → IsBelowAll name_of name jobs
-below-all name [] below = tt
-below-all name (job ∷ jobs) below = (below.0, below-all name jobs below.1)
-
-in-order : (jobs : List JobDef) → AreInOrder job_of (map new_job jobs) → AreInOrder name_of jobs
-in-order [] order = tt
-in-order (job ∷ jobs) order = (below-all job.name jobs order.0, in-order jobs order.1)
-
-pub table-order : (jobs : List JobDef) → IsTable jobs → AreInOrder name_of jobs
-table-order jobs table = in-order jobs (order-ascending jobs (names-rise jobs table))
-
--- so no two have one name
+-- no two of jobs in order have one name
 apart-all : (name : Bytes) (jobs : List JobDef) → IsBelowAll name_of name jobs → AllByRecursion (λ other. bytes_eq other.name name ≡ false) jobs
 apart-all name [] below = tt
 apart-all name (job ∷ jobs) below = (apart-back name job.name (below_not_same name job.name below.0), apart-all name jobs below.1)

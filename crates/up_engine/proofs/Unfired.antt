@@ -4,7 +4,7 @@ use Rattle.std.specs.List.{AllByRecursion}
 use Rattle.up_conf.specs.declared.job.JobDef.{JobDef}
 use Rattle.up_expr.specs.Trees.{Tree, One, Both, Either}
 use Rattle.up_expr.specs.Truth as truth
-use Rattle.up_model.specs.Chronicle.{Chronicle, Entry, Expression, Offered, Fired, Made, StartOn, StopOn}
+use Rattle.up_model.specs.Chronicle.{Chronicle, Entry, Expression, Offered, Fired, Loaded, Made, StartOn, StopOn}
 use Rattle.up_model.specs.Configuration.{Configuration}
 use Rattle.up_model.specs.Instances.{Instance, instances_of}
 use Rattle.up_model.specs.Moves.{may_leave, move}
@@ -13,6 +13,7 @@ use Rattle.up_model.specs.Predicates.{entries_if}
 use Rattle.up_model.specs.Readings.{entry_at, file_in, file_of}
 use Rattle.up_model.specs.Seen.{same_expression, seen, holds, taken}
 use Rattle.up_model.specs.Values.{Bytes}
+use Rattle.up_model.proofs.LoadLaws.{seen-stop}
 use Rattle.up_book.specs.Keeps.{AreDistinct}
 use Rattle.up_book.specs.Keys.{job_at}
 use Rattle.up_book.proofs.Keyed.{job-there}
@@ -48,6 +49,8 @@ unheld-entry config condition x (Fired other its) c is unheld = by_case (same_ex
     by_case : (b : Bool) → holds condition (if b then [] else seen config x c) ≡ false
     by_case true = unseen condition
     by_case false = unheld
+unheld-entry config condition (StartOn job) (Loaded jobs) c is unheld = unseen condition
+unheld-entry config condition (StopOn i) (Loaded jobs) c is unheld = unheld
 unheld-entry config condition x e c is unheld = unheld
 
 unseen-entry : (config : Configuration) (x : Expression) (e : Entry) (c : Chronicle) → IsUnoffered e → seen config x c ≡ [] → seen config x (e ∷ c) ≡ []
@@ -57,6 +60,8 @@ unseen-entry config x (Fired other its) c is none = by_case (same_expression oth
     by_case : (b : Bool) → (if b then [] else seen config x c) ≡ []
     by_case true = refl
     by_case false = none
+unseen-entry config (StartOn job) (Loaded jobs) c is none = refl
+unseen-entry config (StopOn i) (Loaded jobs) c is none = none
 unseen-entry config x e c is none = none
 
 -- the file of an instance that was made before an entry
@@ -254,6 +259,14 @@ none-each config (x ∷ its) c none = none-each config its (settle_one 5 x.file 
 pub none-all : (config : Configuration) (jobs : List JobDef) (c : Chronicle) → NoneHolds config c → NoneHolds config (settle_all jobs c)
 none-all config [] c none = none
 none-all config (job ∷ jobs) c none = none-all config jobs (settle_each (instances_of job.name c) c) (none-each config (instances_of job.name c) c none)
+
+-- a load: no `start on` has seen anything then, and each `stop on` what it had seen
+pub none-loaded : (config other : Configuration) (jobs : List JobDef) (c : Chronicle) → NoneHolds config c → NoneHolds other (Loaded jobs ∷ c)
+none-loaded config other jobs c none = record {
+  starts = λ n job there. unseen job.start_on;
+  stops = λ i file known. ap (holds file.stop_on) (seen-stop other config i c) ∙ none.stops i file (file-unmade i file (Loaded jobs) c tt known);
+  unborn = λ i later. seen-stop other config i c ∙ none.unborn i (omega (arith, later));
+}
 
 -- before anything has happened
 pub none-first : (config : Configuration) → NoneHolds config []

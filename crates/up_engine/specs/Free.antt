@@ -1,5 +1,5 @@
 -- The inputs that a step takes without memory, and for which it asks for nothing.
-use Rattle.std.specs.Prelude.{◌≡◌, ℕ, Bool, true, false, List, [], ◌∷◌, length, take, drop, Option, None, Some}
+use Rattle.std.specs.Prelude.{◌≡◌, ℕ, Bool, true, false, ◌||◌, List, [], ◌∷◌, length, take, drop, Option, None, Some}
 use Rattle.up_conf.specs.declared.job.JobDef.{JobDef}
 use Rattle.up_model.specs.declared.event.Event.{Event}
 use Rattle.up_model.specs.declared.event_id.EventId.{EventId}
@@ -13,17 +13,21 @@ use Rattle.up_model.specs.Configuration.{Configuration}
 use Rattle.up_model.specs.Due.{turn_event}
 use Rattle.up_model.specs.Files.{names_in_order}
 use Rattle.up_model.specs.Held.{is_spoilt}
+use Rattle.up_model.specs.Instances.{instances_of}
+use Rattle.up_model.specs.Loads.{in_force}
 use Rattle.up_model.specs.Queue.{Live, queue}
 use Rattle.up_model.specs.Readings.{blocker, event_at}
 use Rattle.up_model.specs.Replies.{waiter}
-use Rattle.up_book.specs.Hearers.{hears}
+use Rattle.up_book.specs.Hearers.{hears, one_hears}
 use Rattle.up_book.specs.Keys.{job_at}
 use Rattle.up_engine.specs.declared.due.Concern.{Concern}
 use Rattle.up_engine.specs.declared.due.Concern.TheVariants.{Nobody, Instance as Instance', Event as Event', Anybody}
 
--- no job hears of an event: no leaf of an expression names it, or the literal values of each that does rule it out
-abbrev pub NoneHears : Configuration → Option Event → Type 0
-NoneHears config event = (n : ℕ) (job : JobDef) → job_at config n ≡ Some job → hears job event ≡ false
+-- no job hears of an event: no leaf of an expression, of the jobs' files or of those of their instances, names it, or the literal values of
+-- each that does rule it out
+abbrev pub NoneHears : Configuration → Option Event → Chronicle → Type 0
+NoneHears config event c = (n : ℕ) (job : JobDef) → job_at config n ≡ Some job
+    → (hears job event || one_hears event (instances_of job.name c)) ≡ false
 
 -- an event is over of which nobody is told: no instance let it go as failed, and no client and no instance waits for it
 pub record EndsUnseen (event : ℕ) (c : Chronicle) : Type 0 where
@@ -33,7 +37,7 @@ pub record EndsUnseen (event : ℕ) (c : Chronicle) : Type 0 where
 
 -- a turn takes an event up of which no job hears, or, if it was taken up before, finishes one of which nobody is told
 abbrev pub IsFreeOf : Configuration → (event : ℕ) → (handled : Bool) → Chronicle → Type 0
-IsFreeOf config event false c = NoneHears config (event_at event c)
+IsFreeOf config event false c = NoneHears config (event_at event c) c
 IsFreeOf config event true c = EndsUnseen event c
 
 -- so does a turn with an event, if it has one
@@ -51,11 +55,12 @@ IsFree config c given = ⊥
 -- the input after so many steps isn't one of these
 abbrev pub StopsAtNoFree : List Step → Configuration → Chronicle → List Input → Type 0
 StopsAtNoFree steps config c inputs = (given : Input) (left : List Input) → drop (length steps) inputs ≡ given ∷ left
-    → IsFree config (after_all config c (take (length steps) inputs)) given → ⊥
+    → IsFree (in_force config (after_all config c (take (length steps) inputs)))
+    (after_all config c (take (length steps) inputs)) given → ⊥
 
 -- whom the effect of such an input concerns: nobody, or those that hear of an event, and nobody does
 abbrev pub ConcernsNone : (Chronicle → EventId → Option ℕ) → Configuration → Chronicle → Concern → Type 0
 ConcernsNone places config c Nobody = Unit {0}
-ConcernsNone places config c (Event' key) = (e : ℕ) × ((places c key ≡ Some e) × NoneHears config (event_at e c))
+ConcernsNone places config c (Event' key) = (e : ℕ) × ((places c key ≡ Some e) × NoneHears config (event_at e c) c)
 ConcernsNone places config c (Instance' key) = ⊥
 ConcernsNone places config c Anybody = ⊥

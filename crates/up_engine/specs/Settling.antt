@@ -3,10 +3,13 @@ use Rattle.std.specs.Prelude.{◌≡◌, ℕ, zero, suc, Bool, true, false, List
 use Rattle.up_conf.specs.declared.job.JobDef.{JobDef}
 use Rattle.up_model.specs.Chronicle.{Chronicle}
 use Rattle.up_model.specs.Configuration.{Configuration}
+use Rattle.up_model.specs.Due.{effect}
 use Rattle.up_model.specs.Instances.{Instance, without_instance, instances_of}
 use Rattle.up_model.specs.Moves.{may_leave, move}
 use Rattle.up_model.specs.Offers.{stop_offer, start_offer}
 use Rattle.up_model.specs.Values.{Bytes}
+use Rattle.up_model.specs.Work.{work, settle}
+use Rattle.up_model.specs.declared.input.Input.{Input}
 
 -- an instance moves as long as it may, so many times at most
 abbrev pub settle_one : ℕ → JobDef → Instance → Chronicle → Chronicle
@@ -48,3 +51,7 @@ hear config job event c =
 abbrev pub hear_all : Configuration → List JobDef → (event : ℕ) → Chronicle → Chronicle
 hear_all config [] event c = c
 hear_all config (job ∷ jobs) event c = hear_all config jobs event (hear config job event c)
+
+-- the chronicle after an input that leaves the configuration as it is: its effect, and then what is due until nothing is
+unfoldable pub after_in : Configuration → Chronicle → Input → Chronicle
+after_in config c given = let d = effect config given c ++ c in settle (work config d) config d

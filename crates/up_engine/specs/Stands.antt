@@ -14,19 +14,20 @@ use Rattle.up_model.specs.Configuration.{Configuration}
 use Rattle.up_engine.specs.Unfired.{IsAtRest}
 use Rattle.up_model.specs.Due.{turn_event}
 use Rattle.up_model.specs.Left.{spawns}
+use Rattle.up_model.specs.Loads.{in_force}
 use Rattle.up_model.specs.Outputs.{outputs_of}
 use Rattle.up_model.specs.Queue.{queue}
 -- the one line that names the book in use
 use Rattle.up_book.specs.Ledgers.{Stands as BookStands}
 use Rattle.up_book.specs.Lefts.{left_of_jobs}
 
--- the engine isn't down, and its book stands for this chronicle of this configuration
+-- the engine isn't down, and its book stands for this chronicle of a run that was started with this configuration
 pub record Stands (engine : Engine) (config : Configuration) (c : Chronicle) : Type 0 where
   pub up : engine.down ≡ false
-  pub setup : engine.setup ≡ config
-  pub past : BookStands engine.book Resting config c
+  pub setup : engine.setup ≡ in_force config c
+  pub past : BookStands engine.book Resting (in_force config c) c
   -- nothing is left to do, and no expression is true that hasn't fired
-  pub rest : IsAtRest config c
+  pub rest : IsAtRest (in_force config c) c
 
 -- the engine is down
 abbrev pub IsDown : Engine → Type 0
@@ -36,7 +37,7 @@ IsDown engine = engine.down ≡ true
 pub record DownAt (engine : Engine) (config : Configuration) (c : Chronicle) : Type 0 where
   pub down : engine.down ≡ true
   pub live : engine.live ≡ length (queue c)
-  pub turn : engine.turns ≡ is_some (turn_event config (queue c) c)
+  pub turn : engine.turns ≡ is_some (turn_event (in_force config c) (queue c) c)
 
 -- a result with its value seen in another way
 abbrev pub result_map : {A B E : Type 0} → (A → B) → Result A E → Result B E

@@ -11,6 +11,7 @@ ghost use Rattle.up_model.specs.Chronicle.{Chronicle};
 ghost use Rattle.up_model.specs.Chronicle as entry;
 ghost use Rattle.up_model.specs.Configuration.{Configuration};
 ghost use Rattle.up_model.specs.Due as model;
+ghost use Rattle.up_model.specs.Loads.{is_load};
 ghost use Rattle.up_model.specs.Held as held;
 ghost use Rattle.up_model.specs.Instances.{instance_named};
 ghost use Rattle.up_model.specs.Queue as queue;
@@ -81,7 +82,11 @@ pub(crate) fn is_expected<B: Book>(setup: &Setup, book: &B, input: &Input) -> bo
             setup, book, who, *process,
         ),
         Input::Ended { who, process, .. } => has_living(setup, book, who, *process),
-        Input::Emit(_) | Input::Request { .. } | Input::Clock(_) | Input::Turn => true,
+        Input::Emit(_)
+        | Input::Request { .. }
+        | Input::Clock(_)
+        | Input::Turn
+        | Input::Load { .. } => true,
     }
 }
 
@@ -318,7 +323,7 @@ fn take_reading<B: Book>(
     Ok(())
 }
 
-/// Takes an input in, with its own effect; returns whom that concerns.
+/// Takes an input in that is no load, with its own effect; returns whom that concerns.
 #[tactic(auto, unfolding(up_model::specs::Due::effect))]
 pub(crate) fn apply_effect<B: Book>(
     alloc: Global,
@@ -326,6 +331,7 @@ pub(crate) fn apply_effect<B: Book>(
     book: &mut B,
     input: Input,
 ) -> Result<Concern, AllocError>
+    requires { is_load input ≡ false }
     ensures after { OnOk result ((c : Chronicle) → B.stands book.old Resting setup.now c
         → B.stands book.new Stepping setup.now (model.effect setup.now input c ++ c)) }
     ensures concerns { IfOk result (λ concern. (c : Chronicle) → B.stands book.old Resting setup.now c
@@ -364,5 +370,6 @@ pub(crate) fn apply_effect<B: Book>(
             let concern = take_turn(alloc, book)?;
             Ok(concern)
         }
+        Input::Load { .. } => unreachable!(),
     }
 }

@@ -1,6 +1,6 @@
 //! The engine: one step for one input, and a run over a list of them.
-ghost use Rattle.std.specs.Prelude.{◌≡◌, List, ℕ, true, false, Ok, Err, [], length, is_some, Some, IsOkAnd, IfOk, OnOk};
-ghost use Rattle.up_book.specs.Keys.{Resting};
+ghost use Rattle.std.specs.Prelude.{◌≡◌, ◌++◌, IsOk, List, ℕ, true, false, Ok, Err, [], length, is_some, Some, IsOkAnd, IfOk, OnOk};
+ghost use Rattle.up_book.specs.Keys.{Resting, Stepping};
 ghost use Rattle.up_engine.specs.Free.{IsFree, StopsAtNoFree};
 ghost use Rattle.up_engine.specs.Requests.{answer_of};
 ghost use Rattle.up_engine.specs.Sound.{IsSound};
@@ -8,20 +8,23 @@ ghost use Rattle.up_engine.specs.Unfired.{IsAtRest};
 ghost use Rattle.up_model.specs.Answers as answer;
 ghost use Rattle.up_model.specs.Chronicle.{Chronicle};
 ghost use Rattle.up_model.specs.Commands as commands;
-ghost use Rattle.up_model.specs.Configuration.{Configuration};
+ghost use Rattle.up_model.specs.Configuration.{Configuration, started_with};
 ghost use Rattle.up_model.specs.Due as due;
+ghost use Rattle.up_model.specs.Due.{effect};
 ghost use Rattle.up_model.specs.Left.{is_calm};
+ghost use Rattle.up_model.specs.Loads.{in_force};
 ghost use Rattle.up_model.specs.Outputs.{outputs_of};
 ghost use Rattle.up_model.specs.Queue as queue;
 ghost use Rattle.up_model.specs.declared.step.Step.TheVariants.{Gave};
 
 use crate::due::is_expected;
 use crate::fault::StepError;
+use crate::load::{is_load, load};
 use crate::run::Run;
 use crate::settle::run_step;
 use crate::setup::Setup;
 use crate::status::{list, status};
-use crate::target::target_of;
+use crate::target::known_target;
 use std::alloc::{AllocError, Global};
 use up_book::{Book, Ledger};
 use up_image::Table;
@@ -43,23 +46,52 @@ pub struct Engine {
     ghost sound: { IsSound down setup book },
 }
 
+// Takes an input in that is no load, and does what is due until nothing is; or carries a load out, after which nothing is due.
+fn take<B: Book>(
+    alloc: Global,
+    setup: &mut Setup,
+    book: &mut B,
+    given: Input,
+) -> Result<(), AllocError>
+    ensures setup { OnOk result ((start : Configuration) (c : Chronicle) → setup.old ≡ in_force start c
+        → B.stands book.old Resting setup.old c → IsAtRest setup.old c
+        → setup.new ≡ in_force start (answer.after start c given)) }
+    ensures book { OnOk result ((start : Configuration) (c : Chronicle) → setup.old ≡ in_force start c
+        → B.stands book.old Resting setup.old c → IsAtRest setup.old c
+        → B.stands book.new Stepping setup.new (answer.after start c given)) }
+    ensures free { (c : Chronicle) → B.stands book.old Resting setup.old c → IsFree setup.old c given
+        → IsOk result × (setup.new ≡ setup.old)
+        × B.stands book.new Stepping setup.old (effect setup.old given c ++ c) }
+{
+    if is_load(&given) {
+        book.begin_step(&given, None);
+        load(alloc, setup, book, given)?;
+    } else {
+        run_step(alloc, setup, book, given)?;
+    }
+    Ok(())
+}
+
 // One whole step.
 fn step_book<B: Book>(
     alloc: Global,
-    setup: &Setup,
+    setup: &mut Setup,
     book: &mut B,
     given: Input,
 ) -> Result<Vec<Output>, AllocError>
-    ensures after { OnOk result ((c : Chronicle) → B.stands book.old Resting setup.now c
-        → IsAtRest setup.now c
-        → B.stands book.new Resting setup.now (answer.after setup.now c given)) }
-    ensures outputs { IfOk result (λ outputs. (c : Chronicle) → B.stands book.old Resting setup.now c
-        → IsAtRest setup.now c
-        → outputs.items ≡ outputs_of (answer.after setup.now c given)) }
-    ensures free { (c : Chronicle) → B.stands book.old Resting setup.now c → IsFree setup.now c given
+    ensures setup { OnOk result ((start : Configuration) (c : Chronicle) → setup.old ≡ in_force start c
+        → B.stands book.old Resting setup.old c → IsAtRest setup.old c
+        → setup.new ≡ in_force start (answer.after start c given)) }
+    ensures after { OnOk result ((start : Configuration) (c : Chronicle) → setup.old ≡ in_force start c
+        → B.stands book.old Resting setup.old c → IsAtRest setup.old c
+        → B.stands book.new Resting setup.new (answer.after start c given)) }
+    ensures outputs { IfOk result (λ outputs. (start : Configuration) (c : Chronicle)
+        → setup.old ≡ in_force start c → B.stands book.old Resting setup.old c → IsAtRest setup.old c
+        → outputs.items ≡ outputs_of (answer.after start c given)) }
+    ensures free { (c : Chronicle) → B.stands book.old Resting setup.old c → IsFree setup.old c given
         → IsOkAnd result (λ outputs. outputs.items ≡ []) }
 {
-    run_step(alloc, setup, book, given)?;
+    take(alloc, setup, book, given)?;
     let outputs = book.end_step();
     Ok(outputs)
 }
@@ -73,9 +105,9 @@ fn status_of<B: Book>(
     vars: &Env,
 ) -> Result<Answer, AllocError>
     ensures { IfOk result (λ answer. (c : Chronicle) → B.stands book.now Resting setup.now c
-        → answer ≡ answer_of (commands.status (commands.target_of setup.now job.now vars.now c) c)) }
+        → answer ≡ answer_of (commands.status (commands.known_target setup.now job.now vars.now c) c)) }
 {
-    let target = target_of(alloc, setup, book, job, vars)?;
+    let target = known_target(alloc, setup, book, job, vars)?;
     let answer = status(alloc, book, target)?;
     Ok(answer)
 }
@@ -85,10 +117,11 @@ impl Engine {
 
     /// An engine to which nothing has happened. Each process gets its environment on top of `base`, of which each job gets a copy.
     pub fn new(alloc: Global, table: Table, base: Env) -> Result<Self, AllocError>
-        ensures { IfOk result (λ engine. Stands engine (record { base = base; jobs = table }) []) }
+        ensures { IfOk result (λ engine. Stands engine (started_with base table) []) }
     {
-        let book = Ledger::new(alloc, &table)?;
         let setup = Setup::new(alloc, table, base)?;
+        setup.is_ordered();
+        let book = Ledger::new(alloc, setup.jobs())?;
         Ok(Engine {
             alloc,
             setup,
@@ -124,9 +157,9 @@ impl Engine {
     /// Whether a turn would handle or finish an event. Takes no memory.
     pub fn has_turn(&self) -> bool
         ensures up { (config : Configuration) (c : Chronicle) → Stands self.now config c
-            → result ≡ is_some (due.turn_event config (queue.queue c) c) }
+            → result ≡ is_some (due.turn_event (in_force config c) (queue.queue c) c) }
         ensures down { (config : Configuration) (c : Chronicle) → DownAt self.now config c
-            → result ≡ is_some (due.turn_event config (queue.queue c) c) }
+            → result ≡ is_some (due.turn_event (in_force config c) (queue.queue c) c) }
     {
         if self.down {
             return self.turns;
@@ -138,7 +171,7 @@ impl Engine {
     /// (initctl(8)). Refused with `Memory`, which changes nothing, and with `Down` if the engine is.
     pub fn status(&self, job: &str, vars: &Env) -> Result<Answer, StepError>
         ensures meaning { (config : Configuration) (c : Chronicle) → Stands self.now config c
-            → TellsOf result (answer_of (commands.status (commands.target_of config job.now vars.now c) c)) }
+            → TellsOf result (answer_of (commands.status (commands.known_target (in_force config c) job.now vars.now c) c)) }
         ensures down { IsDown self.now → result ≡ Err StepError.Down }
     {
         if self.down {
@@ -154,7 +187,7 @@ impl Engine {
     /// which changes nothing, and with `Down` if the engine is.
     pub fn list(&self) -> Result<Text, StepError>
         ensures meaning { (config : Configuration) (c : Chronicle) → Stands self.now config c
-            → TellsOf result (commands.listing config c) }
+            → TellsOf result (commands.listing (in_force config c) c) }
         ensures down { IsDown self.now → result ≡ Err StepError.Down }
     {
         if self.down {
@@ -185,7 +218,7 @@ impl Engine {
             → Spends (result_map (λ outputs. outputs.items) result) (left_of self.old) (left_of self.new) }
         ensures down { IsDown self.old → (result ≡ Err StepError.Down) × (self.new ≡ self.old) }
         ensures free { (config : Configuration) (c : Chronicle) → Stands self.old config c
-            → IsFree config c given → result_map (λ outputs. outputs.items) result ≡ Ok [] }
+            → IsFree (in_force config c) c given → result_map (λ outputs. outputs.items) result ≡ Ok [] }
     {
         if self.down {
             drop(given);
@@ -198,7 +231,7 @@ impl Engine {
         self.live = self.book.live_events();
         self.turns = self.book.turn().is_some();
         self.down = true;
-        match step_book(self.alloc, &self.setup, &mut self.book, given) {
+        match step_book(self.alloc, &mut self.setup, &mut self.book, given) {
             Ok(outputs) => {
                 self.down = false;
                 Ok(outputs)
@@ -212,7 +245,7 @@ impl Engine {
         ensures meaning { (config : Configuration) (c : Chronicle) → Stands self.old config c
             → AnswerMeans result self.new config c given }
         ensures free { (config : Configuration) (c : Chronicle) → Stands self.old config c
-            → IsFree config c given → result ≡ Some (Gave []) }
+            → IsFree (in_force config c) c given → result ≡ Some (Gave []) }
     {
         match self.step(given) {
             Ok(outputs) => Some(Step::Gave(Items::new(outputs))),

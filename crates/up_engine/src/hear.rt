@@ -1,6 +1,6 @@
 //! How each job hears of the event that a turn takes up.
-ghost use Rattle.std.specs.Prelude.{◌≡◌, ◌≤◌, ◌<◌, ℕ, true, ◌++◌, ◌∷◌, [], length, Some, IsOk, IfOk, IfSome, MatchOption, OnOk};
-ghost use Rattle.up_book.specs.Hearers.{hears};
+ghost use Rattle.std.specs.Prelude.{◌≡◌, ◌≤◌, ◌<◌, ◌||◌, ℕ, true, ◌++◌, ◌∷◌, [], length, Some, IsOk, IfOk, IfSome, MatchOption, OnOk};
+ghost use Rattle.up_book.specs.Hearers.{hears, one_hears};
 ghost use Rattle.up_model.specs.declared.event_id.EventId.{EventId as EventIdValue};
 ghost use Rattle.up_book.specs.Keys.{Stepping, job_at, name_at, instance_at};
 ghost use Rattle.up_engine.specs.Free.{NoneHears};
@@ -32,32 +32,32 @@ fn hear_by<B: Book>(
     alloc: Global,
     setup: &Setup,
     book: &mut B,
-    job: &JobDef,
+    file: &JobFile,
     key: InstanceKey,
     event: EventId,
 ) -> Result<bool, AllocError>
     ensures after { OnOk result ((c : Chronicle) (its : Instance) (e : ℕ)
         → B.stands book.old Stepping setup.now c
         → instance_at setup.now c key ≡ Some its
-        → its.file ≡ job.now → B.event_place book.old c event ≡ Some e
+        → its.file ≡ file.now → B.event_place book.old c event ≡ Some e
         → B.stands book.new Stepping setup.now
-        (settle_one 5 job.now its (model.stop_offer setup.now job.now its.place e c ++ c))) }
+        (settle_one 5 file.now its (model.stop_offer setup.now file.now its.place e c ++ c))) }
     ensures lists { IfOk result (λ stays. (c : Chronicle) (its : Instance) (e : ℕ)
         → B.stands book.old Stepping setup.now c
         → instance_at setup.now c key ≡ Some its
-        → its.file ≡ job.now → B.event_place book.old c event ≡ Some e
+        → its.file ≡ file.now → B.event_place book.old c event ≡ Some e
         → ListsAfter stays its c
-        (settle_one 5 job.now its (model.stop_offer setup.now job.now its.place e c ++ c))) }
+        (settle_one 5 file.now its (model.stop_offer setup.now file.now its.place e c ++ c))) }
     ensures events { OnOk result ((c : Chronicle) (its : Instance) (e : ℕ) (k : EventIdValue) (j : ℕ)
         → B.stands book.old Stepping setup.now c
         → instance_at setup.now c key ≡ Some its
-        → its.file ≡ job.now → B.event_place book.old c event ≡ Some e
+        → its.file ≡ file.now → B.event_place book.old c event ≡ Some e
         → B.event_place book.old c k ≡ Some j
         → B.event_place book.new
-        (settle_one 5 job.now its (model.stop_offer setup.now job.now its.place e c ++ c)) k ≡ Some j) }
+        (settle_one 5 file.now its (model.stop_offer setup.now file.now its.place e c ++ c)) k ≡ Some j) }
 {
-    offer_stop(alloc, setup, book, job, key, event)?;
-    let stays = moves(alloc, setup, book, job, key)?;
+    offer_stop(alloc, setup, book, file, key, event)?;
+    let stays = moves(alloc, setup, book, file.job(), key)?;
     Ok(stays)
 }
 
@@ -88,7 +88,7 @@ fn hear_stop<B: Book>(
 {
     match file_of(book, key)? {
         Some(file) => {
-            let stays = hear_by(alloc, setup, book, file.job(), key, event)?;
+            let stays = hear_by(alloc, setup, book, &file, key, event)?;
             Ok(stays)
         }
         None => Ok(false),
@@ -180,7 +180,7 @@ fn next_hearer<'a, B: Book>(
         × AreUnheard setup.now (event_at e c) c from found.0) }
     ensures hears { (c : Chronicle) (e : ℕ) → B.stands book.now Stepping setup.now c
         → B.event_place book.now c event ≡ Some e
-        → IfSome result (λ found. hears found.1.now (event_at e c) ≡ true) }
+        → IfSome result (λ found. (hears found.1.now (event_at e c) || one_hears (event_at e c) (instances_of found.1.now.name c)) ≡ true) }
     ensures within { IfSome result (λ found. (from ≤ found.0) × (found.0 < length setup.now.jobs)
         × (found.0 < 18446744073709551615)) }
 {
@@ -211,7 +211,7 @@ pub(crate) fn hear_all<B: Book>(
         → B.stands book.new Stepping setup.now
         (settling.hear_all setup.now setup.now.jobs e (entry.Handled e ∷ entry.Given given_as.Turn ∷ c))) }
     ensures unheard { (c : Chronicle) (e : ℕ) → B.stands book.old Stepping setup.now c
-        → B.event_place book.old c event ≡ Some e → NoneHears setup.now (event_at e c)
+        → B.event_place book.old c event ≡ Some e → NoneHears setup.now (event_at e c) c
         → IsOk result × (book.new ≡ book.old) }
 {
     setup.names_differ();

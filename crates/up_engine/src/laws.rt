@@ -17,7 +17,8 @@ ghost use Rattle.up_model.specs.declared.step.Step.TheVariants.{Gave};
 ghost use Rattle.up_model.specs.Answers.{after_all, answers};
 ghost use Rattle.up_model.specs.Blocks.{HasOneMain};
 ghost use Rattle.up_model.specs.Chronicle.{Chronicle};
-ghost use Rattle.up_model.specs.Configuration.{Configuration};
+ghost use Rattle.up_model.specs.Configuration.{Configuration, started_with};
+ghost use Rattle.up_model.specs.Loads.{in_force};
 ghost use Rattle.up_model.specs.Due.{turn_event};
 ghost use Rattle.up_model.specs.Left.{left};
 ghost use Rattle.up_model.specs.Queue.{queue};
@@ -27,13 +28,13 @@ ghost use Rattle.up_model.specs.Values.{Bindings, Bytes};
 pub fn one_main()
     ensures { (files : List File) (table : List JobDef) (report : List Fault) (base : Bindings)
         (inputs : List Input)
-        → Compiles files table report → HasOneMain (after_all (record { base = base; jobs = table }) [] inputs) }
+        → Compiles files table report → HasOneMain (after_all (started_with base table) [] inputs) }
 {}
 
 /// The same of every table, whether it was compiled or read from an image.
 pub fn one_main_of_tables()
     ensures { (jobs : List JobDef) (base : Bindings) (inputs : List Input)
-        → IsTable jobs → HasOneMain (after_all (record { base = base; jobs = jobs }) [] inputs) }
+        → IsTable jobs → HasOneMain (after_all (started_with base jobs) [] inputs) }
 {}
 
 /// What the instances of an engine may still order is what the chronicle says that it stands for.
@@ -45,7 +46,7 @@ pub fn left_as_told()
 /// Turns that find no event ask for nothing, and an engine stands for as many of them as there are: it needs to take none.
 pub fn idle_turns()
     ensures { (engine : Engine) (config : Configuration) (c : Chronicle) (count : ℕ) → Stands engine config c
-        → turn_event config (queue c) c ≡ None
+        → turn_event (in_force config c) (queue c) c ≡ None
         → Stands engine config (after_all config c (replicate count Turn))
         × (answers config c (replicate count Turn) ≡ replicate count (Gave [])) }
 {}

@@ -10,6 +10,7 @@ mod hear;
 mod judgement;
 mod laws;
 mod life;
+mod load;
 mod moves;
 mod offers;
 mod requests;

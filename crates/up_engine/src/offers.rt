@@ -107,23 +107,23 @@ pub(crate) fn offer_stop<B: Book>(
     alloc: Global,
     setup: &Setup,
     book: &mut B,
-    job: &JobDef,
+    file: &JobFile,
     key: InstanceKey,
     event: EventId,
 ) -> Result<(), AllocError>
     ensures after { OnOk result ((c : Chronicle) (i e : ℕ) → B.stands book.old Stepping setup.now c
         → instance_place setup.now c key ≡ Some i
-        → read.file_of i c ≡ Some job.now → B.event_place book.old c event ≡ Some e
-        → B.stands book.new Stepping setup.now (model.stop_offer setup.now job.now i e c ++ c)) }
+        → read.file_of i c ≡ Some file.now → B.event_place book.old c event ≡ Some e
+        → B.stands book.new Stepping setup.now (model.stop_offer setup.now file.now i e c ++ c)) }
     ensures events { OnOk result ((c : Chronicle) (i e : ℕ) (k : EventIdValue) (j : ℕ)
         → B.stands book.old Stepping setup.now c → instance_place setup.now c key ≡ Some i
-        → read.file_of i c ≡ Some job.now
+        → read.file_of i c ≡ Some file.now
         → B.event_place book.old c event ≡ Some e → B.event_place book.old c k ≡ Some j
-        → B.event_place book.new (model.stop_offer setup.now job.now i e c ++ c) k ≡ Some j) }
+        → B.event_place book.new (model.stop_offer setup.now file.now i e c ++ c) k ≡ Some j) }
 {
-    let holds = book.offer_stop(job, key, event)?;
+    let holds = book.offer_stop(file, key, event)?;
     if holds {
-        stop_fires(alloc, setup, book, job, key)?;
+        stop_fires(alloc, setup, book, file.job(), key)?;
     }
     Ok(())
 }

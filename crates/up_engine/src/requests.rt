@@ -28,7 +28,7 @@ use crate::life::{is_running, is_start};
 use crate::offers::{has_room, start_called, stop_of};
 use crate::setup::Setup;
 use crate::status::{list, status};
-use crate::target::{Target, target_of};
+use crate::target::{Target, known_target, target_of};
 use crate::texts::{
     already_running, already_stopped, no_text, not_running, not_supported, too_many_events,
     too_many_instances, unknown_instance, version,
@@ -612,7 +612,7 @@ fn change<B: Book>(
             Ok(concern)
         }
         Command::Stop => {
-            let target = target_of(alloc, setup, book, name.as_str(), &vars)?;
+            let target = known_target(alloc, setup, book, name.as_str(), &vars)?;
             let holders = holders_of(wait);
             let concern = stop(alloc, book, holders, vars, target)?;
             Ok(concern)
@@ -624,7 +624,7 @@ fn change<B: Book>(
             Ok(concern)
         }
         Command::Status => {
-            let target = target_of(alloc, setup, book, name.as_str(), &vars)?;
+            let target = known_target(alloc, setup, book, name.as_str(), &vars)?;
             let answer = status(alloc, book, target)?;
             book.reply(answer)?;
             Ok(Concern::Nobody)
@@ -648,7 +648,7 @@ fn change<B: Book>(
             Ok(Concern::Nobody)
         }
         Command::Reload => {
-            let target = target_of(alloc, setup, book, name.as_str(), &vars)?;
+            let target = known_target(alloc, setup, book, name.as_str(), &vars)?;
             reload(alloc, book, target)?;
             Ok(Concern::Nobody)
         }

@@ -1,14 +1,14 @@
 //! What is due is done until nothing is.
-ghost use Rattle.std.specs.Prelude.{◌≡◌, ℕ, ◌++◌, Some, IsOk, OnOk};
+ghost use Rattle.std.specs.Prelude.{◌≡◌, ℕ, ◌++◌, false, Some, IsOk, OnOk};
 ghost use Rattle.up_model.specs.declared.event_id.EventId.{EventId as EventIdValue};
 ghost use Rattle.up_book.specs.Keys.{Resting, Stepping, name_at, instance_at};
 ghost use Rattle.up_engine.specs.Free.{IsFree};
 ghost use Rattle.up_engine.specs.Settling as settling;
 ghost use Rattle.up_engine.specs.Unfired.{IsAtRest};
-ghost use Rattle.up_model.specs.Answers as answer;
 ghost use Rattle.up_model.specs.Chronicle.{Chronicle};
 ghost use Rattle.up_model.specs.Due.{effect};
 ghost use Rattle.up_model.specs.Instances.{Instance, instances_of};
+ghost use Rattle.up_model.specs.Loads.{is_load};
 ghost use Rattle.up_model.specs.Replies.{answering_last};
 ghost use Rattle.up_model.specs.Values.{Bytes};
 
@@ -86,16 +86,17 @@ fn settle_alone<B: Book>(
     Ok(())
 }
 
-/// Takes an input in, and then does what is due until nothing is. Nothing was due before.
-#[tactic(auto, unfolding(up_model::specs::Answers::after))]
+/// Takes an input in that is no load, and then does what is due until nothing is. Nothing was due before.
+#[tactic(auto, unfolding(crate::specs::Settling::after_in))]
 pub(crate) fn run_step<B: Book>(
     alloc: Global,
     setup: &Setup,
     book: &mut B,
     input: Input,
 ) -> Result<(), AllocError>
+    requires { is_load input ≡ false }
     ensures after { OnOk result ((c : Chronicle) → B.stands book.old Resting setup.now c → IsAtRest setup.now c
-        → B.stands book.new Stepping setup.now (answer.after setup.now c input)) }
+        → B.stands book.new Stepping setup.now (settling.after_in setup.now c input)) }
     ensures free { (c : Chronicle) → B.stands book.old Resting setup.now c → IsFree setup.now c input
         → IsOk result × B.stands book.new Stepping setup.now (effect setup.now input c ++ c) }
 {

@@ -4,7 +4,7 @@ ghost use Rattle.up_book.specs.Keys.{Mode, name_at, instance_place};
 ghost use Rattle.up_engine.specs.Requests.{target_of as said_of, IsIndexed, answer_of};
 ghost use Rattle.up_model.specs.Chronicle.{Chronicle};
 ghost use Rattle.up_model.specs.Commands as model;
-ghost use Rattle.up_model.specs.Configuration.{Configuration};
+ghost use Rattle.up_model.specs.Configuration.{Configuration, is_removed};
 ghost use Rattle.up_model.specs.Files.{job_names};
 ghost use Rattle.up_model.specs.Instances as model_instances;
 ghost use Rattle.up_model.specs.Replies.{status_of};
@@ -15,7 +15,6 @@ use crate::target::Target;
 use crate::texts::{stopped, unknown_instance};
 use std::alloc::{AllocError, Global};
 use up_book::Book;
-use up_image::JobFile;
 use up_job::InstanceKey;
 use up_model::{Answer, JobDef, Who};
 use up_text::Text;
@@ -113,36 +112,53 @@ fn is_zero(count: usize) -> bool
     count == 0
 }
 
-// Adds a line for each instance of a job, or one for a job without any.
+// Adds the line of a job without an instance, unless it was removed.
+fn add_stopped(
+    alloc: Global,
+    setup: &Setup,
+    job: &JobDef,
+    lines: &mut Vec<Text>,
+) -> Result<(), AllocError>
+    ensures { OnOk result (lines.new.items ≡ lines.old.items
+        ++ (if is_removed setup.now job.now.name then [] else model.stopped_text job.now.name ∷ [])) }
+{
+    if !setup.is_removed(job.name.as_str()) {
+        push_stopped(alloc, job, lines)?;
+    }
+    Ok(())
+}
+
+// Adds a line for each instance of a job, or one for a job in force without any.
 fn add_job<B: Book>(
     alloc: Global,
+    setup: &Setup,
     book: &B,
     index: usize,
     job: &JobDef,
     lines: &mut Vec<Text>,
 ) -> Result<(), AllocError>
-    ensures { OnOk result ((mode : Mode) (config : Configuration) (c : Chronicle)
-        → B.stands book.now mode config c → name_at config index ≡ Some job.now.name
-        → lines.new.items ≡ lines.old.items
-        ++ model.job_lines job.now.name (model_instances.instances_of job.now.name c) c) }
+    ensures { OnOk result ((mode : Mode) (c : Chronicle)
+        → B.stands book.now mode setup.now c → name_at setup.now index ≡ Some job.now.name
+        → lines.new.items ≡ lines.old.items ++ model.job_lines job.now.name (is_removed setup.now job.now.name)
+        (model_instances.instances_of job.now.name c) c) }
 {
     if is_zero(book.count(index)) {
-        push_stopped(alloc, job, lines)?;
+        add_stopped(alloc, setup, job, lines)?;
     } else {
         add_statuses(book, index, lines)?;
     }
     Ok(())
 }
 
-// The lines about these jobs.
-fn lines_of<B: Book>(alloc: Global, book: &B, jobs: &[JobFile]) -> Result<Vec<Text>, AllocError>
-    ensures { IfOk result (λ lines. (mode : Mode) (config : Configuration) (c : Chronicle)
-        → B.stands book.now mode config c → jobs.now ≡ config.jobs
-        → lines.items ≡ model.list_lines (job_names jobs.now) c) }
+// The lines about all jobs.
+fn lines_of<B: Book>(alloc: Global, setup: &Setup, book: &B) -> Result<Vec<Text>, AllocError>
+    ensures { IfOk result (λ lines. (mode : Mode) (c : Chronicle) → B.stands book.now mode setup.now c
+        → lines.items ≡ model.list_lines setup.now (job_names setup.now.jobs) c) }
 {
     let mut lines = Vec::new(alloc);
+    let jobs = setup.jobs();
     for (index, file) in jobs.iter().enumerate() {
-        add_job(alloc, book, index, file.job(), &mut lines)?;
+        add_job(alloc, setup, book, index, file.job(), &mut lines)?;
     }
     Ok(lines)
 }
@@ -173,12 +189,12 @@ fn join_all(alloc: Global, lines: &[Text]) -> Result<String, AllocError>
     Ok(text)
 }
 
-/// The status texts of all instances, and of the jobs without any.
+/// The status texts of all instances, and of the jobs in force without any.
 pub(crate) fn list<B: Book>(alloc: Global, setup: &Setup, book: &B) -> Result<Text, AllocError>
     ensures { IfOk result (λ text. (mode : Mode) (c : Chronicle) → B.stands book.now mode setup.now c
         → text ≡ model.listing setup.now c) }
 {
-    let lines = lines_of(alloc, book, setup.jobs())?;
+    let lines = lines_of(alloc, setup, book)?;
     let text = join_all(alloc, lines.as_slice())?;
     Ok(Text::new(text))
 }

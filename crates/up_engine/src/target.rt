@@ -1,11 +1,13 @@
 //! Whom a request names.
-ghost use Rattle.std.specs.Prelude.{◌≡◌, Some, IfOk};
+ghost use Rattle.std.specs.Prelude.{◌≡◌, ◌&&◌, length, not, Some, IfOk};
 ghost use Rattle.up_book.specs.Keys.{Mode, job_at};
 ghost use Rattle.up_conf.specs.declared.job.JobDef.{JobDef as JobValue};
 ghost use Rattle.up_engine.specs.Requests.{target_of as said_of, IsIndexed};
 ghost use Rattle.up_model.specs.Chronicle.{Chronicle};
 ghost use Rattle.up_model.specs.Commands as model;
-ghost use Rattle.up_model.specs.Configuration.{Configuration};
+ghost use Rattle.up_model.specs.Configuration.{Configuration, is_removed, job_named};
+ghost use Rattle.up_model.specs.Instances.{instances_of};
+ghost use Rattle.up_text.specs.Scripts.{is_filled};
 ghost use Rattle.up_text.specs.Expansion.{expand as expansion};
 
 use crate::environment::request_start_env;
@@ -92,7 +94,48 @@ fn target_in<'a, B: Book>(
     }
 }
 
-/// The job of this name, and the instance whose name these variables give.
+// The job of this name, removed or not, and the instance whose name these variables give.
+fn named_target<'a, B: Book>(
+    alloc: Global,
+    setup: &'a Setup,
+    book: &B,
+    name: &str,
+    vars: &Env,
+) -> Result<Target<'a>, AllocError>
+    ensures target { IfOk result (λ target. (mode : Mode) (c : Chronicle) → B.stands book.now mode setup.now c
+        → said_of target ≡ model.target_in setup.now name.now (job_named name.now setup.now.jobs) vars.now c) }
+    ensures index { IfOk result (λ target. IsIndexed setup.now target) }
+{
+    match setup.job_named(name) {
+        Some((index, file)) => {
+            let environment = request_env(setup, index, vars)?;
+            let target = target_in(alloc, setup, book, index, file, environment, vars)?;
+            Ok(target)
+        }
+        None => Ok(Target::Nobody(unknown_job(alloc, name)?)),
+    }
+}
+
+// How many instances the job of this name has.
+fn count_of<B: Book>(setup: &Setup, book: &B, name: &str) -> usize
+    ensures { (mode : Mode) (c : Chronicle) → B.stands book.now mode setup.now c
+        → result ≡ length (instances_of name.now c) }
+{
+    match setup.job_named(name) {
+        Some((index, _)) => book.count(index),
+        None => 0,
+    }
+}
+
+// Whether a job was removed, and has no instance left.
+fn is_gone<B: Book>(setup: &Setup, book: &B, name: &str) -> bool
+    ensures { (mode : Mode) (c : Chronicle) → B.stands book.now mode setup.now c
+        → result ≡ (is_removed setup.now name.now && not (is_filled (instances_of name.now c))) }
+{
+    setup.is_removed(name) && count_of(setup, book, name) == 0
+}
+
+/// The job of this name, unless it was removed, and the instance whose name these variables give.
 pub(crate) fn target_of<'a, B: Book>(
     alloc: Global,
     setup: &'a Setup,
@@ -104,12 +147,28 @@ pub(crate) fn target_of<'a, B: Book>(
         → said_of target ≡ model.target_of setup.now name.now vars.now c) }
     ensures index { IfOk result (λ target. IsIndexed setup.now target) }
 {
-    match setup.job_named(name) {
-        Some((index, file)) => {
-            let environment = request_env(setup, index, vars)?;
-            let target = target_in(alloc, setup, book, index, file, environment, vars)?;
-            Ok(target)
-        }
-        None => Ok(Target::Nobody(unknown_job(alloc, name)?)),
+    if setup.is_removed(name) {
+        return Ok(Target::Nobody(unknown_job(alloc, name)?));
     }
+    let target = named_target(alloc, setup, book, name, vars)?;
+    Ok(target)
+}
+
+/// The same for a request that starts nothing, which knows a job that was removed while it has an instance.
+pub(crate) fn known_target<'a, B: Book>(
+    alloc: Global,
+    setup: &'a Setup,
+    book: &B,
+    name: &str,
+    vars: &Env,
+) -> Result<Target<'a>, AllocError>
+    ensures target { IfOk result (λ target. (mode : Mode) (c : Chronicle) → B.stands book.now mode setup.now c
+        → said_of target ≡ model.known_target setup.now name.now vars.now c) }
+    ensures index { IfOk result (λ target. IsIndexed setup.now target) }
+{
+    if is_gone(setup, book, name) {
+        return Ok(Target::Nobody(unknown_job(alloc, name)?));
+    }
+    let target = named_target(alloc, setup, book, name, vars)?;
+    Ok(target)
 }

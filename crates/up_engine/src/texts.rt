@@ -1,5 +1,6 @@
 //! What clients are told when a request is refused, and of jobs without instances.
 ghost use Rattle.std.specs.Prelude.{[], ◌≡◌, ◌++◌, codes, IfOk};
+ghost use Rattle.std.specs.Fmt.{decimal};
 ghost use Rattle.up_model.specs.Commands as model;
 ghost use Rattle.up_model.specs.Requests as request;
 ghost use Rattle.up_model.specs.Status.{who_name};
@@ -76,6 +77,20 @@ pub(crate) fn not_supported(alloc: Global, command: Command) -> Result<Text, All
     ensures { IfOk result (λ text. text ≡ request.not_supported command) }
 {
     join_all(alloc, "Not supported: ", command.name())
+}
+
+pub(crate) fn configuration_refused(alloc: Global, number: u8) -> Result<Text, AllocError>
+    ensures { IfOk result (λ text. text ≡ codes "Configuration refused: " ++ decimal number) }
+{
+    let mut text = String::from_str(alloc, "Configuration refused: ")?;
+    write!(text, "{number}")?;
+    Ok(Text::new(text))
+}
+
+pub(crate) fn configuration_not_read(alloc: Global) -> Result<Text, AllocError>
+    ensures { IfOk result (λ text. text ≡ codes "Configuration not read") }
+{
+    Text::from_str(alloc, "Configuration not read")
 }
 
 pub(crate) fn no_text(alloc: Global) -> Text

@@ -4,7 +4,7 @@ use std::test::Fail;
 use up_conf::{Folder, Limit};
 use up_image::{JobFile, compile};
 use up_job::{Change, InstanceKey, Instances, JobFault, Moments};
-use up_marks::Trigger;
+use up_marks::{Index, Trigger};
 use up_model::State;
 use up_text::{Items, Name, Text};
 
@@ -25,11 +25,11 @@ const UNLIMITED: Limit = Limit {
 fn job_file(alloc: Global) -> Result<JobFile, Fail> {
     let mut folder = Folder::new(alloc);
     let path = Text::from_str(alloc, "job.conf")?;
-    let bytes = format!(in alloc; "exec /bin/d\nkill timeout 7\n")?;
+    let bytes = format!(in alloc; "stop on b or c\nexec /bin/d\nkill timeout 7\n")?;
     folder.add(path, Items::new(bytes.into_bytes()))?;
     let (table, _report) = compile(alloc, &folder)?;
-    match table.into_jobs().pop() {
-        Some(job) => Ok(JobFile::new(alloc, job)?),
+    match table.into_files(alloc)?.pop() {
+        Some(file) => Ok(file),
         None => Err(Fail::from("no job")),
     }
 }
@@ -225,6 +225,56 @@ fn a_shared_file_outlives_its_owners(rt: HostRuntime) -> Result<(), Fail> {
         None => 0,
     };
     assert_eq!(rt; timeout, 7);
+    Ok(())
+}
+
+// How many instances two jobs have once the first comes in force alone.
+fn replaced(
+    alloc: Global,
+    instances: &mut Instances,
+    file: &JobFile,
+    other: &Name,
+) -> Result<(usize, usize), AllocError> {
+    instances.replace(alloc, &[file.share()?])?;
+    let kept = instances.of(&file.job().name).len();
+    Ok((kept, instances.of(other).len()))
+}
+
+#[test]
+fn a_job_in_force_keeps_its_instances(rt: HostRuntime) -> Result<(), Fail> {
+    let file = job_file(rt.alloc())?;
+    let job = Name::new(rt.alloc(), "job")?;
+    let other = Name::new(rt.alloc(), "other")?;
+    let mut instances = Instances::new(rt.alloc());
+    make(rt.alloc(), &file, &mut instances, &job, "a")?;
+    make(rt.alloc(), &file, &mut instances, &job, "b")?;
+    make(rt.alloc(), &file, &mut instances, &other, "a")?;
+    let counts = replaced(rt.alloc(), &mut instances, &file, &other)?;
+    assert_eq!(rt; counts, (2, 0));
+    Ok(())
+}
+
+// Of how many leaves an event is the name, among those that may stop instances.
+fn stops(alloc: Global, instances: &Instances, event: &Name) -> Result<usize, AllocError> {
+    let index = Index::of_places(instances.stop_places(alloc)?)?;
+    Ok(index.places(event).len())
+}
+
+#[test]
+fn each_instance_has_its_leaves(rt: HostRuntime) -> Result<(), Fail> {
+    let file = job_file(rt.alloc())?;
+    let job = Name::new(rt.alloc(), "job")?;
+    let other = Name::new(rt.alloc(), "other")?;
+    let mut instances = Instances::new(rt.alloc());
+    make(rt.alloc(), &file, &mut instances, &job, "a")?;
+    make(rt.alloc(), &file, &mut instances, &job, "b")?;
+    make(rt.alloc(), &file, &mut instances, &other, "a")?;
+    let event = Name::new(rt.alloc(), "b")?;
+    let counts = (
+        stops(rt.alloc(), &instances, &event)?,
+        stops(rt.alloc(), &instances, &job)?,
+    );
+    assert_eq!(rt; counts, (3, 0));
     Ok(())
 }
 

@@ -9,3 +9,5 @@ mod many;
 mod marks;
 #[cfg(test)]
 mod queue;
+#[cfg(test)]
+mod stops;

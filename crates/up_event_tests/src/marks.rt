@@ -3,7 +3,7 @@ use std::alloc::Global;
 use std::test::Fail;
 use up_conf::Folder;
 use up_expr::Condition;
-use up_image::{Table, compile};
+use up_image::{JobFile, compile};
 use up_marks::{Index, Marks, Offer};
 use up_model::{Event, EventId};
 use up_text::{Env, Items, Name, Text};
@@ -21,14 +21,14 @@ struct Outcome {
     holds: bool,
 }
 
-// A folder of one job with this `start on`.
-fn table_of(alloc: Global, start_on: &str) -> Result<Table, Fail> {
+// The files of a folder of one job with this `start on`.
+fn files_of(alloc: Global, start_on: &str) -> Result<Vec<JobFile>, Fail> {
     let mut folder = Folder::new(alloc);
     let path = Text::from_str(alloc, "a.conf")?;
     let bytes = format!(in alloc; "start on {start_on}\nexec /bin/d\n")?;
     folder.add(path, Items::new(bytes.into_bytes()))?;
     let (table, _report) = compile(alloc, &folder)?;
-    Ok(table)
+    Ok(table.into_files(alloc)?)
 }
 
 fn event(alloc: Global, name: &str) -> Result<Event, Fail> {
@@ -108,14 +108,14 @@ fn offer_each(
 }
 
 // The same to the first job's `start on`.
-fn offer_to(alloc: Global, table: &Table, names: &[&str]) -> Result<Outcome, Fail> {
-    let Some(job) = table.as_slice().first() else {
+fn offer_to(alloc: Global, files: &[JobFile], names: &[&str]) -> Result<Outcome, Fail> {
+    let Some(file) = files.first() else {
         return Err(Fail::from("there is no job"));
     };
-    let Some(condition) = &job.start_on else {
+    let Some(condition) = &file.job().start_on else {
         return Err(Fail::from("there is no expression"));
     };
-    let index = Index::of(alloc, table)?;
+    let index = Index::of(alloc, files)?;
     offer_each(alloc, &index, condition, names)
 }
 
@@ -129,9 +129,9 @@ fn leaves(
     taken: &[usize],
     cleared: &[usize],
 ) -> Result<bool, Fail> {
-    let table = table_of(alloc, start_on)?;
-    let outcome = offer_to(alloc, &table, names);
-    drop(table);
+    let files = files_of(alloc, start_on)?;
+    let outcome = offer_to(alloc, files.as_slice(), names);
+    drop(files);
     let outcome = outcome?;
     Ok(
         (outcome.last.kept, outcome.last.holds) == last

@@ -1,7 +1,9 @@
 //! Copies of values, and the names of commands.
+use crate::conf::folder_of;
 use std::alloc::{AllocError, Global};
 use std::test::Fail;
-use up_model::{Command, Event, How, Input, Process, Request, Who};
+use up_image::{Table, compile};
+use up_model::{Command, Event, How, Input, Loaded, Process, Request, Who};
 use up_text::{Env, Name, Text, TextFault};
 
 fn who(alloc: Global) -> Result<Who, TextFault> {
@@ -101,7 +103,21 @@ fn requests_are_copied(rt: HostRuntime) -> Result<(), Fail> {
 
 const PROCESS: Process = Process::PostStop;
 
-// One input of each kind.
+// The table of a folder with one job.
+fn table(alloc: Global) -> Result<Table, TextFault> {
+    let folder = folder_of(alloc, &[("a.conf", b"exec /bin/d\n")])?;
+    let compiled = compile(alloc, &folder);
+    drop(folder);
+    match compiled {
+        Ok((table, report)) => {
+            drop(report);
+            Ok(table)
+        }
+        Err(_) => Err(TextFault::BadName),
+    }
+}
+
+// One input of each kind, and one for each outcome of a load.
 fn input(alloc: Global, kind: u8) -> Result<Input, TextFault> {
     let made = match kind {
         0 => Input::Request {
@@ -124,9 +140,30 @@ fn input(alloc: Global, kind: u8) -> Result<Input, TextFault> {
             how: How::Signal(15),
         },
         5 => Input::Clock(5),
-        _ => Input::Turn,
+        6 => Input::Turn,
+        7 => Input::Load {
+            id: 8,
+            loaded: Loaded::Files(table(alloc)?),
+        },
+        8 => Input::Load {
+            id: 8,
+            loaded: Loaded::Refused(32),
+        },
+        _ => Input::Load {
+            id: 8,
+            loaded: Loaded::Unread,
+        },
     };
     Ok(made)
+}
+
+// Whether it is what the load of this kind came to.
+fn is_loaded(kind: u8, loaded: &Loaded) -> bool {
+    match loaded {
+        Loaded::Files(table) => kind == 7 && table.len() == 1 && table.job(0).name.as_str() == "a",
+        Loaded::Refused(number) => kind == 8 && *number == 32,
+        Loaded::Unread => kind == 9,
+    }
 }
 
 // Whether it is the input of this kind.
@@ -143,11 +180,12 @@ fn is_input(kind: u8, input: &Input) -> bool {
         }
         Input::Clock(reading) => kind == 5 && *reading == 5,
         Input::Turn => kind == 6,
+        Input::Load { id, loaded } => *id == 8 && is_loaded(kind, loaded),
     }
 }
 
-fn copy_is_input(kind: u8, input: &Input) -> Result<bool, AllocError> {
-    let copied = input.copy()?;
+fn copy_is_input(alloc: Global, kind: u8, input: &Input) -> Result<bool, AllocError> {
+    let copied = input.copy(alloc)?;
     let is_input = is_input(kind, &copied);
     drop(copied);
     Ok(is_input)
@@ -155,14 +193,14 @@ fn copy_is_input(kind: u8, input: &Input) -> Result<bool, AllocError> {
 
 fn input_is_copied(alloc: Global, kind: u8) -> Result<bool, TextFault> {
     let input = input(alloc, kind)?;
-    let copied = copy_is_input(kind, &input);
+    let copied = copy_is_input(alloc, kind, &input);
     drop(input);
     Ok(copied?)
 }
 
 #[test]
 fn copies_of_inputs(rt: HostRuntime) -> Result<(), Fail> {
-    for kind in 0..7u8 {
+    for kind in 0..10u8 {
         assert!(rt; input_is_copied(rt.alloc(), kind)?, "kind {kind}");
     }
     Ok(())

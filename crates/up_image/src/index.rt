@@ -7,6 +7,7 @@ ghost use Rattle.up_image.specs.declared.limits.TheConstants.{MAX_JOBS, MAX_NODE
 ghost use Rattle.up_image.specs.Index.{entries_of, entry_part, event_of, index_part, leaf_places, place_part, places_in, places_of, runs_of};
 
 use crate::bytes::{push_u16, push_u32, put_byte, put_text};
+use crate::job_file::JobFile;
 use std::alloc::{AllocError, Global};
 use up_conf::JobDef;
 use up_expr::{Condition, Node};
@@ -104,8 +105,40 @@ fn places_of(alloc: Global, jobs: &[JobDef]) -> Result<Vec<Place>, AllocError>
     Ok(places)
 }
 
-// Sorts places by the byte order of their events.
-fn sort_places(places: &mut Vec<Place>) -> Result<(), AllocError>
+/// Appends the leaves of a job's `stop on`, as those of the job with this number.
+pub fn add_stops(places: &mut Vec<Place>, number: u16, job: &JobDef) -> Result<(), AllocError>
+    ensures { OnOk result (places.new.items ≡ places.old.items ++ places_in number false job.now.stop_on) }
+{
+    add_condition(places, number, false, &job.stop_on)
+}
+
+/// The leaves of all these files, in order.
+pub fn places_of_files(alloc: Global, files: &[JobFile]) -> Result<Vec<Place>, AllocError>
+    requires { length files.now ≤ MAX_JOBS }
+    ensures { IfOk result (λ places. places.items ≡ places_of 0 files.now) }
+{
+    let mut places = Vec::new(alloc);
+    let mut at = 0;
+    for file in files {
+        add_job(&mut places, at, file.job())?;
+        at += 1;
+    }
+    Ok(places)
+}
+
+/// The leaves of a job's `stop on` by the byte order of the events that they name, as those of job 0.
+pub(crate) fn sorted_stops(alloc: Global, job: &JobDef) -> Result<Vec<Place>, AllocError>
+    ensures { IfOk result (λ places. places.items
+        ≡ in_order (λ place. place.event) (places_in 0 false job.now.stop_on)) }
+{
+    let mut places = Vec::new(alloc);
+    add_stops(&mut places, 0, job)?;
+    sort_places(&mut places)?;
+    Ok(places)
+}
+
+/// Sorts places by the byte order of the events that they name; those of one event stay in their order.
+pub fn sort_places(places: &mut Vec<Place>) -> Result<(), AllocError>
     ensures { OnOk result (places.new.items ≡ in_order (λ place. place.event) places.old.items) }
 {
     places.sort_by(|place, other| place.event.as_str().cmp(other.event.as_str()))

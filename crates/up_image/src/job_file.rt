@@ -1,15 +1,25 @@
 //! A job file that several share.
-ghost use Rattle.std.specs.Prelude.{◌≡◌, IfOk};
+ghost use Rattle.std.specs.Prelude.{◌≡◌, IfOk, false};
+ghost use Rattle.up_conf.specs.Order.{in_order};
+ghost use Rattle.up_image.specs.Index.{places_in};
 
+use crate::index::{Place, sorted_stops};
 use std::alloc::{AllocError, Global};
 use std::marker::Model;
 use std::rc::Rc;
 use up_conf::JobDef;
 
+// A job, and the leaves of its `stop on` by the byte order of the events that they name.
+#[derive(Drop)]
+struct Indexed {
+    job: JobDef,
+    stops: Vec<Place>,
+}
+
 /// A job file, as the jobs in force share it with the instances that were made by it. Contracts see the job.
 #[derive(Drop)]
 pub struct JobFile {
-    shared: Rc<JobDef>,
+    shared: Rc<Indexed>,
 }
 
 impl Model for JobFile {
@@ -20,15 +30,29 @@ impl Model for JobFile {
 
     ghost coded = { job.the_row.coded };
 
-    ghost view = { λ file. file.shared.value };
+    ghost view = { λ file. file.shared.value.job };
+
+    ghost use Rattle.std.specs.Prelude.{◌≡◌, false};
+    ghost use Rattle.up_conf.specs.Order.{in_order};
+    ghost use Rattle.up_image.specs.Index.{places_in};
+
+    ghost invariant = { λ file. file.shared.value.stops.items ≡ in_order (λ place. place.event) (places_in 0 false file.shared.value.job.stop_on) };
 }
 
 impl JobFile {
     pub fn new(alloc: Global, job: JobDef) -> Result<Self, AllocError>
         ensures { IfOk result (λ file. file ≡ job) }
     {
-        let shared = Rc::new(alloc, job)?;
-        Ok(JobFile { shared })
+        match sorted_stops(alloc, &job) {
+            Ok(stops) => {
+                let shared = Rc::new(alloc, Indexed { job, stops })?;
+                Ok(JobFile { shared })
+            }
+            Err(refused) => {
+                drop(job);
+                Err(refused)
+            }
+        }
     }
 
     /// The same file, for one more owner. Takes no memory, and is refused only to more owners than memory has room for.
@@ -42,6 +66,14 @@ impl JobFile {
     pub fn job(&self) -> &JobDef
         ensures { result.now ≡ self.now }
     {
-        self.shared.as_ref()
+        &self.shared.as_ref().job
+    }
+
+    /// The leaves of its `stop on` by the byte order of the events that they name; those of one event from left to right. Each is said to be of
+    /// job 0.
+    pub fn stops(&self) -> &[Place]
+        ensures { result.now ≡ in_order (λ place. place.event) (places_in 0 false self.now.stop_on) }
+    {
+        self.shared.as_ref().stops.as_slice()
     }
 }

@@ -35,7 +35,7 @@ pub mod version;
 pub use compiling::compile;
 pub use files::job_files;
 pub use image_error::ImageError;
-pub use index::Place;
+pub use index::{Place, add_stops, places_of_files, sort_places};
 pub use job_file::JobFile;
 pub use limits::MAX_JOBS;
 pub use refusal::CompileError;

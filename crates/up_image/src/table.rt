@@ -1,15 +1,13 @@
 //! The jobs of a folder.
 ghost use Rattle.std.specs.Prelude.{◌≡◌, ◌<◌, IfErr, IfOk, Some, length, slice_get};
 ghost use Rattle.up_image.specs.declared.image_error.ImageError.TheVariants.{Memory};
-ghost use Rattle.up_conf.specs.Order.{in_order};
 ghost use Rattle.up_image.specs.Image.{IsImage};
-ghost use Rattle.up_image.specs.Index.{places_of};
 ghost use Rattle.up_image.specs.Definable.{IsTable};
 ghost use Rattle.up_image.specs.Reading.{ReadsImage, head_error};
 
 use crate::image::write_image;
 use crate::image_error::ImageError;
-use crate::index::{Place, sorted_places};
+use crate::job_file::JobFile;
 use crate::read_image::read_image;
 use std::alloc::{AllocError, Global};
 use std::marker::Model;
@@ -38,6 +36,16 @@ impl Model for Table {
     ghost use Rattle.up_image.specs.Definable.{IsTable};
 
     ghost invariant = { λ t. IsTable t.jobs };
+}
+
+fn copy_jobs(alloc: Global, jobs: &[JobDef]) -> Result<Items<JobDef>, AllocError>
+    ensures { IfOk result (λ copied. copied ≡ jobs.now) }
+{
+    let mut copied: Vec<JobDef> = Vec::with_capacity(alloc, jobs.len())?;
+    for job in jobs {
+        copied.push(job.copy(alloc)?)?;
+    }
+    Ok(Items::new(copied))
 }
 
 impl Table {
@@ -85,13 +93,24 @@ impl Table {
         jobs.into_vec()
     }
 
-    /// The leaves of the jobs' expressions, in byte order of the events that they name; those of one event job by job, first what stops
-    /// the job and then what starts it, from left to right.
-    pub fn places(&self, alloc: Global) -> Result<Vec<Place>, AllocError>
-        ensures { IfOk result (λ places. places.items ≡ in_order (λ place. place.event) (places_of 0 self.now)) }
+    /// Files that can be shared, of its jobs in their order.
+    pub fn into_files(self, alloc: Global) -> Result<Vec<JobFile>, AllocError>
+        ensures { IfOk result (λ files. files.items ≡ self) }
+    {
+        let mut files = Vec::with_capacity(alloc, self.len())?;
+        for job in self.into_jobs() {
+            files.push(JobFile::new(alloc, job)?)?;
+        }
+        Ok(files)
+    }
+
+    /// An equal table in memory of its own.
+    pub fn copy(&self, alloc: Global) -> Result<Self, AllocError>
+        ensures { IfOk result (λ table. table ≡ self.now) }
     {
         let Table { jobs } = self;
-        sorted_places(alloc, jobs.as_slice())
+        let jobs = copy_jobs(alloc, jobs.as_slice())?;
+        Ok(Table { jobs })
     }
 
     /// The table's image, of version 2. Refused only with `Memory`.

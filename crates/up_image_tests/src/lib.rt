@@ -6,6 +6,8 @@ mod damage;
 #[cfg(test)]
 mod distribution;
 #[cfg(test)]
+mod files;
+#[cfg(test)]
 mod folders;
 #[cfg(test)]
 mod images;

@@ -6,7 +6,7 @@ use Rattle.up_conf.specs.declared.job.JobDef.{JobDef}
 use Rattle.up_stanza.specs.declared.process.Process.{Process}
 use Rattle.up_model.specs.declared.event.Event.{Event}
 use Rattle.up_model.specs.declared.who.Who.{Who}
-use Rattle.up_model.specs.Chronicle.{Chronicle, Entry, Given, Queued, Handled, Finished, Outside}
+use Rattle.up_model.specs.Chronicle.{Chronicle, Entry, Given, Queued, Handled, Finished, Loaded, Outside}
 use Rattle.up_model.specs.Configuration.{Configuration}
 use Rattle.up_model.specs.Instances.{Instance, instances_of}
 use Rattle.up_model.specs.Replies.{request_at}
@@ -32,7 +32,7 @@ use Rattle.up_model.specs.Replies.{asked}
 use Rattle.up_model.specs.Work.{work, settle}
 use Rattle.up_model.proofs.NameLaws.{made-named}
 use Rattle.up_model.proofs.Sparing.{all-weaker}
-use Rattle.up_isolation.specs.Views.{Received, Arrived, Unblocked, concerns, view}
+use Rattle.up_isolation.specs.Views.{Received, Arrived, Unblocked, Replaced, concerns}
 use Rattle.up_isolation.proofs.Likes.{IsOther, foreign, owns-later}
 use Rattle.up_isolation.proofs.Locals.{NotGiven, silent-more}
 use Rattle.up_isolation.proofs.Steps.{like_given}
@@ -41,6 +41,9 @@ use Rattle.up_isolation.proofs.Ends.{IsMute, pair_end, apart-end, mute-end}
 use Rattle.up_isolation.proofs.Resting.{IsCalm, Resting, AreApart, like-apart}
 use Rattle.up_isolation.proofs.Hurry.{Waits}
 use Rattle.up_isolation.proofs.Acting.{Plain, None'}
+use Rattle.up_isolation.proofs.Steady.{view}
+use Rattle.up_model.specs.Loads.{in_force}
+use Rattle.up_model.proofs.LoadLaws.{LoadsNothing}
 
 -- the entries with which a notice begins a step of the job alone
 abbrev pub freeing : Option ℕ → Chronicle → Chronicle
@@ -51,25 +54,36 @@ abbrev pub blocker_of : Option ℕ → Chronicle → Option ℕ
 blocker_of None d = None
 blocker_of (Some i) d = blocker i d
 
-abbrev pub begin : Bytes → Configuration → Notice → Chronicle → Chronicle
-begin job config (Received given) d = effect (only job config) given d ++ d
-begin job config (Arrived event) d =
+abbrev pub begin_by : Bytes → Configuration → Notice → Chronicle → Chronicle
+begin_by job config (Received given) d = effect config given d ++ d
+begin_by job config (Arrived event) d =
     Handled (suc (length d)) ∷ Queued (Outside (length d)) event ∷ Given input.Turn ∷ d
-begin job config (Unblocked name) d = freeing (blocker_of (instance_named (called job name) d) d) d
+begin_by job config (Unblocked name) d = freeing (blocker_of (instance_named (called job name) d) d) d
+begin_by job config (Replaced files) d = Loaded files ∷ Given input.Turn ∷ d
 
--- the chronicle of the job alone
-unfoldable pub alone : Bytes → Configuration → List Notice → Chronicle
-alone job config [] = []
-alone job config (notice ∷ ns) =
-    let d = begin job config notice (alone job config ns) in
-    settle (work (only job config) d) (only job config) d
+abbrev pub begin : Bytes → Configuration → Notice → Chronicle → Chronicle
+begin job config notice d = begin_by job (only job config) notice d
 
--- how an input takes effect: on others alone, or as a notice
+-- the chronicle of the job alone, by the configuration in force at each step
+unfoldable pub alone : Bytes → (start : Configuration) → List Notice → Chronicle
+alone job start [] = []
+alone job start (notice ∷ ns) =
+    let d = alone job start ns in
+    let f = begin_by job (in_force (only job start) d) notice d in
+    settle (work (in_force (only job start) f) f) (in_force (only job start) f) f
+
+-- a notice of no load
+abbrev pub IsSteady : Notice → Type 0
+IsSteady (Received given) = LoadsNothing given
+IsSteady (Replaced files) = ⊥
+IsSteady notice = Unit {0}
+
+-- how an input takes effect that loads nothing: on others alone, or as a notice
 pub data Effected (job : Bytes) (config : Configuration) (c d e : Chronicle) : Type 0 where
   Unnoticed : Resting job config e d → view job config e ≡ view job config c → Effected job config c d e
-  Noticed : (notice : Notice) → view job config e ≡ notice ∷ view job config c
+  Noticed : (notice : Notice) → IsSteady notice → view job config e ≡ notice ∷ view job config c
       → Plain job config e (begin job config notice d) → Effected job config c d e
-  Hurried : (notice : Notice) → view job config e ≡ notice ∷ view job config c → (r q : ℕ) → (x y : Instance)
+  Hurried : (notice : Notice) → IsSteady notice → view job config e ≡ notice ∷ view job config c → (r q : ℕ) → (x y : Instance)
       → Waits job config e (begin job config notice d) r q x y → Effected job config c d e
 
 -- both are at rest
@@ -94,6 +108,7 @@ unfolding view
 mute-view job config (Given given) c is = absurd is
 mute-view job config (Handled event) c is = absurd is
 mute-view job config (Finished event) c is = absurd is
+mute-view job config (Loaded jobs) c is = absurd is
 mute-view job config e c is = refl
 
 pub mutes-view : (job : Bytes) (config : Configuration) (es c : List Entry) → AllByRecursion IsMute es
@@ -154,16 +169,9 @@ unnoticed job config given es c d base other mute are asks =
     none-some : (p : ℕ) → Some p ≡ None → ⊥
     none-some p bad = cc
 
-no-asks : (job : Bytes) (c : Chronicle) (e : Chronicle) → asked c ≡ None → (r : ℕ) → asked c ≡ Some r
+pub no-asks : (job : Bytes) (c : Chronicle) (e : Chronicle) → asked c ≡ None → (r : ℕ) → asked c ≡ Some r
     → (r < length e) × (was_asked job (request_at r e) ≡ false)
 no-asks job c e none r some = absurd (cc)
-
--- an input that concerns the job, of which no event is taken up and nobody is to be answered at its end
-pub noticed-input : (job : Bytes) (config : Configuration) (given : Input) (c d e f : Chronicle)
-    → concerns job given ≡ true → e ≡ effect config given c ++ c → f ≡ effect (only job config) given d ++ d
-    → view job config e ≡ view job config (Given given ∷ c) → Plain job config e f → Effected job config c d e
-noticed-input job config given c d e f is one other same plain = Noticed (Received given)
-    (same ∙ given-view job config given c is) (subst (λ (t : Chronicle). Plain job config e t) other plain)
 
 -- an answer of a process
 pub effect-spawned : (job : Bytes) (config : Configuration) (who : Who) (its : Process) (pid : ℕ)
@@ -177,7 +185,7 @@ effect-spawned job config who its pid c d base = by_case (bytes_eq who.job job) 
 
     by_case : (b : Bool) → bytes_eq who.job job ≡ b → Effected job config c d (Given g ∷ c)
     by_case true is =
-        Noticed (Received g) (given-view job config g c is)
+        Noticed (Received g) tt (given-view job config g c is)
         (record {
           like = like_given job config g c d base.like;
           offers = None' refl refl;
@@ -259,7 +267,7 @@ effect-refused job config who its c d base = rw append_assoc (by_case (bytes_eq 
 
     by_case : (b : Bool) → bytes_eq who.job job ≡ b → Effected job config c d (es ++ Given g ∷ c)
     by_case true is =
-        Noticed (Received g) (mutes-view job config es (Given g ∷ c) mute ∙ given-view job config g c is)
+        Noticed (Received g) tt (mutes-view job config es (Given g ∷ c) mute ∙ given-view job config g c is)
         (subst (λ (t : Chronicle). Plain job config (es ++ Given g ∷ c) t)
         (sym (append_assoc fs (Given g ∷ []) d))
         (record {
@@ -299,7 +307,7 @@ effect-ended job config who its how c d base = rw append_assoc (by_case (bytes_e
 
     by_case : (b : Bool) → bytes_eq who.job job ≡ b → Effected job config c d (es ++ Given g ∷ c)
     by_case true is =
-        Noticed (Received g) (mutes-view job config es (Given g ∷ c) mute ∙ given-view job config g c is)
+        Noticed (Received g) tt (mutes-view job config es (Given g ∷ c) mute ∙ given-view job config g c is)
         (subst (λ (t : Chronicle). Plain job config (es ++ Given g ∷ c) t)
         (sym (append_assoc fs (Given g ∷ []) d))
         (record {

@@ -7,14 +7,13 @@ use Rattle.up_conf.specs.declared.job.JobDef.{JobDef}
 use Rattle.up_text.specs.Bindings.{set_all}
 use Rattle.up_model.specs.declared.who.Who.{Who}
 use Rattle.up_model.specs.Chronicle.{Chronicle, Entry, Given, Made, Aimed, Restarted, Signalled, Replied}
-use Rattle.up_model.specs.Configuration.{Configuration, job_named}
+use Rattle.up_model.specs.Configuration.{Configuration}
 use Rattle.up_model.specs.Instances.{Instance, instances_of}
 use Rattle.up_model.specs.Readings.{entry_at, holders}
 use Rattle.up_model.specs.Values.{Bytes, Bindings}
-use Rattle.up_model.proofs.FileLaws.{named-name}
+use Rattle.up_model.proofs.FileLaws.{in_force-name, known-name}
 use Rattle.up_model.proofs.Places.{bytes_same}
 use Rattle.up_model.proofs.NameLaws.{called}
-use Rattle.up_isolation.specs.Isolation.{jobs_called}
 use Rattle.up_isolation.specs.Views.{was_asked}
 use Rattle.up_isolation.specs.Parts.{contents}
 use Rattle.up_isolation.proofs.Lives.{Life}
@@ -30,9 +29,9 @@ use Rattle.up_model.specs.Instances.{instance_named}
 use Rattle.up_model.specs.Offers.{offering}
 use Rattle.up_model.specs.Predicates.{entries_if}
 use Rattle.up_model.specs.Replies.{asked, unanswered}
-use Rattle.up_isolation.specs.Views.{Received, view}
+use Rattle.up_isolation.specs.Views.{Received}
 use Rattle.up_isolation.proofs.Twins.{At}
-use Rattle.up_isolation.proofs.Likes.{named-only}
+use Rattle.up_isolation.proofs.Likes.{file-only, known-only}
 use Rattle.up_isolation.proofs.Steps.{like_given}
 use Rattle.up_isolation.proofs.Offering.{pair-at, found, Found, Neither, Two, own_file-same, start_base-same}
 use Rattle.up_isolation.proofs.Ends.{IsMute}
@@ -74,6 +73,10 @@ use Rattle.up_isolation.proofs.Releases.{status-same}
 use Rattle.up_isolation.proofs.Offering.{twins-length}
 use Rattle.up_isolation.proofs.Hurry.{below}
 use Rattle.up_isolation.proofs.Changing.{Acts, Does, Reply, Signal, Act, act-aimed, act-restarted, act-new}
+use Rattle.up_isolation.proofs.Steady.{view}
+use Rattle.up_model.specs.Files.{file_in_force, known_file}
+use Rattle.up_model.specs.Commands.{known_target}
+use Rattle.up_isolation.proofs.Requesting.{known-target-name}
 
 -- `start`
 does-start : (job : Bytes) (config : Configuration) (r q : ℕ) (its hers : List ℕ) (c d : Chronicle)
@@ -327,15 +330,12 @@ does-status job config def r q its hers c d name acts =
         (sym (status-same x.place y.place c d (made-same job config c d x y pair) pair.twin.bond.alike))))
 
 -- whom it names is the same
-target-same : (job : Bytes) (config : Configuration) (name : Bytes) (vars : Bindings) (c d : Chronicle)
-    → name ≡ job → Like job config c d → target_of config name vars c ≡ target_of (only job config) name vars d
-target-same job config name vars c d is like =
-    by_job (job_named name config.jobs) refl ∙ ap (λ o. target_in (only job config) name o vars d) defs
+in-same : (job : Bytes) (config : Configuration) (name : Bytes) (file other : Option JobDef) (vars : Bindings) (c d : Chronicle)
+    → name ≡ job → file ≡ other → ((def : JobDef) → file ≡ Some def → def.name ≡ name) → Like job config c d
+    → target_in config name file vars c ≡ target_in (only job config) name other vars d
+in-same job config name file other vars c d is same called-so like =
+    by_job file called-so ∙ ap (λ o. target_in (only job config) name o vars d) same
   where
-    defs : job_named name config.jobs ≡ job_named name (jobs_called job config.jobs)
-    defs = ap (λ k. job_named k config.jobs) is ∙ named-only job config.jobs
-        ∙ ap (λ k. job_named k (jobs_called job config.jobs)) (sym is)
-
     by_text : (def : JobDef) → def.name ≡ job → (x : Expansion)
         → target_as config def vars x c ≡ target_as (only job config) def vars x d
     by_text def own (Expands text) =
@@ -345,17 +345,31 @@ target-same job config name vars c d is like =
     by_text def own (Lacks key) = refl
     by_text def own Malformed = refl
 
-    by_job : (o : Option JobDef) → job_named name config.jobs ≡ o
+    by_job : (o : Option JobDef) → ((def : JobDef) → o ≡ Some def → def.name ≡ name)
         → target_in config name o vars c ≡ target_in (only job config) name o vars d
-    by_job None some = refl
-    by_job (Some def) some =
-        let own : def.name ≡ job = named-name name config.jobs def some ∙ is in
+    by_job None called-so = refl
+    by_job (Some def) called-so =
+        let own : def.name ≡ job = called-so def refl ∙ is in
         let same : env_of_job config def.name ≡ env_of_job (only job config) def.name =
         ap (λ k. env_of_job config k) own ∙ env-only job config ∙ ap (λ k. env_of_job (only job config) k)
         (sym own) in
         by_text def own (expand def.instance (request_env config def vars))
         ∙ ap (λ (environment : Bindings). target_as (only job config) def vars
         (expand def.instance (set_all environment vars)) d) same
+
+target-same : (job : Bytes) (config : Configuration) (name : Bytes) (vars : Bindings) (c d : Chronicle)
+    → name ≡ job → Like job config c d → target_of config name vars c ≡ target_of (only job config) name vars d
+target-same job config name vars c d is like =
+    in-same job config name (file_in_force config name c) (file_in_force (only job config) name d) vars c d is
+    (ap (λ k. file_in_force config k c) is ∙ file-only job config c d ∙ ap (λ k. file_in_force (only job config) k d) (sym is))
+    (in_force-name config name c) like
+
+known-same : (job : Bytes) (config : Configuration) (name : Bytes) (vars : Bindings) (c d : Chronicle)
+    → name ≡ job → Like job config c d → known_target config name vars c ≡ known_target (only job config) name vars d
+known-same job config name vars c d is like =
+    in-same job config name (known_file config name c) (known_file (only job config) name d) vars c d is
+    (ap (λ k. known_file config k c) is ∙ known-only job config c d like ∙ ap (λ k. known_file (only job config) k d) (sym is))
+    (known-name config name c) like
 
 whom : (job : Bytes) (who : Who) → who.job ≡ job → called job who.instance ≡ who
 whom job who is = ap (λ (k : Bytes). called k who.instance) (sym is)
@@ -394,6 +408,17 @@ does-outcome job config r q request c d asks same older there acts = by_command 
     whose t is def who environment some =
         target-name config request.name request.vars c def who environment (is ∙ some) ∙ name
 
+    known : Target
+    known = known_target config request.name request.vars c
+
+    known_there : known ≡ known_target (only job config) request.name request.vars d
+    known_there = known-same job config request.name request.vars c d name acts.like
+
+    whose-known : (t : Target) → known ≡ t → (def : JobDef) (who : Who) (environment : Bindings)
+        → t ≡ Concerns def who environment → who.job ≡ job
+    whose-known t is def who environment some =
+        known-target-name config request.name request.vars c def who environment (is ∙ some) ∙ name
+
     starts : (t : Target) → target ≡ t
         → Does job config r q its hers c d (entries_of r (start its t c)) (entries_of q (start hers t d))
     starts (Nobody text) is = Reply _ refl refl
@@ -404,10 +429,10 @@ does-outcome job config r q request c d asks same older there acts = by_command 
         (whom job who (whose (Concerns def who environment) is def who environment refl))
         (does-start job config r q its hers c d def who.instance
         (with_instance (called job who.instance) environment)
-        (named-name request.name config.jobs def
+        (in_force-name config request.name c def
         (target-file config request.name request.vars c def who environment is) ∙ name) same older there acts)
 
-    stops : (t : Target) → target ≡ t
+    stops : (t : Target) → known ≡ t
         → Does job config r q its hers c d (entries_of r (stop its request.vars t c))
         (entries_of q (stop hers request.vars t d))
     stops (Nobody text) is = Reply _ refl refl
@@ -415,7 +440,7 @@ does-outcome job config r q request c d asks same older there acts = by_command 
         subst (λ (w : Who). Does job config r q its hers c d
         (entries_of r (stop_at its request.vars w (instance_named w c) c))
         (entries_of q (stop_at hers request.vars w (instance_named w d) d)))
-        (whom job who (whose (Concerns def who environment) is def who environment refl))
+        (whom job who (whose-known (Concerns def who environment) is def who environment refl))
         (does-stop job config r q its hers c d who.instance request.vars same older there acts)
 
     restarts : (t : Target) → target ≡ t
@@ -428,17 +453,17 @@ does-outcome job config r q request c d asks same older there acts = by_command 
         (whom job who (whose (Concerns def who environment) is def who environment refl))
         (does-restart job config r q its hers c d who.instance same older there acts)
 
-    statuses : (t : Target) → target ≡ t
+    statuses : (t : Target) → known ≡ t
         → Does job config r q its hers c d (entries_of r (status t c)) (entries_of q (status t d))
     statuses (Nobody text) is = Reply _ refl refl
     statuses (Concerns def who environment) is =
         subst (λ (w : Who). Does job config r q its hers c d
         (entries_of r (status_at def w (instance_named w c) c))
         (entries_of q (status_at def w (instance_named w d) d)))
-        (whom job who (whose (Concerns def who environment) is def who environment refl))
+        (whom job who (whose-known (Concerns def who environment) is def who environment refl))
         (does-status job config def r q its hers c d who.instance acts)
 
-    reloads : (t : Target) → target ≡ t
+    reloads : (t : Target) → known ≡ t
         → Does job config r q its hers c d (entries_of r (reload r t c))
         (entries_of q (reload q t d))
     reloads (Nobody text) is = Reply _ refl refl
@@ -446,7 +471,7 @@ does-outcome job config r q request c d asks same older there acts = by_command 
         subst (λ (w : Who). Does job config r q its hers c d
         (entries_of r (reload_at r (own_file w c) w (instance_named w c) c))
         (entries_of q (reload_at q (own_file w d) w (instance_named w d) d)))
-        (whom job who (whose (Concerns def who environment) is def who environment refl))
+        (whom job who (whose-known (Concerns def who environment) is def who environment refl))
         (does-reload job config r q its hers c d who.instance acts)
 
     not-named : (asked : Command) → request.command ≡ asked → names_job asked ≡ false → ⊥
@@ -463,21 +488,21 @@ does-outcome job config r q request c d asks same older there acts = by_command 
         (λ t. Does job config r q its hers c d (entries_of r (start its target c))
         (entries_of q (start hers t d))) target_there (starts target refl)
     by_command command.Stop is = subst
-        (λ t. Does job config r q its hers c d (entries_of r (stop its request.vars target c))
-        (entries_of q (stop hers request.vars t d))) target_there (stops target refl)
+        (λ t. Does job config r q its hers c d (entries_of r (stop its request.vars known c))
+        (entries_of q (stop hers request.vars t d))) known_there (stops known refl)
     by_command command.Restart is = subst
         (λ t. Does job config r q its hers c d (entries_of r (restart its target c))
         (entries_of q (restart hers t d))) target_there (restarts target refl)
     by_command command.Status is = subst
-        (λ t. Does job config r q its hers c d (entries_of r (status target c)) (entries_of q (status t d)))
-        target_there (statuses target refl)
+        (λ t. Does job config r q its hers c d (entries_of r (status known c)) (entries_of q (status t d)))
+        known_there (statuses known refl)
     by_command command.List is = absurd (not-named command.List is refl)
     by_command command.Emit is = absurd (not-named command.Emit is refl)
     by_command command.Version is = absurd (not-named command.Version is refl)
     by_command command.Reload is = subst
-        (λ t. Does job config r q its hers c d (entries_of r (reload r target c))
+        (λ t. Does job config r q its hers c d (entries_of r (reload r known c))
         (entries_of q (reload q t d)))
-        target_there (reloads target refl)
+        known_there (reloads known refl)
     by_command command.ReloadConfiguration is = absurd (not-named command.ReloadConfiguration is refl)
 
 -- a request that names the job
@@ -595,7 +620,7 @@ effect-own job config id request c d own base =
     plain : Like job config (es ++ e) (fs ++ f) → unanswered (es ++ e) ≡ None → unanswered (fs ++ f) ≡ None
         → Effected job config c d (es ++ e)
     plain like silent silent_there =
-        Noticed (Received g) noticed-view (subst (λ (t : Chronicle). Plain job config (es ++ e) t) begun
+        Noticed (Received g) tt noticed-view (subst (λ (t : Chronicle). Plain job config (es ++ e) t) begun
         (record {
           like = like;
           offers = None' offers offers_there;
@@ -650,7 +675,7 @@ effect-own job config id request c d own base =
         let void : holders_of q request.wait ≡ [] = ap (holders_of q) is in
         let one = entry-append r es e (omega arith) in
         let two = entry-append q fs f (omega arith) in
-        Hurried (Received g) noticed-view r q x y
+        Hurried (Received g) tt noticed-view r q x y
         (subst (λ (t : Chronicle). Waits job config (es ++ e) t r q x y) begun
         (record {
           like = pair.like;

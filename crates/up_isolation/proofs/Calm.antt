@@ -7,7 +7,7 @@ use Rattle.std.specs.List.{AllByRecursion}
 use Rattle.up_conf.specs.declared.job.JobDef.{JobDef}
 use Rattle.up_expr.specs.Truth.{Sight}
 use Rattle.up_model.specs.declared.who.Who.{Who}
-use Rattle.up_model.specs.Chronicle.{Chronicle, Entry, Offered, Fired, Made, Aimed, Expression, StartOn}
+use Rattle.up_model.specs.Chronicle.{Chronicle, Entry, Offered, Fired, Made, Aimed, Loaded, Expression, StartOn}
 use Rattle.up_model.specs.Chronicle.{StopOn}
 use Rattle.up_model.specs.Configuration.{Configuration, job_named}
 use Rattle.up_model.specs.Instances.{Instance, instances_of}
@@ -15,7 +15,6 @@ use Rattle.up_model.specs.Readings.{event_at, file_in, file_of}
 use Rattle.up_model.specs.Seen.{seen, sight_of, env_of}
 use Rattle.up_model.specs.Values.{Bytes, Bindings}
 use Rattle.up_model.proofs.Places.{bytes_refl, bytes_same}
-use Rattle.up_isolation.specs.Isolation.{jobs_called}
 use Rattle.up_isolation.proofs.Known.{IsKnown, known, one-file}
 use Rattle.up_isolation.proofs.Likes.{only, named-only, start_tree}
 use Rattle.up_isolation.proofs.Releases.{entry-append}
@@ -41,6 +40,7 @@ use Rattle.up_model.proofs.ReplyLaws.{releasing-all}
 use Rattle.up_model.proofs.FileLaws.{named-name}
 use Rattle.up_isolation.proofs.Locals.{IsMoving, move-moving}
 use Rattle.up_isolation.proofs.Resting.{IsCalm}
+use Rattle.up_isolation.specs.Views.{jobs_called}
 
 holds-nil : (tree : Tree) → truth.holds tree [] ≡ false
 holds-nil (One leaf) = refl
@@ -55,21 +55,24 @@ nothing-holds (Some tree) = holds-nil tree
 abbrev pub IsBlind : Entry → Type 0
 IsBlind (Offered expression event) = ⊥
 IsBlind (Fired expression taken) = ⊥
+IsBlind (Loaded jobs) = ⊥
 IsBlind e = Unit {0}
 
 pub blind-seen : (config : Configuration) (expression : Expression) (e : Entry) (c : Chronicle) → IsBlind e
     → seen config expression (e ∷ c) ≡ seen config expression c
 blind-seen config expression (Offered other event) c is = absurd is
 blind-seen config expression (Fired other taken) c is = absurd is
+blind-seen config expression (Loaded jobs) c is = absurd is
 blind-seen config expression e c is = refl
 
 moving-blind : (e : Entry) → IsMoving e → IsBlind e
 moving-blind (Offered other event) is = is
 moving-blind (Fired other taken) is = is
+moving-blind (Loaded jobs) is = is
 moving-blind e is = tt
 
 -- more entries: what is known of the instances that there were is known of all
-calm-more : (job : Bytes) (config : Configuration) (es d : List Entry)
+pub calm-more : (job : Bytes) (config : Configuration) (es d : List Entry)
     → holds (start_tree job config) (seen (only job config) (StartOn job) (es ++ d)) ≡ false
     → ((j : ℕ) (file : JobDef) → file_of j d ≡ Some file
     → holds file.stop_on (seen (only job config) (StopOn j) (es ++ d)) ≡ false)

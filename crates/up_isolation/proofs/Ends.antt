@@ -5,7 +5,7 @@ use Rattle.std.specs.List.{AllByRecursion}
 use Rattle.up_conf.specs.declared.job.JobDef.{JobDef}
 use Rattle.up_stanza.specs.declared.process.Process.{Process}
 use Rattle.up_model.specs.Chronicle.{Chronicle, Entry, Given, Handled, Offered, Fired, Finished, Aimed}
-use Rattle.up_model.specs.Chronicle.{Failed, Respawned}
+use Rattle.up_model.specs.Chronicle.{Failed, Respawned, Loaded}
 use Rattle.up_model.specs.Clock.{now}
 use Rattle.up_model.specs.Configuration.{Configuration}
 use Rattle.up_model.specs.Instances.{Instance}
@@ -169,6 +169,7 @@ IsMute (Handled event) = ⊥
 IsMute (Finished event) = ⊥
 IsMute (Offered expression event) = ⊥
 IsMute (Fired expression taken) = ⊥
+IsMute (Loaded jobs) = ⊥
 IsMute e = Unit {0}
 
 mute-end_itself : (i : ℕ) (c : Chronicle) → AllByRecursion IsMute (end_itself i c)

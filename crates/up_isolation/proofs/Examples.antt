@@ -11,13 +11,14 @@ use Rattle.up_model.specs.declared.output.Output.TheVariants as output
 use Rattle.up_model.specs.declared.request.Command.TheVariants.{Start}
 use Rattle.up_model.specs.Requests.{RequestValue}
 use Rattle.up_model.specs.Answers.{after, after_all, is_expected}
-use Rattle.up_model.specs.Configuration.{Configuration}
+use Rattle.up_model.specs.declared.loaded.Loaded.TheVariants as loaded
+use Rattle.up_model.specs.Configuration.{Configuration, started_with}
 use Rattle.up_model.specs.Due.{due, effect}
 use Rattle.up_model.specs.Work.{work, settle}
 use Rattle.up_model.specs.Values.{Bytes}
 use Rattle.up_text.specs.Expansion as expansion
 use Rattle.up_model.specs.declared.who.Who.{Who}
-use Rattle.up_isolation.specs.Views.{Received, Arrived, Unblocked, view, deeds}
+use Rattle.up_isolation.specs.Views.{Received, Arrived, Unblocked, Replaced, view, deeds}
 
 -- `start on go`, `exec /bin/d`
 abbrev job_on_go : Bytes → JobDef
@@ -45,7 +46,7 @@ job_on_go name = record {
 }
 
 abbrev two_jobs : Configuration
-two_jobs = record { base = []; jobs = job_on_go (codes "a") ∷ job_on_go (codes "b") ∷ [] }
+two_jobs = started_with [] (job_on_go (codes "a") ∷ job_on_go (codes "b") ∷ [])
 
 abbrev go : Event
 go = record { name = codes "go"; vars = [] }
@@ -70,7 +71,7 @@ unfolding view after_all after is_expected due effect work settle expansion.expa
 noticed = refl
 
 abbrev alone_jobs : Configuration
-alone_jobs = record { base = []; jobs = job_on_go (codes "a") ∷ [] }
+alone_jobs = started_with [] (job_on_go (codes "a") ∷ [])
 
 -- alone it does the same by the same notices
 alone_noticed : view (codes "a") alone_jobs
@@ -85,7 +86,7 @@ abbrev job_off_go : Bytes → JobDef
 job_off_go name = record (job_on_go name) { start_on = None; stop_on = Some (One (record { event = codes "go"; values = [] })) }
 
 abbrev off_jobs : Configuration
-off_jobs = record { base = []; jobs = job_off_go (codes "c") ∷ [] }
+off_jobs = started_with [] (job_off_go (codes "c") ∷ [])
 
 -- an event that a `stop on` alone names comes to no notice of a job without an instance
 unheard : view (codes "c") off_jobs (after_all off_jobs [] (input.Emit go ∷ input.Turn ∷ [])) ≡ []
@@ -107,3 +108,32 @@ start_it : deeds (codes "a") (after_all two_jobs [] (input.Emit go ∷ input.Tur
     ≡ output.Emitted of_a ∷ []
 unfolding deeds after_all after is_expected due effect work settle expansion.expand
 start_it = refl
+
+-- a load without it comes to its notice, and events that it would hear don't any more
+gone : view (codes "a") two_jobs
+    (after_all two_jobs [] (input.Load 1 (loaded.Files (job_on_go (codes "b") ∷ [])) ∷ input.Emit go ∷ input.Turn ∷ []))
+    ≡ Replaced [] ∷ []
+unfolding view after_all after is_expected due effect work settle expansion.expand
+gone = refl
+
+-- the same load as two jobs see it
+other_file : view (codes "b") two_jobs (after_all two_jobs [] (input.Load 1 (loaded.Files (job_on_go (codes "b") ∷ [])) ∷ []))
+    ≡ Replaced (job_on_go (codes "b") ∷ []) ∷ []
+unfolding view after_all after is_expected due effect work settle expansion.expand
+other_file = refl
+
+-- a load without a job that has an instance, and the event again that started it
+abbrev goes_on : List Input
+goes_on =
+    input.Emit go ∷ input.Turn ∷ input.Load 1 (loaded.Files (job_on_go (codes "b") ∷ [])) ∷ input.Emit go ∷ input.Turn ∷ input.Turn
+    ∷ input.Turn ∷ input.Turn ∷ input.Turn ∷ input.Turn ∷ []
+
+-- the job goes on, but doesn't hear it, as the other does
+goes_deaf : view (codes "a") two_jobs (after_all two_jobs [] goes_on) ≡ Unblocked [] ∷ Replaced [] ∷ Arrived go ∷ []
+unfolding view after_all after is_expected due effect work settle expansion.expand
+goes_deaf = refl
+
+other_hears : view (codes "b") two_jobs (after_all two_jobs [] goes_on)
+    ≡ Arrived go ∷ Unblocked [] ∷ Replaced (job_on_go (codes "b") ∷ []) ∷ Arrived go ∷ []
+unfolding view after_all after is_expected due effect work settle expansion.expand
+other_hears = refl

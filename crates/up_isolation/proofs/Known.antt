@@ -6,7 +6,7 @@ use Rattle.std.specs.List.{AllByRecursion}
 use Rattle.up_conf.specs.declared.job.JobDef.{JobDef}
 use Rattle.up_model.specs.declared.event.Event.{Event}
 use Rattle.up_model.specs.declared.state.State.TheVariants as state
-use Rattle.up_model.specs.Chronicle.{Chronicle, Entry, Offered, Fired, Made, Entered, Expression}
+use Rattle.up_model.specs.Chronicle.{Chronicle, Entry, Offered, Fired, Made, Entered, Loaded, StartOn, StopOn, Expression}
 use Rattle.up_model.specs.Configuration.{Configuration}
 use Rattle.up_model.specs.Instances.{Instance, is_before, with_instance, without_instance, instances_of}
 use Rattle.up_model.specs.Readings.{entry_at, event_at, made_at, file_of, event_of}
@@ -151,5 +151,8 @@ seen-known config expression (Fired other taken ∷ c) = by_case (same_expressio
         → AreKnown (Fired other taken ∷ c) (if b then [] else seen config expression c)
     by_case true ih = tt
     by_case false ih = ih
+seen-known config (StartOn job) (Loaded jobs ∷ c) = tt
+seen-known config (StopOn i) (Loaded jobs ∷ c) =
+    known-sights-later (Loaded jobs) c (seen config (StopOn i) c) (seen-known config (StopOn i) c)
 seen-known config expression (entry ∷ c) =
     known-sights-later entry c (seen config expression c) (seen-known config expression c)

@@ -2,6 +2,7 @@ pub mod Lives
 pub mod Sights
 pub mod Twins
 pub mod Known
+pub mod Steady
 pub mod Likes
 pub mod Pairs
 pub mod Entries
@@ -25,6 +26,7 @@ pub mod Hurry
 pub mod Requesting
 pub mod Changing
 pub mod Asking
+pub mod Loading
 pub mod Runs
 pub mod Telling
 pub mod Stepping

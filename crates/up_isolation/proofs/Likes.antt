@@ -3,7 +3,7 @@
 use Rattle.std.proofs.Common.{◌≡◌, ℕ, ◌<◌, ◌≤◌, ◌==◌, ◌||◌, ◌⊎◌, inl, inr, Bool, true, false, List, [], ◌∷◌, ◌++◌}
 use Rattle.std.proofs.Common.{Option, None, Some, is_some, length, if◌then◌else◌, bytes_eq, refl, sym, ◌∙◌}
 use Rattle.std.proofs.Common.{ap, ap₂, subst, arith, ne_eqb, append-nil}
-use Rattle.std.specs.List.{AllByRecursion}
+use Rattle.std.specs.List.{AllByRecursion, list_any}
 use Rattle.up_conf.specs.declared.job.JobDef.{JobDef}
 use Rattle.up_expr.specs.Trees.{Tree}
 use Rattle.up_expr.specs.Truth.{Sight}
@@ -14,9 +14,10 @@ use Rattle.up_model.specs.declared.state.State.TheVariants as state
 use Rattle.up_model.specs.declared.who.Who.{Who}
 use Rattle.up_model.specs.Chronicle.{Chronicle, Entry, Given, Queued, Handled, Offered, Fired, Finished, Made}
 use Rattle.up_model.specs.Chronicle.{Aimed, Restarted, Released, Failed, Respawned, Entered, Ordered}
-use Rattle.up_model.specs.Chronicle.{Signalled, Replied, Entering, Outside, Spoilt, StartOn, StopOn}
+use Rattle.up_model.specs.Chronicle.{Signalled, Replied, Loaded, Entering, Outside, Spoilt, StartOn, StopOn}
 use Rattle.up_model.specs.Clock.{now}
 use Rattle.up_model.specs.Configuration.{Configuration, job_named}
+use Rattle.up_model.specs.Files.{file_in_force, known_file}
 use Rattle.up_model.specs.Held.{start_on_of}
 use Rattle.up_model.specs.Instances.{Instance, without_instance, instances_of, instance_named}
 use Rattle.up_model.specs.Readings.{entry_at, made_at, event_at, blocker, without, holders, speaks_of}
@@ -26,21 +27,29 @@ use Rattle.up_model.specs.Values.{Bytes, Bindings}
 use Rattle.up_model.proofs.FileLaws.{all-weaker}
 use Rattle.up_model.proofs.Places.{bytes_refl, older-other}
 use Rattle.up_model.proofs.NameLaws.{called, Singles, entered-singles, made-singles}
-use Rattle.up_isolation.specs.Isolation.{jobs_called}
 use Rattle.up_isolation.specs.Views.{Arrived, Unblocked, stands_in, stands_in_stops, hears, concerns}
 use Rattle.up_isolation.specs.Views.{is_blocked_by, unblocked, arrivals, is_of, owns, was_asked, deeds}
 use Rattle.up_isolation.specs.Parts as parts
 use Rattle.up_isolation.specs.Parts.{Content, contents, content, Item, items, items_if, hears_event}
-use Rattle.up_isolation.specs.Parts.{owns_expression, part, noticed}
+use Rattle.up_isolation.specs.Parts.{owns_expression, noticed}
 use Rattle.up_isolation.proofs.Lives.{Life, life, IsAside, aside, IsOld}
 use Rattle.up_isolation.proofs.Lives as lives
 use Rattle.up_isolation.proofs.Sights.{told}
 use Rattle.up_isolation.proofs.Twins.{Twins}
 use Rattle.up_isolation.proofs.Known.{IsKnown, known, AreOlder, contents-later, older-later}
+use Rattle.up_isolation.proofs.Steady.{part}
+use Rattle.up_isolation.specs.Views.{jobs_called}
+use Rattle.up_isolation.specs.Isolation.{names_called}
+use Rattle.std.proofs.Common.{not, ◌&&◌}
+use Rattle.up_text.specs.Scripts.{is_filled}
 
 -- the configuration of the job alone
 abbrev pub only : Bytes → Configuration → Configuration
-only job config = record { base = config.base; jobs = jobs_called job config.jobs }
+only job config = record {
+  base = config.base;
+  jobs = jobs_called job config.jobs;
+  removed = names_called job config.removed;
+}
 
 -- two instances of this file, by their places, that are alike
 pub record Bond (job : Bytes) (config : Configuration) (c d : Chronicle) (file : JobDef) (i j : ℕ) : Type 0 where
@@ -109,6 +118,25 @@ named-only job (its ∷ jobs) = by_case (bytes_eq its.name job) refl (named-only
     by_case true is ih = rw is refl
     by_case false is ih = ih
 
+-- and is removed alone if it is
+removed-only : (job : Bytes) (names : List Bytes)
+    → list_any (λ other. bytes_eq other job) names ≡ list_any (λ other. bytes_eq other job) (names_called job names)
+removed-only job [] = refl
+removed-only job (name ∷ names) = by_case (bytes_eq name job) refl (removed-only job names)
+  where
+    by_case : (b : Bool) → bytes_eq name job ≡ b
+        → list_any (λ other. bytes_eq other job) names ≡ list_any (λ other. bytes_eq other job) (names_called job names)
+        → (b || list_any (λ other. bytes_eq other job) names)
+        ≡ list_any (λ other. bytes_eq other job) (if b then name ∷ names_called job names else names_called job names)
+    by_case true is ih = rw is refl
+    by_case false is ih = ih
+
+-- so it has the same file in force
+pub file-only : (job : Bytes) (config : Configuration) (c d : Chronicle)
+    → file_in_force config job c ≡ file_in_force (only job config) job d
+file-only job config c d =
+    ap₂ (λ (removed : Bool) file. if removed then None else file) (removed-only job config.removed) (named-only job config.jobs)
+
 -- so it hears the same in both
 stops-same : (job : Bytes) (config : Configuration) (s t : Chronicle) (event : Bytes) (xs ys : List Instance)
     → Twins (Twin job config s t) xs ys → stands_in_stops event xs ≡ stands_in_stops event ys
@@ -124,6 +152,22 @@ hears-same : (job : Bytes) (config : Configuration) (c d : Chronicle) (event : B
 hears-same job config c d event like =
     ap₂ (λ file b. stands_in event (start_on_of file) || b) (named-only job config.jobs)
     (stops-same job config c d event (instances_of job c) (instances_of job d) like.twins)
+
+-- and the same by which requests know it
+pub filled-same : (job : Bytes) (config : Configuration) (s t : Chronicle) (xs ys : List Instance)
+    → Twins (Twin job config s t) xs ys → is_filled xs ≡ is_filled ys
+filled-same job config s t [] [] twins = refl
+filled-same job config s t (x ∷ xs) (y ∷ ys) twins = refl
+filled-same job config s t [] (y ∷ ys) twins = absurd twins
+filled-same job config s t (x ∷ xs) [] twins = absurd twins
+
+pub known-only : (job : Bytes) (config : Configuration) (c d : Chronicle) → Like job config c d
+    → known_file config job c ≡ known_file (only job config) job d
+known-only job config c d like =
+    ap₂ (λ (removed : Bool) file. if removed then None else file)
+    (ap₂ (λ removed filled. removed && not filled) (removed-only job config.removed)
+    (filled-same job config c d (instances_of job c) (instances_of job d) like.twins))
+    (named-only job config.jobs)
 
 pub hears_event-same : (job : Bytes) (config : Configuration) (c d : Chronicle) (o u : Option Event) → o ≡ u
     → Like job config c d → hears_event job config o c ≡ hears_event job (only job config) u d
@@ -178,6 +222,7 @@ IsForeign job config (Entered i to) c = IsOther job i c
 IsForeign job config (Ordered i its) c = IsOther job i c
 IsForeign job config (Signalled i signal by_timer) c = IsOther job i c
 IsForeign job config (Replied request answer) c = was_asked job (request_at request c) ≡ false
+IsForeign job config (Loaded jobs) c = ⊥
 
 -- an instance of the job is another
 pub apart : (job : Bytes) (i : ℕ) (c : Chronicle) (x : Instance) → IsKnown job c x → owns job i c ≡ false
@@ -347,6 +392,7 @@ spares job config (Signalled i signal by_timer) c x known is passes =
     record { aside = apart job i c x known is.0; holders = refl; seen = refl }
 spares job config (Replied request answer) c x known is passes =
     record { aside = tt; holders = refl; seen = refl }
+spares job config (Loaded jobs) c x known is passes = absurd is
 
 -- all of them are spared
 all-spared : (job : Bytes) (config : Configuration) (e : Entry) (c : Chronicle) (xs : List Instance)
@@ -462,6 +508,7 @@ starts-same job config (Offered (StartOn other) event) c is = by_sum is
 starts-same job config (Offered (StopOn i) event) c is = refl
 starts-same job config (Fired (StartOn other) taken) c is = rw is refl
 starts-same job config (Fired (StopOn i) taken) c is = refl
+starts-same job config (Loaded jobs) c is = absurd is
 starts-same job config e c is = refl
 
 today-same : (job : Bytes) (config : Configuration) (e : Entry) (c : Chronicle) → IsForeign job config e c
@@ -523,6 +570,7 @@ part-same job config (Entered i to) c is = rw is.0 refl
 part-same job config (Ordered i its) c is = rw is.0 refl
 part-same job config (Signalled i signal by_timer) c is = rw is.0 refl
 part-same job config (Replied request answer) c is = rw is refl
+part-same job config (Loaded jobs) c is = absurd is
 
 -- nor is it a deed
 deeds-same : (job : Bytes) (config : Configuration) (e : Entry) (c : Chronicle) → IsForeign job config e c

@@ -11,7 +11,6 @@ use Rattle.up_model.specs.Files.{job_names}
 use Rattle.up_model.specs.Instances.{Instance, instances_of}
 use Rattle.up_model.specs.Values.{Bytes}
 use Rattle.up_model.proofs.Places.{bytes_same}
-use Rattle.up_isolation.specs.Isolation.{jobs_called}
 use Rattle.up_isolation.specs.Views.{is_of}
 use Rattle.up_isolation.proofs.Twins.{Twins}
 use Rattle.up_isolation.proofs.Known.{IsKnown}
@@ -28,6 +27,7 @@ use Rattle.up_isolation.proofs.Twins.{At}
 use Rattle.up_isolation.proofs.Known.{known}
 use Rattle.up_isolation.proofs.Moving.{leave-same}
 use Rattle.up_isolation.proofs.Foreign.{AreStrange, strange-move}
+use Rattle.up_isolation.specs.Views.{jobs_called}
 
 -- a list with something at its end isn't empty
 pub snoc-some : (es : List Entry) (e : Entry) → es ++ e ∷ [] ≡ [] → ⊥

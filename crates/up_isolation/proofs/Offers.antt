@@ -10,7 +10,6 @@ use Rattle.up_model.specs.Instances.{Instance, instances_of}
 use Rattle.up_model.specs.Values.{Bytes}
 use Rattle.up_model.proofs.FileLaws.{named-name}
 use Rattle.up_model.proofs.Places.{bytes_same}
-use Rattle.up_isolation.specs.Isolation.{jobs_called}
 use Rattle.up_isolation.specs.Views.{is_of}
 use Rattle.up_isolation.proofs.Twins.{Twins}
 use Rattle.up_isolation.proofs.Known.{IsKnown}
@@ -25,6 +24,7 @@ use Rattle.up_isolation.proofs.Known.{known}
 use Rattle.up_isolation.proofs.Foreign.{AreStrange, strange-stop_offer, strange-start_offer}
 use Rattle.up_isolation.proofs.Movers.{snoc-some, or_else-first, or_else-second}
 use Rattle.up_isolation.proofs.Locals.{IsShut}
+use Rattle.up_isolation.specs.Views.{jobs_called}
 
 pub data Offers (job : Bytes) (config : Configuration) (p q : ℕ) (c d : Chronicle) (es fs : List Entry) : Type 0
   where

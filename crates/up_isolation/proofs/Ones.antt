@@ -5,7 +5,7 @@ use Rattle.std.specs.List.{list_any}
 use Rattle.up_conf.specs.declared.job.JobDef.{JobDef}
 use Rattle.up_model.specs.Values.{Bytes}
 use Rattle.up_model.proofs.Places.{bytes_same, bytes_refl}
-use Rattle.up_isolation.specs.Isolation.{jobs_called}
+use Rattle.up_isolation.specs.Views.{jobs_called}
 
 -- no name stands twice
 abbrev pub AreApart : List JobDef → Type 0

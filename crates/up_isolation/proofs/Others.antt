@@ -28,7 +28,6 @@ use Rattle.up_isolation.proofs.Pairs.{Pair, Carries, twin-carried, Shows, pair_m
 use Rattle.up_isolation.proofs.Pairs.{bond-life, shows-item, items-own, own-true, name-same, known-one}
 use Rattle.up_isolation.proofs.Pairs.{twins-own}
 use Rattle.up_model.specs.Environments.{env_of_job, env_by_job}
-use Rattle.up_isolation.specs.Parts.{part}
 use Rattle.up_isolation.proofs.Pairs.{LeavesAlone, bond-missed}
 use Rattle.up_isolation.proofs.Likes.{named-only, start_tree, hears_event-same}
 

@@ -1,5 +1,5 @@
 -- Two instances that are alike stay so by entries that say the same of both.
-use Rattle.std.proofs.Common.{◌≡◌, ℕ, ◌==◌, Bool, true, false, List, [], ◌∷◌, ◌++◌, Some, length, refl, sym}
+use Rattle.std.proofs.Common.{◌≡◌, ℕ, ◌==◌, Bool, true, false, if◌then◌else◌, List, [], ◌∷◌, ◌++◌, Some, length, refl, sym}
 use Rattle.std.proofs.Common.{◌∙◌, ap, ap₂, subst, subst₂, arith, eq-eqb, ne_eqb, eqb-true}
 use Rattle.std.proofs.lemmas.Bool.{eqb-false}
 use Rattle.std.specs.List.{AllByRecursion}
@@ -9,7 +9,7 @@ use Rattle.up_model.specs.declared.output.Output.{Output}
 use Rattle.up_model.specs.declared.state.State.TheVariants as state
 use Rattle.up_model.specs.Chronicle.{Chronicle, Entry, Given, Queued, Handled, Offered, Fired, Finished, Made}
 use Rattle.up_model.specs.Chronicle.{Aimed, Restarted, Released, Failed, Respawned, Entered, Ordered}
-use Rattle.up_model.specs.Chronicle.{Signalled, Replied, Entering, StartOn, StopOn}
+use Rattle.up_model.specs.Chronicle.{Signalled, Replied, Loaded, Entering, StartOn, StopOn}
 use Rattle.up_model.specs.Clock.{now}
 use Rattle.up_model.specs.Configuration.{Configuration}
 use Rattle.up_model.specs.Instances.{Instance, instances_of}
@@ -21,13 +21,14 @@ use Rattle.up_model.proofs.NameLaws.{called, Singles, entered-singles}
 use Rattle.up_isolation.specs.Views.{notices, is_of, owns, outputs_if, deeds_by, deeds}
 use Rattle.up_isolation.specs.Parts as parts
 use Rattle.up_isolation.specs.Parts.{Content, contents, content, Item, items, items_if}
-use Rattle.up_isolation.specs.Parts.{owns_expression, part, noticed, name_at}
+use Rattle.up_isolation.specs.Parts.{owns_expression, noticed, name_at}
 use Rattle.up_isolation.proofs.Lives.{Life, life, IsAside, aside, IsOld}
 use Rattle.up_isolation.proofs.Lives as lives
 use Rattle.up_isolation.proofs.Sights.{told}
 use Rattle.up_isolation.proofs.Twins.{Twins, Match}
 use Rattle.up_isolation.proofs.Known.{IsKnown, known, one-file, AreOlder, contents-later, older-later}
 use Rattle.up_isolation.proofs.Likes.{only, Bond, Twin, Like, start_tree, HoldsFair, IsPast, blank_more, fair_more}
+use Rattle.up_isolation.proofs.Steady.{part, loads-alike}
 
 -- two instances that are alike, in chronicles in which the job is alike
 pub record Pair (job : Bytes) (config : Configuration) (c d : Chronicle) (x y : Instance) : Type 0 where
@@ -119,6 +120,7 @@ leaves config i p (Ordered other its) c is h = record { aside = rw is h; holders
 leaves config i p (Signalled other signal by_timer) c is h =
     record { aside = rw is h; holders = refl; seen = refl }
 leaves config i p (Replied request answer) c is h = record { aside = tt; holders = refl; seen = refl }
+leaves config i p (Loaded jobs) c is h = record { aside = tt; holders = refl; seen = refl }
 
 -- an older list later
 pub held-later : (ps : List ℕ) (its : List ℕ) (e : Entry) (c : Chronicle) → its ≡ ps → AreOlder (length c) ps
@@ -207,6 +209,7 @@ IsPlain (Offered (StartOn other) event) = ⊥
 IsPlain (Fired (StartOn other) taken) = ⊥
 IsPlain (Made file name) = ⊥
 IsPlain (Entered i state.Waiting) = ⊥
+IsPlain (Loaded jobs) = ⊥
 IsPlain e = Unit {0}
 
 pub quiet : (job : Bytes) (config : Configuration) (e : Entry) (c : Chronicle) → IsPlain e
@@ -218,6 +221,7 @@ quiet job config (Fired (StartOn other) taken) c is = absurd is
 quiet job config (Fired (StopOn i) taken) c is = record { instances = refl; starts = refl; today = refl }
 quiet job config (Made file name) c is = absurd is
 quiet job config (Entered i state.Waiting) c is = absurd is
+quiet job config (Loaded jobs) c is = absurd is
 quiet job config e c is = record { instances = refl; starts = refl; today = refl }
 
 -- two entries that show the same of the job
@@ -231,7 +235,8 @@ pub part_more : (job : Bytes) (config : Configuration) (e f : Entry) (c d : Chro
     → part job config (e ∷ c) ≡ part job (only job config) (f ∷ d)
 unfolding part
 part_more job config e f c d shows same =
-    ap₂ (λ ns is. noticed ns ++ is) shows.notices (ap₂ (λ is rest. is ++ rest) shows.items same)
+    ap₂ (λ ns is. noticed ns ++ is) shows.notices (ap₂ (λ is rest. is ++ rest) shows.items
+    (ap₂ (λ (load : Bool) rest. if load then [] else rest) (loads-alike job config (only job config) e f c d shows.notices) same))
 
 pub deeds_more : (job : Bytes) (config : Configuration) (e f : Entry) (c d : Chronicle)
     → Shows job config e f c d → deeds job c ≡ deeds job d

@@ -6,11 +6,11 @@ use Rattle.up_conf.specs.declared.job.JobDef.{JobDef}
 use Rattle.up_model.specs.declared.request.Answer.{Answer}
 use Rattle.up_model.specs.declared.who.Who.{Who}
 use Rattle.up_model.specs.Chronicle.{Chronicle, Entry, Given, Restarted, Signalled, Replied}
-use Rattle.up_model.specs.Configuration.{Configuration, job_named}
+use Rattle.up_model.specs.Configuration.{Configuration}
 use Rattle.up_model.specs.Instances.{instances_of}
 use Rattle.up_model.specs.Replies.{request_at}
 use Rattle.up_model.specs.Values.{Bytes, Bindings}
-use Rattle.up_model.proofs.FileLaws.{named-name, IsCalled, target-called}
+use Rattle.up_model.proofs.FileLaws.{in_force-name, known-name, IsCalled, target-called}
 use Rattle.up_isolation.specs.Views.{is_of, was_asked}
 use Rattle.up_isolation.proofs.Likes.{Fair, fair_more}
 use Rattle.std.proofs.Common.{append_assoc}
@@ -49,32 +49,41 @@ use Rattle.up_isolation.proofs.Releases.{entry-append}
 use Rattle.up_isolation.proofs.Foreign.{strange-start_of, strange-releasing, other-later, all-foreign-later}
 use Rattle.up_isolation.proofs.Resting.{strange-apart}
 use Rattle.up_isolation.proofs.Alone.{Effected, Base, unnoticed}
+use Rattle.up_model.specs.Files.{file_in_force, known_file}
+use Rattle.up_model.specs.Commands.{known_target}
 
 -- whom a request names bears its name
+in-name : (config : Configuration) (name : Bytes) (file : Option JobDef) (vars : Bindings) (c : Chronicle) (def : JobDef)
+    (who : Who) (environment : Bindings) → ((its : JobDef) → file ≡ Some its → its.name ≡ name)
+    → target_in config name file vars c ≡ Concerns def who environment → who.job ≡ name
+in-name config name None vars c def who environment named is = absurd (cc)
+in-name config name (Some its) vars c def who environment named is =
+    by_text (expand its.instance (request_env config its vars)) is
+  where
+    by_text : (x : Expansion) → target_as config its vars x c ≡ Concerns def who environment → who.job ≡ name
+    by_text (Expands text) is =
+        let whom : record { job = its.name; instance = text } ≡ who = cc in
+        ap (λ (w : Who). w.job) (sym whom) ∙ named its refl
+    by_text (Lacks key) is = absurd (cc)
+    by_text Malformed is = absurd (cc)
+
 pub target-name : (config : Configuration) (name : Bytes) (vars : Bindings) (c : Chronicle) (def : JobDef)
     (who : Who) (environment : Bindings) → target_of config name vars c ≡ Concerns def who environment
     → who.job ≡ name
-target-name config name vars c def who environment is = by_job (job_named name config.jobs) refl is
-  where
-    by_text : (its : JobDef) (x : Expansion) → its.name ≡ name
-        → target_as config its vars x c ≡ Concerns def who environment → who.job ≡ name
-    by_text its (Expands text) same is =
-        let whom : record { job = its.name; instance = text } ≡ who = cc in
-        ap (λ (w : Who). w.job) (sym whom) ∙ same
-    by_text its (Lacks key) same is = absurd (cc)
-    by_text its Malformed same is = absurd (cc)
+target-name config name vars c def who environment is =
+    in-name config name (file_in_force config name c) vars c def who environment (in_force-name config name c) is
 
-    by_job : (o : Option JobDef) → job_named name config.jobs ≡ o
-        → target_in config name o vars c ≡ Concerns def who environment → who.job ≡ name
-    by_job None some is = absurd (cc)
-    by_job (Some its) some is = by_text its
-        (expand its.instance (request_env config its vars)) (named-name name config.jobs its some) is
+pub known-target-name : (config : Configuration) (name : Bytes) (vars : Bindings) (c : Chronicle) (def : JobDef)
+    (who : Who) (environment : Bindings) → known_target config name vars c ≡ Concerns def who environment
+    → who.job ≡ name
+known-target-name config name vars c def who environment is =
+    in-name config name (known_file config name c) vars c def who environment (known-name config name c) is
 
--- and its file is the one of that name
+-- and its file is the one in force of that name
 pub target-file : (config : Configuration) (name : Bytes) (vars : Bindings) (c : Chronicle) (def : JobDef)
     (who : Who) (environment : Bindings) → target_of config name vars c ≡ Concerns def who environment
-    → job_named name config.jobs ≡ Some def
-target-file config name vars c def who environment is = by_job (job_named name config.jobs) refl is
+    → file_in_force config name c ≡ Some def
+target-file config name vars c def who environment is = by_job (file_in_force config name c) is
   where
     by_text : (its : JobDef) (x : Expansion)
         → target_as config its vars x c ≡ Concerns def who environment → its ≡ def
@@ -82,10 +91,9 @@ target-file config name vars c def who environment is = by_job (job_named name c
     by_text its (Lacks key) is = absurd (cc)
     by_text its Malformed is = absurd (cc)
 
-    by_job : (o : Option JobDef) → job_named name config.jobs ≡ o
-        → target_in config name o vars c ≡ Concerns def who environment → o ≡ Some def
-    by_job None some is = absurd (cc)
-    by_job (Some its) some is = ap Some (by_text its (expand its.instance (request_env config its vars)) is)
+    by_job : (o : Option JobDef) → target_in config name o vars c ≡ Concerns def who environment → o ≡ Some def
+    by_job None is = absurd (cc)
+    by_job (Some its) is = ap Some (by_text its (expand its.instance (request_env config its vars)) is)
 
 -- a request that doesn't name the job
 other-reply : (job : Bytes) (config : Configuration) (given : ℕ) (answer : Answer) (c : Chronicle)
@@ -240,25 +248,34 @@ other-outcome job config given request c fair older is other = by_command reques
         target)
         ∙ differs (names_job request.command) (ap names_job same ∙ names) other
 
+    whose-known : (asked : Command) → request.command ≡ asked → names_job asked ≡ true
+        → (def : JobDef) (who : Who) (environment : Bindings)
+        → known_target config request.name request.vars c ≡ Concerns def who environment
+        → bytes_eq who.job job ≡ false
+    whose-known asked same names def who environment target =
+        ap (λ name. bytes_eq name job) (known-target-name config request.name request.vars c def who environment
+        target)
+        ∙ differs (names_job request.command) (ap names_job same ∙ names) other
+
     by_command : (asked : Command) → request.command ≡ asked
         → AreApart job config (entries_of given (outcome_by asked config given request c)) c
     by_command command.Start same = other-start job config given (holders_of given request.wait)
         (target_of config request.name request.vars c) c fair reply (are request.wait)
         (whose command.Start same refl) (target-called config request.name request.vars c)
     by_command command.Stop same = other-stop job config given (holders_of given request.wait) request.vars
-        (target_of config request.name request.vars c) c fair reply (are request.wait)
-        (whose command.Stop same refl)
+        (known_target config request.name request.vars c) c fair reply (are request.wait)
+        (whose-known command.Stop same refl)
     by_command command.Restart same = other-restart job config given (holders_of given request.wait)
         (target_of config request.name request.vars c) c fair reply (are request.wait)
         (whose command.Restart same refl)
     by_command command.Status same =
-        other-status job config given (target_of config request.name request.vars c) c reply
+        other-status job config given (known_target config request.name request.vars c) c reply
     by_command command.List same = (reply, tt)
     by_command command.Emit same = other-if job config given (nat_lt (length (queue c)) max_events) _ _ c
         ((older, reply), tt) (reply, tt)
     by_command command.Version same = (reply, tt)
     by_command command.Reload same = other-reload job config given
-        (target_of config request.name request.vars c) c older reply (whose command.Reload same refl)
+        (known_target config request.name request.vars c) c older reply (whose-known command.Reload same refl)
     by_command command.ReloadConfiguration same = (reply, tt)
 
 pub effect-other : (job : Bytes) (config : Configuration) (id : ℕ) (request : RequestValue) (c d : Chronicle)

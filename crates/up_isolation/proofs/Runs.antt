@@ -3,7 +3,6 @@ use Rattle.std.proofs.Common.{◌≡◌, ℕ, ◌⊎◌, inl, inr, Bool, true, f
 use Rattle.std.proofs.Common.{None, Some, length, if◌then◌else◌, bytes_eq, refl, sym, ◌∙◌, ap, ap₂, subst}
 use Rattle.std.specs.List.{AllByRecursion}
 use Rattle.up_conf.specs.declared.job.JobDef.{JobDef}
-use Rattle.up_model.specs.declared.event.Event.{Event}
 use Rattle.up_model.specs.Chronicle.{Chronicle, Entry, Given, Queued, Handled, Offered, Fired, Finished, Made}
 use Rattle.up_model.specs.Chronicle.{Aimed, Restarted, Released, Failed, Respawned, Entered, Ordered}
 use Rattle.up_model.specs.Chronicle.{Signalled, Replied, Entering, Outside}
@@ -17,37 +16,26 @@ use Rattle.up_isolation.specs.Views.{Notice, notices, owns, was_asked, deeds}
 use Rattle.up_isolation.specs.Parts as parts
 use Rattle.up_isolation.specs.Parts.{Content, contents, content, Item, items, items_if, hears_event}
 use Rattle.up_isolation.specs.Parts.{name_at}
-use Rattle.up_isolation.proofs.Sights.{told}
 use Rattle.up_isolation.proofs.Likes.{only, Like}
 use Rattle.std.proofs.Common.{suc}
 use Rattle.up_model.specs.declared.input.Input.{Input}
 use Rattle.up_model.specs.declared.input.Input.TheVariants as input
-use Rattle.up_model.specs.declared.failure.End.TheVariants as end
-use Rattle.up_model.specs.Clock.{all_overdue, kill, killing}
-use Rattle.up_model.specs.Due.{due, effect, end_by}
+use Rattle.up_model.specs.Due.{due, effect}
 use Rattle.up_model.specs.Instances.{instance_named}
 use Rattle.up_model.specs.Moves.{move_first}
 use Rattle.up_model.specs.Predicates.{or_else}
 use Rattle.up_model.specs.Work.{work, settle}
-use Rattle.up_model.proofs.Sparing.{all-append, all-weaker}
-use Rattle.up_isolation.specs.Views.{Received, Arrived, Unblocked, view}
+use Rattle.up_isolation.specs.Views.{Received, Arrived, Unblocked}
 use Rattle.up_isolation.proofs.Calm.{IsBlind}
-use Rattle.up_isolation.proofs.Ends.{IsMute, mute-end}
 use Rattle.up_isolation.proofs.Resting.{IsCalm}
 use Rattle.std.proofs.Common.{zero}
 use Rattle.up_model.specs.Answers.{after, next, is_expected, after_all}
-use Rattle.up_model.specs.Due.{finishing, turn_event, turn_of, failed_event_of, telling}
-use Rattle.up_model.specs.Held.{is_spoilt}
-use Rattle.up_model.specs.Queue.{Live, queue}
-use Rattle.up_model.specs.Commands.{outcome_of, entries_of}
-use Rattle.up_model.specs.Files.{own_file, names_in_order}
-use Rattle.up_model.specs.Replies.{waiter, answering_waiter}
-use Rattle.up_model.proofs.ReplyLaws.{outcome-all, answering_waiter-all}
+use Rattle.up_model.specs.Files.{names_in_order}
 use Rattle.up_model.proofs.Settling.{settle_rests}
 use Rattle.up_model.proofs.WorkLaws.{IsAbout as IsDue, due-about}
 use Rattle.up_model.proofs.Sparing.{IsOf}
 use Rattle.up_isolation.specs.Views.{asks}
-use Rattle.up_isolation.specs.Parts.{part, noticed, owns_expression}
+use Rattle.up_isolation.specs.Parts.{noticed, owns_expression}
 use Rattle.up_isolation.specs.Isolation.{MeanTheSame, IsUnique, GrowsByAtMostOne}
 use Rattle.up_isolation.proofs.Likes.{start_tree, blank_nil}
 use Rattle.up_isolation.proofs.Calm.{nothing-holds, calm-blind, calm-settle}
@@ -58,8 +46,23 @@ use Rattle.up_isolation.proofs.Alone.{freeing, blocker_of, begin, alone, Effecte
 use Rattle.up_isolation.proofs.Alone.{Hurried, Base, effect-spawned, effect-refused, effect-ended}
 use Rattle.up_isolation.proofs.Alone.{effect-emit}
 use Rattle.up_isolation.proofs.Turning.{effect-clock, effect-turn}
-use Rattle.up_isolation.proofs.Requesting.{mute-allows, effect-other}
+use Rattle.up_isolation.proofs.Requesting.{effect-other}
 use Rattle.up_isolation.proofs.Asking.{effect-own}
+use Rattle.up_isolation.proofs.Steady.{view, part}
+use Rattle.up_isolation.specs.Views as views
+use Rattle.up_isolation.specs.Views.{Replaced, jobs_called}
+use Rattle.std.proofs.Common.{subst₂}
+use Rattle.up_model.specs.declared.loaded.Loaded.{Loaded as LoadedValue}
+use Rattle.up_model.specs.declared.loaded.Loaded.TheVariants as loaded
+use Rattle.up_model.specs.Chronicle.{Loaded}
+use Rattle.up_model.specs.Instances.{instances_of}
+use Rattle.up_model.specs.Loads.{in_force, with_jobs, loading}
+use Rattle.up_model.proofs.EffectLaws.{AllowsTurns, effect-all}
+use Rattle.up_model.proofs.LoadLaws.{LoadsNothing, effect-no_load, effect-in_force, settle-in_force, after-same}
+use Rattle.up_isolation.proofs.Alone.{begin_by, IsSteady}
+use Rattle.up_isolation.proofs.Likes.{filled-same}
+use Rattle.up_isolation.proofs.Loading.{only-load, load-plain, calm-load, effect-refused_load}
+use Rattle.up_isolation.proofs.Steady.{before, before-append, settle-before, part-split, view-grown}
 
 -- in a step nothing but its input and its turn is noticed
 of-mute : (k : Bytes) (p : ℕ) (job : Bytes) (config : Configuration) (e : Entry) (c : Chronicle) → IsOf k p e
@@ -68,6 +71,7 @@ unfolding view
 of-mute k p job config (Given given) c of = absurd of
 of-mute k p job config (Handled event) c of = absurd of
 of-mute k p job config (Finished event) c of = absurd of
+of-mute k p job config (Loaded jobs) c of = absurd of
 of-mute k p job config e c of = refl
 
 ofs-mute : (k : Bytes) (p : ℕ) (job : Bytes) (config : Configuration) (es c : List Entry)
@@ -91,184 +95,288 @@ settle-view zero job config other c = refl
 settle-view (suc n) job config other c =
     settle-view n job config other (due other c ++ c) ∙ due-view job config other c
 
--- the effect of an input lets no expression see anything
-mute-blind : (e : Entry) → IsMute e → IsBlind e
-mute-blind (Offered expression event) is = is
-mute-blind (Fired expression taken) is = is
-mute-blind e is = tt
+-- the effect of an input that loads nothing lets no expression see anything
+blind-turns : AllowsTurns IsBlind
+blind-turns = record {
+  ends = record {
+    allows = record {
+      replied = λ request answer. tt;
+      released = λ instance failed. tt;
+      aimed = λ instance aim environment its. tt;
+      restarted = λ instance its. tt;
+      queued = λ given event. tt;
+    };
+    failed = λ instance its. tt;
+    respawned = λ instance moment. tt;
+  };
+  told = λ spoilt event. tt;
+  handled = λ event. tt;
+  finished = λ event. tt;
+}
 
-mutes-blind : (es : List Entry) → AllByRecursion IsMute es → AllByRecursion IsBlind es
-mutes-blind es all = all-weaker IsMute IsBlind mute-blind es all
+refused-blind : (given id : ℕ) (its : LoadedValue) → LoadsNothing (input.Load id its) → AllByRecursion IsBlind (loading given its)
+refused-blind given id (loaded.Files jobs) nothing = absurd nothing
+refused-blind given id (loaded.Refused number) nothing = (tt, tt)
+refused-blind given id loaded.Unread nothing = (tt, tt)
 
-killing-blind : (is : List ℕ) → AllByRecursion IsBlind (killing is)
-killing-blind [] = tt
-killing-blind (i ∷ is) =
-    all-append IsBlind (killing is) (Signalled i kill true ∷ []) (killing-blind is) (tt, tt)
-
-telling-blind : (p : ℕ) (o : Option Event) → AllByRecursion IsBlind (telling p o)
-telling-blind p None = tt
-telling-blind p (Some told) = (tt, tt)
-
-turn-blind : (o : Option Live) (c : Chronicle) → AllByRecursion IsBlind (turn_of o c)
-turn-blind None c = tt
-turn-blind (Some live) c = by_case live.handled
-  where
-    by_case : (b : Bool)
-        → AllByRecursion IsBlind (if b then finishing live.place c else Handled live.place ∷ [])
-    by_case true =
-        all-append IsBlind (telling live.place (failed_event_of live.place c))
-        (answering_waiter (waiter live.place c) (is_spoilt live.place c) ++ Finished live.place ∷ [])
-        (telling-blind live.place (failed_event_of live.place c))
-        (all-append IsBlind (answering_waiter (waiter live.place c) (is_spoilt live.place c))
-        (Finished live.place ∷ [])
-        (answering_waiter-all IsBlind (λ request answer. tt) (waiter live.place c)
-        (is_spoilt live.place c)) (tt, tt))
-    by_case false = (tt, tt)
-
-effect-blind : (config : Configuration) (given : Input) (c : Chronicle)
+effect-blind : (config : Configuration) (given : Input) (c : Chronicle) → LoadsNothing given
     → AllByRecursion IsBlind (effect config given c)
-unfolding effect
-effect-blind config (input.Emit event) c = (tt, (tt, tt))
-effect-blind config (input.Request id request) c =
-    all-append IsBlind (entries_of (length c)
-    (outcome_of config (length c) request (Given (input.Request id request) ∷ c)))
-    (Given (input.Request id request) ∷ [])
-    (mutes-blind (entries_of (length c)
-    (outcome_of config (length c) request (Given (input.Request id request) ∷ c)))
-    (outcome-all IsMute mute-allows (λ its name. tt) config (length c) request
-    (Given (input.Request id request) ∷ c) (λ i signal runs. tt))) (tt, tt)
-effect-blind config (input.Spawned who its pid) c = (tt, tt)
-effect-blind config (input.Refused who its) c =
-    all-append IsBlind (end_by who its end.Refused
-    (Given (input.Refused who its) ∷ c)) (Given (input.Refused who its) ∷ [])
-    (mutes-blind (end_by who its end.Refused
-    (Given (input.Refused who its) ∷ c))
-    (mute-end (own_file who (Given (input.Refused who its) ∷ c)) (instance_named who (Given (input.Refused who its) ∷ c)) its end.Refused
-    (Given (input.Refused who its) ∷ c))) (tt, tt)
-effect-blind config (input.Ended who its how) c =
-    all-append IsBlind (end_by who its (end.Ended how)
-    (Given (input.Ended who its how) ∷ c)) (Given (input.Ended who its how) ∷ [])
-    (mutes-blind (end_by who its (end.Ended how)
-    (Given (input.Ended who its how) ∷ c))
-    (mute-end (own_file who (Given (input.Ended who its how) ∷ c)) (instance_named who (Given (input.Ended who its how) ∷ c)) its (end.Ended how)
-    (Given (input.Ended who its how) ∷ c))) (tt, tt)
-effect-blind config (input.Clock reading) c =
-    all-append IsBlind (killing (all_overdue (names_in_order config c) (Given (input.Clock reading) ∷ c)))
-    (Given (input.Clock reading) ∷ [])
-    (killing-blind (all_overdue (names_in_order config c) (Given (input.Clock reading) ∷ c))) (tt, tt)
-effect-blind config input.Turn c =
-    all-append IsBlind (turn_of (turn_event config (queue c) c) (Given input.Turn ∷ c))
-    (Given input.Turn ∷ []) (turn-blind (turn_event config (queue c) c) (Given input.Turn ∷ c)) (tt, tt)
+effect-blind config given c nothing =
+    effect-all IsBlind blind-turns (λ file name. tt) (λ place signal by_timer. tt) (λ its. tt) config given c
+    (λ id its is. refused-blind (length c) id its (subst LoadsNothing is nothing))
 
-calm-begin : (job : Bytes) (config : Configuration) (notice : Notice) (d : Chronicle)
+calm-begin : (job : Bytes) (config : Configuration) (notice : Notice) (d : Chronicle) → IsSteady notice
     → IsCalm job config d → IsCalm job config (begin job config notice d)
-calm-begin job config (Received given) d calm = calm-blind job config
-    (effect (only job config) given d) d (effect-blind (only job config) given d) calm
-calm-begin job config (Arrived event) d calm =
+calm-begin job config (Received given) d steady calm = calm-blind job config
+    (effect (only job config) given d) d (effect-blind (only job config) given d steady) calm
+calm-begin job config (Arrived event) d steady calm =
     calm-blind job config (Handled (suc (length d)) ∷ Queued (Outside (length d)) event ∷ Given input.Turn
     ∷ []) d (tt, (tt, (tt, tt))) calm
-calm-begin job config (Unblocked name) d calm =
+calm-begin job config (Unblocked name) d steady calm =
     by_event (blocker_of (instance_named (called job name) d) d)
   where
     by_event : (o : Option ℕ) → IsCalm job config (freeing o d)
     by_event None = calm
     by_event (Some event) = calm-blind job config (Finished event ∷ Given input.Turn ∷ []) d (tt, (tt, tt)) calm
+calm-begin job config (Replaced files) d steady calm = absurd steady
+
+-- a notice of no load leaves what is in force, and what was before the last load
+begin-force : (start : Configuration) (job : Bytes) (config : Configuration) (notice : Notice) (d : Chronicle) → IsSteady notice
+    → (in_force start (begin_by job config notice d) ≡ in_force start d) × (before (begin_by job config notice d) ≡ before d)
+begin-force start job config (Received given) d steady = (
+  effect-in_force start config given d steady,
+  before-append (effect config given d) d (effect-no_load config given d steady),
+)
+begin-force start job config (Arrived event) d steady = (refl, refl)
+begin-force start job config (Unblocked name) d steady = by_event (blocker_of (instance_named (called job name) d) d)
+  where
+    by_event : (o : Option ℕ) → (in_force start (freeing o d) ≡ in_force start d) × (before (freeing o d) ≡ before d)
+    by_event None = (refl, refl)
+    by_event (Some event) = (refl, refl)
+begin-force start job config (Replaced files) d steady = absurd steady
+
+-- the job in a chronicle is that in one of its own, in which alone its part of all loads came into force
+pub record Follows (job : Bytes) (start : Configuration) (c d : Chronicle) : Type 0 where
+  pub force : in_force (only job start) d ≡ only job (in_force start c)
+  pub base : Base job (in_force start c) c d
+  pub past : parts.part job start (before c) ≡ parts.part job (only job start) (before d)
 
 -- the job in a chronicle is the job alone, by what it noticed
 abbrev pub Tracks : Bytes → Configuration → Chronicle → Type 0
-Tracks job config c = Base job config c (alone job config (view job config c))
+Tracks job start c = Follows job start c (alone job start (views.view job start c))
 
-effected : (job : Bytes) (config : Configuration) (given : Input) (c d : Chronicle) → Base job config c d
+-- so its whole part is the same in both
+follows-part : (job : Bytes) (start : Configuration) (c d : Chronicle) → Follows job start c d
+    → parts.part job start c ≡ parts.part job (only job start) d
+follows-part job start c d follows =
+    part-split job start c ∙ ap₂ (λ (xs ys : List Item). xs ++ ys) follows.base.like.part follows.past
+    ∙ ap (λ config. part job config d ++ parts.part job (only job start) (before d)) (sym follows.force)
+    ∙ sym (part-split job (only job start) d)
+
+effected : (job : Bytes) (config : Configuration) (given : Input) (c d : Chronicle) → LoadsNothing given → Base job config c d
     → Effected job config c d (effect config given c ++ c)
-effected job config (input.Emit event) c d base = effect-emit job config event c d base
-effected job config (input.Request id request) c d base = by_case (asks job request) refl
+effected job config (input.Emit event) c d nothing base = effect-emit job config event c d base
+effected job config (input.Request id request) c d nothing base = by_case (asks job request) refl
   where
     by_case : (b : Bool) → asks job request ≡ b
         → Effected job config c d (effect config (input.Request id request) c ++ c)
     by_case true own = effect-own job config id request c d own base
     by_case false other = effect-other job config id request c d other base
-effected job config (input.Spawned who its pid) c d base = effect-spawned job config who its pid c d base
-effected job config (input.Refused who its) c d base = effect-refused job config who its c d base
-effected job config (input.Ended who its how) c d base = effect-ended job config who its how c d base
-effected job config (input.Clock reading) c d base = effect-clock job config reading c d base
-effected job config input.Turn c d base = effect-turn job config c d base
+effected job config (input.Spawned who its pid) c d nothing base = effect-spawned job config who its pid c d base
+effected job config (input.Refused who its) c d nothing base = effect-refused job config who its c d base
+effected job config (input.Ended who its how) c d nothing base = effect-ended job config who its how c d base
+effected job config (input.Clock reading) c d nothing base = effect-clock job config reading c d base
+effected job config input.Turn c d nothing base = effect-turn job config c d base
+effected job config (input.Load id its) c d nothing base = effect-refused_load job config id its c d nothing base
 
 -- what an input leaves: all as it was, or one notice more
-pub data Left (job : Bytes) (config : Configuration) (c e : Chronicle) : Type 0 where
-  Same : view job config e ≡ view job config c → Tracks job config e → Left job config c e
-  More : (notice : Notice) → view job config e ≡ notice ∷ view job config c → Tracks job config e
-      → Left job config c e
+pub data Left (job : Bytes) (start : Configuration) (c e : Chronicle) : Type 0 where
+  Same : views.view job start e ≡ views.view job start c → Tracks job start e → Left job start c e
+  More : (notice : Notice) → views.view job start e ≡ notice ∷ views.view job start c → Tracks job start e
+      → Left job start c e
 
-pub tracks-after : (job : Bytes) (config : Configuration) (given : Input) (c : Chronicle)
-    → Tracks job config c → Left job config c (after config c given)
-unfolding after alone
-tracks-after job config given c base = by_effect (effected job config given c d base)
+-- by an input that loads nothing
+steady-after : (job : Bytes) (start : Configuration) (given : Input) (c : Chronicle) → LoadsNothing given
+    → Tracks job start c → Left job start c (after start c given)
+unfolding alone
+steady-after job start given c nothing tracks =
+    subst (λ s. Left job start c s) (sym (after-same start c given nothing)) (by_effect (effected job K given c d nothing tracks.base))
   where
+    K : Configuration
+    K = in_force start c
+
+    S : Configuration
+    S = only job start
+
     A : Configuration
-    A = only job config
+    A = only job K
 
     d : Chronicle
-    d = alone job config (view job config c)
+    d = alone job start (views.view job start c)
 
     e : Chronicle
-    e = effect config given c ++ c
+    e = effect K given c ++ c
 
     n : ℕ
-    n = work config e
+    n = work K e
 
-    rest : due config (settle n config e) ≡ []
-    rest = settle_rests config e
+    s : Chronicle
+    s = settle n K e
 
-    more : (notice : Notice) → view job config e ≡ notice ∷ view job config c
-        → Like job config (settle n config e)
-        (settle (work A (begin job config notice d)) A (begin job config notice d))
-        → Left job config c (settle n config e)
-    more notice seen like =
-        let f : Chronicle = begin job config notice d in
-        let now : view job config (settle n config e) ≡ notice ∷ view job config c =
-        settle-view n job config config e ∙ seen in
-        More notice now (subst (λ ns. Base job config (settle n config e) (alone job config ns)) (sym now)
+    rest : due K s ≡ []
+    rest = settle_rests K e
+
+    force : in_force start s ≡ K
+    force = settle-in_force start n K e ∙ effect-in_force start K given c nothing
+
+    past : before s ≡ before c
+    past = settle-before n K e ∙ before-append (effect K given c) c (effect-no_load K given c nothing)
+
+    follows : (t : Chronicle) → in_force S t ≡ in_force S d → before t ≡ before d → Base job K s t → Follows job start s t
+    follows t here there base = record {
+      force = here ∙ tracks.force ∙ ap (only job) (sym force);
+      base = subst (λ config. Base job config s t) (sym force) base;
+      past = ap (parts.part job start) past ∙ tracks.past ∙ ap (parts.part job S) (sym there);
+    }
+
+    more : (notice : Notice) → IsSteady notice → view job K e ≡ notice ∷ view job K c
+        → Like job K s (settle (work A (begin job K notice d)) A (begin job K notice d))
+        → Left job start c s
+    more notice steady seen like =
+        let f : Chronicle = begin job K notice d in
+        let m : ℕ = work A f in
+        let t : Chronicle = settle m A f in
+        let begun = begin-force S job A notice d steady in
+        let now : views.view job start s ≡ notice ∷ views.view job start c =
+        view-grown job start (notice ∷ []) c s force past (settle-view n job K K e ∙ seen) in
+        let step : alone job start (notice ∷ views.view job start c) ≡ t =
+        ap (λ config. settle (work (in_force S (begin_by job config notice d)) (begin_by job config notice d))
+        (in_force S (begin_by job config notice d)) (begin_by job config notice d)) tracks.force
+        ∙ ap (λ config. settle (work config f) config f) (begun.0 ∙ tracks.force) in
+        More notice now (subst (λ ns. Follows job start s (alone job start ns)) (sym now)
+        (subst (λ u. Follows job start s u) (sym step)
+        (follows t (settle-in_force S m A f ∙ begun.0) (settle-before m A f ∙ begun.1)
         (record {
           like = like;
           rest = settle_rests A f;
-          calm = calm-settle (work A f) job config f (calm-begin job config notice d base.calm);
-        }))
+          calm = calm-settle m job K f (calm-begin job K notice d steady tracks.base.calm);
+        }))))
 
-    by_effect : Effected job config c d e → Left job config c (settle n config e)
+    by_effect : Effected job K c d e → Left job start c s
     by_effect (Unnoticed resting seen) =
-        let now : view job config (settle n config e) ≡ view job config c =
-        settle-view n job config config e ∙ seen in
-        Same now (subst (λ ns. Base job config (settle n config e) (alone job config ns)) (sym now)
-        (record {
-          like = resting-settle n job config e d resting;
-          rest = base.rest;
-          calm = base.calm;
-        }))
-    by_effect (Noticed notice seen plain) =
-        more notice seen (plain-settle n job config e (begin job config notice d) plain rest)
-    by_effect (Hurried notice seen r q x y waits) = more notice seen
-        (waits-settle n job config e (begin job config notice d) r q x y waits rest)
+        let now : views.view job start s ≡ views.view job start c =
+        view-grown job start [] c s force past (settle-view n job K K e ∙ seen) in
+        Same now (subst (λ ns. Follows job start s (alone job start ns)) (sym now)
+        (follows d refl refl (record {
+          like = resting-settle n job K e d resting;
+          rest = tracks.base.rest;
+          calm = tracks.base.calm;
+        })))
+    by_effect (Noticed notice steady seen plain) =
+        more notice steady seen (plain-settle n job K e (begin job K notice d) plain rest)
+    by_effect (Hurried notice steady seen r q x y waits) = more notice steady seen
+        (waits-settle n job K e (begin job K notice d) r q x y waits rest)
 
-left-tracks : (job : Bytes) (config : Configuration) (c e : Chronicle) → Left job config c e
-    → Tracks job config e
-left-tracks job config c e (Same seen tracks) = tracks
-left-tracks job config c e (More notice seen tracks) = tracks
-
-pub tracks-next : (job : Bytes) (config : Configuration) (given : Input) (c : Chronicle)
-    → Tracks job config c → Tracks job config (next config c given)
-tracks-next job config given c tracks = by_case (is_expected given c)
+-- by a load
+load-after : (job : Bytes) (start : Configuration) (id : ℕ) (jobs : List JobDef) (c : Chronicle)
+    → Tracks job start c → Left job start c (after start c (input.Load id (loaded.Files jobs)))
+unfolding after alone effect views.view parts.part
+load-after job start id jobs c tracks = More (Replaced files) now
+    (subst (λ ns. Follows job start s (alone job start ns)) (sym now) follows)
   where
-    by_case : (b : Bool) → Tracks job config (if b then after config c given else c)
+    g : Input
+    g = input.Load id (loaded.Files jobs)
+
+    files : List JobDef
+    files = jobs_called job jobs
+
+    K : Configuration
+    K = in_force start c
+
+    S : Configuration
+    S = only job start
+
+    d : Chronicle
+    d = alone job start (views.view job start c)
+
+    e : Chronicle
+    e = effect K g c ++ c
+
+    L : Configuration
+    L = in_force start e
+
+    n : ℕ
+    n = work L e
+
+    s : Chronicle
+    s = settle n L e
+
+    f : Chronicle
+    f = Loaded files ∷ Given input.Turn ∷ d
+
+    B : Configuration
+    B = in_force S f
+
+    t : Chronicle
+    t = settle (work B f) B f
+
+    same : B ≡ only job L
+    same = ap (λ config. with_jobs files config (Given input.Turn ∷ d)) tracks.force
+        ∙ only-load job jobs K (Given g ∷ c) (Given input.Turn ∷ d)
+        (filled-same job K c d (instances_of job c) (instances_of job d) tracks.base.like.twins)
+
+    there : settle (work (only job L) f) (only job L) f ≡ t
+    there = ap (λ config. settle (work config f) config f) (sym same)
+
+    force : in_force start s ≡ L
+    force = settle-in_force start n L e
+
+    base : Base job L s (settle (work (only job L) f) (only job L) f)
+    base = record {
+      like = plain-settle n job L e f (load-plain job K L id jobs c d tracks.base.like) (settle_rests L e);
+      rest = settle_rests (only job L) f;
+      calm = calm-settle (work (only job L) f) job L f (calm-load job K L files d tracks.base.calm);
+    }
+
+    past : parts.part job start (before s) ≡ parts.part job S (before t)
+    past = ap (parts.part job start) (settle-before n L e) ∙ follows-part job start c d tracks
+        ∙ ap (parts.part job S) (sym (settle-before (work B f) B f))
+
+    follows : Follows job start s t
+    follows = record {
+      force = settle-in_force S (work B f) B f ∙ same ∙ ap (only job) (sym force);
+      base = subst₂ (λ config u. Base job config s u) (sym force) there base;
+      past = past;
+    }
+
+    now : views.view job start s ≡ Replaced files ∷ views.view job start c
+    now = view-grown job start [] e s force (settle-before n L e) (settle-view n job L L e)
+
+pub tracks-after : (job : Bytes) (start : Configuration) (given : Input) (c : Chronicle)
+    → Tracks job start c → Left job start c (after start c given)
+tracks-after job start (input.Load id (loaded.Files jobs)) c tracks = load-after job start id jobs c tracks
+tracks-after job start given c tracks = steady-after job start given c tt tracks
+
+left-tracks : (job : Bytes) (start : Configuration) (c e : Chronicle) → Left job start c e
+    → Tracks job start e
+left-tracks job start c e (Same seen tracks) = tracks
+left-tracks job start c e (More notice seen tracks) = tracks
+
+pub tracks-next : (job : Bytes) (start : Configuration) (given : Input) (c : Chronicle)
+    → Tracks job start c → Tracks job start (next start c given)
+tracks-next job start given c tracks = by_case (is_expected given c)
+  where
+    by_case : (b : Bool) → Tracks job start (if b then after start c given else c)
     by_case true =
-        left-tracks job config c (after config c given) (tracks-after job config given c tracks)
+        left-tracks job start c (after start c given) (tracks-after job start given c tracks)
     by_case false = tracks
 
-pub tracks-all : (job : Bytes) (config : Configuration) (inputs : List Input) (c : Chronicle)
-    → Tracks job config c → Tracks job config (after_all config c inputs)
+pub tracks-all : (job : Bytes) (start : Configuration) (inputs : List Input) (c : Chronicle)
+    → Tracks job start c → Tracks job start (after_all start c inputs)
 unfolding after_all
-tracks-all job config [] c tracks = tracks
-tracks-all job config (given ∷ inputs) c tracks =
-    tracks-all job config inputs (next config c given) (tracks-next job config given c tracks)
+tracks-all job start [] c tracks = tracks
+tracks-all job start (given ∷ inputs) c tracks =
+    tracks-all job start inputs (next start c given) (tracks-next job start given c tracks)
 
 -- at the start
 calm-nil : (job : Bytes) (config : Configuration) → IsCalm job config []
@@ -283,21 +391,25 @@ first-none [] = refl
 first-none (name ∷ names) = first-none names
 
 pub tracks-nil : (job : Bytes) (config : Configuration) → Tracks job config []
-unfolding view alone part deeds due
+unfolding view views.view alone part deeds due parts.part
 tracks-nil job config = record {
-  like = record {
-    twins = tt;
-    starts = refl;
-    today = refl;
-    blank = blank_nil config;
-    empty = blank_nil (only job config);
-    fair = record { holders = λ i other. tt; outer = λ p. tt };
-    singles = λ k. tt;
-    part = refl;
-    deeds = refl;
+  force = refl;
+  base = record {
+    like = record {
+      twins = tt;
+      starts = refl;
+      today = refl;
+      blank = blank_nil config;
+      empty = blank_nil (only job config);
+      fair = record { holders = λ i other. tt; outer = λ p. tt };
+      singles = λ k. tt;
+      part = refl;
+      deeds = refl;
+    };
+    rest = ap (λ (es : List Entry). or_else es []) (first-none (names_in_order (only job config) []));
+    calm = calm-nil job config;
   };
-  rest = ap (λ (es : List Entry). or_else es []) (first-none (names_in_order (only job config) []));
-  calm = calm-nil job config;
+  past = refl;
 }
 
 -- so each run
@@ -308,43 +420,40 @@ tracked job config inputs = tracks-all job config inputs [] (tracks-nil job conf
 only-same : (job : Bytes) (first second : Configuration) → MeanTheSame job first second
     → only job first ≡ only job second
 only-same job first second same =
-    ap₂ (λ (base : Bindings) (js : List JobDef). record { base = base; jobs = js }) same.0 same.1
+    ap₂ (λ (base : Bindings) (its : List JobDef × List Bytes). record { base = base; jobs = its.0; removed = its.1 })
+    same.0 (ap₂ (λ (js : List JobDef) (names : List Bytes). (js, names)) same.1 same.2)
 
-begin-same : (job : Bytes) (first second : Configuration) (notice : Notice) (d : Chronicle)
-    → only job first ≡ only job second → begin job first notice d ≡ begin job second notice d
-begin-same job first second (Received given) d same = ap (λ (A : Configuration). effect A given d ++ d) same
-begin-same job first second (Arrived event) d same = refl
-begin-same job first second (Unblocked name) d same = refl
-
+-- alone the job does the same, if its part of both configurations is the same
 alone-same : (job : Bytes) (first second : Configuration) (ns : List Notice)
     → only job first ≡ only job second → alone job first ns ≡ alone job second ns
 unfolding alone
 alone-same job first second [] same = refl
 alone-same job first second (notice ∷ ns) same =
-    ap₂ (λ (A : Configuration) (d : Chronicle). settle (work A d) A d) same
-    (begin-same job first second notice (alone job first ns) same
-    ∙ ap (begin job second notice) (alone-same job first second ns same))
+    ap₂ (λ (start : Configuration) (d : Chronicle).
+    settle (work (in_force start (begin_by job (in_force start d) notice d)) (begin_by job (in_force start d) notice d))
+    (in_force start (begin_by job (in_force start d) notice d)) (begin_by job (in_force start d) notice d)) same
+    (alone-same job first second ns same)
 
 -- in two runs in which the same comes to its notice, the job does the same
 pub isolated : (job : Bytes) (first second : Configuration) (c d : Chronicle) → MeanTheSame job first second
     → Tracks job first c → Tracks job second d
-    → view job first c ≡ view job second d → deeds job c ≡ deeds job d
-isolated job first second c d same tracks other views =
-    tracks.like.deeds
-    ∙ ap (deeds job) (ap (alone job first) views ∙ alone-same job first second (view job second d)
+    → views.view job first c ≡ views.view job second d → deeds job c ≡ deeds job d
+isolated job first second c d same tracks other seen =
+    tracks.base.like.deeds
+    ∙ ap (deeds job) (ap (alone job first) seen ∙ alone-same job first second (views.view job second d)
     (only-same job first second same))
-    ∙ sym other.like.deeds
+    ∙ sym other.base.like.deeds
 
 -- and its part is the same
 pub parts-same : (job : Bytes) (first second : Configuration) (c d : Chronicle) → MeanTheSame job first second
     → Tracks job first c → Tracks job second d
-    → view job first c ≡ view job second d → part job first c ≡ part job second d
-parts-same job first second c d same tracks other views =
-    tracks.like.part
-    ∙ ap₂ (λ (A : Configuration) (t : Chronicle). part job A t) (only-same job first second same)
-    (ap (alone job first) views ∙ alone-same job first second (view job second d)
+    → views.view job first c ≡ views.view job second d → parts.part job first c ≡ parts.part job second d
+parts-same job first second c d same tracks other seen =
+    follows-part job first c (alone job first (views.view job first c)) tracks
+    ∙ ap₂ (λ (A : Configuration) (t : Chronicle). parts.part job A t) (only-same job first second same)
+    (ap (alone job first) seen ∙ alone-same job first second (views.view job second d)
     (only-same job first second same))
-    ∙ sym other.like.part
+    ∙ sym (follows-part job second d (alone job second (views.view job second d)) other)
 
 -- the view is read off the part
 abbrev noticed_in : List Item → List Notice
@@ -391,38 +500,38 @@ items-beside job config (Replied request answer) c =
 items-beside job config e c = λ rest. refl
 
 view-part : (job : Bytes) (config : Configuration) (c : Chronicle)
-    → noticed_in (part job config c) ≡ view job config c
-unfolding part view
+    → noticed_in (parts.part job config c) ≡ views.view job config c
+unfolding parts.part views.view
 view-part job config [] = refl
 view-part job config (e ∷ c) =
-    noticed-append (notices job config e c) (items job config e c ++ part job config c)
-    ∙ ap (λ ns. notices job config e c ++ ns) (items-beside job config e c (part job config c)
+    noticed-append (notices job (in_force config c) e c) (items job (in_force config c) e c ++ parts.part job config c)
+    ∙ ap (λ ns. notices job (in_force config c) e c ++ ns) (items-beside job (in_force config c) e c (parts.part job config c)
     ∙ view-part job config c)
 
 pub views-same : (job : Bytes) (first second : Configuration) (c d : Chronicle)
-    → part job first c ≡ part job second d → view job first c ≡ view job second d
+    → parts.part job first c ≡ parts.part job second d → views.view job first c ≡ views.view job second d
 views-same job first second c d same =
     sym (view-part job first c) ∙ ap noticed_in same ∙ view-part job second d
 
 -- each step adds one notice at most
 pub grows : (job : Bytes) (config : Configuration) (given : Input) (c : Chronicle)
-    → Tracks job config c → GrowsByAtMostOne (view job config c) (view job config (next config c given))
+    → Tracks job config c → GrowsByAtMostOne (views.view job config c) (views.view job config (next config c given))
 grows job config given c tracks = by_case (is_expected given c)
   where
     by_left : Left job config c (after config c given)
-        → GrowsByAtMostOne (view job config c) (view job config (after config c given))
+        → GrowsByAtMostOne (views.view job config c) (views.view job config (after config c given))
     by_left (Same seen next) = inl seen
     by_left (More notice seen next) = inr (notice, seen)
 
     by_case : (b : Bool)
-        → GrowsByAtMostOne (view job config c) (view job config (if b then after config c given else c))
+        → GrowsByAtMostOne (views.view job config c) (views.view job config (if b then after config c given else c))
     by_case true = by_left (tracks-after job config given c tracks)
     by_case false = inl refl
 
 -- the laws
 pub law-isolation : (job : Bytes) (first second : Configuration) (inputs others : List Input)
     → IsUnique job first → MeanTheSame job first second
-    → view job first (after_all first [] inputs) ≡ view job second (after_all second [] others)
+    → views.view job first (after_all first [] inputs) ≡ views.view job second (after_all second [] others)
     → deeds job (after_all first [] inputs) ≡ deeds job (after_all second [] others)
 law-isolation job first second inputs others one same views =
     isolated job first second (after_all first [] inputs) (after_all second [] others) same
@@ -430,37 +539,37 @@ law-isolation job first second inputs others one same views =
 
 pub law-one : (job : Bytes) (config : Configuration) (inputs : List Input) (given : Input)
     → IsUnique job config
-    → GrowsByAtMostOne (view job config (after_all config [] inputs))
-    (view job config (next config (after_all config [] inputs) given))
+    → GrowsByAtMostOne (views.view job config (after_all config [] inputs))
+    (views.view job config (next config (after_all config [] inputs) given))
 law-one job config inputs given one =
     grows job config given (after_all config [] inputs) (tracked job config inputs)
 
 pub law-still : (job : Bytes) (config : Configuration) (inputs : List Input) (given : Input)
     → IsUnique job config
-    → view job config (next config (after_all config [] inputs) given)
-    ≡ view job config (after_all config [] inputs)
-    → part job config (next config (after_all config [] inputs) given)
-    ≡ part job config (after_all config [] inputs)
+    → views.view job config (next config (after_all config [] inputs) given)
+    ≡ views.view job config (after_all config [] inputs)
+    → parts.part job config (next config (after_all config [] inputs) given)
+    ≡ parts.part job config (after_all config [] inputs)
 law-still job config inputs given one views =
     parts-same job config config (next config (after_all config [] inputs) given) (after_all config [] inputs)
-    (refl, refl)
+    (refl, refl, refl)
     (tracks-next job config given (after_all config [] inputs) (tracked job config inputs))
     (tracked job config inputs) views
 
 pub law-part : (job : Bytes) (first second : Configuration) (inputs others : List Input) (given other : Input)
     (notice : Notice) → IsUnique job first → MeanTheSame job first second
-    → part job first (after_all first [] inputs) ≡ part job second (after_all second [] others)
-    → view job first (next first (after_all first [] inputs) given)
-    ≡ notice ∷ view job first (after_all first [] inputs)
-    → view job second (next second (after_all second [] others) other)
-    ≡ notice ∷ view job second (after_all second [] others)
-    → part job first (next first (after_all first [] inputs) given)
-    ≡ part job second (next second (after_all second [] others) other)
-law-part job first second inputs others given other notice one same parts left right =
+    → parts.part job first (after_all first [] inputs) ≡ parts.part job second (after_all second [] others)
+    → views.view job first (next first (after_all first [] inputs) given)
+    ≡ notice ∷ views.view job first (after_all first [] inputs)
+    → views.view job second (next second (after_all second [] others) other)
+    ≡ notice ∷ views.view job second (after_all second [] others)
+    → parts.part job first (next first (after_all first [] inputs) given)
+    ≡ parts.part job second (next second (after_all second [] others) other)
+law-part job first second inputs others given other notice one same alike left right =
     parts-same job first second (next first (after_all first [] inputs) given)
     (next second (after_all second [] others) other) same
     (tracks-next job first given (after_all first [] inputs) (tracked job first inputs))
     (tracks-next job second other (after_all second [] others) (tracked job second others))
     (left ∙ ap (λ ns. notice ∷ ns)
-    (views-same job first second (after_all first [] inputs) (after_all second [] others) parts)
+    (views-same job first second (after_all first [] inputs) (after_all second [] others) alike)
     ∙ sym right)

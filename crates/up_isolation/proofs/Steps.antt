@@ -25,10 +25,10 @@ use Rattle.up_model.specs.declared.input.Input.{Input}
 use Rattle.up_model.specs.declared.input.Input.TheVariants as input
 use Rattle.up_model.specs.Readings.{blocker, without, is_blocking}
 use Rattle.up_isolation.specs.Views.{is_blocked_by, unblocked}
-use Rattle.up_isolation.specs.Parts.{part}
 use Rattle.up_isolation.proofs.Known.{known, entry-later}
 use Rattle.up_isolation.proofs.Pairs.{LeavesAlone, held-later, grown}
 use Rattle.up_isolation.proofs.Others.{twins-left}
+use Rattle.up_isolation.proofs.Steady.{part}
 
 -- an input that concerns the job
 twins-given : (job : Bytes) (config : Configuration) (given : Input) (c d : Chronicle) (xs ys : List Instance)

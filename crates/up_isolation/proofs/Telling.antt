@@ -34,6 +34,8 @@ use Rattle.up_isolation.proofs.Alone.{mute-given}
 use Rattle.up_isolation.proofs.Requesting.{mute-allows}
 use Rattle.up_model.specs.declared.event.Event.{Event}
 use Rattle.std.proofs.Common.{Option, None, Some, if◌then◌else◌}
+use Rattle.up_model.specs.Loads.{in_force, loading}
+use Rattle.up_model.proofs.EffectLaws.{loading-all}
 
 -- among, part by part
 among-more : (xs ys : List Output) (y : Output) → AreAmong xs ys → AreAmong xs (y ∷ ys)
@@ -196,6 +198,8 @@ effect-step config (input.Ended who its how) c =
 effect-step config (input.Clock reading) c =
     step-of (input.Clock reading) (killing (all_overdue (names_in_order config c) (Given (input.Clock reading) ∷ c))) c
     (killing-plain (all_overdue (names_in_order config c) (Given (input.Clock reading) ∷ c)))
+effect-step config (input.Load id its) c =
+    step-of (input.Load id its) (loading (length c) its) c (loading-all NotGiven (λ request answer. tt) (λ jobs. tt) (length c) its)
 effect-step config input.Turn c =
     step-of input.Turn (turn_of (turn_event config (queue c) c) (Given input.Turn ∷ c)) c
     (turn-plain (turn_event config (queue c) c) (Given input.Turn ∷ c))
@@ -204,7 +208,7 @@ pub deeds-after : (job : Bytes) (config : Configuration) (c : Chronicle) (given 
     → deeds job (after config c given) ≡ deeds job c ++ deeds_in job (after config c given)
 unfolding after
 deeds-after job config c given =
-    let step = settle-step (work config (effect config given c ++ c)) config given c
-    (effect config given c ++ c) (effect-step config given c) in
+    let e : Chronicle = effect (in_force config c) given c ++ c in
+    let step = settle-step (work (in_force config e) e) (in_force config e) given c e (effect-step (in_force config c) given c) in
     subst (λ (t : Chronicle). deeds job t ≡ deeds job c ++ deeds_in job t)
     (sym step.whole) (deeds-step job given step.entries c step.plain)

@@ -16,7 +16,6 @@ use Rattle.up_model.specs.Replies.{request_at}
 use Rattle.up_model.specs.Values.{Bytes}
 use Rattle.up_model.proofs.Places.{bytes_same}
 use Rattle.up_model.proofs.NameLaws.{called}
-use Rattle.up_isolation.specs.Isolation.{jobs_called}
 use Rattle.up_isolation.specs.Views.{hears, is_of, was_asked}
 use Rattle.up_isolation.specs.Parts.{hears_event}
 use Rattle.up_isolation.proofs.Lives.{Life, life}
@@ -37,7 +36,7 @@ use Rattle.up_model.specs.Predicates.{entries_if}
 use Rattle.up_model.specs.Readings.{blocker}
 use Rattle.up_model.specs.Replies.{asked}
 use Rattle.up_model.proofs.Sparing.{all-append, all-weaker}
-use Rattle.up_isolation.specs.Views.{Received, Arrived, Unblocked, view}
+use Rattle.up_isolation.specs.Views.{Received, Arrived, Unblocked}
 use Rattle.up_isolation.proofs.Twins.{At}
 use Rattle.up_isolation.proofs.Likes.{IsOther, foreign, owns-later}
 use Rattle.up_isolation.proofs.Locals.{NotGiven, silent-more}
@@ -76,6 +75,8 @@ use Rattle.up_isolation.proofs.Alone.{freeing, blocker_of, begin, Effected, Unno
 use Rattle.up_isolation.proofs.Alone.{still-of, mutes-view, given-view, other-view, mutes-offering}
 use Rattle.up_isolation.proofs.Alone.{mutes-asked, unnoticed, mute-given}
 use Rattle.up_isolation.proofs.Acting.{same-later}
+use Rattle.up_isolation.proofs.Steady.{view}
+use Rattle.up_isolation.specs.Views.{jobs_called}
 
 -- KILL by the timer
 due-same : (def : JobDef) (i j : ℕ) (c d : Chronicle) → life i c ≡ life j d → now c ≡ now d
@@ -253,7 +254,7 @@ pub effect-clock : (job : Bytes) (config : Configuration) (reading : ℕ) (c d :
     → Base job config c d → Effected job config c d (effect config (input.Clock reading) c ++ c)
 unfolding effect
 effect-clock job config reading c d base = rw append_assoc
-    (Noticed (Received g) (mutes-view job config es (Given g ∷ c) mute ∙ given-view job config g c refl)
+    (Noticed (Received g) tt (mutes-view job config es (Given g ∷ c) mute ∙ given-view job config g c refl)
     (subst (λ (t : Chronicle). Plain job config (es ++ Given g ∷ c) t)
     (sym (append_assoc fs (Given g ∷ []) d))
     (record {
@@ -345,7 +346,7 @@ taken-up job config p c d older base = by_event (event_at p e) refl
     noted : (event : Event) → event_at p e ≡ Some event → hears job config event.name e ≡ true
         → Effected job config c d (Handled p ∷ e)
     noted event is heard =
-        Noticed (Arrived event) (ap (λ o. arrivals job config o e ++ view job config c) is ∙ rw heard refl)
+        Noticed (Arrived event) tt (ap (λ o. arrivals job config o e ++ view job config c) is ∙ rw heard refl)
         (record {
           like = like_handled job config e there p q same
               (like_queued job config e (Given input.Turn ∷ d) (length d) event
@@ -566,7 +567,7 @@ finished job config p c d base =
           asks = λ r some. absurd (none-some r (sym asks ∙ some));
         }) (seen-view ∙ ap (λ ns. ns ++ view job config c) none)
     by_freeing (OneFreed x y at waiting) =
-        Noticed (Unblocked x.name)
+        Noticed (Unblocked x.name) tt
         (seen-view ∙ ap (λ ns. ns ++ view job config c)
         (one-freed p e x y (instances_of job c) (instances_of job d) (λ k. waits-own x.place k p e is) at
         (once-of job c x.place)))

@@ -1,21 +1,20 @@
 -- That a job does what it does by what comes to its notice alone.
-use Rattle.std.specs.Prelude.{◌≡◌, ◌≤◌, ◌⊎◌, List, [], ◌∷◌, length, if◌then◌else◌}
+use Rattle.std.specs.Prelude.{◌≡◌, ◌≤◌, ◌⊎◌, List, ◌∷◌, length, filter}
 use Rattle.std.specs.Str.{bytes_eq}
-use Rattle.up_conf.specs.declared.job.JobDef.{JobDef}
 use Rattle.up_model.specs.Configuration.{Configuration}
 use Rattle.up_model.specs.Values.{Bytes}
-use Rattle.up_isolation.specs.Views.{Notice}
+use Rattle.up_isolation.specs.Views.{Notice, jobs_called}
 
--- the jobs of this name: one, or none
-abbrev pub jobs_called : Bytes → List JobDef → List JobDef
-jobs_called job [] = []
-jobs_called job (its ∷ jobs) =
-    if bytes_eq its.name job then its ∷ jobs_called job jobs else jobs_called job jobs
+-- where this name stands in a list
+abbrev pub names_called : Bytes → List Bytes → List Bytes
+names_called job names = filter (λ name. bytes_eq name job) names
 
--- two configurations mean the same by a job: the base is one, and its file says the same, or neither has it
+-- two configurations mean the same by a job: the base is one, and its file says the same, or neither has it; and it is removed in both, or
+-- in neither, as is so at a start
 abbrev pub MeanTheSame : Bytes → Configuration → Configuration → Type 0
 MeanTheSame job first second =
     (first.base ≡ second.base) × (jobs_called job first.jobs ≡ jobs_called job second.jobs)
+    × (names_called job first.removed ≡ names_called job second.removed)
 
 -- the job's view grows by at most one
 abbrev pub GrowsByAtMostOne : (before after : List Notice) → Type 0

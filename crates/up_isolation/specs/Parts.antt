@@ -13,6 +13,7 @@ use Rattle.up_model.specs.declared.who.Who.{Who}
 use Rattle.up_model.specs.Chronicle as entry
 use Rattle.up_model.specs.Chronicle.{Chronicle, Entry, Expression}
 use Rattle.up_model.specs.Configuration.{Configuration}
+use Rattle.up_model.specs.Loads.{in_force}
 use Rattle.up_model.specs.Readings.{entry_at, event_at, made_at}
 use Rattle.up_model.specs.Replies.{request_at}
 use Rattle.up_model.specs.Requests.{RequestValue}
@@ -118,8 +119,8 @@ items job config (entry.Replied request answer) c =
     items_if (was_asked job (request_at request c)) (Replied (content request c) answer)
 items job config other c = []
 
--- the part, newest first
-unfoldable pub part : Bytes → Configuration → Chronicle → List Item
-part job config [] = []
-part job config (entry ∷ c) =
-    noticed (notices job config entry c) ++ (items job config entry c ++ part job config c)
+-- the part in a run that started with a configuration, newest first
+unfoldable pub part : Bytes → (start : Configuration) → Chronicle → List Item
+part job start [] = []
+part job start (entry ∷ c) =
+    noticed (notices job (in_force start c) entry c) ++ (items job (in_force start c) entry c ++ part job start c)

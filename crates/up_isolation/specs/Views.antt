@@ -4,6 +4,7 @@
 use Rattle.std.specs.Prelude.{⊤, ◌≡◌, ◌⊎◌, ℕ, Bool, true, false, ◌&&◌, ◌||◌, ◌==◌, List, [], ◌∷◌, ◌++◌}
 use Rattle.std.specs.Prelude.{Option, None, Some, if◌then◌else◌}
 use Rattle.std.specs.Str.{bytes_eq}
+use Rattle.up_conf.specs.declared.job.JobDef.{JobDef}
 use Rattle.up_expr.specs.Trees.{Tree, One, Both, Either}
 use Rattle.up_stanza.specs.declared.process.Process.TheVariants.{Main}
 use Rattle.up_model.specs.declared.event.Event.{Event}
@@ -15,11 +16,11 @@ use Rattle.up_model.specs.declared.request.Command.{Command}
 use Rattle.up_model.specs.declared.request.Command.TheVariants as command
 use Rattle.up_model.specs.declared.who.Who.{Who}
 use Rattle.up_model.specs.Chronicle.{Chronicle, Entry, Given, Queued, Handled, Finished, Ordered, Signalled}
-use Rattle.up_model.specs.Chronicle.{Replied, Entering}
-use Rattle.up_model.specs.Configuration.{Configuration}
-use Rattle.up_model.specs.Files.{file_in_force}
+use Rattle.up_model.specs.Chronicle.{Replied, Loaded, Entering}
+use Rattle.up_model.specs.Configuration.{Configuration, job_named}
 use Rattle.up_model.specs.Held.{start_on_of}
 use Rattle.up_model.specs.Instances.{Instance, instances_of}
+use Rattle.up_model.specs.Loads.{in_force}
 use Rattle.up_model.specs.Outputs.{order_of, signal_of, reply_of}
 use Rattle.up_model.specs.Readings.{event_at, made_at, id_at, blocker, pid_of}
 use Rattle.up_model.specs.Replies.{request_at}
@@ -46,7 +47,7 @@ stands_in_stops event (instance ∷ instances) =
 -- job's file in force, or the `stop on` of an instance that exists
 abbrev pub hears : Bytes → Configuration → (event : Bytes) → Chronicle → Bool
 hears job config event c =
-    stands_in event (start_on_of (file_in_force config job c)) || stands_in_stops event (instances_of job c)
+    stands_in event (start_on_of (job_named job config.jobs)) || stands_in_stops event (instances_of job c)
 
 -- whether a request of this kind names a job: the others name an event or nothing
 abbrev pub names_job : Command → Bool
@@ -71,6 +72,13 @@ concerns job (input.Ended who its how) = bytes_eq who.job job
 concerns job (input.Clock reading) = true
 concerns job (input.Emit event) = false
 concerns job input.Turn = false
+concerns job (input.Load id loaded) = false
+
+-- the jobs of this name: one, or none
+abbrev pub jobs_called : Bytes → List JobDef → List JobDef
+jobs_called job [] = []
+jobs_called job (its ∷ jobs) =
+    if bytes_eq its.name job then its ∷ jobs_called job jobs else jobs_called job jobs
 
 -- what comes to a job's notice, one item of its view
 pub data Notice : Type 0 where
@@ -80,6 +88,8 @@ pub data Notice : Type 0 where
   Arrived : (event : Event) → Notice
   -- the event finished by which its instance of this name was blocked
   Unblocked : (instance : Bytes) → Notice
+  -- jobs came into force in place of those before: its file among them, or none
+  Replaced : (files : List JobDef) → Notice
 
 -- whether an instance is blocked by this event
 abbrev pub is_blocked_by : (event : ℕ) → Option ℕ → Bool
@@ -102,12 +112,13 @@ abbrev pub notices : Bytes → Configuration → Entry → Chronicle → List No
 notices job config (Given given) c = if concerns job given then Received given ∷ [] else []
 notices job config (Handled event) c = arrivals job config (event_at event c) c
 notices job config (Finished event) c = unblocked event (instances_of job c) c
+notices job config (Loaded jobs) c = Replaced (jobs_called job jobs) ∷ []
 notices job config entry c = []
 
--- the view: all that came to its notice, newest first
-unfoldable pub view : Bytes → Configuration → Chronicle → List Notice
-view job config [] = []
-view job config (entry ∷ c) = notices job config entry c ++ view job config c
+-- the view in a run that started with a configuration: all that came to its notice, newest first
+unfoldable pub view : Bytes → (start : Configuration) → Chronicle → List Notice
+view job start [] = []
+view job start (entry ∷ c) = notices job (in_force start c) entry c ++ view job start c
 
 -- whether an instance, as it is known outside, is one of this job
 abbrev pub is_of : Bytes → Option Who → Bool

@@ -1,18 +1,17 @@
 -- The instances of each job after a job changed or came.
-use Rattle.std.proofs.Common.{◌≡◌, ℕ, ◌<◌, Bool, true, false, cond, ◌&&◌, List, [], ◌∷◌, Option, None, Some, Result, Ok, Err, OnOk, OnErr, IsSome, option_map, map, length, get_or, set, insert, bytes_eq, refl, sym, ◌∙◌, ap, subst, true≢false}
+use Rattle.std.proofs.Common.{◌≡◌, ℕ, ◌<◌, Bool, true, false, cond, List, [], ◌∷◌, Option, None, Some, Result, Ok, Err, OnOk, OnErr, IsSome, option_map, map, length, get_or, set, insert, bytes_eq, refl, sym, ◌∙◌, ap, subst, true≢false}
 use Rattle.up_conf.specs.declared.job.JobDef.{JobDef}
 use Rattle.up_conf.specs.Order.{is_below}
-use Rattle.up_image.specs.Definable.{are_ascending}
 use Rattle.up_model.specs.declared.event_id.EventId.{EventId}
 use Rattle.up_job.specs.declared.instance.Instance.{Instance}
 use Rattle.up_job.specs.declared.instance_key.InstanceKey.{InstanceKey}
 use Rattle.up_job.specs.declared.instances.JobInstances.{JobInstances}
-use Rattle.up_job.specs.JobLists.{job_of, list_of, instance_at, instances_in, new_job, Changes}
+use Rattle.up_job.specs.JobLists.{file_name, job_of, list_of, instance_at, instances_in, Changes}
 use Rattle.up_job.specs.InstanceLists as list
 use Rattle.up_job.specs.Lists.{nth, with_at}
 use Rattle.up_job.specs.Named.{named, position, put, with_change, AreInOrder, IsBelowAll}
 use Rattle.up_job.specs.Unblocking.{unblocked_in}
-use Rattle.up_job.proofs.NamedLemmas.{below_trans, same_bytes, named_here, put_at, order_put, named_put, changed_here, order-names, names-with_change, named_changed}
+use Rattle.up_job.proofs.NamedLemmas.{same_bytes, named_here, put_at, order_put, named_put, changed_here, order-names, names-with_change, named_changed}
 use Rattle.up_job.proofs.Places.{map-map, map-with_at, nth_get, nth_within}
 use Rattle.up_model.specs.Values.{Bytes}
 
@@ -98,33 +97,15 @@ at_within key jobs its there is =
 pub order-with_at : (place : ℕ) (f : JobInstances → JobInstances) → ((x : JobInstances) → job_of (f x) ≡ job_of x) → (jobs : List JobInstances) → AreInOrder job_of jobs → AreInOrder job_of (with_at place f jobs)
 order-with_at place f same jobs = order-names job_of jobs (with_at place f jobs) (map-with_at job_of f same place jobs)
 
-below_all-ascending : (name : Bytes) (jobs : List JobDef) → are_ascending (name ∷ map (λ job. job.name) jobs) ≡ true → IsBelowAll job_of name (map new_job jobs)
-below_all-ascending name [] up = tt
-below_all-ascending name (job ∷ []) up = by_case (is_below name job.name) refl up
-  where
-    by_case : (b : Bool) → is_below name job.name ≡ b → (b && true) ≡ true → (is_below name job.name ≡ true) × Unit {0}
-    by_case true e h = (e, tt)
-    by_case false e h = absurd cc
-below_all-ascending name (job ∷ next ∷ jobs) up = by_case (below_all-ascending name (next ∷ jobs)) (is_below name job.name) refl (is_below job.name next.name) refl up
-  where
-    by_case : (are_ascending (name ∷ map (λ (j : JobDef). j.name) (next ∷ jobs)) ≡ true → IsBelowAll job_of name (map new_job (next ∷ jobs))) → (b : Bool) → is_below name job.name ≡ b → (d : Bool) → is_below job.name next.name ≡ d
-        → (b && (d && are_ascending (next.name ∷ map (λ (j : JobDef). j.name) jobs))) ≡ true → (is_below name job.name ≡ true) × IsBelowAll job_of name (map new_job (next ∷ jobs))
-    by_case ih true e true f h =
-        let further : is_below name next.name ≡ true = below_trans name job.name next.name e f in
-        (e, ih (rw further h))
-    by_case ih true e false f h = absurd cc
-    by_case ih false e d f h = absurd cc
+-- the jobs of files in order are in order
+below_all-files : (f : JobDef → JobInstances) → ((job : JobDef) → job_of (f job) ≡ file_name job) → (name : Bytes) (jobs : List JobDef) → IsBelowAll file_name name jobs → IsBelowAll job_of name (map f jobs)
+below_all-files f keeps name [] below = tt
+below_all-files f keeps name (job ∷ jobs) below = (subst (λ k. is_below name k ≡ true) (sym (keeps job)) below.0, below_all-files f keeps name jobs below.1)
 
--- the jobs of a table are in order
-pub order-ascending : (jobs : List JobDef) → are_ascending (map (λ job. job.name) jobs) ≡ true → AreInOrder job_of (map new_job jobs)
-order-ascending [] up = tt
-order-ascending (job ∷ []) up = (tt, tt)
-order-ascending (job ∷ next ∷ jobs) up =
-    (below_all-ascending job.name (next ∷ jobs) up, order-ascending (next ∷ jobs) (rest (is_below job.name next.name) up))
-  where
-    rest : (b : Bool) → (b && are_ascending (next.name ∷ map (λ (j : JobDef). j.name) jobs)) ≡ true → are_ascending (next.name ∷ map (λ (j : JobDef). j.name) jobs) ≡ true
-    rest true h = h
-    rest false h = absurd cc
+pub order-files : (f : JobDef → JobInstances) → ((job : JobDef) → job_of (f job) ≡ file_name job) → (jobs : List JobDef) → AreInOrder file_name jobs → AreInOrder job_of (map f jobs)
+order-files f keeps [] order = tt
+order-files f keeps (job ∷ jobs) order =
+    (subst (λ k. IsBelowAll job_of k (map f jobs)) (sym (keeps job)) (below_all-files f keeps job.name jobs order.0), order-files f keeps jobs order.1)
 
 -- no job is another one after an event has finished
 pub order-unblocked : (id : EventId) (jobs : List JobInstances) → AreInOrder job_of jobs → AreInOrder job_of (map (unblocked_in id) jobs)

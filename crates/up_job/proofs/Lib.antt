@@ -7,3 +7,5 @@ pub mod TimerLemmas
 pub mod AlarmLemmas
 pub mod WaitLemmas
 pub mod Blocked
+pub mod KeptLists
+pub mod StopLemmas

@@ -1,7 +1,9 @@
 -- The instances of all jobs, as contracts see them: a list of jobs in byte order of their names.
-use Rattle.std.specs.Prelude.{◌≡◌, ℕ, List, [], Option, None, Some, map, option_map, if◌then◌else◌}
+use Rattle.std.specs.Prelude.{◌≡◌, ℕ, suc, false, List, [], ◌∷◌, ◌++◌, Option, None, Some, map, option_map, if◌then◌else◌}
 use Rattle.std.specs.Str.{bytes_eq}
 use Rattle.up_conf.specs.declared.job.JobDef.{JobDef}
+use Rattle.up_image.specs.declared.index.Place.{Place}
+use Rattle.up_image.specs.Index.{places_in}
 use Rattle.up_job.specs.declared.instance.Instance.{Instance}
 use Rattle.up_job.specs.declared.instance_key.InstanceKey.{InstanceKey}
 use Rattle.up_job.specs.declared.instances.JobInstances.{JobInstances}
@@ -21,17 +23,34 @@ list_of (Some job) = job.instances
 abbrev pub new_job : JobDef → JobInstances
 new_job job = record { name = job.name; instances = [] }
 
+abbrev pub file_name : JobDef → Bytes
+file_name job = job.name
+
 -- by name
 
 -- the instances of a job
 abbrev pub instances_in : Bytes → List JobInstances → List Instance
 instances_in job jobs = list_of (named job_of job jobs)
 
+-- a job of this file, with the instances of the one of its name
+abbrev pub kept_job : List JobInstances → JobDef → JobInstances
+kept_job jobs job = record { name = job.name; instances = instances_in job.name jobs }
+
 -- the instances of one job changed so, and those of no other job
 abbrev pub Changes : Bytes → (List Instance → List Instance) → List JobInstances → List JobInstances → Type 0
 Changes job change old new =
     (other : Bytes) → instances_in other new
     ≡ (if bytes_eq job other then change (instances_in other old) else instances_in other old)
+
+-- the leaves of the `stop on` of instances, by their own files, as those of the job with this number
+abbrev pub stops_of : (number : ℕ) → List Instance → List Place
+stops_of number [] = []
+stops_of number (instance ∷ instances) = places_in number false instance.file.stop_on ++ stops_of number instances
+
+-- and those of all, job by job
+abbrev pub stop_places : (number : ℕ) → List JobInstances → List Place
+stop_places number [] = []
+stop_places number (job ∷ jobs) = stops_of number job.instances ++ stop_places (suc number) jobs
 
 -- by position
 

@@ -135,6 +135,16 @@ fn add_at(
 }
 
 impl Instances {
+    /// The instances of a job.
+    pub fn of_job(&self, job: usize) -> &[Instance]
+        ensures { result.now ≡ instances_at job self.now }
+    {
+        match self.jobs.get(job) {
+            Some(job) => job.instances.as_slice(),
+            None => &[],
+        }
+    }
+
     /// How many instances a job has.
     pub fn count(&self, job: usize) -> usize
         ensures { result ≡ length (instances_at job self.now) }

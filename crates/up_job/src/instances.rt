@@ -2,10 +2,9 @@
 ghost use Rattle.std.specs.Prelude.{◌≡◌, ◌+◌, ◌<◌, ◌≤◌, [], ◌∷◌, length, map, true, IsSome, IfOk, IfErr, OnOk, OnErr, MatchResult, Some, None};
 ghost use Rattle.std.specs.Option.{option_copied};
 ghost use Rattle.up_conf.specs.Order.{is_below};
-ghost use Rattle.up_image.specs.Definable.{are_ascending};
 ghost use Rattle.up_job.specs.Changes.{changed};
 ghost use Rattle.up_job.specs.InstanceLists.{max_instances, named, new_instance, refusal, with_change, with_instance, without, IsInstanceList};
-ghost use Rattle.up_job.specs.JobLists.{job_of, new_job, instances_in, Changes};
+ghost use Rattle.up_job.specs.JobLists.{file_name, job_of, new_job, instances_in, Changes};
 ghost use Rattle.up_job.specs.Named as by_name;
 
 use crate::change::Change;
@@ -14,7 +13,6 @@ use crate::instance::{Instance, new_instance};
 use crate::instance_list::InstanceList;
 use std::alloc::{AllocError, Global};
 use std::marker::Model;
-use up_conf::JobDef;
 use up_image::JobFile;
 use up_marks::Trigger;
 use up_text::Name;
@@ -66,8 +64,8 @@ fn position(jobs: &[JobInstances], name: &Name) -> usize
     jobs.partition_point(|job| is_before(job.name.as_str(), name.as_str()))
 }
 
-// Where a job stands, or else where it belongs.
-fn place(jobs: &[JobInstances], name: &Name) -> Result<usize, usize>
+/// Where a job stands, or else where it belongs.
+pub(crate) fn place(jobs: &[JobInstances], name: &Name) -> Result<usize, usize>
     requires { by_name.AreInOrder job_of jobs.now }
     ensures place { MatchResult result (λ at. at ≡ by_name.position job_of name.now jobs.now)
         (λ at. at ≡ by_name.position job_of name.now jobs.now) }
@@ -94,12 +92,12 @@ fn empty_job(alloc: Global, name: &Name) -> Result<JobInstances, AllocError>
     })
 }
 
-fn empty_jobs(alloc: Global, jobs: &[JobDef]) -> Result<Vec<JobInstances>, AllocError>
+fn empty_jobs(alloc: Global, jobs: &[JobFile]) -> Result<Vec<JobInstances>, AllocError>
     ensures { IfOk result (λ all. all.items ≡ map new_job jobs.now) }
 {
     let mut all = Vec::new(alloc);
     for job in jobs {
-        all.push(empty_job(alloc, &job.name)?)?;
+        all.push(empty_job(alloc, &job.job().name)?)?;
     }
     Ok(all)
 }
@@ -208,8 +206,8 @@ impl Instances {
     }
 
     /// No instance of these jobs.
-    pub fn of_jobs(alloc: Global, jobs: &[JobDef]) -> Result<Self, AllocError>
-        requires { are_ascending (map (λ job. job.name) jobs.now) ≡ true }
+    pub fn of_jobs(alloc: Global, jobs: &[JobFile]) -> Result<Self, AllocError>
+        requires { by_name.AreInOrder file_name jobs.now }
         ensures { IfOk result (λ instances. instances ≡ map new_job jobs.now) }
     {
         let jobs = empty_jobs(alloc, jobs)?;

@@ -14,7 +14,9 @@ mod instance_list;
 mod instances;
 mod judgement;
 mod moments;
+mod replacing;
 mod state;
+mod stops;
 mod timer;
 mod unblocking;
 

@@ -1,7 +1,7 @@
 -- An event that no leaf of an expression names changes nothing of it; and the index knows the leaves that do.
 use Rattle.std.proofs.Common.{◌≡◌, ℕ, zero, suc, ◌+◌, ◌<◌, ◌≤◌, ◌==◌, Bool, true, false, cond, ◌||◌, List, [], ◌∷◌, ◌++◌, Option, None, Some, is_some, length, get_or, map, filter, bytes_eq, refl, sym, ◌∙◌, ap, subst, arith, append_assoc, eq-eqb, not, nat_lt, take, drop}
 use Rattle.std.specs.Option.{option_to_list}
-use Rattle.std.specs.List.{prefix_len}
+use Rattle.std.specs.List.{list_any, prefix_len}
 use Rattle.std.specs.List.Sorted.{IsPartitionPoint, IsPartitionedBy}
 use Rattle.std.proofs.lemmas.Bool.{ne_eqb, lt-ltb, ltb-true, ltb-false, eqb-true, eqb-false}
 use Rattle.std.proofs.lemmas.List.{append-nil, map-append}
@@ -80,7 +80,7 @@ leaves-append job start at (node.Or left right ∷ front) back =
     let e : at + length (node.Or left right ∷ front) ≡ at + 1 + length front = omega arith in
     rw e (leaves-append job start (at + 1) front back)
 
-named-append : (name : Bytes) (xs ys : List Place) → named name (xs ++ ys) ≡ named name xs ++ named name ys
+pub named-append : (name : Bytes) (xs ys : List Place) → named name (xs ++ ys) ≡ named name xs ++ named name ys
 named-append name [] ys = refl
 named-append name (x ∷ xs) ys = by_case (bytes_eq x.event name) (named-append name xs ys)
   where
@@ -96,7 +96,7 @@ filter-append p (x ∷ xs) ys = by_case (p x) (filter-append p xs ys)
     by_case true e = ap (λ zs. x ∷ zs) e
     by_case false e = e
 
-abbrev node_of : Place → ℕ
+abbrev pub node_of : Place → ℕ
 node_of place = place.node
 
 bytes_eq-sym : (a b : Bytes) → bytes_eq a b ≡ bytes_eq b a
@@ -137,7 +137,7 @@ naming_places job side start (Either l r) name =
     two_places job side start (size l) (nodes_of start l) (nodes_of (start + size l) r) _ name _ _ refl (length_nodes start l) (naming_places job side start l name) (naming_places job side (start + size l) r name)
 
 -- all of these are places of one expression
-abbrev AllOf : ℕ → Bool → List Place → Type 0
+abbrev pub AllOf : ℕ → Bool → List Place → Type 0
 AllOf job side [] = Unit {0}
 AllOf job side (place ∷ places) = (place.job ≡ job) × (place.start ≡ side) × AllOf job side places
 
@@ -169,7 +169,7 @@ places_in_of : (job : ℕ) (side : Bool) (condition : Option Tree) → AllOf job
 places_in_of job side None = tt
 places_in_of job side (Some tree) = leaves_of job side 0 (nodes_of 0 tree)
 
-naming_places_in : (job : ℕ) (side : Bool) (condition : Option Tree) (name : Bytes) → map node_of (named name (places_in job side condition)) ≡ naming_in condition name
+pub naming_places_in : (job : ℕ) (side : Bool) (condition : Option Tree) (name : Bytes) → map node_of (named name (places_in job side condition)) ≡ naming_in condition name
 naming_places_in job side None name = refl
 naming_places_in job side (Some tree) name = naming_places job side 0 tree name
 
@@ -237,11 +237,11 @@ index_names at (suc k) side (job ∷ jobs) d name below =
     ∙ index_names (at + 1) k side jobs d name (omega arith)
 
 -- the places of jobs come in the order of expressions
-rising_lower : (low high : ℕ) (places : List Place) → low ≤ high → Rising high places → Rising low places
+pub rising_lower : (low high : ℕ) (places : List Place) → low ≤ high → Rising high places → Rising low places
 rising_lower low high [] le up = tt
 rising_lower low high (place ∷ places) le up = (omega (arith, up.0), up.1)
 
-rising_named : (low : ℕ) (name : Bytes) (places : List Place) → Rising low places → Rising low (named name places)
+pub rising_named : (low : ℕ) (name : Bytes) (places : List Place) → Rising low places → Rising low (named name places)
 rising_named low name [] up = tt
 rising_named low name (place ∷ places) up = by_case (bytes_eq place.event name) (rising_named (rank_of place) name places up.1)
   where
@@ -255,7 +255,7 @@ rising_before low job side (x ∷ xs) ys le all up =
     let same : rank_of x ≡ rank job side = rw (all.0, all.1) refl in
     (omega (arith, le, same), rising_before (rank_of x) job side xs ys (omega (arith, same)) all.2 up)
 
-rising_places : (at low : ℕ) (jobs : List JobDef) → low ≤ rank at false → Rising low (places_of at jobs)
+pub rising_places : (at low : ℕ) (jobs : List JobDef) → low ≤ rank at false → Rising low (places_of at jobs)
 rising_places at low [] le = tt
 rising_places at low (job ∷ jobs) le =
     let s = places_in at false job.stop_on in
@@ -265,8 +265,22 @@ rising_places at low (job ∷ jobs) le =
     (rising_before (rank at false) at true t (places_of (at + 1) jobs) (omega arith) (places_in_of at true job.start_on)
     (rising_places (at + 1) (rank at true) jobs (omega arith))))
 
-pub rising_index : (jobs : List JobDef) (name : Bytes) → Rising 0 (named name (places_of 0 jobs))
-rising_index jobs name = rising_named 0 name (places_of 0 jobs) (rising_places 0 0 jobs (omega arith))
+pub rising_jobs : (jobs : List JobDef) → Rising 0 (places_of 0 jobs)
+rising_jobs jobs = rising_places 0 0 jobs (omega arith)
+
+-- and so do those of what stops job after job
+pub rising_stops : (low n : ℕ) (condition : Option Tree) (rest : List Place) → low ≤ rank n false → Rising (rank n false) rest → Rising low (places_in n false condition ++ rest)
+rising_stops low n condition rest le up = rising_before low n false (places_in n false condition) rest le (places_in_of n false condition) up
+
+-- where an expression names an event, a place of its job does
+any_of : (n : ℕ) (side : Bool) (places : List Place) → AllOf n side places → (map node_of places ≡ [] → ⊥) → list_any (λ (place : Place). place.job == n) places ≡ true
+any_of n side [] all some = absurd (some refl)
+any_of n side (place ∷ places) all some = rw (eq-eqb place.job n all.0) refl
+
+pub any_named_stop : (n : ℕ) (condition : Option Tree) (name : Bytes) → (naming_in condition name ≡ [] → ⊥)
+    → list_any (λ (place : Place). place.job == n) (named name (places_in n false condition)) ≡ true
+any_named_stop n condition name some =
+    any_of n false (named name (places_in n false condition)) (named_of n false name (places_in n false condition) (places_in_of n false condition)) (λ none. some (sym (naming_places_in n false condition name) ∙ none))
 
 rising_at : (low : ℕ) (xs : List Place) (n : ℕ) (d : Place) → Rising low xs → n < length xs → low ≤ rank_of (get_or xs n d)
 rising_at low [] n d up l = absurd (omega arith)

@@ -11,7 +11,7 @@ ghost use Rattle.up_marks.specs.Naming.{Rising, from_expression, rank, rank_of, 
 
 use std::alloc::{AllocError, Global};
 use std::marker::Model;
-use up_image::{Place, Table};
+use up_image::{JobFile, MAX_JOBS, Place, places_of_files, sort_places};
 use up_text::Name;
 
 /// The leaves of all jobs. Contracts see their places in byte order of the events that they name.
@@ -123,16 +123,28 @@ fn leaves_of(places: &[Place], job: u16, start: bool) -> &[Place]
 }
 
 impl Index {
-    /// The index of a table.
-    pub fn of(alloc: Global, table: &Table) -> Result<Self, AllocError>
-        ensures places { IfOk result (λ index. (name : Bytes)
-            → named name index ≡ named name (places_of 0 table.now)) }
-        ensures leaves { IfOk result (λ index. (name : Bytes) (k : ℕ) (start : Bool) (job : JobDefValue)
-            → k < length table.now → map (λ place. place.node) (of_expression k start (named name index))
-            ≡ naming_in (side_of start (slice_index_or table.now k job)) name) }
+    /// The index of places, of which none is of an earlier expression than one before it.
+    pub fn of_places(places: Vec<Place>) -> Result<Self, AllocError>
+        requires { Rising 0 places.items }
+        ensures { IfOk result (λ index. (name : Bytes) → named name index ≡ named name places.items) }
     {
-        let places = table.places(alloc)?;
+        let mut places = places;
+        sort_places(&mut places)?;
         Ok(Index { places })
+    }
+
+    /// The index of jobs. It is refused to more than a table may have, as if memory ran out.
+    pub fn of(alloc: Global, files: &[JobFile]) -> Result<Self, AllocError>
+        ensures places { IfOk result (λ index. (name : Bytes)
+            → named name index ≡ named name (places_of 0 files.now)) }
+        ensures leaves { IfOk result (λ index. (name : Bytes) (k : ℕ) (start : Bool) (job : JobDefValue)
+            → k < length files.now → map (λ place. place.node) (of_expression k start (named name index))
+            ≡ naming_in (side_of start (slice_index_or files.now k job)) name) }
+    {
+        if files.len() > MAX_JOBS {
+            return Err(AllocError);
+        }
+        Index::of_places(places_of_files(alloc, files)?)
     }
 
     /// The leaves that name an event: job by job, first those that stop it and then those that start it, from
@@ -157,4 +169,11 @@ impl Index {
     {
         later_of(self.places(name), job, start)
     }
+}
+
+/// The leaves of a file's `stop on` that name an event, from left to right. Takes no memory.
+pub fn stop_leaves<'a>(file: &'a JobFile, name: &Name) -> &'a [Place]
+    ensures { map (λ place. place.node) result.now ≡ naming_in file.now.stop_on name.now }
+{
+    run_of(file.stops(), name)
 }

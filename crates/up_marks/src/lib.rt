@@ -15,9 +15,9 @@ pub mod ruling;
 mod taking;
 pub mod trigger;
 
-pub use index::Index;
+pub use index::{Index, stop_leaves};
 pub use mark::Mark;
 pub use marks::{Marks, Offer};
-pub use ruling::{admits, rules_out};
+pub use ruling::{admits, may_stop, rules_out};
 pub use trigger::{Firing, Trigger};
 pub use up_image::Place;

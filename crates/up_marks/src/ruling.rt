@@ -1,5 +1,6 @@
 //! Which events a leaf can't match, whatever its values expand to.
 ghost use Rattle.std.specs.Prelude.{◌≡◌, option_map};
+ghost use Rattle.std.specs.List.{list_any};
 ghost use Rattle.std.specs.Option.{option_copied};
 ghost use Rattle.up_expr.specs.Matching.{nth_value};
 ghost use Rattle.up_expr.specs.Values.{is_positional};
@@ -7,6 +8,7 @@ ghost use Rattle.up_text.specs.Bindings.{value_of};
 ghost use Rattle.up_marks.specs.Naming.{side_of};
 ghost use Rattle.up_marks.specs.Ruling as ruling;
 
+use crate::index::stop_leaves;
 use up_conf::JobDef;
 use up_expr::{Condition, Leaf, Node, Test};
 use up_image::{JobFile, Place};
@@ -153,12 +155,41 @@ fn leaf_at<'a>(jobs: &'a [JobFile], place: &Place) -> Option<&'a Leaf>
     }
 }
 
+// Whether a leaf, if there is one, may match an event.
+fn admits_leaf(leaf: Option<&Leaf>, event: &Event) -> bool
+    ensures { result ≡ ruling.admits_by event.now (option_copied leaf.entry) }
+{
+    match leaf {
+        Some(leaf) => !rules_out(leaf, &event.name, &event.vars),
+        None => false,
+    }
+}
+
 /// Whether the leaf at a place of a table may match an event. Takes no memory.
 pub fn admits(jobs: &[JobFile], place: &Place, event: &Event) -> bool
     ensures { result ≡ ruling.admits jobs.now event.now place.now }
 {
-    match leaf_at(jobs, place) {
-        Some(leaf) => !rules_out(leaf, &event.name, &event.vars),
-        None => false,
-    }
+    admits_leaf(leaf_at(jobs, place), event)
+}
+
+// Whether the leaf at a place of a file's `stop on` may match an event.
+fn admits_stop(file: &JobFile, place: &Place, event: &Event) -> bool
+    ensures { result ≡ ruling.admits_by event.now (ruling.leaf_in file.now.stop_on place.now.node) }
+{
+    let leaf = leaf_in(file.job().stop_on.as_ref(), usize::from(place.node));
+    admits_leaf(leaf, event)
+}
+
+// Whether one of the leaves at these places may match an event.
+fn one_admits(file: &JobFile, places: &[Place], event: &Event) -> bool
+    ensures { result ≡ list_any (λ place. ruling.admits_by event.now (ruling.leaf_in file.now.stop_on place.node)) places.now }
+{
+    places.iter().any(|place| admits_stop(file, place, event))
+}
+
+/// Whether an event may match a file's `stop on`: a leaf names it, and no literal value of that rules it out. Takes no memory.
+pub fn may_stop(file: &JobFile, event: &Event) -> bool
+    ensures { result ≡ ruling.may_match_in file.now.stop_on event.now.name event.now.vars }
+{
+    one_admits(file, stop_leaves(file, &event.name), event)
 }

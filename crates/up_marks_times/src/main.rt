@@ -33,14 +33,12 @@ fn table_for(alloc: Global, what: &str, size: usize) -> Result<Table, FileFault>
 
 // How many leaves came to keep an event, or were found.
 fn count(alloc: Global, what: &str, size: usize, times: usize) -> Result<usize, FileFault> {
-    let table = table_for(alloc, what, size)?;
-    let count = if what == "places" {
-        find_all(alloc, &table, times)
+    let files = table_for(alloc, what, size)?.into_files(alloc)?;
+    if what == "places" {
+        find_all(alloc, files.as_slice(), times)
     } else {
-        offer_all(alloc, &table, times)
-    };
-    drop(table);
-    count
+        offer_all(alloc, files.as_slice(), times)
+    }
 }
 
 fn number(word: &str) -> usize {

@@ -2,7 +2,7 @@
 use crate::files::FileFault;
 use std::alloc::{AllocError, Global};
 use up_expr::Condition;
-use up_image::{Place, Table};
+use up_image::{JobFile, MAX_JOBS, Place, places_of_files, sort_places};
 use up_marks::{Index, Marks};
 use up_model::{Event, EventId};
 use up_text::Env;
@@ -73,15 +73,29 @@ fn offer_to(
     )
 }
 
+// The leaves of jobs, in byte order of the events that they name.
+fn places_of(alloc: Global, files: &[JobFile]) -> Result<Vec<Place>, FileFault> {
+    if files.len() > MAX_JOBS {
+        return Err(FileFault);
+    }
+    let mut places = places_of_files(alloc, files)?;
+    sort_places(&mut places)?;
+    Ok(places)
+}
+
 /// Offers events to the leaves of the first job's `start on`.
-pub(crate) fn offer_all(alloc: Global, table: &Table, times: usize) -> Result<usize, FileFault> {
-    let Some(job) = table.as_slice().first() else {
+pub(crate) fn offer_all(
+    alloc: Global,
+    files: &[JobFile],
+    times: usize,
+) -> Result<usize, FileFault> {
+    let Some(file) = files.first() else {
         return Err(FileFault);
     };
-    let Some(condition) = &job.start_on else {
+    let Some(condition) = &file.job().start_on else {
         return Err(FileFault);
     };
-    let places = table.places(alloc)?;
+    let places = places_of(alloc, files)?;
     offer_to(alloc, condition, places.as_slice(), times)
 }
 
@@ -103,8 +117,8 @@ fn find_each(index: &Index, places: &[Place], times: usize) -> usize {
 }
 
 /// Looks up the leaves that name an event.
-pub(crate) fn find_all(alloc: Global, table: &Table, times: usize) -> Result<usize, FileFault> {
-    let places = table.places(alloc)?;
-    let index = Index::of(alloc, table)?;
+pub(crate) fn find_all(alloc: Global, files: &[JobFile], times: usize) -> Result<usize, FileFault> {
+    let places = places_of(alloc, files)?;
+    let index = Index::of(alloc, files)?;
     Ok(find_each(&index, places.as_slice(), times))
 }

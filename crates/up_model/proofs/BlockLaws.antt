@@ -5,45 +5,41 @@ use Rattle.up_expr.specs.Truth.{Sight}
 use Rattle.up_conf.specs.declared.job.JobDef.{JobDef}
 use Rattle.up_stanza.specs.declared.process.Process.{Process}
 use Rattle.up_stanza.specs.declared.process.Process.TheVariants.{Main}
-use Rattle.up_model.specs.declared.failure.End.{End}
 use Rattle.up_model.specs.declared.failure.End.TheVariants as end
-use Rattle.up_model.specs.declared.failure.Failure.{Failure}
-use Rattle.up_model.specs.declared.failure.Verdict.{Verdict}
-use Rattle.up_model.specs.declared.failure.Verdict.TheVariants as verdict
 use Rattle.up_model.specs.declared.event.Event.{Event}
 use Rattle.up_model.specs.declared.input.Input.{Input}
 use Rattle.up_model.specs.declared.input.Input.TheVariants as input
 use Rattle.up_model.specs.declared.life.Entry as table
 use Rattle.up_model.specs.declared.life.JobEvent.{JobEvent}
-use Rattle.up_model.specs.declared.state.Goal.TheVariants.{Start, Stop}
+use Rattle.up_model.specs.declared.state.Goal.TheVariants.{Start}
 use Rattle.up_model.specs.declared.state.State.{State}
 use Rattle.up_model.specs.declared.state.State.TheVariants.{Starting, Stopping}
 use Rattle.up_model.specs.declared.who.Who.{Who}
 use Rattle.up_model.specs.Answers.{after, next, is_expected, after_all}
 use Rattle.up_model.specs.Blocks.{ActsUnblocked, unfinished}
-use Rattle.up_model.specs.Chronicle.{Chronicle, Entry, Given, Queued, Handled, Offered, Fired, Finished, Made, Aimed, Failed, Entered, Ordered, Signalled, Outside, Entering, Spoilt, StartOn, StopOn}
+use Rattle.up_model.specs.Chronicle.{Chronicle, Entry, Given, Queued, Offered, Fired, Finished, Made, Aimed, Entered, Ordered, Signalled, Outside, Entering, Spoilt, StartOn, StopOn}
 use Rattle.up_model.specs.Clock.{is_killed, kill_due, overdue, all_overdue, has_passed, kill_moment, now, milliseconds, kill, killing}
 use Rattle.up_model.specs.Configuration.{Configuration}
-use Rattle.up_model.specs.Due.{due, end_of, telling, failed_event_of, finishing, turn_event, turn_of, effect, end_by}
+use Rattle.up_model.specs.Due.{due, turn_event, turn_of, effect, end_by}
 use Rattle.up_model.specs.Environments.{env_of_job, instance_name}
 use Rattle.up_model.specs.Events.{events_at, events_env, with_instance, stopped_by}
-use Rattle.up_model.specs.Held.{is_spoilt}
 use Rattle.up_model.specs.Instances.{Instance, instances_of, instance_named}
-use Rattle.up_model.specs.Judgement.{end_itself, keep_failure, fail, carry_out, verdict_on_end}
 use Rattle.up_model.specs.Life.{wait_in, entering}
+use Rattle.up_model.specs.Loads.{in_force, loading}
 use Rattle.up_model.specs.Moves.{has_process, job_event, emitting, ordering, enter, enter_whole, is_over, may_leave, next_of, who_of, move, move_of, move_in, move_first}
 use Rattle.up_model.specs.Offers.{is_open, stop_of, stop_by, stop_offer, stop_offer_in, max_instances, start_of, who_called, start_who, start_by, start_offer, offering, offer_next, start_env}
-use Rattle.up_model.specs.Queue.{Live, queue}
-use Rattle.up_model.specs.Readings.{goal, state_of, failure, holders, is_blocking, without, blocker, lives}
+use Rattle.up_model.specs.Queue.{queue}
+use Rattle.up_model.specs.Readings.{goal, state_of, holders, is_blocking, without, blocker, lives}
 use Rattle.up_model.specs.Commands.{outcome_of, entries_of, is_running}
 use Rattle.up_model.specs.Files.{own_file, names_in_order}
-use Rattle.up_model.specs.Replies.{releasing, waiter, answering_waiter, unanswered, answering_last}
+use Rattle.up_model.specs.Replies.{releasing, unanswered, answering_last}
 use Rattle.up_model.specs.Seen.{seen, holds, taken, was_offered}
 use Rattle.up_model.specs.Predicates.{is_start, entries_if, or_else}
 use Rattle.up_model.specs.Values.{Bindings, Bytes}
 use Rattle.up_model.specs.Work.{work, settle}
-use Rattle.up_model.proofs.ReplyLaws.{Allows, releasing-all, answering_waiter-all, answering_hurried-all, start_of-all, stop_of-all, outcome-all}
+use Rattle.up_model.proofs.ReplyLaws.{Allows, releasing-all, answering_hurried-all, start_of-all, stop_of-all, outcome-all}
 use Rattle.up_model.proofs.Sparing.{all-append, all-if}
+use Rattle.up_model.proofs.EffectLaws.{AllowsEnds, AllowsTurns, end_of-all, turn_of-all, loading-all}
 use Rattle.up_model.proofs.JobOffers.{offer_in, offer_first, first-by-jobs}
 
 -- an event, if there is one
@@ -417,25 +413,12 @@ unfolding settle
 settle-keeps zero config c keeps = keeps
 settle-keeps (suc n) config c keeps = settle-keeps n config (due config c ++ c) (due-keeps config c keeps)
 
--- that an instance ends itself is idle, and that it fails, and what an end does
-end_itself-idle : (p : ℕ) (c : Chronicle) → AllByRecursion IsIdle (end_itself p c)
-end_itself-idle p c = all-if IsIdle (is_start (goal p c)) (Aimed p Stop [] (holders p c) ∷ []) (tt, tt)
+-- so are the end of a process and a turn
+idle-ends : AllowsEnds IsIdle
+idle-ends = record { allows = idle-allows; failed = λ instance its. tt; respawned = λ instance moment. tt }
 
-fail-idle : (p : ℕ) (its : Failure) (c : Chronicle) → AllByRecursion IsIdle (fail p its c)
-fail-idle p its c =
-    all-append IsIdle (entries_if (not (is_some (failure p c))) (keep_failure p its (end_itself p c ++ c))) (end_itself p c)
-    (all-if IsIdle (not (is_some (failure p c))) (keep_failure p its (end_itself p c ++ c)) (all-append IsIdle (releasing p true (Failed p its ∷ end_itself p c ++ c)) (Failed p its ∷ []) (releasing-idle p true (Failed p its ∷ end_itself p c ++ c)) (tt, tt))) (end_itself-idle p c)
-
-carry_out-idle : (p : ℕ) (its : Verdict) (c : Chronicle) → AllByRecursion IsIdle (carry_out p its c)
-carry_out-idle p verdict.Note c = tt
-carry_out-idle p verdict.Respawn c = (tt, tt)
-carry_out-idle p verdict.Stop c = end_itself-idle p c
-carry_out-idle p (verdict.Fail its) c = fail-idle p its c
-
-end_of-idle : (its_job : Option JobDef) (o : Option ℕ) (process : Process) (its : End) (c : Chronicle) → AllByRecursion IsIdle (end_of its_job o process its c)
-end_of-idle None o process its c = tt
-end_of-idle (Some job) None process its c = tt
-end_of-idle (Some job) (Some p) process its c = carry_out-idle p (verdict_on_end job p process its c) c
+idle-turns : AllowsTurns IsIdle
+idle-turns = record { ends = idle-ends; told = λ spoilt event. tt; handled = λ event. tt; finished = λ event. tt }
 
 -- these instances wait for no event
 abbrev AreFree : Chronicle → List ℕ → Type 0
@@ -481,25 +464,6 @@ killing-keeps [] c free keeps = keeps
 killing-keeps (place ∷ places) c free keeps =
     rw append_assoc (killing-keeps places (Signalled place kill true ∷ c) free.1 (signalled-keeps place kill true c free.0 keeps))
 
--- what a turn does is idle
-telling-idle : (spoilt : ℕ) (told : Option Event) → AllByRecursion IsIdle (telling spoilt told)
-telling-idle spoilt None = tt
-telling-idle spoilt (Some told) = (tt, tt)
-
-finishing-idle : (event : ℕ) (c : Chronicle) → AllByRecursion IsIdle (finishing event c)
-finishing-idle event c =
-    all-append IsIdle (telling event (failed_event_of event c)) (answering_waiter (waiter event c) (is_spoilt event c) ++ Finished event ∷ []) (telling-idle event (failed_event_of event c))
-    (all-append IsIdle (answering_waiter (waiter event c) (is_spoilt event c)) (Finished event ∷ [])
-    (answering_waiter-all IsIdle (λ request answer. tt) (waiter event c) (is_spoilt event c)) (tt, tt))
-
-turn-idle : (found : Option Live) (c : Chronicle) → AllByRecursion IsIdle (turn_of found c)
-turn-idle None c = tt
-turn-idle (Some live) c = by_case live.handled
-  where
-    by_case : (b : Bool) → AllByRecursion IsIdle (if b then finishing live.place c else Handled live.place ∷ [])
-    by_case true = finishing-idle live.place c
-    by_case false = (tt, tt)
-
 -- idle entries before an input
 given-keeps : (es : List Entry) (given : Input) (c : Chronicle) → AllByRecursion IsIdle es → Keeps c → Keeps ((es ++ Given given ∷ []) ++ c)
 given-keeps es given c idle keeps = rw append_assoc (idles-keep es (Given given ∷ c) idle (idle-keeps (Given given) c tt keeps))
@@ -518,23 +482,26 @@ effect-keeps config (input.Spawned who process pid) c keeps = idle-keeps (Given 
 effect-keeps config (input.Refused who process) c keeps =
     let d : Chronicle = Given (input.Refused who process) ∷ c in
     given-keeps (end_by who process end.Refused d) (input.Refused who process) c
-    (end_of-idle (own_file who d) (instance_named who d) process end.Refused d) keeps
+    (end_of-all IsIdle idle-ends (own_file who d) (instance_named who d) process end.Refused d) keeps
 effect-keeps config (input.Ended who process how) c keeps =
     let d : Chronicle = Given (input.Ended who process how) ∷ c in
     given-keeps (end_by who process (end.Ended how) d) (input.Ended who process how) c
-    (end_of-idle (own_file who d) (instance_named who d) process (end.Ended how) d) keeps
+    (end_of-all IsIdle idle-ends (own_file who d) (instance_named who d) process (end.Ended how) d) keeps
 effect-keeps config (input.Clock reading) c keeps =
     let d : List Entry = Given (input.Clock reading) ∷ c in
     let given : Keeps d = idle-keeps (Given (input.Clock reading)) c tt keeps in
     rw append_assoc (killing-keeps (all_overdue (names_in_order config d) d) d (all_overdue-free (names_in_order config d) d given) given)
 effect-keeps config input.Turn c keeps =
     given-keeps (turn_of (turn_event config (queue c) c) (Given input.Turn ∷ c)) input.Turn c
-    (turn-idle (turn_event config (queue c) c) (Given input.Turn ∷ c)) keeps
+    (turn_of-all IsIdle idle-turns (turn_event config (queue c) c) (Given input.Turn ∷ c)) keeps
+effect-keeps config (input.Load id its) c keeps = given-keeps (loading (length c) its) (input.Load id its) c (loading-all IsIdle (λ request answer. tt) (λ jobs. tt) (length c) its) keeps
 
 -- so do inputs, one after another
 after-keeps : (config : Configuration) (c : Chronicle) (given : Input) → Keeps c → Keeps (after config c given)
 unfolding after
-after-keeps config c given keeps = settle-keeps (work config (effect config given c ++ c)) config (effect config given c ++ c) (effect-keeps config given c keeps)
+after-keeps config c given keeps =
+    let d : Chronicle = effect (in_force config c) given c ++ c in
+    settle-keeps (work (in_force config d) d) (in_force config d) d (effect-keeps (in_force config c) given c keeps)
 
 next-keeps : (config : Configuration) (c : Chronicle) (given : Input) → Keeps c → Keeps (next config c given)
 next-keeps config c given keeps = by_case (is_expected given c)

@@ -39,7 +39,7 @@ ends-some : (es : List Entry) (e : Entry) → es ++ e ∷ [] ≡ [] → ⊥
 ends-some [] e none = cc
 ends-some (x ∷ es) e none = cc
 
-or-parts : (es others : List Entry) → or_else es others ≡ [] → (es ≡ []) × (others ≡ [])
+pub or-parts : (es others : List Entry) → or_else es others ≡ [] → (es ≡ []) × (others ≡ [])
 or-parts [] others none = (refl, none)
 or-parts (e ∷ es) others none = absurd cc
 

@@ -1,5 +1,5 @@
 -- The processes that the instances may still order become fewer by those that they order.
-use Rattle.std.proofs.Common.{◌≡◌, ℕ, zero, suc, ◌+◌, ◌<◌, ◌≤◌, ◌==◌, ◌⊎◌, inl, inr, Bool, true, false, ◌&&◌, ◌||◌, not, List, [], ◌∷◌, ◌++◌, Option, None, Some, is_some, if◌then◌else◌, refl, sym, ◌∙◌, ap, subst, arith, eq-eqb, append_assoc}
+use Rattle.std.proofs.Common.{◌≡◌, ℕ, zero, suc, ◌+◌, ◌<◌, ◌≤◌, ◌==◌, ◌⊎◌, inl, inr, Bool, true, false, ◌&&◌, ◌||◌, not, List, [], ◌∷◌, ◌++◌, length, Option, None, Some, is_some, if◌then◌else◌, refl, sym, ◌∙◌, ap, subst, arith, eq-eqb, append_assoc}
 use Rattle.std.specs.List.{AllByRecursion}
 use Rattle.up_conf.specs.declared.job.JobDef.{JobDef}
 use Rattle.up_stanza.specs.declared.action.Action.{Action}
@@ -23,7 +23,7 @@ use Rattle.up_model.specs.declared.state.State.{State}
 use Rattle.up_model.specs.declared.state.State.TheVariants.{Waiting, Starting, PostStart, Running, PreStop, Stopping}
 use Rattle.up_model.specs.declared.who.Who.{Who}
 use Rattle.up_model.specs.Answers.{after}
-use Rattle.up_model.specs.Chronicle.{Chronicle, Entry, Given, Queued, Handled, Finished, Made, Aimed, Released, Failed, Respawned, Entered, Ordered, Signalled, Replied, Outside, Entering, Spoilt}
+use Rattle.up_model.specs.Chronicle.{Chronicle, Entry, Given, Queued, Handled, Finished, Made, Aimed, Released, Failed, Respawned, Entered, Ordered, Signalled, Replied, Loaded, Outside, Entering, Spoilt}
 use Rattle.up_model.specs.Clock.{all_overdue, kill, killing}
 use Rattle.up_model.specs.Configuration.{Configuration}
 use Rattle.up_model.specs.Due.{due, effect, end_of}
@@ -32,6 +32,7 @@ use Rattle.up_model.specs.Instances.{Instance, without_instance, instances_of, i
 use Rattle.up_model.specs.Judgement.{verdict_on_end, end_itself, keep_failure, fail, carry_out}
 use Rattle.up_model.specs.Left.{left_in, left_at, left_among, left, is_calm, spawns, Spends}
 use Rattle.up_model.specs.Life.{next_state, entering}
+use Rattle.up_model.specs.Loads.{in_force, loading}
 use Rattle.up_model.specs.Moves.{has_process, emitting, ordering, enter, enter_whole, may_leave, next_of, who_of, move, move_of, move_in, move_first}
 use Rattle.up_model.specs.Offers.{offering, offer_next}
 use Rattle.up_model.specs.Outputs.{order_for, order_by, order_of, signal_of, reply_of, outputs_of}
@@ -40,6 +41,7 @@ use Rattle.up_model.specs.Replies.{releasing, unanswered, answering_last}
 use Rattle.up_model.specs.Predicates.{is_start, entries_if, or_else}
 use Rattle.up_model.specs.Values.{Bindings, Bytes}
 use Rattle.up_model.specs.Work.{work, settle}
+use Rattle.up_model.proofs.EffectLaws.{loading-all}
 use Rattle.up_model.proofs.FileLaws.{files-named}
 use Rattle.up_model.proofs.LeftSums.{IsKept, among-no_more, kept-fewer, gone-no_more}
 use Rattle.up_model.proofs.MoveLaws.{Leaves, leaves, IsMove, move-goal, move-is_of, enter-moves, enter-state, is_waiting, enter-all_instances}
@@ -248,6 +250,7 @@ IsCalm (Failed instance failure) = Unit {0}
 IsCalm (Respawned instance moment) = Unit {0}
 IsCalm (Signalled instance signal by_timer) = Unit {0}
 IsCalm (Replied request answer) = Unit {0}
+IsCalm (Loaded jobs) = Unit {0}
 IsCalm e = ⊥
 
 calm-none : (e : Entry) → IsCalm e → OrdersNone e
@@ -427,11 +430,13 @@ effect-begins config (input.Ended who its how) c calm =
     begins config _ (input.Ended who its how) c (end_of-calm (own_file who (Given (input.Ended who its how) ∷ c)) (instance_named who (Given (input.Ended who its how) ∷ c)) its (end.Ended how) (Given (input.Ended who its how) ∷ c))
 effect-begins config (input.Clock reading) c calm =
     begins config _ (input.Clock reading) c (killing-calm (all_overdue (names_in_order config c) (Given (input.Clock reading) ∷ c)))
+effect-begins config (input.Load id its) c calm =
+    begins config (loading (length c) its) (input.Load id its) c (loading-all IsCalm (λ request answer. tt) (λ jobs. tt) (length c) its)
 
 -- by an input that is no turn and no request fewer can be ordered, by those that it orders
 pub spends : (config : Configuration) (c : Chronicle) (given : Input) → is_calm given ≡ true → Spends config c given
 unfolding after
 spends config c given calm =
-    let d : Chronicle = effect config given c ++ c in
-    let begun = effect-begins config given c calm in
-    omega (arith, begun.few, settle-spends (work config d) config d begun.none)
+    let d : Chronicle = effect (in_force config c) given c ++ c in
+    let begun = effect-begins (in_force config c) given c calm in
+    omega (arith, begun.few, settle-spends (work (in_force config d) d) (in_force config d) d begun.none)

@@ -5,6 +5,8 @@ pub mod Sums
 pub mod MoveLaws
 pub mod OfferLaws
 pub mod WorkLaws
+pub mod EffectLaws
+pub mod LoadLaws
 pub mod Settling
 pub mod QueueLaws
 pub mod HeldLaws

@@ -1,5 +1,5 @@
--- Each instance of a run is made by the file in force that has its job's name.
-use Rattle.std.proofs.Common.{◌≡◌, ℕ, zero, suc, Bool, true, false, not, nat_lt, List, [], ◌∷◌, ◌++◌, length, codes, if◌then◌else◌, Option, None, Some, is_some, refl, sym, ◌∙◌, subst, append_assoc}
+-- Each instance of a run is of a job that is named.
+use Rattle.std.proofs.Common.{◌≡◌, ℕ, zero, suc, Bool, true, false, not, nat_lt, List, [], ◌∷◌, ◌++◌, length, codes, if◌then◌else◌, Option, None, Some, is_some, bytes_eq, refl, sym, ◌∙◌, ap, subst, append_assoc}
 use Rattle.std.specs.List.{AllByRecursion}
 use Rattle.up_conf.specs.declared.job.JobDef.{JobDef}
 use Rattle.up_expr.specs.Truth.{Sight}
@@ -13,21 +13,25 @@ use Rattle.up_model.specs.declared.failure.Verdict.{Verdict}
 use Rattle.up_model.specs.declared.failure.Verdict.TheVariants as verdict
 use Rattle.up_model.specs.declared.input.Input.{Input}
 use Rattle.up_model.specs.declared.input.Input.TheVariants as input
+use Rattle.up_model.specs.declared.loaded.Loaded.{Loaded as LoadedValue}
+use Rattle.up_model.specs.declared.loaded.Loaded.TheVariants as loaded
 use Rattle.up_model.specs.declared.request.Command.{Command}
 use Rattle.up_model.specs.declared.request.Command.TheVariants as command
-use Rattle.up_model.specs.declared.state.Goal.TheVariants.{Start, Stop}
+use Rattle.up_model.specs.declared.state.Goal.TheVariants.{Start}
+use Rattle.up_model.specs.declared.state.State.TheVariants as state
 use Rattle.up_model.specs.declared.who.Who.{Who}
-use Rattle.up_model.specs.Answers.{after}
-use Rattle.up_model.specs.Chronicle.{Chronicle, Entry, Given, Handled, Offered, Fired, Finished, Made, Aimed, Failed, Signalled, StartOn, StopOn}
+use Rattle.up_model.specs.Answers.{after, next, is_expected, after_all}
+use Rattle.up_model.specs.Chronicle.{Chronicle, Entry, Given, Handled, Offered, Fired, Finished, Made, Aimed, Entered, StartOn, StopOn}
 use Rattle.up_model.specs.Clock.{all_overdue, kill, killing}
-use Rattle.up_model.specs.Commands.{Target, Nobody, Concerns, target_as, target_in, target_of, start, start_at, outcome_by, outcome_of, entries_of, holders_of, refusal, Refused, Done}
-use Rattle.up_model.specs.Configuration.{Configuration, job_named}
+use Rattle.up_model.specs.Commands.{Target, Nobody, Concerns, target_as, target_in, target_of, known_target, start, start_at, outcome_by, outcome_of, entries_of, holders_of, refusal, Refused, Done}
+use Rattle.up_model.specs.Configuration.{Configuration, job_named, is_removed}
 use Rattle.up_model.specs.Due.{due, end_of, end_by, telling, failed_event_of, finishing, turn_of, turn_event, effect}
 use Rattle.up_model.specs.Events.{events_at, events_env, with_instance, stopped_by}
 use Rattle.up_model.specs.Environments.{env_of_job, instance_name}
 use Rattle.up_model.specs.Files.{own_file, file_in_force, names_in_order}
 use Rattle.up_model.specs.Held.{is_spoilt}
-use Rattle.up_model.specs.Instances.{Instance, instances_of, instance_named}
+use Rattle.up_model.specs.Instances.{Instance, without_instance, instances_of, instance_named}
+use Rattle.up_model.specs.Instances as instances
 use Rattle.up_model.specs.Judgement.{end_itself, keep_failure, fail, carry_out, verdict_on_end}
 use Rattle.up_model.specs.Life.{entering}
 use Rattle.up_model.specs.Moves.{may_leave, next_of, who_of, move, move_of, move_in, move_first}
@@ -40,7 +44,11 @@ use Rattle.up_model.specs.Requests.{RequestValue}
 use Rattle.up_model.specs.Seen.{seen, holds, taken, was_offered}
 use Rattle.up_model.specs.Values.{Bytes, Bindings}
 use Rattle.up_model.specs.Work.{work, settle}
-use Rattle.up_model.proofs.FileLaws.{AreMadeBy, named-again}
+use Rattle.up_model.specs.Loads.{in_force, loading}
+use Rattle.up_model.proofs.EffectLaws.{AllowsEnds, AllowsTurns, end_of-all, killing-all, turn_of-all, loading-all}
+use Rattle.up_model.proofs.FileLaws.{named-again}
+use Rattle.up_model.proofs.LoadLaws.{HaveJobs, have-kept, effect-in_force, settle-in_force}
+use Rattle.up_model.proofs.Places.{bytes_same}
 use Rattle.up_model.proofs.MoveLaws.{IsMove, enter-moves}
 use Rattle.up_model.proofs.ReplyLaws.{Allows, releasing-all, answering_waiter-all, answering_hurried-all, start_of-all, stop_of-all, stop-all, restart-all, reload-all, status-all, emit-all}
 use Rattle.up_model.proofs.Sparing.{all-append, all-if, all-weaker}
@@ -59,19 +67,31 @@ plain-allows = record {
   queued = λ given event. tt;
 }
 
-plain-made : (jobs : List JobDef) (e : Entry) (c : Chronicle) → IsPlain e → AreMadeBy jobs c → AreMadeBy jobs (e ∷ c)
+plain-made : (jobs : List JobDef) (e : Entry) (c : Chronicle) → IsPlain e → HaveJobs jobs c → HaveJobs jobs (e ∷ c)
 plain-made jobs (Made file name) c plain made = absurd plain
+plain-made jobs (Entered instance state.Waiting) c plain made = λ name none. ap (without_instance instance) (made name none)
 plain-made jobs e c plain made = made
 
-plains-made : (jobs : List JobDef) (es c : Chronicle) → AllByRecursion IsPlain es → AreMadeBy jobs c → AreMadeBy jobs (es ++ c)
+-- an instance of a job that is named
+named-made : (jobs : List JobDef) (job : JobDef) (its : Bytes) (c : Chronicle) → job_named job.name jobs ≡ Some job → HaveJobs jobs c → HaveJobs jobs (Made job its ∷ c)
+named-made jobs job its c found made = λ name none. by_case name none (bytes_eq job.name name) refl
+  where
+    by_case : (name : Bytes) → job_named name jobs ≡ None → (b : Bool) → bytes_eq job.name name ≡ b
+        → (if b then instances.with_instance (record { place = length c; name = its; file = job }) (instances_of name c) else instances_of name c) ≡ []
+    by_case name none true same =
+        let gone : job_named job.name jobs ≡ None = subst (λ n. job_named n jobs ≡ None) (sym (bytes_same job.name name same)) none in
+        absurd cc
+    by_case name none false differs = made name none
+
+plains-made : (jobs : List JobDef) (es c : Chronicle) → AllByRecursion IsPlain es → HaveJobs jobs c → HaveJobs jobs (es ++ c)
 plains-made jobs [] c plain made = made
 plains-made jobs (e ∷ es) c plain made = plain-made jobs e (es ++ c) plain.0 (plains-made jobs es c plain.1 made)
 
-if-made : (jobs : List JobDef) (b : Bool) (es c : Chronicle) → AreMadeBy jobs (es ++ c) → AreMadeBy jobs c → AreMadeBy jobs (entries_if b es ++ c)
+if-made : (jobs : List JobDef) (b : Bool) (es c : Chronicle) → HaveJobs jobs (es ++ c) → HaveJobs jobs c → HaveJobs jobs (entries_if b es ++ c)
 if-made jobs true es c some none = some
 if-made jobs false es c some none = none
 
-or_else-made : (jobs : List JobDef) (es others c : Chronicle) → AreMadeBy jobs (es ++ c) → AreMadeBy jobs (others ++ c) → AreMadeBy jobs (or_else es others ++ c)
+or_else-made : (jobs : List JobDef) (es others c : Chronicle) → HaveJobs jobs (es ++ c) → HaveJobs jobs (others ++ c) → HaveJobs jobs (or_else es others ++ c)
 or_else-made jobs [] others c some other = other
 or_else-made jobs (e ∷ es) others c some other = some
 
@@ -126,14 +146,14 @@ stops-plain config (x ∷ xs) event c =
 
 -- a start makes one by the file of its job
 start_of-made : (jobs : List JobDef) (job : JobDef) (who : Who) (environment : Bindings) (its : List ℕ) (o : Option ℕ) (c : Chronicle) → job_named job.name jobs ≡ Some job
-    → AreMadeBy jobs c → AreMadeBy jobs (start_of job who environment its o c ++ c)
+    → HaveJobs jobs c → HaveJobs jobs (start_of job who environment its o c ++ c)
 start_of-made jobs job who environment its None c found made =
-    if-made jobs (nat_lt (length (instances_of who.job c)) max_instances) (Aimed (length c) Start environment its ∷ Made job who.instance ∷ []) c (found, made) made
+    if-made jobs (nat_lt (length (instances_of who.job c)) max_instances) (Aimed (length c) Start environment its ∷ Made job who.instance ∷ []) c (named-made jobs job who.instance c found made) made
 start_of-made jobs job who environment its (Some p) c found made =
     plains-made jobs (start_of job who environment its (Some p) c) c (start_of-all IsPlain plain-allows job who environment its p c) made
 
 start_who-made : (jobs : List JobDef) (job : JobDef) (environment : Bindings) (its : List ℕ) (o : Option Who) (c : Chronicle) → job_named job.name jobs ≡ Some job
-    → AreMadeBy jobs c → AreMadeBy jobs (start_who job environment its o c ++ c)
+    → HaveJobs jobs c → HaveJobs jobs (start_who job environment its o c ++ c)
 start_who-made jobs job environment its None c found made = made
 start_who-made jobs job environment its (Some who) c found made = start_of-made jobs job who (with_instance who environment) its (instance_named who c) c found made
 
@@ -141,7 +161,7 @@ three : (xs c : Chronicle) (e f : Entry) → ((xs ++ e ∷ []) ++ f ∷ []) ++ c
 three xs c e f = append_assoc (xs ++ e ∷ []) (f ∷ []) c ∙ append_assoc xs (e ∷ []) (f ∷ c)
 
 start_offer-made : (config : Configuration) (job : JobDef) (event : ℕ) (c : Chronicle) → job_named job.name config.jobs ≡ Some job
-    → AreMadeBy config.jobs c → AreMadeBy config.jobs (start_offer config job event c ++ c)
+    → HaveJobs config.jobs c → HaveJobs config.jobs (start_offer config job event c ++ c)
 start_offer-made config job event c found made = by_case (holds job.start_on sights)
   where
     sights : List Sight
@@ -159,33 +179,33 @@ start_offer-made config job event c found made = by_case (holds job.start_on sig
     environment : Bindings
     environment = start_env config (who_called job.name name) (events_at events fired) fired
 
-    by_case : (b : Bool) → AreMadeBy config.jobs ((entries_if b (start_by config job events fired ++ Fired (StartOn job.name) events ∷ []) ++ Offered (StartOn job.name) event ∷ []) ++ c)
+    by_case : (b : Bool) → HaveJobs config.jobs ((entries_if b (start_by config job events fired ++ Fired (StartOn job.name) events ∷ []) ++ Offered (StartOn job.name) event ∷ []) ++ c)
     by_case true =
-        subst (AreMadeBy config.jobs) (sym (three (start_by config job events fired) c (Fired (StartOn job.name) events) (Offered (StartOn job.name) event)))
+        subst (HaveJobs config.jobs) (sym (three (start_by config job events fired) c (Fired (StartOn job.name) events) (Offered (StartOn job.name) event)))
         (start_who-made config.jobs job environment events (who_called job.name name) fired found made)
     by_case false = made
 
-offer_in-made : (config : Configuration) (name : Bytes) (event : ℕ) (c : Chronicle) → AreMadeBy config.jobs c → AreMadeBy config.jobs (offer_in config name event c ++ c)
+offer_in-made : (config : Configuration) (name : Bytes) (event : ℕ) (c : Chronicle) → HaveJobs config.jobs c → HaveJobs config.jobs (offer_in config name event c ++ c)
 offer_in-made config name event c made =
-    or_else-made config.jobs (stop_offer_in config (instances_of name c) event c) (entries_if (not (was_offered (StartOn name) c)) (start_offer_by config (file_in_force config name c) event c)) c
+    or_else-made config.jobs (stop_offer_in config (instances_of name c) event c) (entries_if (not (was_offered (StartOn name) c)) (start_offer_by config (job_named name config.jobs) event c)) c
     (plains-made config.jobs (stop_offer_in config (instances_of name c) event c) c (stops-plain config (instances_of name c) event c) made)
-    (if-made config.jobs (not (was_offered (StartOn name) c)) (start_offer_by config (file_in_force config name c) event c) c (by_file (job_named name config.jobs) refl) made)
+    (if-made config.jobs (not (was_offered (StartOn name) c)) (start_offer_by config (job_named name config.jobs) event c) c (by_file (job_named name config.jobs) refl) made)
   where
-    by_file : (file : Option JobDef) → job_named name config.jobs ≡ file → AreMadeBy config.jobs (start_offer_by config file event c ++ c)
-    by_file None none = made
+    by_file : (file : Option JobDef) → job_named name config.jobs ≡ file → HaveJobs config.jobs (start_offer_by config file event c ++ c)
+    by_file None found = made
     by_file (Some job) found = start_offer-made config job event c (named-again name config.jobs job found) made
 
-offer_first-made : (config : Configuration) (names : List Bytes) (event : ℕ) (c : Chronicle) → AreMadeBy config.jobs c → AreMadeBy config.jobs (offer_first config names event c ++ c)
+offer_first-made : (config : Configuration) (names : List Bytes) (event : ℕ) (c : Chronicle) → HaveJobs config.jobs c → HaveJobs config.jobs (offer_first config names event c ++ c)
 offer_first-made config [] event c made = made
 offer_first-made config (name ∷ names) event c made =
     or_else-made config.jobs (offer_in config name event c) (offer_first config names event c) c (offer_in-made config name event c made) (offer_first-made config names event c made)
 
-offer_next-made : (config : Configuration) (event : Option ℕ) (c : Chronicle) → AreMadeBy config.jobs c → AreMadeBy config.jobs (offer_next config event c ++ c)
+offer_next-made : (config : Configuration) (event : Option ℕ) (c : Chronicle) → HaveJobs config.jobs c → HaveJobs config.jobs (offer_next config event c ++ c)
 offer_next-made config None c made = made
 offer_next-made config (Some event) c made = offer_first-made config (names_in_order config c) event c made
 
 -- so what is due makes each by it
-pub due-made : (config : Configuration) (c : Chronicle) → AreMadeBy config.jobs c → AreMadeBy config.jobs (due config c ++ c)
+pub due-made : (config : Configuration) (c : Chronicle) → HaveJobs config.jobs c → HaveJobs config.jobs (due config c ++ c)
 unfolding due
 due-made config c made =
     or_else-made config.jobs (move_first (names_in_order config c) c) (or_else (offer_next config (offering c) c) (answering_last c)) c
@@ -193,48 +213,17 @@ due-made config c made =
     (or_else-made config.jobs (offer_next config (offering c) c) (answering_last c) c (offer_next-made config (offering c) c made)
     (plains-made config.jobs (answering_last c) c (answering_hurried-all IsPlain (λ request answer. tt) (unanswered c) c) made))
 
-pub settle-made : (n : ℕ) (config : Configuration) (c : Chronicle) → AreMadeBy config.jobs c → AreMadeBy config.jobs (settle n config c)
+pub settle-made : (n : ℕ) (config : Configuration) (c : Chronicle) → HaveJobs config.jobs c → HaveJobs config.jobs (settle n config c)
 unfolding settle
 settle-made zero config c made = made
 settle-made (suc n) config c made = settle-made n config (due config c ++ c) (due-made config c made)
 
--- the end of a process makes none
-fail-plain : (p : ℕ) (its : Failure) (c : Chronicle) → AllByRecursion IsPlain (fail p its c)
-fail-plain p its c =
-    let ended = all-if IsPlain (is_start (goal p c)) (Aimed p Stop [] (holders p c) ∷ []) (tt, tt) in
-    all-append IsPlain (entries_if (not (is_some (failure p c))) (keep_failure p its (end_itself p c ++ c))) (end_itself p c)
-    (all-if IsPlain (not (is_some (failure p c))) (keep_failure p its (end_itself p c ++ c))
-    (all-append IsPlain (releasing p true (Failed p its ∷ end_itself p c ++ c)) (Failed p its ∷ []) (releasing-all IsPlain (λ request answer. tt) p true tt (Failed p its ∷ end_itself p c ++ c)) (tt, tt))) ended
+-- the end of a process makes none, nor does a turn
+plain-ends : AllowsEnds IsPlain
+plain-ends = record { allows = plain-allows; failed = λ instance its. tt; respawned = λ instance moment. tt }
 
-carry_out-plain : (p : ℕ) (its : Verdict) (c : Chronicle) → AllByRecursion IsPlain (carry_out p its c)
-carry_out-plain p verdict.Note c = tt
-carry_out-plain p verdict.Respawn c = (tt, tt)
-carry_out-plain p verdict.Stop c = all-if IsPlain (is_start (goal p c)) (Aimed p Stop [] (holders p c) ∷ []) (tt, tt)
-carry_out-plain p (verdict.Fail its) c = fail-plain p its c
-
-end_of-plain : (file : Option JobDef) (o : Option ℕ) (its : Process) (how : End) (c : Chronicle) → AllByRecursion IsPlain (end_of file o its how c)
-end_of-plain None o its how c = tt
-end_of-plain (Some job) None its how c = tt
-end_of-plain (Some job) (Some p) its how c = carry_out-plain p (verdict_on_end job p its how c) c
-
-killing-plain : (places : List ℕ) → AllByRecursion IsPlain (killing places)
-killing-plain [] = tt
-killing-plain (place ∷ places) = all-append IsPlain (killing places) (Signalled place kill true ∷ []) (killing-plain places) (tt, tt)
-
-telling-plain : (spoilt : ℕ) (told : Option Event) → AllByRecursion IsPlain (telling spoilt told)
-telling-plain spoilt None = tt
-telling-plain spoilt (Some told) = (tt, tt)
-
-turn-plain : (o : Option Live) (c : Chronicle) → AllByRecursion IsPlain (turn_of o c)
-turn-plain None c = tt
-turn-plain (Some live) c = by_case live.handled
-  where
-    by_case : (b : Bool) → AllByRecursion IsPlain (if b then finishing live.place c else Handled live.place ∷ [])
-    by_case true =
-        let event = live.place in
-        all-append IsPlain (telling event (failed_event_of event c)) (answering_waiter (waiter event c) (is_spoilt event c) ++ Finished event ∷ []) (telling-plain event (failed_event_of event c))
-        (all-append IsPlain (answering_waiter (waiter event c) (is_spoilt event c)) (Finished event ∷ []) (answering_waiter-all IsPlain (λ request answer. tt) (waiter event c) (is_spoilt event c)) (tt, tt))
-    by_case false = (tt, tt)
+plain-turns : AllowsTurns IsPlain
+plain-turns = record { ends = plain-ends; told = λ spoilt event. tt; handled = λ event. tt; finished = λ event. tt }
 
 -- a request makes one by the file in force
 abbrev IsOf : JobDef → Target → Type 0
@@ -248,77 +237,119 @@ as-of config its vars Malformed c = tt
 
 target-found : (config : Configuration) (name : Bytes) (vars : Bindings) (c : Chronicle) (job : JobDef) (who : Who) (environment : Bindings)
     → target_of config name vars c ≡ Concerns job who environment → job_named job.name config.jobs ≡ Some job
-target-found config name vars c job who environment is = by_job (job_named name config.jobs) refl is
+target-found config name vars c job who environment is = by_job (is_removed config name) (job_named name config.jobs) refl is
   where
     same : (its : JobDef) (target : Target) → IsOf its target → target ≡ Concerns job who environment → its ≡ job
     same its target of is = subst (IsOf its) is of
 
-    by_job : (o : Option JobDef) → job_named name config.jobs ≡ o → target_in config name o vars c ≡ Concerns job who environment → job_named job.name config.jobs ≡ Some job
-    by_job None found is = absurd cc
-    by_job (Some its) found is =
+    by_job : (removed : Bool) (o : Option JobDef) → job_named name config.jobs ≡ o → target_in config name (if removed then None else o) vars c ≡ Concerns job who environment
+        → job_named job.name config.jobs ≡ Some job
+    by_job true o found is = absurd cc
+    by_job false None found is = absurd cc
+    by_job false (Some its) found is =
         let here : its ≡ job = same its (target_in config name (Some its) vars c) (as-of config its vars _ c) is in
         subst (λ j. job_named j.name config.jobs ≡ Some j) here (named-again name config.jobs its found)
 
 start-made : (config : Configuration) (given : ℕ) (its : List ℕ) (target : Target) (c : Chronicle)
     → ((job : JobDef) (who : Who) (environment : Bindings) → target ≡ Concerns job who environment → job_named job.name config.jobs ≡ Some job)
-    → AreMadeBy config.jobs c → AreMadeBy config.jobs (entries_of given (start its target c) ++ c)
+    → HaveJobs config.jobs c → HaveJobs config.jobs (entries_of given (start its target c) ++ c)
 start-made config given its (Nobody text) c found made = made
 start-made config given its (Concerns job who environment) c found made = by_case (instance_named who c)
   where
     told : Bindings
     told = with_instance who environment
 
-    by_room : (b : Bool) → AreMadeBy config.jobs (entries_of given (if b then Done (start_of job who told its None c) else Refused (codes "Too many instances: " ++ who.job)) ++ c)
+    by_room : (b : Bool) → HaveJobs config.jobs (entries_of given (if b then Done (start_of job who told its None c) else Refused (codes "Too many instances: " ++ who.job)) ++ c)
     by_room true = start_of-made config.jobs job who told its None c (found job who environment refl) made
     by_room false = made
 
-    by_goal : (p : ℕ) (b : Bool) → AreMadeBy config.jobs (entries_of given (if b then refusal (codes "Job is already running: ") who else Done (start_of job who told its (Some p) c)) ++ c)
+    by_goal : (p : ℕ) (b : Bool) → HaveJobs config.jobs (entries_of given (if b then refusal (codes "Job is already running: ") who else Done (start_of job who told its (Some p) c)) ++ c)
     by_goal p true = made
     by_goal p false = start_of-made config.jobs job who told its (Some p) c (found job who environment refl) made
 
-    by_case : (o : Option ℕ) → AreMadeBy config.jobs (entries_of given (start_at its job who told o c) ++ c)
+    by_case : (o : Option ℕ) → HaveJobs config.jobs (entries_of given (start_at its job who told o c) ++ c)
     by_case None = by_room (nat_lt (length (instances_of who.job c)) max_instances)
     by_case (Some p) = by_goal p (is_start (goal p c))
 
-request-made : (config : Configuration) (given : ℕ) (request : RequestValue) (c : Chronicle) → AreMadeBy config.jobs c
-    → AreMadeBy config.jobs (entries_of given (outcome_of config given request c) ++ c)
+request-made : (config : Configuration) (given : ℕ) (request : RequestValue) (c : Chronicle) → HaveJobs config.jobs c
+    → HaveJobs config.jobs (entries_of given (outcome_of config given request c) ++ c)
 request-made config given request c made = by_case request.command
   where
     target : Target
     target = target_of config request.name request.vars c
 
-    by_case : (asked : Command) → AreMadeBy config.jobs (entries_of given (outcome_by asked config given request c) ++ c)
+    known : Target
+    known = known_target config request.name request.vars c
+
+    by_case : (asked : Command) → HaveJobs config.jobs (entries_of given (outcome_by asked config given request c) ++ c)
     by_case command.Start = start-made config given (holders_of given request.wait) target c (target-found config request.name request.vars c) made
-    by_case command.Stop = plains-made config.jobs _ c (stop-all IsPlain plain-allows given (holders_of given request.wait) request.vars target c) made
+    by_case command.Stop = plains-made config.jobs _ c (stop-all IsPlain plain-allows given (holders_of given request.wait) request.vars known c) made
     by_case command.Restart = plains-made config.jobs _ c (restart-all IsPlain plain-allows given (holders_of given request.wait) target c) made
-    by_case command.Status = plains-made config.jobs _ c (status-all IsPlain plain-allows given target c) made
+    by_case command.Status = plains-made config.jobs _ c (status-all IsPlain plain-allows given known c) made
     by_case command.List = made
     by_case command.Emit = plains-made config.jobs _ c (emit-all IsPlain plain-allows given request c) made
     by_case command.Version = made
-    by_case command.Reload = plains-made config.jobs _ c (reload-all IsPlain plain-allows given target c (λ p signal runs. tt)) made
+    by_case command.Reload = plains-made config.jobs _ c (reload-all IsPlain plain-allows given known c (λ p signal runs. tt)) made
     by_case command.ReloadConfiguration = made
 
-given-made : (jobs : List JobDef) (es : Chronicle) (given : Input) (c : Chronicle) → AllByRecursion IsPlain es → AreMadeBy jobs c → AreMadeBy jobs ((es ++ Given given ∷ []) ++ c)
+given-made : (jobs : List JobDef) (es : Chronicle) (given : Input) (c : Chronicle) → AllByRecursion IsPlain es → HaveJobs jobs c → HaveJobs jobs ((es ++ Given given ∷ []) ++ c)
 given-made jobs es given c plain made = rw append_assoc (plains-made jobs es (Given given ∷ c) plain made)
 
 -- so does an input
-pub effect-made : (config : Configuration) (given : Input) (c : Chronicle) → AreMadeBy config.jobs c → AreMadeBy config.jobs (effect config given c ++ c)
+pub effect-made : (config : Configuration) (given : Input) (c : Chronicle) → HaveJobs config.jobs c → HaveJobs config.jobs (effect config given c ++ c)
 unfolding effect
 effect-made config (input.Emit event) c made = made
 effect-made config (input.Request id request) c made = rw append_assoc (request-made config (length c) request (Given (input.Request id request) ∷ c) made)
 effect-made config (input.Spawned who its pid) c made = made
 effect-made config (input.Refused who its) c made =
     let d : Chronicle = Given (input.Refused who its) ∷ c in
-    given-made config.jobs (end_by who its end.Refused d) (input.Refused who its) c (end_of-plain (own_file who d) (instance_named who d) its end.Refused d) made
+    given-made config.jobs (end_by who its end.Refused d) (input.Refused who its) c (end_of-all IsPlain plain-ends (own_file who d) (instance_named who d) its end.Refused d) made
 effect-made config (input.Ended who its how) c made =
     let d : Chronicle = Given (input.Ended who its how) ∷ c in
-    given-made config.jobs (end_by who its (end.Ended how) d) (input.Ended who its how) c (end_of-plain (own_file who d) (instance_named who d) its (end.Ended how) d) made
+    given-made config.jobs (end_by who its (end.Ended how) d) (input.Ended who its how) c (end_of-all IsPlain plain-ends (own_file who d) (instance_named who d) its (end.Ended how) d) made
 effect-made config (input.Clock reading) c made =
     given-made config.jobs (killing (all_overdue (names_in_order config c) (Given (input.Clock reading) ∷ c))) (input.Clock reading) c
-    (killing-plain (all_overdue (names_in_order config c) (Given (input.Clock reading) ∷ c))) made
+    (killing-all IsPlain (λ place. tt) (all_overdue (names_in_order config c) (Given (input.Clock reading) ∷ c))) made
 effect-made config input.Turn c made =
-    given-made config.jobs (turn_of (turn_event config (queue c) c) (Given input.Turn ∷ c)) input.Turn c (turn-plain (turn_event config (queue c) c) (Given input.Turn ∷ c)) made
+    given-made config.jobs (turn_of (turn_event config (queue c) c) (Given input.Turn ∷ c)) input.Turn c (turn_of-all IsPlain plain-turns (turn_event config (queue c) c) (Given input.Turn ∷ c)) made
+effect-made config (input.Load id its) c made =
+    given-made config.jobs (loading (length c) its) (input.Load id its) c (loading-all IsPlain (λ request answer. tt) (λ jobs. tt) (length c) its) made
 
-pub after-made : (config : Configuration) (c : Chronicle) (given : Input) → AreMadeBy config.jobs c → AreMadeBy config.jobs (after config c given)
+-- a load leaves them named
+load-made : (start : Configuration) (c : Chronicle) (id : ℕ) (its : LoadedValue) → HaveJobs (in_force start c).jobs c
+    → HaveJobs (in_force start (effect (in_force start c) (input.Load id its) c ++ c)).jobs (effect (in_force start c) (input.Load id its) c ++ c)
+unfolding effect
+load-made start c id (loaded.Files jobs) made = have-kept jobs (in_force start c) c made
+load-made start c id (loaded.Refused number) made = made
+load-made start c id loaded.Unread made = made
+
+-- so each instance's job is named by the configuration in force after an input
+input-made : (start : Configuration) (c : Chronicle) (given : Input) → HaveJobs (in_force start c).jobs c
+    → HaveJobs (in_force start (effect (in_force start c) given c ++ c)).jobs (effect (in_force start c) given c ++ c)
+input-made start c (input.Load id its) made = load-made start c id its made
+input-made start c given made =
+    subst (λ config. HaveJobs config.jobs (effect (in_force start c) given c ++ c)) (sym (effect-in_force start (in_force start c) given c tt)) (effect-made (in_force start c) given c made)
+
+pub after-made : (start : Configuration) (c : Chronicle) (given : Input) → HaveJobs (in_force start c).jobs c → HaveJobs (in_force start (after start c given)).jobs (after start c given)
 unfolding after
-after-made config c given made = settle-made (work config (effect config given c ++ c)) config (effect config given c ++ c) (effect-made config given c made)
+after-made start c given made =
+    let d : Chronicle = effect (in_force start c) given c ++ c in
+    let now : Configuration = in_force start d in
+    subst (λ config. HaveJobs config.jobs (settle (work now d) now d)) (sym (settle-in_force start (work now d) now d)) (settle-made (work now d) now d (input-made start c given made))
+
+pub next-made : (start : Configuration) (c : Chronicle) (given : Input) → HaveJobs (in_force start c).jobs c → HaveJobs (in_force start (next start c given)).jobs (next start c given)
+next-made start c given made = by_case (is_expected given c)
+  where
+    by_case : (b : Bool) → HaveJobs (in_force start (if b then after start c given else c)).jobs (if b then after start c given else c)
+    by_case true = after-made start c given made
+    by_case false = made
+
+-- and after inputs
+pub after_all-made : (start : Configuration) (c : Chronicle) (inputs : List Input) → HaveJobs (in_force start c).jobs c
+    → HaveJobs (in_force start (after_all start c inputs)).jobs (after_all start c inputs)
+unfolding after_all
+after_all-made start c [] made = made
+after_all-made start c (given ∷ inputs) made = after_all-made start (next start c given) inputs (next-made start c given made)
+
+pub reached-made : (start : Configuration) (inputs : List Input) → HaveJobs (in_force start (after_all start [] inputs)).jobs (after_all start [] inputs)
+reached-made start inputs = after_all-made start [] inputs (λ name none. refl)

@@ -5,12 +5,7 @@ use Rattle.up_expr.specs.Truth.{Sight}
 use Rattle.up_conf.specs.declared.job.JobDef.{JobDef}
 use Rattle.up_stanza.specs.declared.process.Process.{Process}
 use Rattle.up_stanza.specs.declared.process.Process.TheVariants as process
-use Rattle.up_model.specs.declared.failure.End.{End}
 use Rattle.up_model.specs.declared.failure.End.TheVariants as end
-use Rattle.up_model.specs.declared.failure.Failure.{Failure}
-use Rattle.up_model.specs.declared.failure.Verdict.{Verdict}
-use Rattle.up_model.specs.declared.failure.Verdict.TheVariants as verdict
-use Rattle.up_model.specs.declared.event.Event.{Event}
 use Rattle.up_model.specs.declared.input.Input.{Input}
 use Rattle.up_model.specs.declared.input.Input.TheVariants as input
 use Rattle.up_model.specs.declared.life.Entry as table
@@ -25,23 +20,22 @@ use Rattle.up_model.specs.declared.state.State.TheVariants.{Waiting, Starting, P
 use Rattle.up_model.specs.declared.who.Who.{Who}
 use Rattle.up_model.specs.Answers.{after, next, awaits, is_expected, after_all}
 use Rattle.up_model.specs.Blocks.{HasOneMain}
-use Rattle.up_model.specs.Chronicle.{Chronicle, Entry, Given, Queued, Handled, Offered, Fired, Finished, Made, Aimed, Failed, Entered, Ordered, Signalled, Replied, Outside, StartOn, StopOn}
-use Rattle.up_model.specs.Clock.{all_overdue, kill, killing}
-use Rattle.up_model.specs.Commands.{Refused, Done, Target, Nobody, Concerns, refusal, target_of, start_at, start, holders_of, outcome_by, outcome_of, entries_of}
+use Rattle.up_model.specs.Chronicle.{Chronicle, Entry, Given, Queued, Offered, Fired, Made, Aimed, Entered, Ordered, Signalled, Replied, Outside, StartOn, StopOn}
+use Rattle.up_model.specs.Clock.{all_overdue, killing}
+use Rattle.up_model.specs.Commands.{Refused, Done, Target, Nobody, Concerns, refusal, target_of, known_target, start_at, start, holders_of, outcome_by, outcome_of, entries_of}
 use Rattle.up_model.specs.Configuration.{Configuration}
-use Rattle.up_model.specs.Due.{due, end_of, telling, failed_event_of, finishing, turn_event, turn_of, effect, end_by}
+use Rattle.up_model.specs.Due.{due, turn_event, turn_of, effect, end_by}
 use Rattle.up_model.specs.Environments.{env_of_job, instance_name}
 use Rattle.up_model.specs.Events.{events_at, events_env, with_instance, stopped_by}
 use Rattle.up_model.specs.Files.{own_file, names_in_order}
-use Rattle.up_model.specs.Held.{is_spoilt}
 use Rattle.up_model.specs.Instances.{Instance, instances_of, instance_named}
-use Rattle.up_model.specs.Judgement.{end_itself, keep_failure, fail, carry_out, verdict_on_end}
 use Rattle.up_model.specs.Life.{next_state, wait_in, entering}
+use Rattle.up_model.specs.Loads.{in_force, loading}
 use Rattle.up_model.specs.Moves.{has_process, emitting, ordering, enter, enter_whole, is_over, may_leave, next_of, who_of, move, move_of, move_in, move_first}
 use Rattle.up_model.specs.Offers.{is_open, stop_of, stop_by, stop_offer, stop_offer_in, max_instances, start_of, who_called, start_who, start_by, start_offer, offering, offer_next, start_env}
-use Rattle.up_model.specs.Queue.{Live, queue}
-use Rattle.up_model.specs.Readings.{goal, state_of, failure, holders, made_at, file_of, speaks_of, is_awaited, pid_of, lives}
-use Rattle.up_model.specs.Replies.{releasing, waiter, answering_waiter, unanswered, answering_last}
+use Rattle.up_model.specs.Queue.{queue}
+use Rattle.up_model.specs.Readings.{goal, state_of, made_at, file_of, speaks_of, is_awaited, pid_of, lives}
+use Rattle.up_model.specs.Replies.{releasing, unanswered, answering_last}
 use Rattle.up_model.specs.Requests.{RequestValue}
 use Rattle.up_model.specs.Seen.{seen, holds, taken, was_offered}
 use Rattle.up_model.specs.Predicates.{same_process, same_who, is_start, entries_if, or_else}
@@ -51,8 +45,9 @@ use Rattle.up_model.proofs.BlockLaws.{five, and-left}
 use Rattle.up_model.proofs.FileLaws.{HasFile, files, file_of-later, IsCalled, target-called}
 use Rattle.up_model.proofs.NameLaws.{called, made-named, AreSingle, Singles, entered-singles, entered-named, made-singles, made-found}
 use Rattle.up_model.proofs.Places.{bytes_same}
-use Rattle.up_model.proofs.ReplyLaws.{Allows, releasing-all, answering_waiter-all, answering_hurried-all, start_of-all, stop_of-all, stop-all, restart-all, reload-all, status-all, emit-all}
+use Rattle.up_model.proofs.ReplyLaws.{Allows, releasing-all, answering_hurried-all, start_of-all, stop_of-all, stop-all, restart-all, reload-all, status-all, emit-all}
 use Rattle.up_model.proofs.Sparing.{all-append, all-if}
+use Rattle.up_model.proofs.EffectLaws.{AllowsEnds, AllowsTurns, end_of-all, killing-all, turn_of-all, loading-all}
 use Rattle.up_model.proofs.JobOffers.{offer_in, offer_first, first-by-jobs}
 
 -- the states in which main may live
@@ -579,48 +574,12 @@ unfolding settle
 settle-keeps zero config c keeps = keeps
 settle-keeps (suc n) config c keeps = settle-keeps n config (due config c ++ c) (due-keeps config c keeps)
 
--- that an instance ends itself is still, and that it fails, and what an end does
-end_itself-still : (p : ℕ) (c : Chronicle) → AllByRecursion IsStill (end_itself p c)
-end_itself-still p c = all-if IsStill (is_start (goal p c)) (Aimed p Stop [] (holders p c) ∷ []) (tt, tt)
+-- so are the end of a process and a turn
+still-ends : AllowsEnds IsStill
+still-ends = record { allows = still-allows; failed = λ instance its. tt; respawned = λ instance moment. tt }
 
-fail-still : (p : ℕ) (its : Failure) (c : Chronicle) → AllByRecursion IsStill (fail p its c)
-fail-still p its c =
-    all-append IsStill (entries_if (not (is_some (failure p c))) (keep_failure p its (end_itself p c ++ c))) (end_itself p c)
-    (all-if IsStill (not (is_some (failure p c))) (keep_failure p its (end_itself p c ++ c)) (all-append IsStill (releasing p true (Failed p its ∷ end_itself p c ++ c)) (Failed p its ∷ []) (releasing-still p true (Failed p its ∷ end_itself p c ++ c)) (tt, tt))) (end_itself-still p c)
-
-carry_out-still : (p : ℕ) (its : Verdict) (c : Chronicle) → AllByRecursion IsStill (carry_out p its c)
-carry_out-still p verdict.Note c = tt
-carry_out-still p verdict.Respawn c = (tt, tt)
-carry_out-still p verdict.Stop c = end_itself-still p c
-carry_out-still p (verdict.Fail its) c = fail-still p its c
-
-end_of-still : (its_job : Option JobDef) (o : Option ℕ) (its : Process) (how : End) (c : Chronicle) → AllByRecursion IsStill (end_of its_job o its how c)
-end_of-still None o its how c = tt
-end_of-still (Some job) None its how c = tt
-end_of-still (Some job) (Some p) its how c = carry_out-still p (verdict_on_end job p its how c) c
-
--- so are the timer's signals, and what a turn does
-killing-still : (places : List ℕ) → AllByRecursion IsStill (killing places)
-killing-still [] = tt
-killing-still (place ∷ places) = all-append IsStill (killing places) (Signalled place kill true ∷ []) (killing-still places) (tt, tt)
-
-telling-still : (spoilt : ℕ) (told : Option Event) → AllByRecursion IsStill (telling spoilt told)
-telling-still spoilt None = tt
-telling-still spoilt (Some told) = (tt, tt)
-
-finishing-still : (event : ℕ) (c : Chronicle) → AllByRecursion IsStill (finishing event c)
-finishing-still event c =
-    all-append IsStill (telling event (failed_event_of event c)) (answering_waiter (waiter event c) (is_spoilt event c) ++ Finished event ∷ []) (telling-still event (failed_event_of event c))
-    (all-append IsStill (answering_waiter (waiter event c) (is_spoilt event c)) (Finished event ∷ [])
-    (answering_waiter-all IsStill (λ request answer. tt) (waiter event c) (is_spoilt event c)) (tt, tt))
-
-turn-still : (found : Option Live) (c : Chronicle) → AllByRecursion IsStill (turn_of found c)
-turn-still None c = tt
-turn-still (Some live) c = by_case live.handled
-  where
-    by_case : (b : Bool) → AllByRecursion IsStill (if b then finishing live.place c else Handled live.place ∷ [])
-    by_case true = finishing-still live.place c
-    by_case false = (tt, tt)
+still-turns : AllowsTurns IsStill
+still-turns = record { ends = still-ends; told = λ spoilt event. tt; handled = λ event. tt; finished = λ event. tt }
 
 -- still entries before an input
 given-keeps : (config : Configuration) (es : List Entry) (given : Input) (c : Chronicle) → AllByRecursion IsStill es → Keeps (Given given ∷ c)
@@ -655,15 +614,18 @@ request-keeps : (config : Configuration) (given : ℕ) (request : RequestValue) 
     → Keeps (entries_of given (outcome_of config given request c) ++ c)
 request-keeps config given request c keeps = by_case request.command
   where
+    known : Target
+    known = known_target config request.name request.vars c
+
     by_case : (asked : Command) → Keeps (entries_of given (outcome_by asked config given request c) ++ c)
     by_case command.Start = start-keeps config given (holders_of given request.wait) (target_of config request.name request.vars c) c (target-called config request.name request.vars c) keeps
-    by_case command.Stop = stills-keep config _ c (stop-all IsStill still-allows given (holders_of given request.wait) request.vars (target_of config request.name request.vars c) c) keeps
+    by_case command.Stop = stills-keep config _ c (stop-all IsStill still-allows given (holders_of given request.wait) request.vars known c) keeps
     by_case command.Restart = stills-keep config _ c (restart-all IsStill still-allows given (holders_of given request.wait) (target_of config request.name request.vars c) c) keeps
-    by_case command.Status = stills-keep config _ c (status-all IsStill still-allows given (target_of config request.name request.vars c) c) keeps
+    by_case command.Status = stills-keep config _ c (status-all IsStill still-allows given known c) keeps
     by_case command.List = still-keeps config (Replied given _) c tt keeps
     by_case command.Emit = stills-keep config _ c (emit-all IsStill still-allows given request c) keeps
     by_case command.Version = still-keeps config (Replied given _) c tt keeps
-    by_case command.Reload = stills-keep config _ c (reload-all IsStill still-allows given (target_of config request.name request.vars c) c (λ p signal runs. tt)) keeps
+    by_case command.Reload = stills-keep config _ c (reload-all IsStill still-allows given known c (λ p signal runs. tt)) keeps
     by_case command.ReloadConfiguration = still-keeps config (Replied given _) c tt keeps
 
 -- an answer that is expected is awaited
@@ -681,23 +643,27 @@ effect-keeps config (input.Spawned who its pid) c expected keeps = spawned-keeps
 effect-keeps config (input.Refused who its) c expected keeps =
     let d : Chronicle = Given (input.Refused who its) ∷ c in
     given-keeps config (end_by who its end.Refused d) (input.Refused who its) c
-    (end_of-still (own_file who d) (instance_named who d) its end.Refused d) (refused-keeps config who its c keeps)
+    (end_of-all IsStill still-ends (own_file who d) (instance_named who d) its end.Refused d) (refused-keeps config who its c keeps)
 effect-keeps config (input.Ended who its how) c expected keeps =
     let d : Chronicle = Given (input.Ended who its how) ∷ c in
     given-keeps config (end_by who its (end.Ended how) d) (input.Ended who its how) c
-    (end_of-still (own_file who d) (instance_named who d) its (end.Ended how) d) (ended-keeps config who its how c keeps)
+    (end_of-all IsStill still-ends (own_file who d) (instance_named who d) its (end.Ended how) d) (ended-keeps config who its how c keeps)
 effect-keeps config (input.Clock reading) c expected keeps =
     given-keeps config (killing (all_overdue (names_in_order config c) (Given (input.Clock reading) ∷ c))) (input.Clock reading) c
-    (killing-still (all_overdue (names_in_order config c) (Given (input.Clock reading) ∷ c))) (still-keeps config (Given (input.Clock reading)) c tt keeps)
+    (killing-all IsStill (λ place. tt) (all_overdue (names_in_order config c) (Given (input.Clock reading) ∷ c))) (still-keeps config (Given (input.Clock reading)) c tt keeps)
 effect-keeps config input.Turn c expected keeps =
     given-keeps config (turn_of (turn_event config (queue c) c) (Given input.Turn ∷ c)) input.Turn c
-    (turn-still (turn_event config (queue c) c) (Given input.Turn ∷ c)) (still-keeps config (Given input.Turn) c tt keeps)
+    (turn_of-all IsStill still-turns (turn_event config (queue c) c) (Given input.Turn ∷ c)) (still-keeps config (Given input.Turn) c tt keeps)
+effect-keeps config (input.Load id its) c expected keeps =
+    given-keeps config (loading (length c) its) (input.Load id its) c
+    (loading-all IsStill (λ request answer. tt) (λ jobs. tt) (length c) its) (still-keeps config (Given (input.Load id its)) c tt keeps)
 
 -- so do inputs, one after another
 after-keeps : (config : Configuration) (c : Chronicle) (given : Input) → is_expected given c ≡ true → Keeps c → Keeps (after config c given)
 unfolding after
 after-keeps config c given expected keeps =
-    settle-keeps (work config (effect config given c ++ c)) config (effect config given c ++ c) (effect-keeps config given c expected keeps)
+    let d : Chronicle = effect (in_force config c) given c ++ c in
+    settle-keeps (work (in_force config d) d) (in_force config d) d (effect-keeps (in_force config c) given c expected keeps)
 
 next-keeps : (config : Configuration) (c : Chronicle) (given : Input) → Keeps c → Keeps (next config c given)
 next-keeps config c given keeps = by_case (is_expected given c) refl

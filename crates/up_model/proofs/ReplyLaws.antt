@@ -11,7 +11,7 @@ use Rattle.up_model.specs.declared.state.Goal.{Goal}
 use Rattle.up_model.specs.declared.state.Goal.TheVariants.{Start, Stop}
 use Rattle.up_model.specs.declared.who.Who.{Who}
 use Rattle.up_model.specs.Chronicle.{Chronicle, Entry, Queued, Made, Aimed, Restarted, Released, Signalled, Replied, Outside}
-use Rattle.up_model.specs.Commands.{Outcome, Done, Target, Nobody, Concerns, target_of, start_at, start, stop_at, stop, is_running, restart_at, restart, reloading, reload_at, reload, status_at, status, emit, max_events, holders_of, outcome_by, outcome_of, entries_of, refusal}
+use Rattle.up_model.specs.Commands.{Outcome, Done, Target, Nobody, Concerns, target_of, known_target, start_at, start, stop_at, stop, is_running, restart_at, restart, reloading, reload_at, reload, status_at, status, emit, max_events, holders_of, outcome_by, outcome_of, entries_of, refusal}
 use Rattle.up_model.specs.Configuration.{Configuration}
 use Rattle.up_model.specs.Events.{with_instance}
 use Rattle.up_model.specs.Files.{own_file}
@@ -158,13 +158,16 @@ outcome-all P allows made config given request c signals = by_case request.comma
     target : Target
     target = target_of config request.name request.vars c
 
+    known : Target
+    known = known_target config request.name request.vars c
+
     by_case : (asked : Command) → AllByRecursion P (entries_of given (outcome_by asked config given request c))
     by_case command.Start = start-all P allows made given (holders_of given request.wait) target c
-    by_case command.Stop = stop-all P allows given (holders_of given request.wait) request.vars target c
+    by_case command.Stop = stop-all P allows given (holders_of given request.wait) request.vars known c
     by_case command.Restart = restart-all P allows given (holders_of given request.wait) target c
-    by_case command.Status = status-all P allows given target c
+    by_case command.Status = status-all P allows given known c
     by_case command.List = (allows.replied given _, tt)
     by_case command.Emit = emit-all P allows given request c
     by_case command.Version = (allows.replied given _, tt)
-    by_case command.Reload = reload-all P allows given target c signals
+    by_case command.Reload = reload-all P allows given known c signals
     by_case command.ReloadConfiguration = (allows.replied given _, tt)

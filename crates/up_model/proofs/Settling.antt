@@ -2,10 +2,14 @@
 use Rattle.std.proofs.Common.{◌≡◌, ℕ, zero, suc, ◌<◌, ◌≤◌, ◌⊎◌, inl, inr, [], ◌++◌, refl, sym, ◌∙◌, ap, arith}
 use Rattle.up_model.specs.Configuration.{Configuration}
 use Rattle.up_model.specs.declared.input.Input.{Input}
+use Rattle.up_model.specs.declared.input.Input.TheVariants as input
+use Rattle.up_model.specs.declared.loaded.Loaded.{Loaded as LoadedValue}
 use Rattle.up_model.specs.Chronicle.{Chronicle}
 use Rattle.up_model.specs.Due.{due, effect}
 use Rattle.up_model.specs.Work.{work, settle}
 use Rattle.up_model.specs.Answers.{after}
+use Rattle.up_model.specs.Loads.{in_force}
+use Rattle.up_model.proofs.LoadLaws.{settle-in_force, HaveJobs, load-rests}
 use Rattle.up_model.proofs.WorkLaws.{falls}
 
 -- where nothing is due, nothing changes
@@ -58,6 +62,17 @@ pub settle_rests : (config : Configuration) (c : Chronicle) → due config (sett
 settle_rests config c = settle_rest (work config c) config c (omega arith)
 
 -- nothing is due after an input
-pub after_rests : (config : Configuration) (c : Chronicle) (given : Input) → due config (after config c given) ≡ []
+pub after_rests : (config : Configuration) (c : Chronicle) (given : Input) → due (in_force config (after config c given)) (after config c given) ≡ []
 unfolding after
-after_rests config c given = settle_rests config (effect config given c ++ c)
+after_rests config c given =
+    let d : Chronicle = effect (in_force config c) given c ++ c in
+    let now : Configuration = in_force config d in
+    ap (λ config. due config (settle (work now d) now d)) (settle-in_force config (work now d) now d) ∙ settle_rests now d
+
+-- so a load leaves nothing to be done, if nothing was due before
+pub after-load : (config : Configuration) (c : Chronicle) (id : ℕ) (its : LoadedValue) → HaveJobs (in_force config c).jobs c → due (in_force config c) c ≡ []
+    → after config c (input.Load id its) ≡ effect (in_force config c) (input.Load id its) c ++ c
+unfolding after
+after-load config c id its have none =
+    let d : Chronicle = effect (in_force config c) (input.Load id its) c ++ c in
+    settle_still (work (in_force config d) d) (in_force config d) d (load-rests config id its c have none)

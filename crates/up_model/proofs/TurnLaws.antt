@@ -1,37 +1,28 @@
 -- Each event is handled once, and finishes once, after it was handled.
-use Rattle.std.proofs.Common.{◌≡◌, ℕ, zero, suc, is_some, append_assoc, le_of_eq, not, ◌+◌, ◌<◌, ◌≤◌, ◌==◌, ◌⊎◌, inl, inr, Bool, true, false, List, [], ◌∷◌, ◌++◌, length, Option, None, Some, if◌then◌else◌, refl, sym, ◌∙◌, ap, subst, arith, eqb-true, eq-eqb}
+use Rattle.std.proofs.Common.{◌≡◌, ℕ, zero, suc, append_assoc, le_of_eq, ◌+◌, ◌<◌, ◌≤◌, ◌==◌, ◌⊎◌, inl, inr, Bool, true, false, List, [], ◌∷◌, ◌++◌, length, Option, None, Some, if◌then◌else◌, refl, sym, ◌∙◌, ap, subst, arith, eqb-true, eq-eqb}
 use Rattle.std.specs.List.{AllByRecursion}
-use Rattle.up_conf.specs.declared.job.JobDef.{JobDef}
-use Rattle.up_model.specs.declared.event.Event.{Event}
-use Rattle.up_model.specs.declared.failure.End.{End}
 use Rattle.up_model.specs.declared.failure.End.TheVariants as end
-use Rattle.up_model.specs.declared.failure.Failure.{Failure}
-use Rattle.up_model.specs.declared.failure.Verdict.{Verdict}
-use Rattle.up_model.specs.declared.failure.Verdict.TheVariants as verdict
-use Rattle.up_model.specs.declared.state.Goal.TheVariants.{Stop}
-use Rattle.up_stanza.specs.declared.process.Process.{Process}
 use Rattle.up_model.specs.declared.input.Input.{Input}
 use Rattle.up_model.specs.declared.input.Input.TheVariants as input
 use Rattle.up_model.specs.Configuration.{Configuration}
-use Rattle.up_model.specs.Chronicle.{Entry, Given, Aimed, Failed, Signalled, Queued, Handled, Finished, Outside}
-use Rattle.up_model.specs.Clock.{all_overdue, kill, killing}
-use Rattle.up_model.specs.Readings.{goal, failure, holders}
+use Rattle.up_model.specs.Chronicle.{Entry, Given, Queued, Handled, Finished, Outside}
+use Rattle.up_model.specs.Clock.{all_overdue, killing}
 use Rattle.up_model.specs.Queue.{Live, with_handled, without_event, queue}
 use Rattle.up_model.specs.Held.{is_held, is_spoilt}
 use Rattle.up_model.specs.Instances.{instance_named}
-use Rattle.up_model.specs.Judgement.{end_itself, keep_failure, fail, carry_out, verdict_on_end}
 use Rattle.up_model.specs.Commands.{outcome_of, entries_of}
-use Rattle.up_model.specs.Replies.{releasing, waiter, answering_waiter}
-use Rattle.up_model.specs.Predicates.{is_start, entries_if}
-use Rattle.up_model.specs.Due.{due, end_of, telling, failed_event_of, finishing, turn_event, turn_of, effect, end_by}
+use Rattle.up_model.specs.Replies.{waiter, answering_waiter}
+use Rattle.up_model.specs.Due.{due, telling, failed_event_of, finishing, turn_event, turn_of, effect, end_by}
 use Rattle.up_model.specs.Values.{Bytes}
 use Rattle.up_model.specs.Work.{work, settle}
 use Rattle.up_model.specs.Answers.{after, next, is_expected, after_all}
 use Rattle.up_model.specs.Files.{own_file, names_in_order}
 use Rattle.up_model.specs.Laws.{handled_times, finished_times, IsOrderly}
+use Rattle.up_model.specs.Loads.{in_force, loading}
+use Rattle.up_model.proofs.EffectLaws.{AllowsEnds, end_of-all, killing-all, telling-all, loading-all}
 use Rattle.up_model.proofs.HeldLaws.{held-given}
-use Rattle.up_model.proofs.Sparing.{all-append, all-weaker, all-if, IsOf}
-use Rattle.up_model.proofs.ReplyLaws.{Allows, releasing-all, answering_waiter-all, outcome-all}
+use Rattle.up_model.proofs.Sparing.{all-weaker, IsOf}
+use Rattle.up_model.proofs.ReplyLaws.{Allows, answering_waiter-all, outcome-all}
 use Rattle.up_model.proofs.WorkLaws.{IsAbout, due-about}
 use Rattle.up_model.proofs.QueueLaws.{queue_by_age, status, status-older, first_status, status-append, status-with_handled, status-with_handled_other, status-without_event, status-without_event_other, turn_event-status, turn_event-held}
 
@@ -111,7 +102,7 @@ handled-keeps config event c here keeps = record {
         (rw (status-with_handled event (queue c) false here) (rw (eq-eqb event event refl) (ap (λ n. 1 + n) now.0), now.1))
 
 -- a handled event of the queue finishes
-finished-keeps : (config : Configuration) (event : ℕ) (c : List Entry) → status event (queue c) ≡ Some true → is_held config event c ≡ false
+finished-keeps : (config : Configuration) (event : ℕ) (c : List Entry) → status event (queue c) ≡ Some true → is_held (in_force config c) event c ≡ false
     → Keeps config c → Keeps config (Finished event ∷ c)
 finished-keeps config event c here free keeps = record {
   standing = λ other. by_case other (event == other) refl (keeps.standing other);
@@ -129,19 +120,14 @@ finished-keeps config event c here free keeps = record {
         subst (λ it. Standing it (Finished event ∷ c) (status it (without_event event (queue c)))) (eqb-true event other same)
         (rw (status-without_event event (queue c)) (rw (eq-eqb event event refl) (ap (λ n. 1 + n) now.1 ∙ sym now.0), le_of_eq now.0, λ later. absurd (omega arith)))
 
--- so does the event that tells that it was spoilt
-telling-quiet : (spoilt : ℕ) (told : Option Event) → AllByRecursion IsQuiet (telling spoilt told)
-telling-quiet spoilt None = tt
-telling-quiet spoilt (Some told) = (tt, tt)
-
 -- so a turn leaves the counts fitting
-turn-keeps : (config : Configuration) (c : List Entry) (found : Option Live) → turn_event config (queue c) c ≡ found → Keeps config (Given input.Turn ∷ c)
+turn-keeps : (config : Configuration) (c : List Entry) (found : Option Live) → turn_event (in_force config c) (queue c) c ≡ found → Keeps config (Given input.Turn ∷ c)
     → Keeps config (turn_of found (Given input.Turn ∷ c) ++ Given input.Turn ∷ c)
 turn-keeps config c None found keeps = keeps
 turn-keeps config c (Some live) found keeps = by_case live.handled refl
   where
     here : status live.place (queue c) ≡ Some live.handled
-    here = turn_event-status (length c) config (queue c) c live (queue_by_age c) found
+    here = turn_event-status (length c) (in_force config c) (queue c) c live (queue_by_age c) found
 
     d : List Entry
     d = Given input.Turn ∷ c
@@ -156,10 +142,10 @@ turn-keeps config c (Some live) found keeps = by_case live.handled refl
         → Keeps config ((if b then finishing live.place d else Handled live.place ∷ []) ++ d)
     by_case true handled =
         subst (Keeps config) (sym (append_assoc told (answers ++ Finished live.place ∷ []) d ∙ ap (λ rest. told ++ rest) (append_assoc answers (Finished live.place ∷ []) d)))
-        (quiets-keep config told (answers ++ Finished live.place ∷ d) (telling-quiet live.place (failed_event_of live.place d))
+        (quiets-keep config told (answers ++ Finished live.place ∷ d) (telling-all IsQuiet (λ spoilt event. tt) live.place (failed_event_of live.place d))
         (quiets-keep config answers (Finished live.place ∷ d) (answering_waiter-all IsQuiet (λ request answer. tt) (waiter live.place d) (is_spoilt live.place d))
         (finished-keeps config live.place d (here ∙ ap (λ b. Some b) handled)
-        (held-given config live.place input.Turn c ∙ turn_event-held config (queue c) c live found handled) keeps)))
+        (held-given (in_force config c) live.place input.Turn c ∙ turn_event-held (in_force config c) (queue c) c live found handled) keeps)))
     by_case false handled = handled-keeps config live.place (Given input.Turn ∷ c) (here ∙ ap (λ b. Some b) handled) keeps
 
 -- what is due neither handles nor finishes an event
@@ -177,10 +163,10 @@ due-quiet config c = by_case (due config c) (due-about config c)
     by_case es (inr about) = all-weaker (IsOf about.whose about.place) IsQuiet (of-quiet about.whose about.place) es about.of
 
 -- doing what is due leaves the counts fitting
-pub settle-keeps : (n : ℕ) (config : Configuration) (c : List Entry) → Keeps config c → Keeps config (settle n config c)
+pub settle-keeps : (start : Configuration) (n : ℕ) (config : Configuration) (c : List Entry) → Keeps start c → Keeps start (settle n config c)
 unfolding settle
-settle-keeps zero config c keeps = keeps
-settle-keeps (suc n) config c keeps = settle-keeps n config (due config c ++ c) (quiets-keep config (due config c) c (due-quiet config c) keeps)
+settle-keeps start zero config c keeps = keeps
+settle-keeps start (suc n) config c keeps = settle-keeps start n config (due config c ++ c) (quiets-keep start (due config c) c (due-quiet config c) keeps)
 
 quiet-allows : Allows IsQuiet
 quiet-allows = record {
@@ -191,61 +177,40 @@ quiet-allows = record {
   queued = λ given event. tt;
 }
 
--- that an instance ends itself is quiet
-end_itself-quiet : (instance : ℕ) (c : List Entry) → AllByRecursion IsQuiet (end_itself instance c)
-end_itself-quiet instance c = all-if IsQuiet (is_start (goal instance c)) (Aimed instance Stop [] (holders instance c) ∷ []) (tt, tt)
-
--- so is that it fails
-fail-quiet : (instance : ℕ) (its : Failure) (c : List Entry) → AllByRecursion IsQuiet (fail instance its c)
-fail-quiet instance its c =
-    let d : List Entry = Failed instance its ∷ end_itself instance c ++ c in
-    all-append IsQuiet (entries_if (not (is_some (failure instance c))) (keep_failure instance its (end_itself instance c ++ c))) (end_itself instance c)
-    (all-if IsQuiet (not (is_some (failure instance c))) (keep_failure instance its (end_itself instance c ++ c)) (all-append IsQuiet (releasing instance true d) (Failed instance its ∷ []) (releasing-all IsQuiet (λ request answer. tt) instance true tt d) (tt, tt))) (end_itself-quiet instance c)
-
--- so is what a verdict does
-carry_out-quiet : (instance : ℕ) (its : Verdict) (c : List Entry) → AllByRecursion IsQuiet (carry_out instance its c)
-carry_out-quiet instance verdict.Note c = tt
-carry_out-quiet instance verdict.Respawn c = (tt, tt)
-carry_out-quiet instance verdict.Stop c = end_itself-quiet instance c
-carry_out-quiet instance (verdict.Fail its) c = fail-quiet instance its c
-
--- and what an end does
-end_of-quiet : (its_job : Option JobDef) (o : Option ℕ) (process : Process) (its : End) (c : List Entry) → AllByRecursion IsQuiet (end_of its_job o process its c)
-end_of-quiet None o process its c = tt
-end_of-quiet (Some job) None process its c = tt
-end_of-quiet (Some job) (Some instance) process its c = carry_out-quiet instance (verdict_on_end job instance process its c) c
-
--- so is that the timer kills
-killing-quiet : (instances : List ℕ) → AllByRecursion IsQuiet (killing instances)
-killing-quiet [] = tt
-killing-quiet (instance ∷ instances) = all-append IsQuiet (killing instances) (Signalled instance kill true ∷ []) (killing-quiet instances) (tt, tt)
+quiet-ends : AllowsEnds IsQuiet
+quiet-ends = record { allows = quiet-allows; failed = λ instance its. tt; respawned = λ instance moment. tt }
 
 -- the effect of an input leaves the counts fitting
-pub effect-keeps : (config : Configuration) (given : Input) (c : List Entry) → Keeps config c → Keeps config (effect config given c ++ c)
+pub effect-keeps : (config : Configuration) (given : Input) (c : List Entry) → Keeps config c → Keeps config (effect (in_force config c) given c ++ c)
 unfolding effect
 effect-keeps config (input.Emit event) c keeps = quiets-keep config (Queued (Outside (length c)) event ∷ Given (input.Emit event) ∷ []) c (tt, (tt, tt)) keeps
 effect-keeps config (input.Request id request) c keeps =
     let d : List Entry = Given (input.Request id request) ∷ c in
-    rw append_assoc (quiets-keep config (entries_of (length c) (outcome_of config (length c) request d)) d
-    (outcome-all IsQuiet quiet-allows (λ job name. tt) config (length c) request d (λ p signal runs. tt)) (quiet-keeps config (Given (input.Request id request)) c tt keeps))
+    rw append_assoc (quiets-keep config (entries_of (length c) (outcome_of (in_force config c) (length c) request d)) d
+    (outcome-all IsQuiet quiet-allows (λ job name. tt) (in_force config c) (length c) request d (λ p signal runs. tt)) (quiet-keeps config (Given (input.Request id request)) c tt keeps))
 effect-keeps config (input.Spawned who process pid) c keeps = quiet-keeps config (Given (input.Spawned who process pid)) c tt keeps
 effect-keeps config (input.Refused who process) c keeps =
     let d : List Entry = Given (input.Refused who process) ∷ c in
     let its : List Entry = end_by who process end.Refused d in
-    rw append_assoc (quiets-keep config its d (end_of-quiet (own_file who d) (instance_named who d) process end.Refused d) (quiet-keeps config (Given (input.Refused who process)) c tt keeps))
+    rw append_assoc (quiets-keep config its d (end_of-all IsQuiet quiet-ends (own_file who d) (instance_named who d) process end.Refused d) (quiet-keeps config (Given (input.Refused who process)) c tt keeps))
 effect-keeps config (input.Ended who process how) c keeps =
     let d : List Entry = Given (input.Ended who process how) ∷ c in
     let its : List Entry = end_by who process (end.Ended how) d in
-    rw append_assoc (quiets-keep config its d (end_of-quiet (own_file who d) (instance_named who d) process (end.Ended how) d) (quiet-keeps config (Given (input.Ended who process how)) c tt keeps))
+    rw append_assoc (quiets-keep config its d (end_of-all IsQuiet quiet-ends (own_file who d) (instance_named who d) process (end.Ended how) d) (quiet-keeps config (Given (input.Ended who process how)) c tt keeps))
 effect-keeps config (input.Clock reading) c keeps =
     let d : List Entry = Given (input.Clock reading) ∷ c in
-    rw append_assoc (quiets-keep config (killing (all_overdue (names_in_order config d) d)) d (killing-quiet (all_overdue (names_in_order config d) d)) (quiet-keeps config (Given (input.Clock reading)) c tt keeps))
-effect-keeps config input.Turn c keeps = rw append_assoc (turn-keeps config c (turn_event config (queue c) c) refl (quiet-keeps config (Given input.Turn) c tt keeps))
+    rw append_assoc (quiets-keep config (killing (all_overdue (names_in_order (in_force config c) d) d)) d (killing-all IsQuiet (λ place. tt) (all_overdue (names_in_order (in_force config c) d) d)) (quiet-keeps config (Given (input.Clock reading)) c tt keeps))
+effect-keeps config input.Turn c keeps = rw append_assoc (turn-keeps config c (turn_event (in_force config c) (queue c) c) refl (quiet-keeps config (Given input.Turn) c tt keeps))
+effect-keeps config (input.Load id its) c keeps =
+    rw append_assoc (quiets-keep config (loading (length c) its) (Given (input.Load id its) ∷ c) (loading-all IsQuiet (λ request answer. tt) (λ jobs. tt) (length c) its)
+    (quiet-keeps config (Given (input.Load id its)) c tt keeps))
 
 -- so does an input
 pub after-keeps : (config : Configuration) (c : List Entry) (given : Input) → Keeps config c → Keeps config (after config c given)
 unfolding after
-after-keeps config c given keeps = settle-keeps (work config (effect config given c ++ c)) config (effect config given c ++ c) (effect-keeps config given c keeps)
+after-keeps config c given keeps =
+    let d : List Entry = effect (in_force config c) given c ++ c in
+    settle-keeps config (work (in_force config d) d) (in_force config d) d (effect-keeps config given c keeps)
 
 -- also if it may not be expected
 pub next-keeps : (config : Configuration) (c : List Entry) (given : Input) → Keeps config c → Keeps config (next config c given)

@@ -111,9 +111,10 @@ not-false false h = refl
 -- so does the first offer to a job
 offer_in-lessens : (config : Configuration) (job : JobDef) (event : ℕ) (c : Chronicle) → (offer_in config job event c ≡ []) ⊎ Lessens true job.name c (offer_in config job event c)
 offer_in-lessens config job event c =
-    or_else-either (Lessens true job.name c) (stop_offer_in config (instances_of job.name c) event c) (entries_if (not (was_offered (StartOn job.name) c)) (start_offer config job event c))
+    or_else-either (Lessens true job.name c) (stop_offer_in config (instances_of job.name c) event c)
+    (entries_if (not (was_offered (StartOn job.name) c)) (start_offer config job event c))
     (stop_offer_in-lessens config job.name (instances_of job.name c) event c (files-named job.name c) (all-counted (instances_of job.name c)))
-    (entries_if-either (Lessens true job.name c) (not (was_offered (StartOn job.name) c)) (start_offer config job event c) (λ left. start_offer-lessens config job event c (not-false _ left)))
+    (entries_if-either (Lessens true job.name c) (not (was_offered (StartOn job.name) c)) (start_offer config job event c) (λ is. start_offer-lessens config job event c (not-false _ is)))
 
 -- so the first offer lowers the work
 offer_first-lowers : (config : Configuration) (jobs : List JobDef) (event : ℕ) (c : Chronicle) → (offer_first config jobs event c ≡ []) ⊎ Lowers true (job_names jobs) c (offer_first config jobs event c)

@@ -9,13 +9,16 @@ use Rattle.up_model.specs.Chronicle.{Chronicle}
 use Rattle.up_model.specs.Configuration.{Configuration}
 use Rattle.up_model.specs.Due.{effect}
 use Rattle.up_model.specs.Instances.{instance_named}
+use Rattle.up_model.specs.Loads.{in_force}
 use Rattle.up_model.specs.Outputs.{outputs_of}
 use Rattle.up_model.specs.Readings.{is_awaited, lives}
 use Rattle.up_model.specs.Work.{work, settle}
 
--- the chronicle after an input: its effect, and then what is due until nothing is
+-- the chronicle after an input: its effect, and then what is due until nothing is. The configuration is that of the start.
 unfoldable pub after : Configuration → Chronicle → Input → Chronicle
-after config c given = let d = effect config given c ++ c in settle (work config d) config d
+after config c given =
+    let d = effect (in_force config c) given c ++ c in
+    settle (work (in_force config d) d) (in_force config d) d
 
 -- whether there is an instance, and it awaits the answer for a process
 abbrev pub awaits : Option ℕ → Process → Chronicle → Bool

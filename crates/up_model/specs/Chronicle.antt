@@ -57,6 +57,8 @@ pub data Entry : Type 0 where
   Signalled : (instance : ℕ) → (signal : ℕ) → (by_timer : Bool) → Entry
   -- a request was answered
   Replied : (request : ℕ) → (answer : Answer) → Entry
+  -- these jobs came into force in place of those before
+  Loaded : (jobs : List JobDef) → Entry
 
 abbrev pub Chronicle : Type 0
 Chronicle = List Entry

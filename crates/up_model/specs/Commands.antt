@@ -12,10 +12,10 @@ use Rattle.up_model.specs.declared.state.State.{State}
 use Rattle.up_model.specs.declared.state.State.TheVariants as state
 use Rattle.up_model.specs.declared.who.Who.{Who}
 use Rattle.up_model.specs.Chronicle.{Chronicle, Entry, Queued, Restarted, Signalled, Replied, Outside}
-use Rattle.up_model.specs.Configuration.{Configuration}
+use Rattle.up_model.specs.Configuration.{Configuration, is_removed}
 use Rattle.up_model.specs.Environments.{env_of_job, start_base}
 use Rattle.up_model.specs.Events.{with_instance}
-use Rattle.up_model.specs.Files.{file_in_force, own_file, names_in_order}
+use Rattle.up_model.specs.Files.{file_in_force, known_file, own_file, names_in_order}
 use Rattle.up_model.specs.Instances.{Instance, instances_of, instance_named}
 use Rattle.up_model.specs.Offers.{max_instances, start_of, stop_of}
 use Rattle.up_model.specs.Queue.{queue}
@@ -62,6 +62,10 @@ target_in config name (Some job) vars c =
 -- the job of this name, and the instance whose name these variables give
 abbrev pub target_of : Configuration → (name : Bytes) → (vars : Bindings) → Chronicle → Target
 target_of config name vars c = target_in config name (file_in_force config name c) vars c
+
+-- the same for a request that starts nothing
+abbrev pub known_target : Configuration → (name : Bytes) → (vars : Bindings) → Chronicle → Target
+known_target config name vars c = target_in config name (known_file config name c) vars c
 
 -- a refusal that names an instance
 abbrev pub refusal : Bytes → Who → Outcome
@@ -146,14 +150,15 @@ abbrev pub statuses : List Instance → Chronicle → List Bytes
 statuses [] c = []
 statuses (instance ∷ instances) c = status_of instance.place c ∷ statuses instances c
 
--- the lines about a job
-abbrev pub job_lines : (job : Bytes) → List Instance → Chronicle → List Bytes
-job_lines job [] c = stopped_text job ∷ []
-job_lines job (instance ∷ instances) c = statuses (instance ∷ instances) c
+-- the lines about a job: one that was removed has none without an instance
+abbrev pub job_lines : (job : Bytes) → (removed : Bool) → List Instance → Chronicle → List Bytes
+job_lines job removed [] c = if removed then [] else stopped_text job ∷ []
+job_lines job removed (instance ∷ instances) c = statuses (instance ∷ instances) c
 
-abbrev pub list_lines : (names : List Bytes) → Chronicle → List Bytes
-list_lines [] c = []
-list_lines (name ∷ names) c = job_lines name (instances_of name c) c ++ list_lines names c
+abbrev pub list_lines : Configuration → (names : List Bytes) → Chronicle → List Bytes
+list_lines config [] c = []
+list_lines config (name ∷ names) c =
+    job_lines name (is_removed config name) (instances_of name c) c ++ list_lines config names c
 
 -- further lines, each after a line end
 abbrev pub more_lines : List Bytes → Bytes
@@ -164,9 +169,9 @@ abbrev pub joined_lines : List Bytes → Bytes
 joined_lines [] = []
 joined_lines (line ∷ lines) = line ++ more_lines lines
 
--- `list`: a line for each instance, and for each job without one, job by job
+-- `list`: a line for each instance, and for each job in force without one, job by job
 abbrev pub listing : Configuration → Chronicle → Bytes
-listing config c = joined_lines (list_lines (names_in_order config c) c)
+listing config c = joined_lines (list_lines config (names_in_order config c) c)
 
 -- how many events may be in the queue before one more is refused to a client
 abbrev pub max_events : ℕ
@@ -193,15 +198,15 @@ abbrev pub outcome_by : Command → Configuration → (given : ℕ) → RequestV
 outcome_by command.Start config given request c =
     start (holders_of given request.wait) (target_of config request.name request.vars c) c
 outcome_by command.Stop config given request c =
-    stop (holders_of given request.wait) request.vars (target_of config request.name request.vars c) c
+    stop (holders_of given request.wait) request.vars (known_target config request.name request.vars c) c
 outcome_by command.Restart config given request c =
     restart (holders_of given request.wait) (target_of config request.name request.vars c) c
-outcome_by command.Status config given request c = status (target_of config request.name request.vars c) c
+outcome_by command.Status config given request c = status (known_target config request.name request.vars c) c
 outcome_by command.List config given request c = Told (listing config c)
 outcome_by command.Emit config given request c = emit given request c
 outcome_by command.Version config given request c = Told version_text
 outcome_by command.Reload config given request c =
-    reload given (target_of config request.name request.vars c) c
+    reload given (known_target config request.name request.vars c) c
 outcome_by command.ReloadConfiguration config given request c =
     Refused (not_supported command.ReloadConfiguration)
 

@@ -17,6 +17,7 @@ use Rattle.up_model.specs.Events.{failure_of_event}
 use Rattle.up_model.specs.Files.{own_file, names_in_order}
 use Rattle.up_model.specs.Held.{is_held, is_spoilt}
 use Rattle.up_model.specs.Instances.{instance_named}
+use Rattle.up_model.specs.Loads.{loading}
 use Rattle.up_model.specs.Judgement.{verdict_on_end, carry_out}
 use Rattle.up_model.specs.Moves.{move_first}
 use Rattle.up_model.specs.Offers.{offering, offer_next}
@@ -88,3 +89,4 @@ effect config (input.Clock reading) c =
     killing (all_overdue (names_in_order config d) d) ++ Given (input.Clock reading) ∷ []
 effect config input.Turn c = turn_of (turn_event config (queue c) c) (Given input.Turn ∷ c)
     ++ Given input.Turn ∷ []
+effect config (input.Load id loaded) c = loading (length c) loaded ++ Given (input.Load id loaded) ∷ []

@@ -4,8 +4,8 @@ use Rattle.std.specs.List.{list_any}
 use Rattle.up_conf.specs.declared.job.JobDef.{JobDef}
 use Rattle.up_expr.specs.Trees.{Tree}
 use Rattle.up_model.specs.Chronicle.{Chronicle, Released, StartOn, StopOn}
-use Rattle.up_model.specs.Configuration.{Configuration}
-use Rattle.up_model.specs.Files.{file_in_force, names_in_order}
+use Rattle.up_model.specs.Configuration.{Configuration, job_named}
+use Rattle.up_model.specs.Files.{names_in_order}
 use Rattle.up_model.specs.Instances.{Instance, instances_of}
 use Rattle.up_model.specs.Readings.{holders}
 use Rattle.up_model.specs.Seen.{seen, kept}
@@ -26,10 +26,10 @@ held_by_instances config [] c = []
 held_by_instances config (instance ∷ instances) c =
     held_by config instance c ++ held_by_instances config instances c
 
--- what a job holds: the events that the `start on` of its file in force keeps, and what its instances hold
+-- what a job holds: the events that its `start on` keeps, and what its instances hold
 abbrev pub held_by_job : Configuration → (name : Bytes) → Chronicle → List ℕ
 held_by_job config name c =
-    kept (start_on_of (file_in_force config name c)) (seen config (StartOn name) c)
+    kept (start_on_of (job_named name config.jobs)) (seen config (StartOn name) c)
     ++ held_by_instances config (instances_of name c) c
 
 -- what the jobs of these names hold, each event as often as it is held

@@ -4,6 +4,7 @@ use Rattle.std.specs.List.{AllByRecursion}
 use Rattle.up_model.specs.Chronicle.{Chronicle, Handled, Finished}
 use Rattle.up_model.specs.Configuration.{Configuration}
 use Rattle.up_model.specs.Held.{is_held}
+use Rattle.up_model.specs.Loads.{in_force}
 use Rattle.up_model.specs.Queue.{Live}
 
 -- the events stand by age: each is older than those after it, and than the end
@@ -32,6 +33,6 @@ IsOrderly config [] = ⊤
 IsOrderly config (Handled event ∷ c) = (handled_times event c ≡ 0) × (finished_times event c ≡ 0)
     × IsOrderly config c
 IsOrderly config (Finished event ∷ c) =
-    (handled_times event c ≡ 1) × (finished_times event c ≡ 0) × (is_held config event c ≡ false)
+    (handled_times event c ≡ 1) × (finished_times event c ≡ 0) × (is_held (in_force config c) event c ≡ false)
     × IsOrderly config c
 IsOrderly config (entry ∷ c) = IsOrderly config c

@@ -14,6 +14,8 @@ pub mod Readings
 pub mod Instances
 -- Which job file a name and an instance go by.
 pub mod Files
+-- Which jobs are in force, and what a load does (initctl(8), "reload-configuration").
+pub mod Loads
 -- The environment of a job, and which instance a start by it concerns (init(5), "Job environment" and "instance").
 pub mod Environments
 -- The clock, and what depends on it.

@@ -7,10 +7,10 @@ use Rattle.up_model.specs.declared.event.Event.{Event}
 use Rattle.up_model.specs.declared.state.Goal.TheVariants.{Start, Stop}
 use Rattle.up_model.specs.declared.who.Who.{Who}
 use Rattle.up_model.specs.Chronicle.{Chronicle, Entry, Given, Handled, Offered, Fired, Made, Aimed, StartOn, StopOn}
-use Rattle.up_model.specs.Configuration.{Configuration}
+use Rattle.up_model.specs.Configuration.{Configuration, job_named}
 use Rattle.up_model.specs.Environments.{env_of_job, start_base, instance_name}
 use Rattle.up_model.specs.Events.{events_at, events_env, with_instance, stopped_by}
-use Rattle.up_model.specs.Files.{file_in_force, names_in_order}
+use Rattle.up_model.specs.Files.{names_in_order}
 use Rattle.up_model.specs.Instances.{Instance, instances_of, instance_named}
 use Rattle.up_model.specs.Readings.{goal}
 use Rattle.up_model.specs.Replies.{releasing}
@@ -108,12 +108,12 @@ start_offer_by config None event c = []
 start_offer_by config (Some job) event c = start_offer config job event c
 
 -- the event is offered to the first expression of a job that it is still to be offered to: of each instance the `stop on`, then the
--- `start on` of the job's file in force
+-- `start on` of the job
 abbrev pub offer_in : Configuration → (name : Bytes) → (event : ℕ) → Chronicle → List Entry
 offer_in config name event c =
     or_else (stop_offer_in config (instances_of name c) event c)
     (entries_if (not (was_offered (StartOn name) c))
-    (start_offer_by config (file_in_force config name c) event c))
+    (start_offer_by config (job_named name config.jobs) event c))
 
 -- the same of the jobs of these names
 abbrev pub offer_first : Configuration → (names : List Bytes) → (event : ℕ) → Chronicle → List Entry

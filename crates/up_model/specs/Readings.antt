@@ -47,6 +47,7 @@ file_of place c = file_in (entry_at place c)
 
 abbrev pub id_of : Option Entry → Option ℕ
 id_of (Some (Given (input.Request id request))) = Some id
+id_of (Some (Given (input.Load id loaded))) = Some id
 id_of other = None
 
 -- the number under which the request at a place is answered

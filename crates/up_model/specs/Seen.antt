@@ -5,7 +5,7 @@ use Rattle.up_expr.specs.Trees.{Tree}
 use Rattle.up_expr.specs.Truth.{Sight}
 use Rattle.up_expr.specs.Truth as truth
 use Rattle.up_model.specs.declared.event.Event.{Event}
-use Rattle.up_model.specs.Chronicle.{Chronicle, Given, Offered, Fired, Expression, StartOn, StopOn}
+use Rattle.up_model.specs.Chronicle.{Chronicle, Given, Offered, Fired, Loaded, Expression, StartOn, StopOn}
 use Rattle.up_model.specs.Configuration.{Configuration}
 use Rattle.up_model.specs.Environments.{env_of_job}
 use Rattle.up_model.specs.Readings.{event_at, env}
@@ -27,7 +27,7 @@ sight_of place None environment = []
 sight_of place (Some event) environment =
     record { event = place; name = event.name; vars = event.vars; env = environment } ∷ []
 
--- the events that were offered to an expression since it fired last, oldest first
+-- the events that were offered to an expression since it fired last, oldest first; a `start on` has seen none of those before a load
 abbrev pub seen : Configuration → Expression → Chronicle → List Sight
 seen config expression [] = []
 seen config expression (Offered other place ∷ c) =
@@ -36,6 +36,7 @@ seen config expression (Offered other place ∷ c) =
     else seen config expression c
 seen config expression (Fired other taken ∷ c) =
     if same_expression other expression then [] else seen config expression c
+seen config (StartOn job) (Loaded jobs ∷ c) = []
 seen config expression (entry ∷ c) = seen config expression c
 
 -- the events that an expression keeps, if the job file has the expression: the first of each leaf that has one

@@ -2,10 +2,11 @@
 ghost use Rattle.std.specs.Prelude.{◌≡◌, IfOk};
 
 use crate::event::Event;
+use crate::loaded::Loaded;
 use crate::process::How;
 use crate::request::Request;
 use crate::who::Who;
-use std::alloc::AllocError;
+use std::alloc::{AllocError, Global};
 use up_conf::Process;
 
 /// One input: what a client, a child or the clock did, or a turn of the queue of events.
@@ -39,11 +40,16 @@ pub enum Input {
     Clock(u64),
     /// One event is handled or finished.
     Turn,
+    /// The configuration was read again for a client, with the number under which it is answered.
+    Load {
+        id: u64,
+        loaded: Loaded,
+    },
 }
 
 impl Input {
     /// An equal value in memory of its own.
-    pub fn copy(&self) -> Result<Self, AllocError>
+    pub fn copy(&self, alloc: Global) -> Result<Self, AllocError>
         ensures { IfOk result (λ input. input ≡ self.now) }
     {
         match self {
@@ -80,6 +86,10 @@ impl Input {
             }
             Input::Clock(reading) => Ok(Input::Clock(*reading)),
             Input::Turn => Ok(Input::Turn),
+            Input::Load { id, loaded } => {
+                let loaded = loaded.copy(alloc)?;
+                Ok(Input::Load { id: *id, loaded })
+            }
         }
     }
 }

@@ -7,6 +7,7 @@ ghost use Rattle.up_model.specs.Configuration.{Configuration};
 ghost use Rattle.up_model.specs.Due.{due};
 ghost use Rattle.up_model.specs.Laws.{AreByAge, finished_times, handled_times, IsOrderly};
 ghost use Rattle.up_model.specs.Left.{is_calm, Spends};
+ghost use Rattle.up_model.specs.Loads.{in_force};
 ghost use Rattle.up_model.specs.Queue.{queue};
 ghost use Rattle.up_model.specs.Requests.{command_name, command_named};
 ghost use Rattle.up_model.specs.declared.input.Input.{Input};
@@ -22,7 +23,7 @@ pub fn named_once()
 /// What is due always runs out: after an input nothing is due.
 pub fn rest()
     ensures { (config : Configuration) (c : Chronicle) (given : Input)
-        → due config (after config c given) ≡ [] }
+        → due (in_force config (after config c given)) (after config c given) ≡ [] }
 {}
 
 /// The queue stands by age: each of its events was queued before those after it, and before now.

@@ -9,6 +9,7 @@ use Rattle.up_conf.specs.declared.job.JobDef.{JobDef}
 use Rattle.up_conf.specs.Folders.{IsReport}
 use Rattle.up_image.specs.declared.refusal.CompileError.{CompileError}
 use Rattle.up_model.specs.declared.input.Input.{Input}
+use Rattle.up_model.specs.Configuration.{started_with}
 use Rattle.up_model.specs.Answers.{answers}
 use Rattle.up_model.specs.ExitStatuses.{status_number}
 use Rattle.up_model.specs.declared.exit_status.ExitStatus.TheVariants.{Usage, Unusable}
@@ -31,7 +32,7 @@ inputs_in lines = unless_bad (bad_line lines) (script_inputs (script_line 1 line
 -- what is printed of a folder's faults, and after them of a run of its jobs with a base environment, or of the script's first bad line
 abbrev pub play_output : List (List ℕ × List ℕ) → List ℕ → List JobDef → Printed → Result (List Input) ℕ → Printed
 play_output base name jobs faults (Ok inputs) = prints
-    (faults.text ++ flat_map step_lines (answers (record { base = base; jobs = jobs }) [] inputs)) faults.status
+    (faults.text ++ flat_map step_lines (answers (started_with base jobs) [] inputs)) faults.status
 play_output base name jobs faults (Err line) = prints (faults.text ++ bad_statement_line name line) Usage
 
 -- what a folder and a script with this name print, with a base environment

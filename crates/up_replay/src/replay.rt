@@ -2,6 +2,7 @@
 ghost use Rattle.std.specs.Prelude.{◌≡◌, ◌⊎◌, ◌<◌, ◌+◌, [], ◌++◌, IfOk, IfSome, OnOk, length, take, codes};
 ghost use Rattle.std.specs.List.{flat_map};
 ghost use Rattle.std.specs.Io.KnownBytes.{Appends};
+ghost use Rattle.up_model.specs.Configuration.{started_with};
 ghost use Rattle.up_model.specs.Answers.{answers};
 ghost use Rattle.up_model.specs.ExitStatuses.{status_number};
 ghost use Rattle.up_model.specs.declared.exit_status.ExitStatus.TheVariants.{Memory, Unusable};
@@ -47,7 +48,7 @@ fn push_all(
     inputs: ScriptInputs,
 ) -> Result<(), AllocError>
     ensures { OnOk result (text.new.items ≡ text.old.items
-        ++ flat_map step_lines (answers (record { base = base; jobs = table }) [] inputs)) }
+        ++ flat_map step_lines (answers (started_with base table) [] inputs)) }
 {
     let table = reread(alloc, table)?;
     push_run(text, alloc, table, base, inputs)

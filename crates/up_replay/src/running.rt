@@ -5,7 +5,7 @@ ghost use Rattle.up_engine.specs.Stands.{Stands};
 ghost use Rattle.up_model.specs.declared.input.Input.TheVariants as input;
 ghost use Rattle.up_model.specs.Answers.{answer, answers, next};
 ghost use Rattle.up_model.specs.Chronicle.{Chronicle};
-ghost use Rattle.up_model.specs.Configuration.{Configuration};
+ghost use Rattle.up_model.specs.Configuration.{Configuration, started_with};
 ghost use Rattle.up_print.specs.Lines.{step_lines};
 ghost use Rattle.up_replay.specs.Running.{Tells};
 ghost use Rattle.up_script.specs.ScriptInputs.{inputs_of_step, inputs_of_steps};
@@ -87,7 +87,7 @@ pub(crate) fn push_run(
     inputs: ScriptInputs,
 ) -> Result<(), AllocError>
     ensures { OnOk result (text.new.items ≡ text.old.items
-        ++ flat_map step_lines (answers (record { base = base; jobs = table }) [] inputs)) }
+        ++ flat_map step_lines (answers (started_with base table) [] inputs)) }
 {
     let mut engine = Engine::new(alloc, table, base)?;
     let pushed = push_answers(text, &mut engine, inputs.into_steps());

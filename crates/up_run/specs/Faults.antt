@@ -34,6 +34,7 @@ is_refusal (input.Emit event) = false
 is_refusal (input.Spawned who process pid) = false
 is_refusal (input.Clock now) = false
 is_refusal input.Turn = false
+is_refusal (input.Load id loaded) = false
 
 -- how many calls failed, if one did
 abbrev pub number : Bool → ℕ

@@ -7,7 +7,7 @@ use Rattle.up_model.specs.declared.exit_status.ExitStatus.TheVariants.{Done}
 use Rattle.up_model.specs.declared.input.Input.{Input}
 use Rattle.up_model.specs.declared.input.Input.TheVariants.{Emit}
 use Rattle.up_model.specs.Answers.{after_all}
-use Rattle.up_model.specs.Configuration.{Configuration}
+use Rattle.up_model.specs.Configuration.{Configuration, started_with}
 use Rattle.up_engine.specs.Stands.{Stands}
 use Rattle.up_daemon.specs.declared.daemon.Daemon.{Daemon}
 use Rattle.up_daemon.specs.Daemons.{engine_of, clients_of, was_refused}
@@ -53,7 +53,7 @@ run_base = (codes "PATH", codes "/usr/sbin:/usr/bin:/sbin:/bin") ∷ []
 
 -- what a run of these jobs goes by
 abbrev pub run_of : List JobDef → Configuration
-run_of jobs = record { base = run_base; jobs = jobs }
+run_of jobs = started_with run_base jobs
 
 -- the first input of a run: the event `startup` (startup(7))
 abbrev pub first_inputs : List Input

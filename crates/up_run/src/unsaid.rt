@@ -51,6 +51,7 @@ pub(crate) fn unsaid(alloc: Global, input: &Input) -> Result<String, AllocError>
             process,
             how: _,
         } => { push_fate(&mut text, "ended", who, process_name(*process))? }
+        Input::Load { id, loaded: _ } => write!(text, "load {id}")?,
         Input::Clock(_) | Input::Turn => {}
     }
     Ok(text)

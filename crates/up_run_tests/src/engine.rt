@@ -4,6 +4,7 @@ mod chain;
 mod clock;
 mod expressions;
 mod instances;
+mod loads;
 mod memory;
 mod processes;
 mod requests;
@@ -16,7 +17,7 @@ use std::test::Fail;
 use up_conf::Folder;
 use up_engine::{Engine, StepError};
 use up_image::{CompileError, Table, compile};
-use up_model::{Answer, Command, Event, How, Input, Order, Output, Process, Request, Who};
+use up_model::{Answer, Command, Event, How, Input, Loaded, Order, Output, Process, Request, Who};
 use up_text::{Env, Items, Name, Text, TextFault};
 
 /// Why a row couldn't be tried: memory was refused, or its file or a name isn't readable.
@@ -59,6 +60,12 @@ pub(crate) enum Given {
     /// A start of the job `a` with these variables, whose client waits.
     StartWith(u64, &'static [(&'static str, &'static str)]),
     Clock(u64),
+    /// A request whose client waits.
+    Ask(u64, Command, &'static str),
+    /// A load of a folder of these files.
+    Load(u64, &'static [(&'static str, &'static str)]),
+    LoadRefused(u64, u8),
+    LoadUnread(u64),
 }
 
 /// An input, the outputs that it gives, the live events then, and whether a turn would do something.
@@ -225,9 +232,15 @@ fn event(alloc: Global, name: &str, pairs: &[(&str, &str)]) -> Result<Input, Unt
     Ok(Input::Emit(Event { name, vars }))
 }
 
-fn start(alloc: Global, id: u64, job: &str, pairs: &[(&str, &str)]) -> Result<Input, Untried> {
-    let (name, vars) = both(Text::from_str(alloc, job), environment(alloc, pairs))?;
-    match Request::new(Command::Start, true, name, vars) {
+fn asked(
+    alloc: Global,
+    id: u64,
+    command: Command,
+    name: &str,
+    pairs: &[(&str, &str)],
+) -> Result<Input, Untried> {
+    let (name, vars) = both(Text::from_str(alloc, name), environment(alloc, pairs))?;
+    match Request::new(command, true, name, vars) {
         Some(request) => Ok(Input::Request { id, request }),
         None => Err(Untried),
     }
@@ -248,6 +261,14 @@ fn ended(alloc: Global, process: Process, how: How) -> Result<Input, Untried> {
     Ok(Input::Ended { who, process, how })
 }
 
+fn load(alloc: Global, id: u64, files: &[(&str, &str)]) -> Result<Input, Untried> {
+    let table = table(alloc, files)?;
+    Ok(Input::Load {
+        id,
+        loaded: Loaded::Files(table),
+    })
+}
+
 fn input(alloc: Global, given: Given) -> Result<Input, Untried> {
     match given {
         Given::Emit(name) => event(alloc, name, &[]),
@@ -260,9 +281,19 @@ fn input(alloc: Global, given: Given) -> Result<Input, Untried> {
         Given::SpawnedIn(instance, pid) => spawned(alloc, instance, Process::Main, pid),
         Given::RefusedAs(process) => refused(alloc, process),
         Given::EndedAs(process, how) => ended(alloc, process, how),
-        Given::Start(id) => start(alloc, id, "zz", &[]),
-        Given::StartWith(id, pairs) => start(alloc, id, "a", pairs),
+        Given::Start(id) => asked(alloc, id, Command::Start, "zz", &[]),
+        Given::StartWith(id, pairs) => asked(alloc, id, Command::Start, "a", pairs),
         Given::Clock(reading) => Ok(Input::Clock(reading)),
+        Given::Ask(id, command, name) => asked(alloc, id, command, name, &[]),
+        Given::Load(id, files) => load(alloc, id, files),
+        Given::LoadRefused(id, number) => Ok(Input::Load {
+            id,
+            loaded: Loaded::Refused(number),
+        }),
+        Given::LoadUnread(id) => Ok(Input::Load {
+            id,
+            loaded: Loaded::Unread,
+        }),
     }
 }
 

@@ -4,6 +4,7 @@ pub mod Compared
 pub mod Cutting
 pub mod Growing
 pub mod Headers
+pub mod Loadless
 pub mod Passing
 pub mod Sizes
 pub mod Splitting

@@ -60,6 +60,7 @@ statement (input.Refused who its) = codes "refused " ++ process_tokens who its
 statement (input.Ended who its end) = codes "ended " ++ process_tokens who its ++ end_tokens end
 statement (input.Clock now) = codes "clock " ++ decimal now
 statement input.Turn = codes "turn"
+statement (input.Load id loaded) = codes "load " ++ decimal id
 
 abbrev pub is_turn : Input → Bool
 is_turn (input.Emit event) = false
@@ -69,6 +70,7 @@ is_turn (input.Refused who its) = false
 is_turn (input.Ended who its end) = false
 is_turn (input.Clock now) = false
 is_turn input.Turn = true
+is_turn (input.Load id loaded) = false
 
 -- turns that follow one another stand in one line
 unfoldable pub turns_line : ℕ → List ℕ

@@ -163,6 +163,10 @@ fn push_statement(text: &mut Vec<u8>, input: &Input) -> Result<(), AllocError>
             push_decimal(text, *reading)
         }
         Input::Turn => push(text, "turn"),
+        Input::Load { id, .. } => {
+            push(text, "load ")?;
+            push_decimal(text, *id)
+        }
     }
 }
 
@@ -214,8 +218,8 @@ fn render(alloc: Global, inputs: &[Input]) -> Result<Vec<u8>, AllocError>
     Ok(text)
 }
 
-/// The lines of a script that are read as exactly these inputs; none if a script can't have them, as a value with a line feed in it.
-/// The lines are read again to see that.
+/// The lines of a script that are read as exactly these inputs; none if a script can't have them, as a load, or a value with a line
+/// feed in it. The lines are read again to see that.
 pub fn script_lines(alloc: Global, inputs: &[Input]) -> Result<Option<Items<u8>>, AllocError>
     ensures said { IfOk result (λ written. IfSome written (λ text. (text ≡ script_of inputs.now)
         × (script_inputs 1 text ≡ Ok inputs.now))) }

@@ -1,5 +1,7 @@
 //! Whether inputs are the same.
-ghost use Rattle.std.specs.Prelude.{◌≡◌, ◌<◌, List, Some, true, length, slice_get, ℕ};
+ghost use Rattle.std.specs.Prelude.{◌≡◌, ◌<◌, List, Some, true, false, length, slice_get, ℕ};
+ghost use Rattle.std.specs.List.{AllByRecursion};
+ghost use Rattle.up_model.specs.Loads.{is_load};
 
 use up_conf::Process;
 use up_model::{Command, Event, How, Input, Request, Who};
@@ -79,7 +81,9 @@ fn same_how(how: How, other: How) -> bool
     how == other
 }
 
+// A load is not among what is read.
 fn same_input(input: &Input, other: &Input) -> bool
+    requires { is_load input.now ≡ false }
     ensures same { result ≡ true → input.now ≡ other.now }
     ensures differs { input.now ≡ other.now → result ≡ true }
 {
@@ -129,9 +133,10 @@ pub(crate) fn input_at(inputs: &[Input], i: usize) -> &Input
     &inputs[i]
 }
 
-/// Whether both are the same inputs in the same order.
+/// Whether both are the same inputs in the same order. The first ones are what a script gives, so that no load is among them.
 #[tactic(auto, using(crate::proofs::Compared::one_further, crate::proofs::Compared::all_same))]
 pub(crate) fn same_inputs(inputs: &[Input], others: &[Input]) -> bool
+    requires { AllByRecursion (λ input. is_load input ≡ false) inputs.now }
     ensures same { result ≡ true → inputs.now ≡ others.now }
     ensures differs { inputs.now ≡ others.now → result ≡ true }
 {

@@ -24,10 +24,14 @@ pub struct ScriptInputs {
 
 impl Model for ScriptInputs {
     ghost use Rattle.std.specs.Prelude.{List};
+    ghost use Rattle.std.specs.Coded.{codes};
+    ghost use Rattle.up_conf.specs.contracts.job.JobDef as job;
     ghost use Rattle.up_model.specs.declared.input.Input.{Input};
     ghost use Rattle.up_script.specs.ScriptInputs.{inputs_of_steps};
 
     ghost Value = { List Input };
+
+    ghost coded = { Prim.hlevel (codes, job.the_row.coded) };
 
     ghost view = { λ script. inputs_of_steps script.steps.items };
 }

@@ -5,6 +5,7 @@ use Rattle.up_conf.specs.declared.folder.File.{File}
 use Rattle.up_conf.specs.declared.job.JobDef.{JobDef}
 use Rattle.up_image.specs.Reading.{HasTable}
 use Rattle.up_model.specs.declared.input.Input.{Input}
+use Rattle.up_model.specs.Configuration.{started_with}
 use Rattle.up_model.specs.Answers.{answers}
 use Rattle.up_chart.specs.declared.chart.Chart.{Chart}
 use Rattle.up_chart.specs.Blame.{blame_of}
@@ -25,7 +26,7 @@ use Rattle.up_tools.specs.declared.view.View.TheVariants as view
 -- the picture of a run of these jobs, whose processes have no variables but their jobs'
 abbrev pub run_chart : List JobDef → List Input → Chart
 run_chart jobs inputs = chart_of (time_of (clock_at no_clock inputs))
-    (moments_from no_clock inputs (answers (record { base = []; jobs = jobs }) [] inputs))
+    (moments_from no_clock inputs (answers (started_with [] jobs) [] inputs))
 
 abbrev pub shown : View → Chart → Bytes
 shown view.Chart chart = svg_of chart

@@ -16,6 +16,7 @@ use up_text::Env;
 
 // What one input and its answer show.
 fn watch_one(
+    alloc: Global,
     moments: &mut Vec<Moment>,
     time: u64,
     engine: &mut Engine,
@@ -26,7 +27,7 @@ fn watch_one(
     ensures after { OnOk result ((config : Configuration) (c : Chronicle) → Stands engine.old config c
         → Stands engine.new config (next config c given.now)) }
 {
-    let copied = given.copy()?;
+    let copied = given.copy(alloc)?;
     match engine.answer(copied) {
         Some(step) => {
             let pushed = push_step(moments, time, given, &step);
@@ -39,6 +40,7 @@ fn watch_one(
 
 // What all inputs and their answers show, and the clock after them.
 fn watch_all(
+    alloc: Global,
     moments: &mut Vec<Moment>,
     engine: &mut Engine,
     inputs: &[Input],
@@ -50,7 +52,7 @@ fn watch_all(
     let mut clock = Clock::new();
     for given in inputs {
         clock = clock.after(given);
-        watch_one(moments, clock.time(), engine, given)?;
+        watch_one(alloc, moments, clock.time(), engine, given)?;
     }
     Ok(clock)
 }
@@ -61,7 +63,7 @@ pub(crate) fn watch(alloc: Global, table: Table, inputs: &[Input]) -> Result<Cha
 {
     let mut engine = Engine::new(alloc, table, Env::new(alloc))?;
     let mut moments = Vec::new(alloc);
-    let watched = watch_all(&mut moments, &mut engine, inputs);
+    let watched = watch_all(alloc, &mut moments, &mut engine, inputs);
     drop(engine);
     let clock = watched?;
     chart_of(alloc, clock.time(), moments.as_slice())

@@ -5,5 +5,5 @@ use Rattle.up_book.specs.Views.{Places}
 use Rattle.up_book.proofs.past.triggers_of.Given as goal
 
 -- those of the jobs so far
-abbrev pub invariant-loop-job : goal.invariant-loop-job
-invariant-loop-job l = (places : Places) (config : Configuration) → StartsRemember places config [] l.triggers.items (take l.job-index l.jobs)
+abbrev pub invariant-loop-file : goal.invariant-loop-file
+invariant-loop-file l = (places : Places) (config : Configuration) → StartsRemember places config [] l.triggers.items (take l.file-index l.jobs)

@@ -1,5 +1,6 @@
-use Rattle.std.proofs.Common.{◌≡◌, ◌∙◌, ◌∷◌, true, false, ap, subst}
-use Rattle.up_book.specs.Hearers.{hears}
+use Rattle.std.proofs.Common.{◌||◌, ◌≡◌, ◌∙◌, ◌∷◌, true, false, ap, subst}
+use Rattle.up_book.specs.Hearers.{hears, one_hears}
+use Rattle.up_model.specs.Instances.{instances_of}
 use Rattle.up_engine.proofs.FreeLemmas.{event-handled}
 use Rattle.up_model.specs.declared.input.Input.TheVariants.{Turn}
 use Rattle.up_model.specs.Chronicle.{Given}
@@ -38,4 +39,11 @@ returns-in_err-concern-in-Finish-clause-free g c config c' e s known found free 
 pub returns-in-Handle-clause-free : goal.returns-in-Handle-clause-free
 returns-in-Handle-clause-free g c config c' e s known found free =
     let is : is_finish c.args.kind ≡ false = ap is_finish c.in-Handle.is in
-    rw is (e, (c.handle.ensures.events config c' e s known, λ n job there. ap (hears job) (event-handled e e (Given Turn ∷ c')) ∙ (rw is at free) n job there))
+    rw is (
+      e,
+      (
+        c.handle.ensures.events config c' e s known,
+        λ n job there.
+            ap (λ event. hears job event || one_hears event (instances_of job.name c')) (event-handled e e (Given Turn ∷ c')) ∙ (rw is at free) n job there,
+      ),
+    )

@@ -1,4 +1,5 @@
-use Rattle.std.proofs.Common.{◌∙◌, ◌++◌}
+use Rattle.std.proofs.Common.{◌∙◌, ◌++◌, sym, subst}
+use Rattle.up_book.specs.Keys.{Stepping}
 use Rattle.up_engine.proofs.FreeLemmas.{free-outputs}
 use Rattle.up_model.specs.Due.{effect}
 use Rattle.up_engine.proofs.engine.step_book.Goals as goal
@@ -6,4 +7,5 @@ use Rattle.up_engine.proofs.engine.step_book.Goals as goal
 pub returns-clause-free : goal.returns-clause-free
 returns-clause-free g c c' s free =
     let config = c.args.setup.now in
-    c.end_step-outputs.ensures.outputs config (effect config c.args.given c' ++ c') (c.in_ok-run_step.ensures.free c' s free).1 ∙ free-outputs config c' c.args.given free
+    let taken = c.in_ok-take.ensures.free c' s free in
+    c.end_step-outputs.ensures.outputs config (effect config c.args.given c' ++ c') taken.2 ∙ free-outputs config c' c.args.given free

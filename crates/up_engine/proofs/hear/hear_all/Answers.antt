@@ -32,7 +32,7 @@ hearers-preserved g c = record {
       let same = c.hearers.invariant.unheard c' e stood known deaf in
       let now = subst (λ b. g.B.Book.stands b Stepping c.args.setup.now c') (sym same) stood in
       let here = subst (λ b. g.B.Book.event_place b c' c.args.event ≡ Some e) (sym same) known in
-      absurd (hears-none c.args.setup.now c.in-Some.index c.in-Some.file.now (event_at e c') deaf (c.in-Some.ensures.next c' e now here).0 (c.in-Some.ensures.hears c' e now here));
+      absurd (hears-none c.args.setup.now c.in-Some.index c.in-Some.file.now (event_at e c') c' deaf (c.in-Some.ensures.next c' e now here).0 (c.in-Some.ensures.hears c' e now here));
 }
 
 pub returns-clause-after : goal.returns-clause-after
@@ -54,4 +54,4 @@ returns-in_err-hear-clause-unheard g c c' e stood known deaf =
     let same = c.hearers.invariant.unheard c' e stood known deaf in
     let now = subst (λ b. g.B.Book.stands b Stepping c.args.setup.now c') (sym same) stood in
     let here = subst (λ b. g.B.Book.event_place b c' c.args.event ≡ Some e) (sym same) known in
-    absurd (hears-none c.args.setup.now c.in-Some.index c.in-Some.file.now (event_at e c') deaf (c.in-Some.ensures.next c' e now here).0 (c.in-Some.ensures.hears c' e now here))
+    absurd (hears-none c.args.setup.now c.in-Some.index c.in-Some.file.now (event_at e c') c' deaf (c.in-Some.ensures.next c' e now here).0 (c.in-Some.ensures.hears c' e now here))

@@ -16,7 +16,7 @@ invariant-hearers g l = record {
   heard : (c : Chronicle) (e : ℕ) → due l.setup c ≡ [] → NoneHolds l.setup c → g.B.Book.stands l.fn.book Stepping l.setup (Handled e ∷ Given Turn ∷ c) → g.B.Book.event_place l.fn.book (Handled e ∷ Given Turn ∷ c) l.event ≡ Some e
       → HeardTo (g.B.Book.stands l.book Stepping l.setup) (g.B.Book.event_place l.book) l.setup e l.event l.from (Handled e ∷ Given Turn ∷ c);
   -- if no job hears of it there is none before this one
-  unheard : (c : Chronicle) (e : ℕ) → g.B.Book.stands l.fn.book Stepping l.setup c → g.B.Book.event_place l.fn.book c l.event ≡ Some e → NoneHears l.setup (event_at e c) → l.book ≡ l.fn.book;
+  unheard : (c : Chronicle) (e : ℕ) → g.B.Book.stands l.fn.book Stepping l.setup c → g.B.Book.event_place l.fn.book c l.event ≡ Some e → NoneHears l.setup (event_at e c) c → l.book ≡ l.fn.book;
 }
 
 abbrev pub decreases-hearers : goal.decreases-hearers

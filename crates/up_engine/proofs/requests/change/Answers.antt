@@ -3,7 +3,7 @@ use Rattle.up_book.specs.Keys.{Stepping}
 use Rattle.up_engine.specs.Requests.{target_of as said_of}
 use Rattle.up_engine.proofs.Asked.{answered-due, emitted-due, status-told, told-entries}
 use Rattle.up_model.specs.Chronicle.{Chronicle, Given, Replied}
-use Rattle.up_model.specs.Commands.{entries_of, outcome_of, reload, status}
+use Rattle.up_model.specs.Commands.{entries_of, known_target, outcome_of, reload, status}
 use Rattle.up_model.specs.declared.request.Command.TheVariants as command
 use Rattle.up_model.specs.declared.request.Command.{Command}
 use Rattle.up_model.specs.Requests.{RequestValue}
@@ -45,7 +45,8 @@ pub returns-in-Reload-clause-after : goal.returns-in-Reload-clause-after
 returns-in-Reload-clause-after g c c' given s asked =
     let config = c.args.setup.now in
     let d : Chronicle = Given given ∷ c' in
-    let target = rw c.as_str-in-Reload.ensures at (c.in_ok-target-in-Reload.ensures.target Stepping d s) in
+    let target : said_of c.in_ok-target-in-Reload.target ≡ known_target config c.request.inside.name c.request.inside.vars d =
+    subst (λ n. said_of c.in_ok-target-in-Reload.target ≡ known_target config n c.request.inside.vars d) c.as_str-in-Reload.ensures (c.in_ok-target-in-Reload.ensures.target Stepping d s) in
     let done = c.in_ok-reload-in-Reload.ensures config c' given s c.in_ok-target-in-Reload.ensures.index in
     let told = subst (λ t. g.B.Book.stands c.reload.new.book Stepping config (entries_of (length c') (reload (length c') t d) ++ d)) target done in
     subst (λ r. g.B.Book.stands c.reload.new.book Stepping config (entries_of (length c') (outcome_of config (length c') r d) ++ d)) c.request.view_is
@@ -55,7 +56,8 @@ pub returns-in-Status-clause-after : goal.returns-in-Status-clause-after
 returns-in-Status-clause-after g c c' given s asked =
     let config = c.args.setup.now in
     let d : Chronicle = Given given ∷ c' in
-    let target = rw c.as_str-in-Status.ensures at (c.in_ok-target-in-Status.ensures.target Stepping d s) in
+    let target : said_of c.in_ok-target-in-Status.target ≡ known_target config c.request.inside.name c.request.inside.vars d =
+    subst (λ n. said_of c.in_ok-target-in-Status.target ≡ known_target config n c.request.inside.vars d) c.as_str-in-Status.ensures (c.in_ok-target-in-Status.ensures.target Stepping d s) in
     let answer = c.in_ok-answer-in-Status.ensures Stepping config d s c.in_ok-target-in-Status.ensures.index in
     let told = subst (λ a. g.B.Book.stands c.reply.new.self Stepping config (Replied (length c') a ∷ d)) answer (c.in_ok-reply-in-Status.ensures config d s) in
     let whose = said_of c.in_ok-target-in-Status.target in

@@ -1,4 +1,4 @@
-use Rattle.std.proofs.Common.{◌≡◌, ◌++◌, ◌∙◌, refl, sym, ap, subst}
+use Rattle.std.proofs.Common.{◌≡◌, ◌++◌, ◌∙◌, refl, sym, ap, subst, true, false}
 use Rattle.up_engine.specs.Settling.{settle_one, settle_all}
 use Rattle.up_model.specs.Due.{effect}
 use Rattle.up_model.specs.Replies.{answering_last}
@@ -54,3 +54,12 @@ returns-in_ok-hear_all-in-Event-clause-free g c c' s free =
 
 pub returns-in_ok-settle-in-Anybody-clause-free : goal.returns-in_ok-settle-in-Anybody-clause-free
 returns-in_ok-settle-in-Anybody-clause-free g c c' s free = absurd (rw c.in-Anybody.is at (c.in_ok-apply_effect.ensures.free c' s free))
+
+pub returns-in_err-hear_all-in-Event-clause-free : goal.returns-in_err-hear_all-in-Event-clause-free
+returns-in_err-hear_all-in-Event-clause-free g c c' s free =
+    let config = c.args.setup.now in
+    let d = effect config c.args.input c' ++ c' in
+    let stood = c.in_ok-apply_effect.ensures.after c' s in
+    let takes = rw c.in-Event.is at (c.in_ok-apply_effect.ensures.free c' s free) in
+    let no : false ≡ true = (c.in_err-hear_all-in-Event.ensures.unheard d takes.0 stood takes.1.0 takes.1.1).0 in
+    absurd cc

@@ -2,6 +2,7 @@ use Rattle.std.proofs.Common.{◌-◌, ◌∷◌, [], sym, ◌∙◌, subst, ari
 use Rattle.up_model.specs.declared.input.Input.TheVariants.{Turn}
 use Rattle.up_model.specs.Answers.{after_all}
 use Rattle.up_model.specs.Due.{turn_event}
+use Rattle.up_model.specs.Loads.{in_force}
 use Rattle.up_model.specs.Queue.{queue}
 use Rattle.up_replay.specs.Running.{Tells}
 use Rattle.up_replay.proofs.Telling.{tells-none, tells-one, tells-then, tells-idle, one-more, none-found}
@@ -14,7 +15,7 @@ pub returns-then-not-has_turn : goal.returns-then-not-has_turn
 returns-then-not-has_turn c config c' s =
     let so_far = c.loop.invariant config c' s in
     let d = after_all config c' (replicate c.loop.counter Turn) in
-    let none = none-found (turn_event config (queue d) d) (sym (c.has_turn.ensures.up config d so_far.stands) ∙ c.if-not-has_turn.true) in
+    let none = none-found (turn_event (in_force config d) (queue d) d) (sym (c.has_turn.ensures.up config d so_far.stands) ∙ c.if-not-has_turn.true) in
     tells-idle c.args.text.now.items c.loop.text.items c.loop.engine config c' c.loop.counter c.args.count (omega (arith, c.loop-test.true)) so_far
     (c.idle_turns.ensures c.loop.engine config d (c.args.count - c.loop.counter) so_far.stands none)
 

@@ -1,4 +1,4 @@
-use Rattle.std.proofs.Common.{◌∙◌, ◌∷◌, sym, ap, subst, List}
+use Rattle.std.proofs.Common.{◌∙◌, ◌∷◌, sym, ap, refl, subst, List}
 use Rattle.up_job.specs.declared.holder.Holder.{Holder}
 use Rattle.up_book.specs.Holding.{holders_by}
 use Rattle.up_book.proofs.Acting.{step-aimed}
@@ -7,7 +7,7 @@ use Rattle.up_book.proofs.Ledgers.{keyed}
 use Rattle.up_model.specs.Chronicle.{Aimed}
 use Rattle.up_book.specs.Steps.{IsStep}
 use Rattle.up_book.specs.declared.step.Step.{Step}
-use Rattle.up_book.proofs.Ledgers.{stood}
+use Rattle.up_book.proofs.Ledgers.{found-same, stood}
 use Rattle.up_model.specs.Queue.{queue}
 use Rattle.up_book.proofs.ledger.LedgerBook.aim.Goals as goal
 
@@ -19,6 +19,7 @@ returns-clause-after c config c' i places s found held =
     stood _ _ config _ (c.in_ok-aim.ensures.after config c' i places s.past (keyed old.past config c' c.args.key i s.past found) kept.same kept.older kept.live) s.index
     (subst (λ (st : Step). IsStep st config (Aimed i c.args.goal c.args.environment places ∷ c')) (sym c.act_on.ensures)
     (step-aimed old.step.outputs.items old.step.asked old.step.on config c' c.args.key i c.args.goal c.args.environment places found kept.apart s.step))
+    (found-same old.others config c' _ (λ job. refl) s.found)
 
 pub returns-clause-events : goal.returns-clause-events
 returns-clause-events c config c' i places k j s found held other = c.in_ok-aim.ensures.places (queue c') k ∙ other

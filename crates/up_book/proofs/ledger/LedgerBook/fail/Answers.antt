@@ -4,7 +4,7 @@ use Rattle.up_book.proofs.Ledgers.{keyed, failed-so, forgets-released}
 use Rattle.up_book.specs.Holding.{held_by_kept}
 use Rattle.up_book.specs.Replying.{replies_to}
 use Rattle.up_book.specs.Views.{kept_at}
-use Rattle.up_book.proofs.Ledgers.{stood}
+use Rattle.up_book.proofs.Ledgers.{found-same, mild-instances, stood}
 use Rattle.up_book.proofs.StepFrames.{asks-same}
 use Rattle.up_book.proofs.ledger.LedgerBook.fail.Goals as goal
 
@@ -18,3 +18,4 @@ returns c config c' i s found =
     (asks-same (old.step.outputs.items ++ replies_to (held_by_kept (kept_at c.args.key old.past.instances)) true c.in_ok-told.told) _ old.step.asked _ old.step.on _ config _
     (c.in_ok-reply_held.ensures ∙ ap (λ k. old.step.outputs.items ++ replies_to (held_by_kept k) true c.in_ok-told.told) c.at.ensures) refl refl
     (failed-so old.step.outputs.items old.step.asked old.step.on old.past _ config c' c.args.key i c.args.failure c.in_ok-told.told s.past f found (c.in_ok-told.ensures config c' i s.past here) s.step))
+    (found-same old.others config c' _ (λ job. mild-instances job i true (Failed i c.args.failure ∷ c')) s.found)

@@ -9,7 +9,7 @@ use Rattle.up_book.specs.Replying.{waiter_replies}
 use Rattle.up_book.proofs.Acting.{step-waiter, finished-waiter, unwaited}
 use Rattle.up_book.proofs.Closing.{event-placed}
 use Rattle.up_book.proofs.Leaving.{forgets-waiter}
-use Rattle.up_book.proofs.Ledgers.{stood, calm}
+use Rattle.up_book.proofs.Ledgers.{found-same, waiter-instances, stood, calm}
 use Rattle.up_book.proofs.StepFrames.{asks-same, step-silent}
 use Rattle.up_book.proofs.ledger.LedgerBook.finish.Goals as goal
 
@@ -24,7 +24,8 @@ returns-clause-after c config c' e s found free =
     let middle = stood _ _ config _ (forgets-waiter _ config (finished ∷ c') (waiter e c') spoilt f) s.index
     (asks-same (old.step.outputs.items ++ waiter_replies (number_of (waiter e c') c') spoilt) _ old.step.asked _ old.step.on _ config _
     (c.in_ok-reply_finished.ensures.after ∙ ap (λ outs. old.step.outputs.items ++ outs) (finished-waiter e c' _ event.0 event.1 (c.finish-finished.ensures.told config c' e s.past found free))) refl refl
-    (step-waiter old.step.outputs.items old.step.asked old.step.on config c' e spoilt silent)) in
+    (step-waiter old.step.outputs.items old.step.asked old.step.on config c' e spoilt silent))
+    (found-same old.others config c' _ (λ job. waiter-instances job (waiter e c') spoilt (finished ∷ c')) s.found) in
     c.in_ok-tell_if.ensures.after config _ e middle
 
 pub returns-clause-blocked : goal.returns-clause-blocked

@@ -8,5 +8,5 @@ pub returns : goal.returns
 returns c config c' i s found =
     let old = c.args.self.now in
     let e = Signalled i 9 true in
-    more old _ config c' e (listed c.in_ok-sent.sent) s (c.kill.ensures.after config c' i s.past (keyed old.past config c' c.args.key i s.past found)) refl tt tt (calm config c' e (λ job. refl) (λ j. refl) (λ j. refl))
+    more old _ config c' e (listed c.in_ok-sent.sent) s (c.kill.ensures.after config c' i s.past (keyed old.past config c' c.args.key i s.past found)) refl refl tt tt (calm config c' e (λ job. refl) (λ j. refl) (λ j. refl))
     (signalled old.past config c' c.args.key i 9 true c.in_ok-sent.sent s.past found c.in_ok-sent.ensures) c.in_ok-put.ensures refl refl

@@ -12,7 +12,7 @@ use Rattle.up_book.specs.Replying.{replies_to}
 use Rattle.up_book.specs.Views.{kept_at}
 use Rattle.up_book.proofs.Ledgers.{keyed, step-leaves, forgets-left-released}
 use Rattle.up_book.proofs.StepFrames.{asks-same}
-use Rattle.up_book.proofs.Ledgers.{stood}
+use Rattle.up_book.proofs.Ledgers.{found-same, found-left, mild-instances, stood}
 use Rattle.up_book.specs.Eventing.{place_of}
 use Rattle.up_book.proofs.Ledgers.{mild-queue}
 use Rattle.up_book.proofs.ledger.LedgerBook.leave.Goals as goal
@@ -28,6 +28,7 @@ returns-clause-after c config c' i s found =
     (c.in_ok-reply_held.ensures ∙ ap (λ outs. outs ++ replies_to (held_by_kept (option_copied c.at.result)) false c.in_ok-told.told) c.in_ok-push_emitted.ensures
     ∙ ap (λ k. (old.step.outputs.items ++ Emitted c.args.event ∷ []) ++ replies_to (held_by_kept k) false c.in_ok-told.told) c.at.ensures) refl refl
     (step-leaves old.step.outputs.items old.step.asked old.step.on old.past config c' c.args.key i c.in_ok-told.told c.args.event s.past found (c.in_ok-told.ensures config c' i s.past here) s.step)))
+    (found-same old.others config (Entered i Waiting ∷ c') _ (λ job. mild-instances job i false d) (found-left old.others config c' i s.found))
 
 pub returns-clause-events : goal.returns-clause-events
 returns-clause-events c config c' i k j s found other =

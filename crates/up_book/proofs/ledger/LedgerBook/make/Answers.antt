@@ -9,7 +9,7 @@ use Rattle.up_book.proofs.Ledgers.{step-made}
 use Rattle.up_book.proofs.StepFrames.{asks-same}
 use Rattle.up_book.specs.Steps.{IsStep}
 use Rattle.up_book.specs.declared.step.Step.{Step}
-use Rattle.up_book.proofs.Ledgers.{stood}
+use Rattle.up_book.proofs.Ledgers.{found-made, stood}
 use Rattle.up_book.specs.Keys.{request_place}
 use Rattle.up_book.proofs.Ledgers.{held-same}
 use Rattle.up_book.proofs.ledger.LedgerBook.make.Goals as goal
@@ -22,6 +22,7 @@ returns-clause-after c config c' s there none =
     (subst (λ (st : Step). IsStep st config (Made c.args.file.now c.args.name.now ∷ c')) (sym c.in_ok-make.ensures)
     (asks-same _ _ _ _ (moved_on (after_made c.args.index (position_at c.args.name.now c.args.index old.past.instances)) old.step.on) _ config _ refl refl (ap (λ (key : InstanceKey). moved_on (after_made key.job key.at) old.step.on) c.in_ok-key.ensures.key)
     (step-made old.step.outputs.items old.step.asked old.step.on old.past config c' c.args.index c.args.file.now c.args.name.now s.past job s.step)))
+    (found-made old.others config c' c.args.index c.args.file.now c.args.name.now s.past.lives.distinct there s.found)
 
 pub returns-clause-made : goal.returns-clause-made
 returns-clause-made c config c' s there none =

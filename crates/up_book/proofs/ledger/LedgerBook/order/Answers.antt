@@ -10,7 +10,7 @@ pub returns-clause-after : goal.returns-clause-after
 returns-clause-after c config c' i s found there =
     let old = c.args.self.now in
     let e = Ordered i c.args.process in
-    more old _ config c' e (listed c.in_ok-order.order) s (c.order.ensures.after config c' i s.past (keyed old.past config c' c.args.key i s.past found)) refl tt tt (calm config c' e (λ job. refl) (λ j. refl) (λ j. refl))
+    more old _ config c' e (listed c.in_ok-order.order) s (c.order.ensures.after config c' i s.past (keyed old.past config c' c.args.key i s.past found)) refl refl tt tt (calm config c' e (λ job. refl) (λ j. refl) (λ j. refl))
     (ordered old.past config c' c.args.key i c.args.job.now c.args.process c.in_ok-order.order s.past found there c.in_ok-order.ensures) c.in_ok-put.ensures refl refl
 
 pub returns-clause-events : goal.returns-clause-events

@@ -3,7 +3,7 @@ use Rattle.up_book.proofs.Ledgers.{keyed, released, forgets-released}
 use Rattle.up_book.specs.Holding.{held_by_kept}
 use Rattle.up_book.specs.Replying.{replies_to}
 use Rattle.up_book.specs.Views.{kept_at}
-use Rattle.up_book.proofs.Ledgers.{stood}
+use Rattle.up_book.proofs.Ledgers.{found-same, mild-instances, stood}
 use Rattle.up_book.proofs.StepFrames.{asks-same}
 use Rattle.up_model.specs.Queue.{queue}
 use Rattle.up_book.specs.Eventing.{place_of}
@@ -18,6 +18,7 @@ returns-clause-after c config c' i s found =
     (asks-same (old.step.outputs.items ++ replies_to (held_by_kept (kept_at c.args.key old.past.instances)) false c.in_ok-told.told) _ old.step.asked _ old.step.on _ config _
     (c.in_ok-reply_held.ensures ∙ ap (λ k. old.step.outputs.items ++ replies_to (held_by_kept k) false c.in_ok-told.told) c.at.ensures) refl refl
     (released old.step.outputs.items old.step.asked old.step.on old.past config c' c.args.key i false c.in_ok-told.told s.past found (c.in_ok-told.ensures config c' i s.past here) s.step))
+    (found-same old.others config c' _ (λ job. mild-instances job i false c') s.found)
 
 pub returns-clause-holders : goal.returns-clause-holders
 returns-clause-holders c config c' i who places s found held =

@@ -6,7 +6,7 @@ use Rattle.up_book.specs.Steps.{IsStep}
 use Rattle.up_book.specs.declared.step.Step.{Step}
 use Rattle.up_book.proofs.Acting.{step-replied}
 use Rattle.up_book.proofs.Leaving.{forgets-replied}
-use Rattle.up_book.proofs.Ledgers.{stood}
+use Rattle.up_book.proofs.Ledgers.{found-same, stood}
 use Rattle.up_book.proofs.StepFrames.{asks-same}
 use Rattle.up_book.proofs.ledger.LedgerBook.reply.Goals as goal
 
@@ -18,3 +18,4 @@ returns c config c' s =
     (subst (λ (st : Step). IsStep st config (Replied (given_place c') c.args.answer ∷ c')) (sym c.answer.ensures)
     (asks-same (old.step.outputs.items ++ more) _ _ _ old.step.on _ config _ c.in_ok-reply_asked.ensures refl refl
     (step-replied old.step.outputs.items more old.step.asked old.step.on config c' c.args.answer refl s.step)))
+    (found-same old.others config c' _ (λ job. refl) s.found)

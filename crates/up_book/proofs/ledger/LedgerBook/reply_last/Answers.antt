@@ -1,4 +1,5 @@
 use Rattle.std.proofs.Common.{◌≡◌, ◌∙◌, sym, ap, refl, ◌∷◌, ◌++◌, [], true, subst, List}
+use Rattle.up_model.specs.Instances.{instances_of}
 use Rattle.up_model.specs.Chronicle.{Entry}
 use Rattle.up_model.specs.Replies.{answering_hurried, answering_last}
 use Rattle.up_model.specs.declared.output.Output.TheVariants.{Reply}
@@ -11,7 +12,7 @@ use Rattle.up_book.specs.Steps.{IsStep}
 use Rattle.up_book.specs.declared.step.Step.{Step}
 use Rattle.up_book.proofs.Acting.{last-so, step-last}
 use Rattle.up_book.proofs.Leaving.{forgets-replied}
-use Rattle.up_book.proofs.Ledgers.{stood}
+use Rattle.up_book.proofs.Ledgers.{found-same, stood}
 use Rattle.up_book.proofs.StepFrames.{asks-same, due-none}
 use Rattle.up_book.proofs.ledger.LedgerBook.reply_last.Goals as goal
 
@@ -26,6 +27,7 @@ returns-in_ok-reply-in-Some-clause-after c config c' s =
     (subst (λ (st : Step). IsStep st config (answering_last c' ++ c')) (sym c.answer.ensures)
     (asks-same (old.step.outputs.items ++ Reply c.in-Some.id (record { ok = true; text = c.in_ok-text-in-Some.text }) ∷ []) _ _ _ old.step.on _ config _ c.in_ok-reply-in-Some.ensures refl refl
     (step-last old.step.outputs.items old.step.asked old.step.on config c' c.in-Some.id c.in_ok-text-in-Some.text due text s.step)))
+    (found-same old.others config c' _ (λ job. ap (λ es. instances_of job (es ++ c')) last) s.found)
 
 pub returns-in_ok-reply-in-Some-clause-any : goal.returns-in_ok-reply-in-Some-clause-any
 returns-in_ok-reply-in-Some-clause-any c config c' s =

@@ -10,7 +10,7 @@ pub returns-clause-after : goal.returns-clause-after
 returns-clause-after c config c' i s found =
     let old = c.args.self.now in
     let e = Signalled i c.args.signal false in
-    more old _ config c' e (listed c.in_ok-sent.sent) s (c.signal.ensures.after config c' i s.past (keyed old.past config c' c.args.key i s.past found)) refl tt tt (calm config c' e (λ job. refl) (λ j. refl) (λ j. refl))
+    more old _ config c' e (listed c.in_ok-sent.sent) s (c.signal.ensures.after config c' i s.past (keyed old.past config c' c.args.key i s.past found)) refl refl tt tt (calm config c' e (λ job. refl) (λ j. refl) (λ j. refl))
     (signalled old.past config c' c.args.key i c.args.signal false c.in_ok-sent.sent s.past found c.in_ok-sent.ensures) c.in_ok-put.ensures refl refl
 
 pub returns-clause-events : goal.returns-clause-events

@@ -3,7 +3,7 @@ use Rattle.up_model.specs.Chronicle.{Given}
 use Rattle.up_model.specs.declared.input.Input.{Input}
 use Rattle.up_book.specs.Keys.{SpeaksOf}
 use Rattle.up_book.specs.Standing.{Forgets}
-use Rattle.up_book.proofs.Giving.{forgets-emit, forgets-request, forgets-turn}
+use Rattle.up_book.proofs.Giving.{forgets-emit, forgets-load, forgets-request, forgets-turn}
 use Rattle.up_book.proofs.past.Past.begin_step.Goals as goal
 
 pub returns-in-Spawned-clause-after : goal.returns-in-Spawned-clause-after
@@ -41,3 +41,6 @@ returns-in-Request-clause-after c config c' f speaks = subst (λ (x : Input). Fo
 
 pub returns-in-Turn-clause-after : goal.returns-in-Turn-clause-after
 returns-in-Turn-clause-after c config c' f speaks = subst (λ (x : Input). Forgets c.args.self.now config (Given x ∷ c')) (sym c.in-Turn.is) (forgets-turn c.args.self.now config c' f)
+
+pub returns-in-Load-clause-after : goal.returns-in-Load-clause-after
+returns-in-Load-clause-after c config c' f speaks = subst (λ (x : Input). Forgets c.args.self.now config (Given x ∷ c')) (sym c.in-Load.is) (forgets-load c.args.self.now config c' _ _ f)

@@ -1,8 +1,6 @@
-use Rattle.std.proofs.Common.{◌∙◌, ℕ, List, map, false, replicate, ap}
+use Rattle.std.proofs.Common.{◌∙◌, ℕ, List, replicate, refl, ap}
 use Rattle.up_event.specs.LiveEvents.{with_hold}
-use Rattle.up_image.specs.Index.{named}
-use Rattle.up_image.specs.declared.index.Place.{Place}
-use Rattle.up_marks.specs.Naming.{of_expression}
+use Rattle.up_marks.specs.Naming.{naming_in}
 use Rattle.up_model.specs.Values.{Bytes}
 use Rattle.up_book.specs.declared.past.Past.{Past}
 use Rattle.up_book.specs.Hearing.{trigger_at}
@@ -13,25 +11,25 @@ use Rattle.up_book.proofs.Holds.{all-places, mild-hold}
 use Rattle.up_book.proofs.past.Past.offer_stop.Goals as goal
 
 pub returns-clause-after : goal.returns-clause-after
-returns-clause-after c config c' i e f found in_jobs leaves placed =
+returns-clause-after c config c' i e f found in_jobs placed =
     let book = c.args.self.now in
     let key = c.args.key in
     let only = c.in_ok-offer.ensures.only in
-    let nodes : Bytes → List ℕ = λ name. map (λ (place : Place). place.node) (of_expression key.job false (named name c.args.index.now)) in
+    let nodes : Bytes → List ℕ = naming_in c.args.file.now.stop_on in
     let trigger = trigger_at key c.offer_to_stop.new.self.instances in
-    let o : StopOffer book key c.args.job.now c.args.id c.in_ok-env.env trigger nodes c.in_ok-offer.offer = record { hears = c.in_ok-offer.ensures.hears; leaves = leaves } in
-    stop-offered book _ config c' key i e c.args.job.now c.args.id c.in_ok-env.env trigger nodes c.in_ok-offer.offer f found in_jobs placed (c.in_ok-env.ensures config c' i f found) o
+    let o : StopOffer book key c.args.file.now c.args.id c.in_ok-env.env trigger nodes c.in_ok-offer.offer = record { hears = c.in_ok-offer.ensures.hears; leaves = λ name. refl } in
+    stop-offered book _ config c' key i e c.args.file.now c.args.id c.in_ok-env.env trigger nodes c.in_ok-offer.offer f found in_jobs placed (c.in_ok-env.ensures config c' i f found) o
     (ap (λ (p : Past). p.instances) only) (ap (λ (p : Past). p.starts) only)
     (c.in_ok-hold_times.ensures ∙ ap (λ (p : Past). all_changed with_hold (as_holders (replicate c.in_ok-offer.offer.kept c.args.id)) p.events) only) (ap (λ (p : Past). p.reading) only)
 
 pub returns-clause-holds : goal.returns-clause-holds
-returns-clause-holds c config c' i e f found in_jobs leaves placed =
+returns-clause-holds c config c' i e f found in_jobs placed =
     let book = c.args.self.now in
     let key = c.args.key in
-    let nodes : Bytes → List ℕ = λ name. map (λ (place : Place). place.node) (of_expression key.job false (named name c.args.index.now)) in
+    let nodes : Bytes → List ℕ = naming_in c.args.file.now.stop_on in
     let trigger = trigger_at key c.offer_to_stop.new.self.instances in
-    let o : StopOffer book key c.args.job.now c.args.id c.in_ok-env.env trigger nodes c.in_ok-offer.offer = record { hears = c.in_ok-offer.ensures.hears; leaves = leaves } in
-    stop-true book config c' key i e c.args.job.now c.args.id c.in_ok-env.env trigger nodes c.in_ok-offer.offer f found in_jobs placed (c.in_ok-env.ensures config c' i f found) o
+    let o : StopOffer book key c.args.file.now c.args.id c.in_ok-env.env trigger nodes c.in_ok-offer.offer = record { hears = c.in_ok-offer.ensures.hears; leaves = λ name. refl } in
+    stop-true book config c' key i e c.args.file.now c.args.id c.in_ok-env.env trigger nodes c.in_ok-offer.offer f found in_jobs placed (c.in_ok-env.ensures config c' i f found) o
 
 pub returns-clause-places : goal.returns-clause-places
 returns-clause-places c lives id =

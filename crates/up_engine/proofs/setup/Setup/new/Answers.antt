@@ -1,6 +1,6 @@
 use Rattle.std.proofs.Common.{map, ◌∙◌, sym, ap, subst}
 use Rattle.up_engine.specs.Naming.{name_of}
-use Rattle.up_engine.proofs.SetupLemmas.{table-order}
+use Rattle.up_book.proofs.Tables.{table-order}
 use Rattle.up_job.specs.Named.{AreInOrder}
 use Rattle.up_model.specs.Environments.{job_env}
 use Rattle.up_engine.proofs.setup.Setup.new.Goals as goal

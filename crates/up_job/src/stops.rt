@@ -1,0 +1,49 @@
+//! Which events may stop instances.
+ghost use Rattle.std.specs.Prelude.{◌≡◌, ◌++◌, IfOk, OnOk};
+ghost use Rattle.up_job.specs.JobLists.{stops_of, stop_places};
+ghost use Rattle.up_marks.specs.Naming.{Rising};
+
+use crate::instance::Instance;
+use crate::instances::{Instances, JobInstances};
+use std::alloc::{AllocError, Global};
+use up_image::{Place, add_stops};
+
+// Appends the leaves of the `stop on` of these instances, as those of the job with this number.
+fn add_stops_of(
+    places: &mut Vec<Place>,
+    number: u16,
+    instances: &[Instance],
+) -> Result<(), AllocError>
+    ensures { OnOk result (places.new.items ≡ places.old.items ++ stops_of number instances.now) }
+{
+    for instance in instances {
+        add_stops(places, number, instance.file.job())?;
+    }
+    Ok(())
+}
+
+fn stop_places(alloc: Global, jobs: &[JobInstances]) -> Result<Vec<Place>, AllocError>
+    ensures { IfOk result (λ places. places.items ≡ stop_places 0 jobs.now) }
+{
+    let mut places = Vec::new(alloc);
+    let mut number: u16 = 0;
+    for job in jobs {
+        add_stops_of(&mut places, number, job.instances.as_slice())?;
+        match number.checked_add(1) {
+            Some(next) => number = next,
+            None => return Err(AllocError),
+        }
+    }
+    Ok(places)
+}
+
+impl Instances {
+    /// The leaves of the `stop on` of each instance, by its own file, each as one of the job at the instance's place. It is refused to more
+    /// jobs than can be numbered, as if memory ran out.
+    pub fn stop_places(&self, alloc: Global) -> Result<Vec<Place>, AllocError>
+        ensures places { IfOk result (λ places. places.items ≡ stop_places 0 self.now) }
+        ensures order { IfOk result (λ places. Rising 0 places.items) }
+    {
+        stop_places(alloc, self.jobs.as_slice())
+    }
+}

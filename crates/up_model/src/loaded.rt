@@ -1,0 +1,32 @@
+//! What comes of reading the configuration again.
+ghost use Rattle.std.specs.Prelude.{◌≡◌, IfOk};
+
+use std::alloc::{AllocError, Global};
+use up_image::Table;
+
+/// What comes of reading the configuration again (initctl(8), `reload-configuration`).
+#[derive(Drop)]
+pub enum Loaded {
+    /// The jobs that were read.
+    Files(Table),
+    /// Why they are refused, by its number.
+    Refused(u8),
+    /// They couldn't be read.
+    Unread,
+}
+
+impl Loaded {
+    /// An equal value in memory of its own.
+    pub fn copy(&self, alloc: Global) -> Result<Self, AllocError>
+        ensures { IfOk result (λ loaded. loaded ≡ self.now) }
+    {
+        match self {
+            Loaded::Files(table) => {
+                let table = table.copy(alloc)?;
+                Ok(Loaded::Files(table))
+            }
+            Loaded::Refused(number) => Ok(Loaded::Refused(*number)),
+            Loaded::Unread => Ok(Loaded::Unread),
+        }
+    }
+}
