@@ -1,21 +1,25 @@
 -- The calls of a round, counted.
-use Rattle.std.proofs.Common.{◌≡◌, ◌∙◌, sym, ◌+◌, ◌++◌, ◌∷◌, [], ℕ, suc, min, List, None, Some, length, take, refl, ap, arith}
+use Rattle.std.proofs.Common.{◌≡◌, ◌∙◌, sym, ◌+◌, ◌++◌, ◌∷◌, [], ℕ, suc, min, List, None, Some, length, take, refl, ap, inl, inr, arith}
 use Rattle.std.proofs.lemmas.List.{length-append}
 use Rattle.up_host.specs.Calls.{Calls, most_count, with_entry, with_failure}
 use Rattle.up_host.specs.declared.happened.Happened.{Happened}
 use Rattle.up_host.specs.declared.happened.Happened.TheVariants as happened
 use Rattle.up_model.specs.Chronicle.{Chronicle}
 use Rattle.up_model.specs.Configuration.{Configuration}
+use Rattle.up_model.specs.Requests.{RequestValue}
 use Rattle.up_model.specs.declared.input.Input.{Input}
 use Rattle.up_model.specs.declared.input.Input.TheVariants as input
+use Rattle.up_model.specs.declared.loaded.Loaded.{Loaded}
 use Rattle.up_model.specs.declared.output.Output.{Output}
 use Rattle.up_model.specs.declared.output.Output.TheVariants as output
+use Rattle.up_daemon.specs.Asking.{IsAsked}
 use Rattle.up_daemon.specs.Counting.{orders_in, orders_given, ends_in, faults_after, MakesCalls}
 use Rattle.up_daemon.specs.Laws.{CountsCalls}
 use Rattle.up_daemon.specs.declared.passed.Passed.{Passed}
 use Rattle.up_daemon.specs.declared.passed.Passed.TheVariants as passed
 use Rattle.up_daemon.specs.Rounds.{Reaches, ran, ran_not, Opens, ReadsClock, ClockFails, FindsEnd, FindsNone, PollFails, LetsIn, NobodyWaits, AcceptFails, IsFull, PassesOver, FindsNothing, FindsBytes, FindsFault, FindsLast, ReadFails, Closes, ClosesUnrecorded, HasRead, Enters, HasServed, TakesTurn, HasTurned, NothingWaits, Writes, WriteFails, Starts, StartFails, Signals, SignalFails, PassesEvent, Replies}
 use Rattle.up_daemon.specs.RoundStates.{Part, ReadingClock, FindingEnds, LettingIn, ReadingFrom, TakingRequests, TakingTurns, WritingTo, ClosingOf, DaemonState, RoundState}
+use Rattle.up_daemon.proofs.Sourced.{sourced}
 
 -- how many calls were made but for ends and orders
 abbrev pub made_by : Part → ℕ
@@ -139,6 +143,13 @@ passes start due host door fed gave left rest none so_far = record {
   calls = let was = so_far.calls in omega arith;
 }
 
+-- a request is no end, however it is fed
+no_end : (next : ℕ) (request : RequestValue) (given : Input) (before after : Calls Loaded) → IsAsked next request given before after
+    → 2 ≡ 2 + ends_in (given ∷ [])
+no_end next request given before after (inl (other, is, same)) = rw is refl
+no_end next request given before after (inr (reloads, inl (loaded, is, entry))) = rw is refl
+no_end next request given before after (inr (reloads, inr (is, failed))) = rw is refl
+
 -- in each part of a round its calls are counted
 pub counted : (config : Configuration) (c : Chronicle) (start : DaemonState) (part : Part) (state : RoundState)
     → Reaches config c start part state → Counted start (made_by part) state.host state.door state.fed state.gave state.left
@@ -197,9 +208,9 @@ counted config c start part state (ClosesUnrecorded number among was reaches) =
 counted config c start part state (HasRead was reaches) =
     let so_far = counted config c start _ _ reaches in
     so_far
-counted config c start part state (Enters request clients outputs was none below entered is reaches) =
+counted config c start part state (Enters request given source clients outputs was none below entered asked is reaches) =
     let so_far = counted config c start _ _ reaches in
-    feeds start 2 _ was.host was.door was.fed was.gave was.left (input.Request was.next request) outputs refl so_far
+    feeds start 2 _ was.host was.door was.fed was.gave was.left given outputs (no_end was.next request given was.source source asked) so_far
 counted config c start part state (HasServed was none rest reaches) =
     let so_far = counted config c start _ _ reaches in
     so_far
@@ -242,10 +253,15 @@ counted config c start part state (Replies among here id answer left clients was
 pub counts_calls : CountsCalls
 counts_calls config c start fed gave end round =
     let all = counted config c start _ _ round in
+    let its_source = sourced config c start _ _ round in
     record {
       host_made = all.host_made;
       door_made = all.door_made;
+      source_made = its_source.made;
       failed = all.failed;
       faults = all.faults;
       calls = let it = all.calls in omega arith;
+      missed = its_source.missed;
+      unread = its_source.unread;
+      loads = its_source.loads;
     }

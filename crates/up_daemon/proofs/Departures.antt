@@ -466,7 +466,7 @@ gone config c start part state (ClosesUnrecorded number among was reaches) =
 gone config c start part state (HasRead was reaches) =
     let so_far = gone config c start _ _ reaches in
     so_far
-gone config c start part state (Enters request clients outputs was none below entered is reaches) =
+gone config c start part state (Enters request given source clients outputs was none below entered asked is reaches) =
     changes start was.clients clients [] [] [] [] 1 was.door (entered_numbers was.next request was.clients clients entered) tt (gone config c start _ _ reaches)
 gone config c start part state (HasServed was none rest reaches) =
     let so_far = gone config c start _ _ reaches in

@@ -1,4 +1,5 @@
 pub mod Telling
+pub mod Sourced
 pub mod Stacks
 pub mod Connections
 pub mod Hosts

@@ -4,20 +4,23 @@ use Rattle.std.specs.Prelude.{⊤, ◌≢◌}
 use Rattle.std.specs.List.{AllByRecursion}
 use Rattle.std.proofs.lemmas.List.{append-nil}
 use Rattle.std.proofs.lemmas.Option.{none-some}
+use Rattle.up_host.specs.Calls.{Calls}
 use Rattle.up_host.specs.declared.happened.Happened.{Happened}
 use Rattle.up_model.specs.Chronicle.{Chronicle}
 use Rattle.up_model.specs.Configuration.{Configuration}
 use Rattle.up_model.specs.Requests.{RequestValue}
 use Rattle.up_model.specs.declared.input.Input.{Input}
 use Rattle.up_model.specs.declared.input.Input.TheVariants as input
+use Rattle.up_model.specs.declared.loaded.Loaded.{Loaded}
 use Rattle.up_model.specs.declared.output.Output.{Output}
 use Rattle.up_model.specs.declared.output.Output.TheVariants as output
 use Rattle.up_model.specs.declared.request.Answer.{Answer}
 use Rattle.up_wire.specs.Frames.{Bytes, Frames}
+use Rattle.up_daemon.specs.Asking.{IsAsked}
 use Rattle.up_daemon.specs.Peers.{Peer, newcomer, heard, asked, answered, IsEntered, IsQueued, IsNobody}
 use Rattle.up_daemon.specs.declared.passed.Passed.{Passed}
 use Rattle.up_daemon.specs.declared.passed.Passed.TheVariants as passed
-use Rattle.up_daemon.specs.Exchanges.{Exchange, Asked, Replied, is_open, open_after, frames_for, written_to, weight, weight_given, weight_replied, requests_in, requests_of, asked_by, IsQuiet, IsHeard, HearsNothing, HearsOther, Apart, AreApart, IsBelow, IsNumbered, IsAmong}
+use Rattle.up_daemon.specs.Exchanges.{Exchange, Asked, Replied, is_open, open_after, frames_for, written_to, weight, weight_given, weight_replied, requests_in, requests_of, IsFedAs, AreFedAs, asked_by, IsQuiet, IsHeard, HearsNothing, HearsOther, Apart, AreApart, IsBelow, IsNumbered, IsAmong}
 use Rattle.up_daemon.specs.Laws.{IsServed, IsJust, LosesNothing}
 use Rattle.up_daemon.specs.Rounds.{Reaches, IsRound, Opens, ReadsClock, ClockFails, FindsEnd, FindsNone, PollFails, LetsIn, NobodyWaits, AcceptFails, IsFull, PassesOver, FindsNothing, FindsBytes, FindsFault, FindsLast, ReadFails, Closes, ClosesUnrecorded, HasRead, Enters, HasServed, TakesTurn, HasTurned, NothingWaits, Writes, WriteFails, Starts, StartFails, Signals, SignalFails, PassesEvent, Replies}
 use Rattle.up_daemon.specs.RoundStates.{Part, ReadingClock, FindingEnds, LettingIn, ReadingFrom, TakingRequests, TakingTurns, WritingTo, ClosingOf, HasOrders, DaemonState, RoundState, HasItsClients}
@@ -76,11 +79,26 @@ requests_append (input.Refused who process ∷ inputs) given = requests_append i
 requests_append (input.Ended who process how ∷ inputs) given = requests_append inputs given
 requests_append (input.Clock now ∷ inputs) given = requests_append inputs given
 requests_append (input.Turn ∷ inputs) given = requests_append inputs given
-requests_append (input.Load id loaded ∷ inputs) given = requests_append inputs given
+requests_append (input.Load id loaded ∷ inputs) given = ap (λ those. input.Load id loaded ∷ those) (requests_append inputs given)
+
+-- one request more
+fed_push : (requests : List (ℕ × RequestValue)) (inputs : List Input) (one : ℕ × RequestValue) (given : Input) → AreFedAs requests inputs → IsFedAs one given
+    → AreFedAs (requests ++ one ∷ []) (inputs ++ given ∷ [])
+fed_push [] [] one given are is = (is, tt)
+fed_push [] (other ∷ inputs) one given are is = absurd are
+fed_push (first ∷ requests) [] one given are is = absurd are
+fed_push (first ∷ requests) (other ∷ inputs) one given are is = (are.0, fed_push requests inputs one given are.1 is)
+
+-- a request is fed as it is, or as a load
+fed_as : (next : ℕ) (request : RequestValue) (given : Input) (before after : Calls Loaded) → IsAsked next request given before after
+    → IsFedAs (next, request) given × (requests_in (given ∷ []) ≡ given ∷ [])
+fed_as next request given before after (inl (other, is, same)) = rw is ((refl, refl, other), refl)
+fed_as next request given before after (inr (reloads, inl (loaded, is, entry))) = rw is ((refl, reloads), refl)
+fed_as next request given before after (inr (reloads, inr (is, failed))) = rw is ((refl, reloads), refl)
 
 pub record Stand (start : DaemonState) (early : Type 0) (clients : List Peer) (next : ℕ) (log : Log) (left : List Output) (door : List Passed) : Type 0 where
   pub exchanges : List Exchange
-  pub asked : requests_of exchanges ≡ requests_in log.fed
+  pub asked : AreFedAs (requests_of exchanges) (requests_in log.fed)
   pub replied : (w : ℕ → Answer → ℕ) → weight_replied w exchanges + weight w left ≡ weight_given w log.gave
   pub served : AllByRecursion (IsServed start.clients exchanges door) clients
   pub apart : AreApart clients
@@ -98,7 +116,7 @@ served_first clients (peer ∷ peers) among = (
 begins : (start : DaemonState) → IsNumbered start.clients start.next → Stand start ⊤ start.clients start.next (record { fed = []; gave = [] }) [] []
 begins start numbered = record {
   exchanges = [];
-  asked = refl;
+  asked = tt;
   replied = λ w. omega arith;
   served = served_first start.clients start.clients (λ peer is. is);
   apart = numbered.apart;
@@ -125,7 +143,7 @@ feeds : (start : DaemonState) (early : Type 0) (clients : List Peer) (next : ℕ
     → requests_in (given ∷ []) ≡ [] → Stand start early clients next log left door → Stand start early clients next (record log { fed = log.fed ++ given ∷ [] }) left door
 feeds start early clients next log left door given none s = record {
   exchanges = s.exchanges;
-  asked = s.asked ∙ sym (requests_append log.fed given ∙ ap (λ those. requests_in log.fed ++ those) none ∙ append-nil (requests_in log.fed));
+  asked = rw (requests_append log.fed given, none, append-nil (requests_in log.fed)) s.asked;
   replied = s.replied;
   served = s.served;
   apart = s.apart;
@@ -286,14 +304,14 @@ some_injective : (a b : ℕ) → Some a ≡ Some b → a ≡ b
 some_injective a b is = ap (value_or a) is
 
 -- a request enters
-asks : (start : DaemonState) (early : Type 0) (before : List Peer) (peer : Peer) (after : List Peer) (next : ℕ) (request : RequestValue) (waiting : List RequestValue) (log : Log) (left : List Output) (door : List Passed)
-    → (early → ⊥) → peer.waiting ≡ request ∷ waiting
+asks : (start : DaemonState) (early : Type 0) (before : List Peer) (peer : Peer) (after : List Peer) (next : ℕ) (request : RequestValue) (given : Input) (waiting : List RequestValue) (log : Log) (left : List Output) (door : List Passed)
+    → (early → ⊥) → peer.waiting ≡ request ∷ waiting → IsFedAs (next, request) given → requests_in (given ∷ []) ≡ given ∷ []
     → Stand start early (before ++ peer ∷ after) next log left door
-    → Stand start early (before ++ asked next waiting peer ∷ after) (next + 1) (record log { fed = log.fed ++ input.Request next request ∷ [] }) left door
-asks start early before peer after next request waiting log left door late first s = record {
+    → Stand start early (before ++ asked next waiting peer ∷ after) (next + 1) (record log { fed = log.fed ++ given ∷ [] }) left door
+asks start early before peer after next request given waiting log left door late first fed alone s = record {
   exchanges = Asked peer.number next request ∷ s.exchanges;
   replied = s.replied;
-  asked = ap (λ those. those ++ input.Request next request ∷ []) s.asked ∙ sym (requests_append log.fed (input.Request next request));
+  asked = rw (requests_append log.fed given, alone) (fed_push (requests_of s.exchanges) (requests_in log.fed) (next, request) given s.asked fed);
   served = all_change (IsServed start.clients s.exchanges door) (IsServed start.clients (Asked peer.number next request ∷ s.exchanges) door) before peer (asked next waiting peer) after
       (λ q apart was. other_asked start.clients s.exchanges door peer.number next request q apart.numbers was)
       (λ was. self_asked start.clients s.exchanges door next request waiting peer first was) s.apart s.served;
@@ -353,11 +371,11 @@ answers_nobody start early clients next log left rest door id answer first none 
   fresh = λ it. fresh_replied s.exchanges door id answer (s.fresh it);
 }
 
-entered : (start : DaemonState) (early : Type 0) (old new : List Peer) (next : ℕ) (request : RequestValue) (log : Log) (left : List Output) (door : List Passed)
-    → (early → ⊥) → IsEntered next request old new
-    → Stand start early old next log left door → Stand start early new (next + 1) (record log { fed = log.fed ++ input.Request next request ∷ [] }) left door
-entered start early old new next request log left door late (before, after, peer, waiting, was, none, first, is, rest) s =
-    rw is (asks start early before peer after next request waiting log left door late first (rw was at s))
+entered : (start : DaemonState) (early : Type 0) (old new : List Peer) (next : ℕ) (request : RequestValue) (given : Input) (log : Log) (left : List Output) (door : List Passed)
+    → (early → ⊥) → IsFedAs (next, request) given × (requests_in (given ∷ []) ≡ given ∷ []) → IsEntered next request old new
+    → Stand start early old next log left door → Stand start early new (next + 1) (record log { fed = log.fed ++ given ∷ [] }) left door
+entered start early old new next request given log left door late fed (before, after, peer, waiting, was, none, first, is, rest) s =
+    rw is (asks start early before peer after next request given waiting log left door late first fed.0 fed.1 (rw was at s))
 
 queued : (start : DaemonState) (early : Type 0) (old new : List Peer) (next : ℕ) (log : Log) (left rest : List Output) (door : List Passed) (id : ℕ) (answer : Answer)
     → left ≡ output.Reply id answer ∷ rest → IsQueued id answer old new
@@ -423,9 +441,9 @@ keeps config c start numbered has part state (ReadFails peer unread was few reac
 keeps config c start numbered has part state (HasRead was reaches) =
     let so_far = keeps config c start numbered has _ _ reaches in
     moves start ⊥ ⊥ _ _ was.next (log_of was) was.left was.door.entries (λ it. it) (sym (append-nil was.clients)) so_far
-keeps config c start numbered has part state (Enters request clients outputs was none few is gives_it reaches) =
+keeps config c start numbered has part state (Enters request given source clients outputs was none few is asked_as gives_it reaches) =
     let so_far = keeps config c start numbered has _ _ reaches in
-    gives start ⊥ clients (was.next + 1) _ was.left was.door.entries outputs (entered start ⊥ was.clients clients was.next request (log_of was) was.left was.door.entries (λ it. it) is so_far)
+    gives start ⊥ clients (was.next + 1) _ was.left was.door.entries outputs (entered start ⊥ was.clients clients was.next request given (log_of was) was.left was.door.entries (λ it. it) (fed_as was.next request given was.source source asked_as) is so_far)
 keeps config c start numbered has part state (HasServed was none rest reaches) =
     let so_far = keeps config c start numbered has _ _ reaches in
     so_far

@@ -46,9 +46,9 @@ gave_answers config c start part state (ReadFails peer unread was few reaches) =
 gave_answers config c start part state (Closes number among was reaches) = gave_answers config c start _ _ reaches
 gave_answers config c start part state (ClosesUnrecorded number among was reaches) = gave_answers config c start _ _ reaches
 gave_answers config c start part state (HasRead was reaches) = gave_answers config c start _ _ reaches
-gave_answers config c start part state (Enters request clients outputs was none below entered is reaches) =
+gave_answers config c start part state (Enters request given source clients outputs was none below entered asked is reaches) =
     let so_far = gave_answers config c start _ _ reaches in
-    gave_more config c was.fed was.gave (input.Request was.next request) outputs is so_far
+    gave_more config c was.fed was.gave given outputs is so_far
 gave_answers config c start part state (HasServed was none rest reaches) = gave_answers config c start _ _ reaches
 gave_answers config c start part state (TakesTurn turns outputs was none few touches is reaches) =
     let so_far = gave_answers config c start _ _ reaches in

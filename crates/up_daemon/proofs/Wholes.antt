@@ -89,7 +89,7 @@ whole config c start part state all (ClosesUnrecorded number among was reaches) 
 whole config c start part state all (HasRead was reaches) =
     let so_far = whole config c start _ _ all reaches in
     (so_far.0, tt)
-whole config c start part state all (Enters request clients outputs was none below entered is reaches) =
+whole config c start part state all (Enters request given source clients outputs was none below entered asked is reaches) =
     let so_far = whole config c start _ _ all reaches in
     (entered_whole was.next request was.clients clients entered so_far.0, tt)
 whole config c start part state all (HasServed was none rest reaches) =

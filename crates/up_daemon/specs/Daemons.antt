@@ -3,6 +3,7 @@ use Rattle.std.specs.Prelude.{ℕ, Bool, List}
 use Rattle.up_engine.specs.declared.engine.Engine.{Engine}
 use Rattle.up_daemon.specs.declared.daemon.Daemon.{Daemon}
 use Rattle.up_host.specs.Calls.{Calls}
+use Rattle.up_model.specs.declared.loaded.Loaded.{Loaded}
 use Rattle.up_host.specs.declared.happened.Happened.{Happened}
 use Rattle.up_daemon.specs.RoundStates.{DaemonState}
 use Rattle.up_daemon.specs.declared.passed.Passed.{Passed}
@@ -20,13 +21,14 @@ clients_of daemon = peers_of daemon.work.clients.list.items
 abbrev pub next_of : Daemon → ℕ
 next_of daemon = daemon.work.next
 
--- its clients and the number of the next request, with the calls of a host and a door, and which clients the door has
-abbrev pub daemon_state : Daemon → Calls Happened → Calls Passed → (ℕ → Bool) → DaemonState
-daemon_state daemon host door connected = record {
+-- its clients and the number of the next request, with the calls of a host, a door and a source, and which clients the door has
+abbrev pub daemon_state : Daemon → Calls Happened → Calls Passed → Calls Loaded → (ℕ → Bool) → DaemonState
+daemon_state daemon host door source connected = record {
   clients = clients_of daemon;
   next = next_of daemon;
   host = host;
   door = door;
+  source = source;
   connected = connected;
 }
 

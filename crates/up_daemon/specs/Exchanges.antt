@@ -6,6 +6,7 @@ use Rattle.up_model.specs.declared.input.Input.TheVariants as input
 use Rattle.up_model.specs.declared.output.Output.{Output}
 use Rattle.up_model.specs.declared.output.Output.TheVariants as output
 use Rattle.up_model.specs.declared.request.Answer.{Answer}
+use Rattle.up_model.specs.declared.request.Command.TheVariants.{ReloadConfiguration}
 use Rattle.up_wire.specs.Answers.{answer_frames}
 use Rattle.up_wire.specs.Frames.{Bytes, Frames}
 use Rattle.up_model.specs.Requests.{RequestValue}
@@ -110,7 +111,7 @@ abbrev pub IsAmong : Peer → List Peer → Type 0
 IsAmong one [] = ⊥
 IsAmong one (peer ∷ peers) = (peer ≡ one) ⊎ IsAmong one peers
 
--- the requests among inputs
+-- the requests among inputs, of which those to reload the configuration are fed as loads
 abbrev pub requests_in : List Input → List Input
 requests_in [] = []
 requests_in (input.Request id request ∷ inputs) = input.Request id request ∷ requests_in inputs
@@ -120,10 +121,28 @@ requests_in (input.Refused who process ∷ inputs) = requests_in inputs
 requests_in (input.Ended who process how ∷ inputs) = requests_in inputs
 requests_in (input.Clock now ∷ inputs) = requests_in inputs
 requests_in (input.Turn ∷ inputs) = requests_in inputs
-requests_in (input.Load id loaded ∷ inputs) = requests_in inputs
+requests_in (input.Load id loaded ∷ inputs) = input.Load id loaded ∷ requests_in inputs
 
--- the requests that entered, the oldest first
-abbrev pub requests_of : List Exchange → List Input
+-- the requests that entered, each with its number, the oldest first
+abbrev pub requests_of : List Exchange → List (ℕ × RequestValue)
 requests_of [] = []
-requests_of (Asked client id request ∷ exchanges) = requests_of exchanges ++ input.Request id request ∷ []
+requests_of (Asked client id request ∷ exchanges) = requests_of exchanges ++ (id, request) ∷ []
 requests_of (Replied id answer ∷ exchanges) = requests_of exchanges
+
+-- the request is fed as it is, or as a load with its number if it is one to reload the configuration
+abbrev pub IsFedAs : ℕ × RequestValue → Input → Type 0
+IsFedAs (id, request) (input.Request number same) = (number ≡ id) × (same ≡ request) × (request.command ≢ ReloadConfiguration)
+IsFedAs (id, request) (input.Load number loaded) = (number ≡ id) × (request.command ≡ ReloadConfiguration)
+IsFedAs asked (input.Emit event) = ⊥
+IsFedAs asked (input.Spawned who process pid) = ⊥
+IsFedAs asked (input.Refused who process) = ⊥
+IsFedAs asked (input.Ended who process how) = ⊥
+IsFedAs asked (input.Clock now) = ⊥
+IsFedAs asked input.Turn = ⊥
+
+-- each request is fed, in order, and nothing else
+abbrev pub AreFedAs : List (ℕ × RequestValue) → List Input → Type 0
+AreFedAs [] [] = ⊤
+AreFedAs [] (given ∷ inputs) = ⊥
+AreFedAs (asked ∷ requests) [] = ⊥
+AreFedAs (asked ∷ requests) (given ∷ inputs) = IsFedAs asked given × AreFedAs requests inputs

@@ -15,7 +15,7 @@ use Rattle.up_daemon.specs.Counting.{MakesCalls}
 use Rattle.up_daemon.specs.Departing.{Departs}
 use Rattle.up_daemon.specs.Numbering.{AreNumbered}
 use Rattle.up_daemon.specs.Wholeness.{AreWhole}
-use Rattle.up_daemon.specs.Exchanges.{Exchange, open_after, frames_for, written_to, weight_given, weight_replied, requests_in, requests_of, asked_by, IsHeard, IsAmong, IsNumbered}
+use Rattle.up_daemon.specs.Exchanges.{Exchange, open_after, frames_for, written_to, weight_given, weight_replied, requests_in, requests_of, AreFedAs, asked_by, IsHeard, IsAmong, IsNumbered}
 
 -- A client as it is after these exchanges and entries: it was there, or has just come with a number that nobody had, and the bytes that were written to it and those that
 -- wait are the bytes that waited before, then the frames of the replies to its requests;
@@ -31,11 +31,11 @@ pub record IsServed (clients : List Peer) (exchanges : List Exchange) (entries :
   pub pieces : IsHeard peer.number before.rest entries heard peer.rest
   pub requests : before.waiting ++ heard ≡ asked_by peer.number exchanges ++ peer.waiting
 
--- The requests that were fed are those that entered, in order; each reply that was given was sent to the client whose request it
+-- The requests that were fed, as loads if they reload the configuration, are those that entered, in order; each reply that was given was sent to the client whose request it
 -- answers, if that was still there, as often as it was given; and each client is served.
 pub record IsJust (start : DaemonState) (fed : List Input) (gave : List (List Output)) (end : DaemonState) : Type 0 where
   pub exchanges : List Exchange
-  pub asked : requests_of exchanges ≡ requests_in fed
+  pub asked : AreFedAs (requests_of exchanges) (requests_in fed)
   pub replied : (w : ℕ → Answer → ℕ) → weight_replied w exchanges ≡ weight_given w gave
   pub served : AllByRecursion (IsServed start.clients exchanges end.door.entries) end.clients
   pub numbered : IsNumbered end.clients end.next

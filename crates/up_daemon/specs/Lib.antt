@@ -24,6 +24,8 @@ pub mod Rounds
 pub mod Seating
 -- What a daemon's engine answered.
 pub mod Answering
+-- What a request is fed as.
+pub mod Asking
 -- What the work of a daemon is seen as.
 pub mod Working
 -- What a contract sees of a daemon.

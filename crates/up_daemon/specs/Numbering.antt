@@ -1,4 +1,4 @@
--- How the requests of a round are numbered.
+-- How the requests of a round are numbered, of which those to reload the configuration are fed as loads.
 use Rattle.std.specs.Prelude.{◌≡◌, ◌+◌, ℕ, List, [], ◌∷◌}
 use Rattle.up_model.specs.declared.input.Input.{Input}
 use Rattle.up_model.specs.declared.input.Input.TheVariants as input
@@ -14,4 +14,5 @@ AreNumbered first (input.Refused who process ∷ inputs) next = AreNumbered firs
 AreNumbered first (input.Ended who process how ∷ inputs) next = AreNumbered first inputs next
 AreNumbered first (input.Clock now ∷ inputs) next = AreNumbered first inputs next
 AreNumbered first (input.Turn ∷ inputs) next = AreNumbered first inputs next
-AreNumbered first (input.Load id loaded ∷ inputs) next = AreNumbered first inputs next
+AreNumbered first (input.Load id loaded ∷ inputs) next = (id ≡ first)
+    × AreNumbered (first + 1) inputs next

@@ -3,6 +3,7 @@ use Rattle.std.specs.Prelude.{⊤, ℕ, Bool, List, [], ◌∷◌, ◌++◌}
 use Rattle.up_host.specs.Calls.{Calls, with_entry, with_failure, emptied}
 use Rattle.up_host.specs.declared.happened.Happened.{Happened}
 use Rattle.up_model.specs.declared.input.Input.{Input}
+use Rattle.up_model.specs.declared.loaded.Loaded.{Loaded}
 use Rattle.up_model.specs.declared.output.Output.{Output}
 use Rattle.up_daemon.specs.Connected.{AreConnected}
 use Rattle.up_daemon.specs.Peers.{Peer, numbers_of}
@@ -31,13 +32,14 @@ HasOrders (TakingTurns turns) = ⊤
 HasOrders (WritingTo unwritten) = ⊥
 HasOrders (ClosingOf number part) = ⊥
 
--- what a round begins with, and ends with: the clients, the number of the next request, the calls of host and door, and which clients
--- the door has
+-- what a round begins with, and ends with: the clients, the number of the next request, the calls of host, door and source, and which
+-- clients the door has
 pub record DaemonState : Type 0 where
   pub clients : List Peer
   pub next : ℕ
   pub host : Calls Happened
   pub door : Calls Passed
+  pub source : Calls Loaded
   pub connected : ℕ → Bool
 
 -- the door's clients are the daemon's
@@ -45,7 +47,7 @@ abbrev pub HasItsClients : DaemonState → Type 0
 HasItsClients state = AreConnected state.connected (numbers_of state.clients)
 
 -- what a round did so far: the clients, without those that are still to be read or written to; the number of the next request; the
--- inputs that were fed, and what was given for each; the orders that are left, the next one first; the calls of host and door
+-- inputs that were fed, and what was given for each; the orders that are left, the next one first; the calls of host, door and source
 pub record RoundState : Type 0 where
   pub clients : List Peer
   pub next : ℕ
@@ -54,8 +56,9 @@ pub record RoundState : Type 0 where
   pub left : List Output
   pub host : Calls Happened
   pub door : Calls Passed
+  pub source : Calls Loaded
 
--- both records are emptied as the round begins
+-- the records are emptied as the round begins
 abbrev pub opened : DaemonState → RoundState
 opened start = record {
   clients = start.clients;
@@ -65,6 +68,7 @@ opened start = record {
   left = [];
   host = emptied start.host;
   door = emptied start.door;
+  source = emptied start.source;
 }
 
 -- all is done, and no order is left
@@ -77,6 +81,7 @@ closed end fed gave = record {
   left = [];
   host = end.host;
   door = end.door;
+  source = end.source;
 }
 
 -- an input is fed, and what is given for it comes before the orders that are left

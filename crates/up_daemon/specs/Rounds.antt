@@ -1,7 +1,8 @@
--- What a round does, call by call: the calls of its host and of its door, what is fed and given, and each order carried out.
+-- What a round does, call by call: the calls of its host, its door and its source, what is fed and given, and each order carried out.
 use Rattle.std.specs.Prelude.{◌≡◌, ◌≢◌, ◌≤◌, ◌<◌, ◌+◌, ◌⊎◌, ℕ, List, [], ◌∷◌, ◌++◌, None, Some, length, take, drop}
 use Rattle.std.specs.List.{AllByRecursion}
 use Rattle.up_stanza.specs.declared.process.Process.{Process}
+use Rattle.up_host.specs.Calls.{Calls}
 use Rattle.up_host.specs.declared.happened.Happened.TheVariants as happened
 use Rattle.up_model.specs.Answers.{answer, after_all}
 use Rattle.up_model.specs.Chronicle.{Chronicle}
@@ -13,6 +14,7 @@ use Rattle.up_model.specs.Requests.{RequestValue}
 use Rattle.up_model.specs.declared.event.Event.{Event}
 use Rattle.up_model.specs.declared.input.Input.{Input}
 use Rattle.up_model.specs.declared.input.Input.TheVariants as input
+use Rattle.up_model.specs.declared.loaded.Loaded.{Loaded}
 use Rattle.up_model.specs.declared.output.Order.{Order}
 use Rattle.up_model.specs.declared.output.Output.{Output}
 use Rattle.up_model.specs.declared.output.Output.TheVariants as output
@@ -20,6 +22,7 @@ use Rattle.up_model.specs.declared.process.How.{How}
 use Rattle.up_model.specs.declared.request.Answer.{Answer}
 use Rattle.up_model.specs.declared.who.Who.{Who}
 use Rattle.up_wire.specs.Frames.{Bytes, Frames}
+use Rattle.up_daemon.specs.Asking.{IsAsked}
 use Rattle.up_daemon.specs.Answering.{outputs_in}
 use Rattle.up_daemon.specs.Hearing.{most_waiting, IsPiece, IsBroken}
 use Rattle.up_daemon.specs.Peers.{Peer, newcomer, heard, IsAtRest, IsEntered, IsQueued, IsNobody, last_number}
@@ -96,14 +99,17 @@ pub data Reaches (config : Configuration) (c : Chronicle) (start : DaemonState) 
       → Reaches config c start part (door_did (passed.Closed number) state)
   ClosesUnrecorded : (number : ℕ) → (part : Part) → (state : RoundState) → Reaches config c start (ClosingOf number part) state
       → Reaches config c start part (door_failed state)
-  -- requests enter, numbered upwards, each once all that came of the one before is done, until none may
+  -- requests enter, numbered upwards, each once all that came of the one before is done, until none may; for one to reload the
+  -- configuration the source is called
   HasRead : (state : RoundState) → Reaches config c start (ReadingFrom []) state → Reaches config c start TakingRequests state
-  Enters : (request : RequestValue) → (clients : List Peer) → (outputs : List Output) → (state : RoundState) → state.left ≡ []
+  Enters : (request : RequestValue) → (given : Input) → (source : Calls Loaded) → (clients : List Peer) → (outputs : List Output)
+      → (state : RoundState) → state.left ≡ []
       → state.next < last_number → IsEntered state.next request state.clients clients
-      → outputs ≡ outputs_in (answer config (after_all config c state.fed) (input.Request state.next request))
+      → IsAsked state.next request given state.source source
+      → outputs ≡ outputs_in (answer config (after_all config c state.fed) given)
       → Reaches config c start TakingRequests state
-      → Reaches config c start TakingRequests (with_input (input.Request state.next request) outputs
-      (record state { clients = clients; next = state.next + 1 }))
+      → Reaches config c start TakingRequests (with_input given outputs
+      (record state { clients = clients; next = state.next + 1; source = source }))
   HasServed : (state : RoundState) → state.left ≡ [] → AllByRecursion IsAtRest state.clients ⊎ (state.next ≡ last_number)
       → Reaches config c start TakingRequests state → Reaches config c start (TakingTurns 0) state
   -- then the queue of events turns, until a turn would touch no event, or as often as may be

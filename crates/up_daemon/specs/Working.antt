@@ -7,6 +7,7 @@ use Rattle.up_host.specs.declared.happened.Happened.TheVariants.{Spawned, Signal
 use Rattle.up_engine.specs.declared.engine.Engine.{Engine}
 use Rattle.up_engine.specs.Stands.{Stands}
 use Rattle.up_model.specs.declared.input.Input.{Input}
+use Rattle.up_model.specs.declared.loaded.Loaded.{Loaded}
 use Rattle.up_model.specs.declared.output.Order.{Order}
 use Rattle.up_model.specs.declared.output.Output.{Output}
 use Rattle.up_model.specs.declared.who.Who.{Who}
@@ -24,9 +25,9 @@ use Rattle.up_daemon.specs.RoundStates.{Part, FindingEnds, LettingIn, HasOrders,
 abbrev pub numbers_in : Work → List ℕ
 numbers_in work = numbers_of (peers_of work.clients.list.items)
 
--- the round so far, with the calls of host and door, and the orders that are left
-abbrev pub state_of : Work → Calls Happened → Calls Passed → List Output → RoundState
-state_of work host door left =
+-- the round so far, with the calls of host, door and source, and the orders that are left
+abbrev pub state_of : Work → Calls Happened → Calls Passed → Calls Loaded → List Output → RoundState
+state_of work host door source left =
     record {
       clients = peers_of work.clients.list.items;
       next = work.next;
@@ -35,6 +36,7 @@ state_of work host door left =
       left = left;
       host = host;
       door = door;
+      source = source;
     }
 
 -- the round came to this part and state, and its engine stands for the history with what was fed
@@ -49,15 +51,16 @@ Leads part engine state part_after engine_after state_after =
     (config : Configuration) (c : Chronicle) (start : DaemonState)
     → IsAt config c start part engine state → IsAt config c start part_after engine_after state_after
 
--- from part to part, without a call of the door
+-- from part to part, without a call of the door or the source
 abbrev pub Goes : Part → Work → Calls Happened → Part → Work → Calls Happened → Type 0
-Goes part old host part_after new host_after = (door : Calls Passed)
-    → Leads part old.engine (state_of old host door []) part_after new.engine (state_of new host_after door [])
+Goes part old host part_after new host_after = (door : Calls Passed) (source : Calls Loaded)
+    → Leads part old.engine (state_of old host door source []) part_after new.engine (state_of new host_after door source [])
 
 -- orders are carried out, in any part that has some
 abbrev pub Carries : Work → Calls Happened → List Output → Work → Calls Happened → List Output → Type 0
-Carries old host before new host_after after = (part : Part) → HasOrders part → (door : Calls Passed)
-    → Leads part old.engine (state_of old host door before) part new.engine (state_of new host_after door after)
+Carries old host before new host_after after = (part : Part) → HasOrders part
+    → (door : Calls Passed) (source : Calls Loaded)
+    → Leads part old.engine (state_of old host door source before) part new.engine (state_of new host_after door source after)
 
 -- an input was fed, and what was given for it was put on a stack of orders, whose last is the next
 pub record IsFed (given : Input) (old new : Work) (before after : List Output) : Type 0 where

@@ -1,4 +1,4 @@
-//! The daemon: an engine between a host and a door.
+//! The daemon: an engine between a host, a door and a source of configurations.
 ghost use Rattle.std.specs.Prelude.{◌≡◌, ◌≢◌, ℕ, [], true, false, Ok, Err, IfOk, IfErr, OnErr, OnOk};
 ghost use Rattle.up_daemon.specs.Connected.{AreConnected};
 ghost use Rattle.up_daemon.specs.Rounds.{IsRound};
@@ -13,13 +13,14 @@ use crate::clients::Clients;
 use crate::door::Door;
 use crate::error::DaemonError;
 use crate::log::{Log, Round};
+use crate::source::Source;
 use crate::work::Work;
 use std::alloc::{AllocError, Global};
 use std::mem;
 use up_engine::Engine;
 use up_host::Host;
 
-/// An engine between a host and a door, which works in rounds.
+/// An engine between a host, a door and a source of configurations, which works in rounds.
 #[derive(Drop)]
 pub struct Daemon {
     work: Work,
@@ -28,21 +29,28 @@ pub struct Daemon {
 }
 
 // The parts of a round, in order.
-fn do_parts<H: Host, D: Door>(work: &mut Work, host: &mut H, door: &mut D) -> Result<(), AllocError>
+fn do_parts<H: Host, D: Door, S: Source>(
+    work: &mut Work,
+    host: &mut H,
+    door: &mut D,
+    source: &mut S,
+) -> Result<(), AllocError>
     ensures round { OnOk result ((config : Configuration) (c : Chronicle) (start : DaemonState)
         → Stands work.old.engine config c → (start.connected ≡ D.connected door.old)
-        → (state_of work.old (emptied (H.calls host.old)) (emptied (D.calls door.old)) [] ≡ opened start)
+        → (state_of work.old (emptied (H.calls host.old)) (emptied (D.calls door.old))
+        (emptied (S.calls source.old)) [] ≡ opened start)
         → IsAt config c start (WritingTo []) work.new.engine
-        (state_of work.new (H.calls host.new) (D.calls door.new) [])) }
+        (state_of work.new (H.calls host.new) (D.calls door.new) (S.calls source.new) [])) }
     ensures connected { OnOk result (AreConnected (D.connected door.old) (numbers_in work.old)
         → AreConnected (D.connected door.new) (numbers_in work.new)) }
 {
     host.clear_record();
     door.clear_record();
+    source.clear_record();
     work.read_clock(host)?;
     work.find_ends(host)?;
     work.hear(door)?;
-    work.serve(host)?;
+    work.serve(host, source)?;
     work.turn(host)?;
     work.write(door)?;
     Ok(())
@@ -80,12 +88,14 @@ impl Daemon {
     }
 
     /// One round: reads the clock, looks for ends, lets clients in, reads each once, lets their requests enter, turns the queue of
-    /// events, and writes once to each client for whom bytes wait. The orders of each step are carried out at once. It waits for nobody.
+    /// events, and writes once to each client for whom bytes wait. The orders of each step are carried out at once. For a request to
+    /// reload the configuration the source is called once, and what it gives is loaded. It waits for nobody.
     /// Refused with `Down` if the engine is down or an earlier round was refused, and with `Memory`, after which what it did stands.
-    pub fn round<H: Host, D: Door>(
+    pub fn round<H: Host, D: Door, S: Source>(
         &mut self,
         host: &mut H,
         door: &mut D,
+        source: &mut S,
     ) -> Result<Round, DaemonError>
         ensures answers { IfOk result (λ round. (config : Configuration) (c : Chronicle)
             → Stands (engine_of self.old) config c
@@ -93,19 +103,19 @@ impl Daemon {
         ensures round { IfOk result (λ round. (config : Configuration) (c : Chronicle)
             → Stands (engine_of self.old) config c
             → IsRound config c
-            (daemon_state self.old (H.calls host.old) (D.calls door.old) (D.connected door.old))
+            (daemon_state self.old (H.calls host.old) (D.calls door.old) (S.calls source.old) (D.connected door.old))
             round.fed round.gave
-            (daemon_state self.new (H.calls host.new) (D.calls door.new) (D.connected door.new))) }
+            (daemon_state self.new (H.calls host.new) (D.calls door.new) (S.calls source.new) (D.connected door.new))) }
         ensures connected { OnOk result (
-            HasItsClients (daemon_state self.old (H.calls host.old) (D.calls door.old) (D.connected door.old))
+            HasItsClients (daemon_state self.old (H.calls host.old) (D.calls door.old) (S.calls source.old) (D.connected door.old))
             → HasItsClients
-            (daemon_state self.new (H.calls host.new) (D.calls door.new) (D.connected door.new))) }
+            (daemon_state self.new (H.calls host.new) (D.calls door.new) (S.calls source.new) (D.connected door.new))) }
         ensures remembers { OnErr result (was_refused self.new ≡ true) }
         ensures goes_on { OnOk result ((was_refused self.old ≡ false) × (was_refused self.new ≡ false)) }
         ensures refused { was_refused self.old ≡ true → result ≡ Err DaemonError.Down }
         ensures down { IsDown (engine_of self.old) → result ≡ Err DaemonError.Down }
         ensures untouched { result ≡ Err DaemonError.Down → (H.calls host.new ≡ H.calls host.old)
-            × (D.calls door.new ≡ D.calls door.old) }
+            × (D.calls door.new ≡ D.calls door.old) × (S.calls source.new ≡ S.calls source.old) }
         ensures up { was_refused self.old ≡ false → (config : Configuration) (c : Chronicle)
             → Stands (engine_of self.old) config c → result ≢ Err DaemonError.Down }
     {
@@ -115,7 +125,7 @@ impl Daemon {
         }
         self.refused = true;
         self.work.log = Log::new(self.work.alloc);
-        do_parts(&mut self.work, host, door)?;
+        do_parts(&mut self.work, host, door, source)?;
         self.refused = false;
         let log = mem::replace(&mut self.work.log, Log::new(self.work.alloc));
         Ok(log.into_round())

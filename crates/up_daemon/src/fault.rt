@@ -1,4 +1,4 @@
-//! Why a call of a door failed.
+//! Why a call of a door or of a source failed.
 ghost use Rattle.std.specs.Prelude.{◌≡◌};
 
 use thiserror::Error;
@@ -14,5 +14,19 @@ impl DoorFault {
         ensures { result ≡ 62 }
     {
         62
+    }
+}
+
+/// The configuration couldn't be read, or no memory was left for it. The source counted the fault.
+#[derive(Clone, Copy, Debug, PartialEq, Eq, Error)]
+#[error("SourceFault")]
+pub struct SourceFault;
+
+impl SourceFault {
+    /// The number of this refusal. Nothing prints it.
+    pub fn number(self) -> u8
+        ensures { result ≡ 63 }
+    {
+        63
     }
 }

@@ -1,24 +1,44 @@
 //! The parts of a round, in order.
 ghost use Rattle.std.specs.Prelude.{◌≡◌, ◌<◌, [], IfOk, OnOk, true, false};
+ghost use Rattle.up_daemon.specs.Asking.{IsAsked};
 ghost use Rattle.up_daemon.specs.Connected.{AreConnected};
 ghost use Rattle.up_daemon.specs.declared.passed.Passed.{Passed};
 ghost use Rattle.up_daemon.specs.Peers.{peers_of};
 ghost use Rattle.up_daemon.specs.Rounds.{Reaches};
 ghost use Rattle.up_daemon.specs.RoundStates.{ReadingClock, FindingEnds, LettingIn, TakingRequests, TakingTurns, WritingTo, DaemonState, HasItsClients, with_clients};
-ghost use Rattle.up_daemon.specs.Working.{part_after, IsAt};
+ghost use Rattle.up_daemon.specs.Working.{part_after, IsAt, Leads};
 ghost use Rattle.up_host.specs.Calls.{Calls};
 ghost use Rattle.up_host.specs.declared.happened.Happened.{Happened};
 ghost use Rattle.up_model.specs.Chronicle.{Chronicle};
 ghost use Rattle.up_model.specs.Configuration.{Configuration};
+ghost use Rattle.up_model.specs.declared.loaded.Loaded.{Loaded};
 
 use crate::door::Door;
+use crate::source::Source;
 use crate::work::Work;
 use std::alloc::AllocError;
 use up_host::Host;
-use up_model::Input;
+use up_model::{Command, Input, Loaded, Request};
 
 /// The most turns of a round.
 const MOST_TURNS: u32 = 256;
+
+// What a request is fed as: for one to reload the configuration the source is called once.
+fn input_of<S: Source>(source: &mut S, id: u64, request: Request) -> Input
+    ensures { IsAsked id request result (S.calls source.old) (S.calls source.new) }
+{
+    if request.command != Command::ReloadConfiguration {
+        return Input::Request { id, request };
+    }
+    drop(request);
+    match source.load() {
+        Ok(loaded) => Input::Load { id, loaded },
+        Err(_) => Input::Load {
+            id,
+            loaded: Loaded::Unread,
+        },
+    }
+}
 
 impl Work {
     ghost use Rattle.up_daemon.specs.Ending.{ends_left, waiting_of};
@@ -70,10 +90,11 @@ impl Work {
     pub(crate) fn hear<D: Door>(&mut self, door: &mut D) -> Result<(), AllocError>
         ensures untouched { IsUntouched self.old self.new }
         ensures hears { OnOk result ((config : Configuration) (c : Chronicle) (start : DaemonState)
-            (host : Calls Happened)
+            (host : Calls Happened) (source : Calls Loaded)
             → (HasItsClients start → AreConnected (D.connected door.old) (numbers_in self.old))
-            → Reaches config c start LettingIn (state_of self.old host (D.calls door.old) [])
-            → Reaches config c start TakingRequests (state_of self.new host (D.calls door.new) [])) }
+            → Reaches config c start LettingIn (state_of self.old host (D.calls door.old) source [])
+            → Reaches config c start TakingRequests
+            (state_of self.new host (D.calls door.new) source [])) }
         ensures connected { OnOk result (AreConnected (D.connected door.old) (numbers_in self.old)
             → AreConnected (D.connected door.new) (numbers_in self.new)) }
     {
@@ -86,10 +107,11 @@ impl Work {
     pub(crate) fn write<D: Door>(&mut self, door: &mut D) -> Result<(), AllocError>
         ensures untouched { IsUntouched self.old self.new }
         ensures writes { OnOk result ((config : Configuration) (c : Chronicle) (start : DaemonState)
-            (host : Calls Happened)
+            (host : Calls Happened) (source : Calls Loaded)
             → Reaches config c start (WritingTo (peers_of self.old.clients.list.items))
-            (with_clients [] (state_of self.old host (D.calls door.old) []))
-            → Reaches config c start (WritingTo []) (state_of self.new host (D.calls door.new) [])) }
+            (with_clients [] (state_of self.old host (D.calls door.old) source []))
+            → Reaches config c start (WritingTo [])
+            (state_of self.new host (D.calls door.new) source [])) }
         ensures connected { OnOk result (AreConnected (D.connected door.old) (numbers_in self.old)
             → AreConnected (D.connected door.new) (numbers_in self.new)) }
     {
@@ -98,9 +120,14 @@ impl Work {
     }
 
     // Lets one request enter. False if none may.
-    fn serve_one<H: Host>(&mut self, host: &mut H) -> Result<bool, AllocError>
-        ensures goes { OnOk result (Goes TakingRequests self.old (H.calls host.old) TakingRequests
-            self.new (H.calls host.new)) }
+    fn serve_one<H: Host, S: Source>(
+        &mut self,
+        host: &mut H,
+        source: &mut S,
+    ) -> Result<bool, AllocError>
+        ensures goes { OnOk result ((door : Calls Passed) → Leads TakingRequests self.old.engine
+            (state_of self.old (H.calls host.old) door (S.calls source.old) []) TakingRequests
+            self.new.engine (state_of self.new (H.calls host.new) door (S.calls source.new) [])) }
         ensures rest { IfOk result (λ served. served ≡ false → NoneEnters self.new) }
         ensures fewer { IfOk result (λ served. served ≡ true → waiting_of self.new < waiting_of self.old) }
         ensures numbers { OnOk result (numbers_in self.new ≡ numbers_in self.old) }
@@ -112,7 +139,8 @@ impl Work {
         match self.clients.enter(id) {
             Some(request) => {
                 self.next = following;
-                self.take(host, Input::Request { id, request })?;
+                let given = input_of(source, id, request);
+                self.take(host, given)?;
                 Ok(true)
             }
             None => Ok(false),
@@ -120,22 +148,28 @@ impl Work {
     }
 
     /// Lets requests enter until none may.
-    pub(crate) fn serve<H: Host>(&mut self, host: &mut H) -> Result<(), AllocError>
-        ensures goes { OnOk result (Goes TakingRequests self.old (H.calls host.old) (TakingTurns 0)
-            self.new (H.calls host.new)) }
+    pub(crate) fn serve<H: Host, S: Source>(
+        &mut self,
+        host: &mut H,
+        source: &mut S,
+    ) -> Result<(), AllocError>
+        ensures goes { OnOk result ((door : Calls Passed) → Leads TakingRequests self.old.engine
+            (state_of self.old (H.calls host.old) door (S.calls source.old) []) (TakingTurns 0)
+            self.new.engine (state_of self.new (H.calls host.new) door (S.calls source.new) [])) }
         ensures numbers { OnOk result (numbers_in self.new ≡ numbers_in self.old) }
     {
-        while self.serve_one(host)? {}
+        while self.serve_one(host, source)? {}
         Ok(())
     }
 
     /// Turns the queue of events until a turn would touch none, at most 256 times.
     pub(crate) fn turn<H: Host>(&mut self, host: &mut H) -> Result<(), AllocError>
         ensures turns { OnOk result ((config : Configuration) (c : Chronicle) (start : DaemonState)
-            (door : Calls Passed)
-            → IsAt config c start (TakingTurns 0) self.old.engine (state_of self.old (H.calls host.old) door [])
+            (door : Calls Passed) (source : Calls Loaded)
+            → IsAt config c start (TakingTurns 0) self.old.engine
+            (state_of self.old (H.calls host.old) door source [])
             → IsAt config c start (WritingTo (peers_of self.new.clients.list.items)) self.new.engine
-            (with_clients [] (state_of self.new (H.calls host.new) door []))) }
+            (with_clients [] (state_of self.new (H.calls host.new) door source []))) }
         ensures numbers { OnOk result (numbers_in self.new ≡ numbers_in self.old) }
     {
         for turn in 0..MOST_TURNS {

@@ -11,6 +11,7 @@ ghost use Rattle.up_model.specs.Answers.{after_all};
 ghost use Rattle.up_model.specs.Chronicle.{Chronicle};
 ghost use Rattle.up_model.specs.Configuration.{Configuration};
 ghost use Rattle.up_model.specs.Left.{is_calm, spawns};
+ghost use Rattle.up_model.specs.declared.loaded.Loaded.{Loaded};
 ghost use Rattle.up_model.specs.declared.output.Output.{Output};
 
 use crate::clients::Clients;
@@ -206,10 +207,11 @@ impl Work {
     /// Feeds one input, and carries out what comes of it.
     pub(crate) fn take<H: Host>(&mut self, host: &mut H, given: Input) -> Result<(), AllocError>
         ensures takes { OnOk result ((config : Configuration) (c : Chronicle) (start : DaemonState) (part : Part)
-            → HasOrders part → (door : Calls Passed)
+            → HasOrders part → (door : Calls Passed) (source : Calls Loaded)
             → Stands self.old.engine config (after_all config c self.old.log.fed.items)
-            → Comes config c start part given (state_of self.old (H.calls host.old) door [])
-            → IsAt config c start part self.new.engine (state_of self.new (H.calls host.new) door [])) }
+            → Comes config c start part given (state_of self.old (H.calls host.old) door source [])
+            → IsAt config c start part self.new.engine
+            (state_of self.new (H.calls host.new) door source [])) }
         ensures ends { OnOk result (is_calm given ≡ true
             → ends_left (H.living host.new) self.new [] ≤ ends_left (H.living host.old) self.old []) }
         ensures waits { OnOk result (waiting_of self.new ≡ waiting_of self.old) }

@@ -14,6 +14,9 @@ const RELOAD: [u8; 18] = [
 /// The bytes of its answer.
 const ANSWERED: usize = 26;
 
+/// The request `reload-configuration`.
+pub(crate) const RELOAD_ALL: [u8; 10] = [0, 0, 0, 6, 8, 0, 0, 0, 0, 0];
+
 /// What a client does at one read.
 #[derive(Clone, Copy)]
 pub(crate) enum Said<'a> {
@@ -95,7 +98,9 @@ fn passed(door: &ScriptDoor) -> Passing {
 
 /// What passes at the door in one round.
 pub(crate) fn pass(scene: &mut Scene) -> Result<Passing, Fail> {
-    let round = scene.daemon.round(&mut scene.host, &mut scene.door)?;
+    let round = scene
+        .daemon
+        .round(&mut scene.host, &mut scene.door, &mut scene.source)?;
     drop(round);
     Ok(passed(&scene.door))
 }

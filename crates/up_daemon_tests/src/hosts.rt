@@ -21,7 +21,9 @@ fn counts_in(alloc: Global, round: &Round) -> Result<Counts, Fail> {
 
 // One round.
 fn counts_of_round(alloc: Global, scene: &mut Scene) -> Result<Counts, Fail> {
-    let round = scene.daemon.round(&mut scene.host, &mut scene.door)?;
+    let round = scene
+        .daemon
+        .round(&mut scene.host, &mut scene.door, &mut scene.source)?;
     let counts = counts_in(alloc, &round);
     drop(round);
     counts
@@ -61,7 +63,9 @@ fn shows_refusal(alloc: Global, round: &Round) -> Result<(), Fail> {
 }
 
 fn is_refused(alloc: Global, scene: &mut Scene) -> Result<(), Fail> {
-    let round = scene.daemon.round(&mut scene.host, &mut scene.door)?;
+    let round = scene
+        .daemon
+        .round(&mut scene.host, &mut scene.door, &mut scene.source)?;
     let shown = shows_refusal(alloc, &round);
     drop(round);
     shown?;

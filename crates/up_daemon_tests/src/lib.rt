@@ -1,4 +1,4 @@
-//! The tests of the daemon's rounds, over its public interface: hosts and doors that play scripts, and that fail.
+//! The tests of the daemon's rounds, over its public interface: hosts, doors and sources that play scripts, and that fail.
 #![tactic(auto)]
 
 #[cfg(test)]
@@ -9,6 +9,8 @@ mod doors;
 mod hosts;
 #[cfg(test)]
 mod leaving;
+#[cfg(test)]
+mod loading;
 #[cfg(test)]
 mod stage;
 #[cfg(test)]

@@ -1,13 +1,13 @@
-//! Daemons, hosts and doors for the tests, and rounds as text.
+//! Daemons, hosts, doors and sources for the tests, and rounds as text.
 use std::alloc::{AllocError, Global};
 use std::fmt::Debug;
 use std::test::Fail;
 use up_conf::Folder;
-use up_daemon::{Daemon, Round, ScriptDoor, Visitor};
+use up_daemon::{Daemon, Round, ScriptDoor, ScriptSource, Visitor};
 use up_engine::Engine;
 use up_host::{Failure, Script, ScriptHost};
 use up_image::{Table, compile};
-use up_model::{Event, How, Input, Output, Process, Who};
+use up_model::{Event, How, Input, Loaded, Output, Process, Who};
 use up_print::push_output;
 use up_text::{Env, Items, Name, Text};
 
@@ -30,9 +30,9 @@ fn compiled(alloc: Global, folder: &Folder) -> Result<Table, Fail> {
     Ok(table)
 }
 
-// The table of a folder with this job file alone. The folder is dropped by a call, as are hosts and doors below: the prover would go through
+/// The table of a folder with this job file alone. The folder is dropped by a call, as are hosts and doors below: the prover would go through
 // each field of what a scope drops.
-fn table_of(alloc: Global, file: &str) -> Result<Table, Fail> {
+pub(crate) fn table_of(alloc: Global, file: &str) -> Result<Table, Fail> {
     let mut folder = Folder::new(alloc);
     let table = match add_job(alloc, &mut folder, file) {
         Ok(()) => compiled(alloc, &folder),
@@ -73,12 +73,13 @@ fn daemon(alloc: Global) -> Result<Daemon, Fail> {
     }
 }
 
-/// A daemon with its host and its door.
+/// A daemon with its host, its door and its source.
 #[derive(Drop)]
 pub(crate) struct Scene {
     pub(crate) daemon: Daemon,
     pub(crate) host: ScriptHost,
     pub(crate) door: ScriptDoor,
+    pub(crate) source: ScriptSource,
 }
 
 // Both values, or that memory ran out if one of them was refused. The other is dropped here, where the prover knows of it no more than its
@@ -93,12 +94,18 @@ fn both<A: Drop, B: Drop>(
 }
 
 fn scene_of(
+    alloc: Global,
     daemon: Result<Daemon, Fail>,
     host: ScriptHost,
     door: ScriptDoor,
 ) -> Result<Scene, Fail> {
     match daemon {
-        Ok(daemon) => Ok(Scene { daemon, host, door }),
+        Ok(daemon) => Ok(Scene {
+            daemon,
+            host,
+            door,
+            source: ScriptSource::new(alloc, Vec::new(alloc)),
+        }),
         Err(fail) => {
             drop(host);
             drop(door);
@@ -114,7 +121,7 @@ pub(crate) fn make_scene(
     door: Result<ScriptDoor, AllocError>,
 ) -> Result<Scene, Fail> {
     match both(host, door) {
-        Ok((host, door)) => scene_of(daemon(alloc), host, door),
+        Ok((host, door)) => scene_of(alloc, daemon(alloc), host, door),
         Err(refused) => Err(Fail::from(refused)),
     }
 }
@@ -127,8 +134,16 @@ pub(crate) fn make_idle_scene(
     door: Result<ScriptDoor, AllocError>,
 ) -> Result<Scene, Fail> {
     match both(host, door) {
-        Ok((host, door)) => scene_of(idle_daemon(alloc, file), host, door),
+        Ok((host, door)) => scene_of(alloc, idle_daemon(alloc, file), host, door),
         Err(refused) => Err(Fail::from(refused)),
+    }
+}
+
+/// The scene, whose source gives these.
+pub(crate) fn with_loads(alloc: Global, scene: Scene, loads: Vec<Option<Loaded>>) -> Scene {
+    Scene {
+        source: ScriptSource::new(alloc, loads),
+        ..scene
     }
 }
 

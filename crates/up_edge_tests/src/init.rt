@@ -7,7 +7,7 @@ use std::fs::remove_file;
 use std::io::{ErrorKind, Read, Write};
 use std::test::Fail;
 use up_conf::Folder;
-use up_daemon::{Daemon, UnixDoor};
+use up_daemon::{Daemon, ScriptSource, UnixDoor};
 use up_engine::Engine;
 use up_host::RealHost;
 use up_image::{Table, compile};
@@ -27,12 +27,13 @@ const STOPPED_W: &[u8] = b"\0\0\0\x0f\0w stop/waiting";
 
 const STOPPED_M: &[u8] = b"\0\0\0\x0f\0m stop/waiting";
 
-/// A daemon with its host and its door.
+/// A daemon with its host, its door and its source.
 #[derive(Drop)]
 struct Init {
     daemon: Daemon,
     host: RealHost<Blinking>,
     door: UnixDoor,
+    source: ScriptSource,
 }
 
 // A client, and what it has read.
@@ -98,7 +99,12 @@ fn init_over(
     door: UnixDoor,
 ) -> Result<Init, Fail> {
     match daemon_of(alloc, file) {
-        Ok(daemon) => Ok(Init { daemon, host, door }),
+        Ok(daemon) => Ok(Init {
+            daemon,
+            host,
+            door,
+            source: ScriptSource::new(alloc, Vec::new(alloc)),
+        }),
         Err(fail) => {
             drop(host);
             drop(door);
@@ -141,7 +147,9 @@ fn hear(client: &mut Client) -> Result<(), Fail> {
 }
 
 fn do_round(init: &mut Init) -> Result<(), Fail> {
-    let round = init.daemon.round(&mut init.host, &mut init.door)?;
+    let round = init
+        .daemon
+        .round(&mut init.host, &mut init.door, &mut init.source)?;
     drop(round);
     Ok(())
 }

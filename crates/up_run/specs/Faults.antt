@@ -65,15 +65,17 @@ abbrev pub door_line : DoorCall → List ℕ
 door_line call = fault_line (codes "door") (call_name call)
 
 -- a comment on each call that failed in a round
-unfoldable pub fault_lines : HostFaults → List DoorCall → List ℕ
-fault_lines host door =
+unfoldable pub fault_lines : HostFaults → List DoorCall → (source : ℕ) → List ℕ
+fault_lines host door source =
     repeated (number host.clock) (fault_line (codes "host") (codes "now"))
     ++ repeated (number host.poll) (fault_line (codes "host") (codes "poll"))
     ++ repeated host.spawns (fault_line (codes "host") (codes "spawn"))
     ++ repeated host.signals (fault_line (codes "host") (codes "signal"))
     ++ flat_map door_line door
+    ++ repeated source (fault_line (codes "source") (codes "load"))
 
 -- the comment on how many calls failed in a run; nothing if none did
-unfoldable pub fault_count : ℕ → ℕ → List ℕ
-fault_count host door = if host == 0 && door == 0 then []
-    else codes "# host faults: " ++ decimal host ++ codes ", door faults: " ++ decimal door ++ codes "\n"
+unfoldable pub fault_count : ℕ → ℕ → ℕ → List ℕ
+fault_count host door source = if host == 0 && door == 0 && source == 0 then []
+    else codes "# host faults: " ++ decimal host ++ codes ", door faults: " ++ decimal door
+    ++ codes ", source faults: " ++ decimal source ++ codes "\n"

@@ -1,5 +1,7 @@
 -- What a run begins with.
 pub mod Starts
+-- What a run loads when a client asks for its configuration again.
+pub mod Reloads
 -- Which calls of a host failed in a round.
 pub mod Faults
 -- How long a client has been silent.

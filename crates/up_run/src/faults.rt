@@ -1,4 +1,4 @@
-//! Which calls of the host and of the door failed in a round, as comments for who reads what happens.
+//! Which calls of the host, the door and the source failed in a round, as comments for who reads what happens.
 ghost use Rattle.std.specs.Prelude.{◌≡◌, ◌-◌, ◌++◌, not, IfOk, OnOk};
 ghost use Rattle.std.specs.Fmt.{decimal};
 ghost use Rattle.std.specs.List.{count_by, flat_map, list_any};
@@ -166,8 +166,9 @@ pub(crate) fn fault_lines(
     alloc: Global,
     host: &HostFaults,
     door: &[DoorCall],
+    source: u64,
 ) -> Result<Vec<u8>, AllocError>
-    ensures { IfOk result (λ text. text.items ≡ fault_lines host.now door.now) }
+    ensures { IfOk result (λ text. text.items ≡ fault_lines host.now door.now source) }
 {
     let mut text: Vec<u8> = Vec::new(alloc);
     push_lines(&mut text, "host", "now", number(host.clock))?;
@@ -175,22 +176,30 @@ pub(crate) fn fault_lines(
     push_lines(&mut text, "host", "spawn", host.spawns)?;
     push_lines(&mut text, "host", "signal", host.signals)?;
     push_door_lines(&mut text, door)?;
+    push_lines(&mut text, "source", "load", source)?;
     Ok(text)
 }
 
-/// The comment that a run ends with in which calls failed: how many of the host, and how many of the door.
+/// The comment that a run ends with in which calls failed: how many of the host, of the door and of the source.
 #[tactic(auto, unfolding(crate::specs::Faults::fault_count))]
-pub(crate) fn fault_count(alloc: Global, host: u64, door: u64) -> Result<Vec<u8>, AllocError>
-    ensures { IfOk result (λ text. text.items ≡ fault_count host door) }
+pub(crate) fn fault_count(
+    alloc: Global,
+    host: u64,
+    door: u64,
+    source: u64,
+) -> Result<Vec<u8>, AllocError>
+    ensures { IfOk result (λ text. text.items ≡ fault_count host door source) }
 {
     let mut text: Vec<u8> = Vec::new(alloc);
-    if host == 0 && door == 0 {
+    if host == 0 && door == 0 && source == 0 {
         return Ok(text);
     }
     push(&mut text, "# host faults: ")?;
     push_decimal(&mut text, host)?;
     push(&mut text, ", door faults: ")?;
     push_decimal(&mut text, door)?;
+    push(&mut text, ", source faults: ")?;
+    push_decimal(&mut text, source)?;
     push(&mut text, "\n")?;
     Ok(text)
 }

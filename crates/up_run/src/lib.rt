@@ -12,6 +12,7 @@ pub mod reporter;
 pub mod run;
 pub mod silence;
 mod socket;
+mod source;
 mod unsaid;
 
 pub use reporter::ReportOptions;

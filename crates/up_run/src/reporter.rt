@@ -247,31 +247,33 @@ impl<W: Write + OpenFile + Drop> Reporter<W> {
         }
     }
 
-    /// Tells which calls of the host and of the door failed in a round, as comments.
+    /// Tells which calls of the host and of the door failed in a round, and how many of the source, as comments.
     pub(crate) fn tell_faults<R: Print + Eprint>(
         &mut self,
         rt: &R,
         alloc: Global,
         host: &HostFaults,
         door: &[DoorCall],
+        source: u64,
     ) {
-        if self.has_reader() && (host.are_some() || !door.is_empty()) {
-            self.tell_lines(rt, fault_lines(alloc, host, door));
+        if self.has_reader() && (host.are_some() || !door.is_empty() || source > 0) {
+            self.tell_lines(rt, fault_lines(alloc, host, door, source));
         }
     }
 
-    /// The run is over, in which so many calls of the host and of the door failed: that is told, what waits of the record is written, and
-    /// what nobody read is lost.
+    /// The run is over, in which so many calls of the host, of the door and of the source failed: that is told, what waits of the record
+    /// is written, and what nobody read is lost.
     pub(crate) fn finish<R: Print + Eprint>(
         &mut self,
         rt: &R,
         alloc: Global,
         host: u64,
         door: u64,
+        source: u64,
     ) {
         self.write_waiting(rt);
         if self.has_reader() {
-            self.tell_lines(rt, fault_count(alloc, host, door));
+            self.tell_lines(rt, fault_count(alloc, host, door, source));
         }
         if let Some(outlet) = &self.verbose {
             say_lost(rt, outlet.unread());

@@ -18,6 +18,7 @@ use crate::record::open_file;
 use crate::reporter::{ReportOptions, Reporter};
 use crate::silence::Silences;
 use crate::socket::say_no_socket;
+use crate::source::PathSource;
 use std::alloc::{AllocError, Global};
 use std::fs::{File, OpenFile, remove_file};
 use std::io::{Eprint, Write};
@@ -26,7 +27,7 @@ use std::process::Processes;
 use std::rt::{Clock, Files};
 use std::time::Duration;
 use std::{io, thread};
-use up_daemon::{Daemon, Door, SocketFault, UnixDoor};
+use up_daemon::{Daemon, Door, SocketFault, Source, UnixDoor};
 use up_disk::print::print;
 use up_disk::why::say_error;
 use up_engine::Engine;
@@ -143,23 +144,25 @@ fn pause_after<R: Clock>(rt: &R, door: &mut UnixDoor, pace: &Pace) {
 fn round<R, W>(
     rt: &R,
     daemon: &mut Daemon,
-    (host, door): (&mut RealHost<R>, &mut UnixDoor),
+    (host, door, source): (&mut RealHost<R>, &mut UnixDoor, &mut PathSource<'_, R>),
     going: &mut Going,
     reporter: &mut Reporter<W>,
 ) -> bool
 where
-    R: Processes + Clock + Print + Eprint + AllocGlobal,
+    R: Files + Processes + Clock + Print + Eprint + AllocGlobal + Clone + Drop,
     W: Write + OpenFile + Drop,
 {
     let faults = host.faults();
-    let Ok(round) = daemon.round(host, door) else {
+    let unread = source.faults();
+    let Ok(round) = daemon.round(host, door, source) else {
         return false;
     };
     let idle = is_idle(&round, door.happened());
     reporter.report_round(rt, rt.alloc(), &round, idle);
     let counted = host.faults().saturating_sub(faults);
     let faults = host_faults(round.fed.as_slice(), host.happened(), counted);
-    reporter.tell_faults(rt, rt.alloc(), &faults, door.failed());
+    let unread = source.faults().saturating_sub(unread);
+    reporter.tell_faults(rt, rt.alloc(), &faults, door.failed(), unread);
     if !going.quiet && !idle {
         say_failures(rt, &round, host.refusals());
     }
@@ -175,17 +178,17 @@ where
 fn all_rounds<R, W>(
     rt: &R,
     daemon: &mut Daemon,
-    (host, door): (&mut RealHost<R>, &mut UnixDoor),
+    (host, door, source): (&mut RealHost<R>, &mut UnixDoor, &mut PathSource<'_, R>),
     count: u32,
     mut going: Going,
     reporter: &mut Reporter<W>,
 ) -> ExitStatus
 where
-    R: Processes + Clock + Print + Eprint + AllocGlobal,
+    R: Files + Processes + Clock + Print + Eprint + AllocGlobal + Clone + Drop,
     W: Write + OpenFile + Drop,
 {
     for _ in 0..count {
-        if !round(rt, daemon, (host, door), &mut going, reporter) {
+        if !round(rt, daemon, (host, door, source), &mut going, reporter) {
             return ExitStatus::Memory;
         }
     }
@@ -219,12 +222,12 @@ fn first_daemon<R: Eprint + AllocGlobal, W: Write + OpenFile + Drop>(
 
 // The rounds of a daemon with the system's processes, and the status.
 fn serve_with<
-    R: Processes + Clock + Print + Eprint + AllocGlobal + Clone + Drop,
+    R: Files + Processes + Clock + Print + Eprint + AllocGlobal + Clone + Drop,
     W: Write + OpenFile + Drop,
 >(
     rt: &R,
     daemon: &mut Daemon,
-    door: &mut UnixDoor,
+    (door, source): (&mut UnixDoor, &str),
     (rounds, quiet): (Rounds, bool),
     reporter: &mut Reporter<W>,
 ) -> io::Result<ExitStatus> {
@@ -240,25 +243,34 @@ fn serve_with<
         silences: Silences::new(rt.alloc(), rounds.client_timeout),
         quiet,
     };
-    let status = all_rounds(rt, daemon, (&mut host, door), rounds.count, going, reporter);
-    reporter.finish(rt, rt.alloc(), host.faults(), door.faults());
+    let mut source = PathSource::new(rt, rt.alloc(), source);
+    let peers = (&mut host, &mut *door, &mut source);
+    let status = all_rounds(rt, daemon, peers, rounds.count, going, reporter);
+    reporter.finish(
+        rt,
+        rt.alloc(),
+        host.faults(),
+        door.faults(),
+        source.faults(),
+    );
+    drop(source);
     drop(host);
     Ok(status)
 }
 
 // The rounds over jobs with the system's processes, and the status.
 fn serve<
-    R: Processes + Clock + Print + Eprint + AllocGlobal + Clone + Drop,
+    R: Files + Processes + Clock + Print + Eprint + AllocGlobal + Clone + Drop,
     W: Write + OpenFile + Drop,
 >(
     rt: &R,
     table: Table,
-    door: &mut UnixDoor,
+    (door, source): (&mut UnixDoor, &str),
     (rounds, quiet): (Rounds, bool),
     reporter: &mut Reporter<W>,
 ) -> io::Result<ExitStatus> {
     let mut daemon = first_daemon(rt, table, reporter)?;
-    let served = serve_with(rt, &mut daemon, door, (rounds, quiet), reporter);
+    let served = serve_with(rt, &mut daemon, (door, source), (rounds, quiet), reporter);
     drop(daemon);
     served
 }
@@ -310,7 +322,13 @@ where
 {
     match reporter_of(rt, source, options) {
         Ok(Ok(mut reporter)) => {
-            let served = serve(rt, table, door, (rounds, options.quiet), &mut reporter);
+            let served = serve(
+                rt,
+                table,
+                (door, source),
+                (rounds, options.quiet),
+                &mut reporter,
+            );
             drop(reporter);
             served
         }

@@ -7,4 +7,4 @@ pub returns-clause-goes : goal.returns-clause-goes
 returns-clause-goes g c door config chronicle start at =
     let served = c.in_ok-serve_one.ensures in
     let before = served.goes door config chronicle start (c.loop.invariant.goes door config chronicle start at) in
-    record { stands = before.stands; reaches = HasServed (state_of c.serve_one.new.self (g.H.Host.calls c.serve_one.new.host) door []) refl (served.rest c.if-branch.false) before.reaches }
+    record { stands = before.stands; reaches = HasServed (state_of c.serve_one.new.self (g.H.Host.calls c.serve_one.new.host) door (g.S.Source.calls c.serve_one.new.source) []) refl (served.rest c.if-branch.false) before.reaches }

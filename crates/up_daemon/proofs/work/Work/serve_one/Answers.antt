@@ -10,8 +10,9 @@ pub returns-in_ok-take-in-Some-enter-clause-goes : goal.returns-in_ok-take-in-So
 returns-in_ok-take-in-Some-enter-clause-goes g c door config chronicle start at =
     let following : c.in-Some.following ≡ c.args.self.now.next + 1 = c.in-Some.ensures.1 in
     let below : c.args.self.now.next < last_number = omega (arith, c.in-Some.ensures.0) in
-    c.in_ok-take-in-Some-enter.ensures.takes config chronicle start TakingRequests tt door at.stands
-    (λ outputs is. rw following (Enters c.in-Some-enter.request (peers_of c.enter.new.self.list.items) outputs (state_of c.args.self.now (g.H.Host.calls c.args.host.now) door []) refl below c.in-Some-enter.ensures.entered is at.reaches))
+    let source = g.S.Source.calls c.input_of-given.new.source in
+    c.in_ok-take-in-Some-enter.ensures.takes config chronicle start TakingRequests tt door source at.stands
+    (λ outputs is. rw following (Enters c.in-Some-enter.request c.input_of-given.result source (peers_of c.enter.new.self.list.items) outputs (state_of c.args.self.now (g.H.Host.calls c.args.host.now) door (g.S.Source.calls c.args.source.now) []) refl below c.in-Some-enter.ensures.entered c.input_of-given.ensures is at.reaches))
 
 pub returns-in_ok-take-in-Some-enter-clause-fewer : goal.returns-in_ok-take-in-Some-enter-clause-fewer
 returns-in_ok-take-in-Some-enter-clause-fewer g c served =
