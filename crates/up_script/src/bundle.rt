@@ -5,6 +5,7 @@ ghost use Rattle.std.specs.Option.{option_or};
 ghost use Rattle.std.specs.Str.{is_utf8};
 ghost use Rattle.up_text.specs.Tokens.{is_line_feed};
 ghost use Rattle.up_script.specs.Bundle as bundle;
+ghost use Rattle.up_script.specs.Bundle.{none_or_first, IsPart};
 
 use memchr::memchr;
 use std::alloc::{AllocError, Global};
@@ -15,15 +16,27 @@ use up_text::{Items, Text};
 /// The most bytes that a bundle has: 64 MiB.
 pub const MAX_BUNDLE: usize = 67_108_864;
 
-/// What a bundle has: a folder of files, and a script.
+/// What a bundle has: folders of files, and a script.
 #[derive(Drop)]
 pub struct Bundle<'a> {
     pub folder: Folder,
+    /// The folders after the first.
+    pub later: Items<Folder>,
     /// The first line, counted from 1, that belongs to no file and no script, or whose path is no text.
     pub bad: Option<u32>,
     pub script: &'a [u8],
     /// The number of the script's first line.
     pub line: u32,
+}
+
+// A folder of a bundle, and what stands after it.
+#[derive(Drop)]
+struct Part<'a> {
+    folder: Folder,
+    bad: Option<u32>,
+    rest: &'a [u8],
+    // The number of the first line of the rest.
+    line: u32,
 }
 
 // The place of the first line feed, or the end.
@@ -81,10 +94,23 @@ fn is_file(line: &[u8]) -> bool
     line.starts_with(b"%file ")
 }
 
+#[tactic(auto, unfolding(crate::specs::Bundle::is_folder))]
+fn is_folder(line: &[u8]) -> bool
+    ensures { result ≡ bundle.is_folder line.now }
+{
+    trim_blanks(line) == b"%folder".as_slice()
+}
+
+fn ends_folder(line: &[u8]) -> bool
+    ensures { result ≡ bundle.ends_folder line.now }
+{
+    is_script(line) || is_folder(line)
+}
+
 fn is_header(line: &[u8]) -> bool
     ensures { result ≡ bundle.is_header line.now }
 {
-    is_script(line) || is_file(line)
+    ends_folder(line) || is_file(line)
 }
 
 // Whether the text has no line, or begins with a header.
@@ -99,6 +125,22 @@ fn begins_header(text: &[u8]) -> bool
     }
 }
 
+// Whether nothing is left of a folder: the text has no line, or begins with one that ends it.
+#[tactic(auto, using(crate::proofs::Passing::none_or_first_line))]
+fn at_end(text: &[u8]) -> bool
+    ensures { result ≡ none_or_first bundle.ends_folder (bundle.lines_of text.now) }
+{
+    text.is_empty() || ends_folder(split_line(text).0)
+}
+
+// Whether no folder is left: the text has no line, or begins with the script's.
+#[tactic(auto, using(crate::proofs::Passing::none_or_first_line))]
+fn at_script(text: &[u8]) -> bool
+    ensures { result ≡ none_or_first bundle.is_script (bundle.lines_of text.now) }
+{
+    text.is_empty() || is_script(split_line(text).0)
+}
+
 // The text up to the next header, the text from it on, and how many lines stand before it.
 fn to_header(text: &[u8]) -> (&[u8], &[u8], u32)
     requires { length text.now < 2 ^ 32 }
@@ -106,6 +148,8 @@ fn to_header(text: &[u8]) -> (&[u8], &[u8], u32)
     ensures header { bundle.begins_header (bundle.lines_of result.1.now) ≡ true }
     ensures files { bundle.files_of (bundle.lines_of result.1.now)
         ≡ bundle.files_of (bundle.lines_of text.now) }
+    ensures later { bundle.later_folders (bundle.lines_of result.1.now)
+        ≡ bundle.later_folders (bundle.lines_of text.now) }
     ensures script { bundle.script_text (bundle.lines_of result.1.now)
         ≡ bundle.script_text (bundle.lines_of text.now) }
     ensures number { (n : ℕ) → bundle.script_line (n + result.2) (bundle.lines_of result.1.now)
@@ -173,47 +217,84 @@ fn first_bad(bad: Option<u32>, good: bool, line: u32) -> Option<u32>
     }
 }
 
-// The first line, if it is neither a header nor the end.
-fn stray(text: &[u8]) -> Option<u32>
-    ensures { result ≡ (if bundle.begins_header (bundle.lines_of text.now) then None else Some 1) }
+// The first line, which has this number, if it is neither a header nor the end.
+fn stray(text: &[u8], line: u32) -> Option<u32>
+    ensures { result ≡ (if bundle.begins_header (bundle.lines_of text.now) then None else Some line) }
 {
-    if begins_header(text) { None } else { Some(1) }
+    if begins_header(text) { None } else { Some(line) }
 }
 
-/// Reads a bundle: a line `%file PATH` begins a file, whose bytes are the lines up to the next such line or to `%script`; all after
-/// that is the script.
-pub fn read_bundle(alloc: Global, text: &[u8]) -> Result<Bundle<'_>, AllocError>
-    requires { length text.now < 2 ^ 32 - 1 }
-    ensures folder { IfOk result (λ read. read.folder ≡ bundle.files_of (bundle.lines_of text.now)) }
-    ensures bad { IfOk result (λ read. read.bad ≡ bundle.bad_line (bundle.lines_of text.now)) }
-    ensures script { IfOk result (λ read. read.script.now ≡ bundle.script_text (bundle.lines_of text.now)) }
-    ensures line { IfOk result (λ read. read.line ≡ bundle.script_line 1 (bundle.lines_of text.now)) }
+// The folder that begins with a text whose first line has this number.
+fn read_folder(alloc: Global, text: &[u8], line: u32) -> Result<Part<'_>, AllocError>
+    requires { line + length text.now < 2 ^ 32 }
+    ensures { IfOk result (λ part. IsPart text.now line part.folder part.bad part.rest.now part.line) }
 {
     let mut folder = Folder::new(alloc);
-    let mut bad = stray(text);
+    let mut bad = stray(text, line);
     let (_, mut rest, passed) = to_header(text);
-    let mut line = passed + 1;
-    'files: while !rest.is_empty() {
+    let mut line = line + passed;
+    'files: while !at_end(rest) {
         let (header, after) = split_line(rest);
-        if is_script(header) {
-            let script = after;
-            return Ok(Bundle {
-                folder,
-                bad,
-                script,
-                line: line + 1,
-            });
-        }
         let (content, next, count) = to_header(after);
         let good = add_file(alloc, &mut folder, path_of(header), content)?;
         bad = first_bad(bad, good, line);
         rest = next;
         line += count + 1;
     }
-    Ok(Bundle {
+    Ok(Part {
         folder,
         bad,
-        script: rest,
+        rest,
+        line,
+    })
+}
+
+// What stands after the script's line, and the number of its first line; nothing where there is no such line.
+fn after_header(rest: &[u8], line: u32) -> (&[u8], u32)
+    requires { line + length rest.now < 2 ^ 32 }
+    ensures script { none_or_first bundle.is_script (bundle.lines_of rest.now) ≡ true
+        → result.0.now ≡ bundle.script_text (bundle.lines_of rest.now) }
+    ensures number { none_or_first bundle.is_script (bundle.lines_of rest.now) ≡ true
+        → result.1 ≡ bundle.script_line line (bundle.lines_of rest.now) }
+{
+    if rest.is_empty() {
+        (rest, line)
+    } else {
+        (split_line(rest).1, line + 1)
+    }
+}
+
+/// Reads a bundle: a line `%file PATH` begins a file, whose bytes are the lines up to the next header; `%folder` begins the next folder,
+/// and `%script` the script, which is all after that.
+pub fn read_bundle(alloc: Global, text: &[u8]) -> Result<Bundle<'_>, AllocError>
+    requires { length text.now < 2 ^ 32 - 1 }
+    ensures folder { IfOk result (λ read. read.folder ≡ bundle.files_of (bundle.lines_of text.now)) }
+    ensures later { IfOk result (λ read. read.later ≡ bundle.later_folders (bundle.lines_of text.now)) }
+    ensures bad { IfOk result (λ read. read.bad ≡ bundle.bad_line 1 (bundle.lines_of text.now)) }
+    ensures script { IfOk result (λ read. read.script.now ≡ bundle.script_text (bundle.lines_of text.now)) }
+    ensures line { IfOk result (λ read. read.line ≡ bundle.script_line 1 (bundle.lines_of text.now)) }
+{
+    let Part {
+        folder,
+        mut bad,
+        mut rest,
+        mut line,
+    } = read_folder(alloc, text, 1)?;
+    let mut later: Vec<Folder> = Vec::new(alloc);
+    'folders: while !at_script(rest) {
+        let part = read_folder(alloc, split_line(rest).1, line + 1)?;
+        later.push(part.folder)?;
+        bad = bad.or(part.bad);
+        rest = part.rest;
+        line = part.line;
+    }
+    let (script, line) = after_header(rest, line);
+    let later = Items::new(later);
+    Ok(Bundle {
+        folder,
+        later,
+        bad,
+        script,
         line,
     })
 }
