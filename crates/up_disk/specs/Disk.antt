@@ -1,5 +1,5 @@
 -- What is printed of a folder on the disk, and the status.
-use Rattle.std.specs.Prelude.{◌≡◌, ◌⊎◌, ℕ, ◌≤◌, Bool, true, false, List, length, Result, Ok, Err}
+use Rattle.std.specs.Prelude.{◌≡◌, ◌⊎◌, ℕ, ◌≤◌, Bool, true, false, List, [], length, Result, Ok, Err}
 use Rattle.up_conf.specs.declared.folder.File.{File}
 use Rattle.up_conf.specs.declared.job.JobDef.{JobDef}
 use Rattle.up_print.specs.declared.printed.Printed.{Printed}
@@ -118,7 +118,7 @@ pub record PlaysOver (files : List File) (base : List (List ℕ × List ℕ)) (s
     (made : Printed) : Type 0 where
   pub bytes : List ℕ
   pub bounded : length bytes ≤ MAX_BUNDLE
-  pub plays : Plays files base script (script_inputs 1 bytes) made
+  pub plays : Plays files base script (script_inputs [] 1 bytes) made
 
 -- such a replay over the files that the folder has
 pub record PlaysFiles (base : List (List ℕ × List ℕ)) (script : List ℕ) (made : Printed) : Type 0 where

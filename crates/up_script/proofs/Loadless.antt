@@ -1,9 +1,10 @@
--- No statement of a script gives a load.
+-- No statement of a script without tables gives a load.
 use Rattle.std.proofs.Common.{◌≡◌, ℕ, ◌+◌, ◌-◌, zero, suc, Bool, true, false, List, [], ◌∷◌, ◌++◌, Option, None, Some, option_map, option_and_then, Result, Ok, Err, replicate, bytes_eq, codes, if◌then◌else◌, take, drop, refl, sym, subst}
 use Rattle.std.specs.List.{AllByRecursion, prefix_len, concat}
 use Rattle.up_text.specs.Comments.{without_comments}
 use Rattle.up_text.specs.Lexemes.{Lexeme, stanzas}
 use Rattle.up_conf.specs.Numbers.{number_in}
+use Rattle.up_conf.specs.declared.job.JobDef.{JobDef}
 use Rattle.up_stanza.specs.declared.process.Process.{Process}
 use Rattle.up_model.specs.declared.input.Input.{Input}
 use Rattle.up_model.specs.declared.input.Input.TheVariants as input
@@ -14,7 +15,7 @@ use Rattle.up_model.specs.declared.who.Who.{Who}
 use Rattle.up_model.specs.Requests.{command_named}
 use Rattle.up_script.specs.Bundle.{lines_of}
 use Rattle.up_script.specs.Requests.{request_of, request_by}
-use Rattle.up_script.specs.Script.{who_named, process_of, how_of, emit_of, spawned_of, refused_of, ended_of, clock_of, input_of, turns_of, inputs_of}
+use Rattle.up_script.specs.Script.{who_named, process_of, how_of, emit_of, spawned_of, refused_of, ended_of, clock_of, load_of, input_of, turns_of, inputs_of, left_after}
 use Rattle.up_script.specs.Statements.{is_text, texts_in, step_inputs, begins_on, step_then, inputs_from, unless_left, lines_inputs, script_inputs}
 use Rattle.up_script.specs.Variables.{vars_of, name_in}
 
@@ -90,14 +91,18 @@ ended (job ∷ instance ∷ name ∷ kind ∷ text ∷ []) =
     (λ who. one-then (λ (its : Process). option_map (input.Ended who its) end) (λ its. one-map (input.Ended who its) (λ how. refl) end) (process_of name)) (who_named job instance)
 ended (a ∷ b ∷ c ∷ d ∷ e ∷ f ∷ words) = tt
 
+load : (words : List (List ℕ)) → One (load_of [] words)
+load words = tt
+
 clock : (words : List (List ℕ)) → One (clock_of words)
 clock [] = tt
 clock (reading ∷ []) = one-map input.Clock (λ now. refl) (number_in 0 18446744073709551615 reading)
 clock (a ∷ b ∷ words) = tt
 
-one : (kind : List ℕ) (words : List (List ℕ)) → One (input_of kind words)
+one : (kind : List ℕ) (words : List (List ℕ)) → One (input_of [] kind words)
 one kind words =
-    let sixth : Option Input = if bytes_eq kind (codes "clock") then clock_of words else None in
+    let seventh : Option Input = if bytes_eq kind (codes "load") then load_of [] words else None in
+    let sixth : Option Input = if bytes_eq kind (codes "clock") then clock_of words else seventh in
     let fifth : Option Input = if bytes_eq kind (codes "ended") then ended_of words else sixth in
     let fourth : Option Input = if bytes_eq kind (codes "refused") then refused_of words else fifth in
     let third : Option Input = if bytes_eq kind (codes "spawned") then spawned_of words else fourth in
@@ -107,7 +112,8 @@ one kind words =
     (one-if (bytes_eq kind (codes "spawned")) (spawned_of words) fourth (spawned words)
     (one-if (bytes_eq kind (codes "refused")) (refused_of words) fifth (refused words)
     (one-if (bytes_eq kind (codes "ended")) (ended_of words) sixth (ended words)
-    (one-if (bytes_eq kind (codes "clock")) (clock_of words) None (clock words) tt)))))
+    (one-if (bytes_eq kind (codes "clock")) (clock_of words) seventh (clock words)
+    (one-if (bytes_eq kind (codes "load")) (load_of [] words) None (load words) tt))))))
 
 turns-many : (n : ℕ) → AllByRecursion IsLoadless (replicate n input.Turn)
 turns-many zero = tt
@@ -122,7 +128,7 @@ turns (count ∷ []) = by_count (number_in 1 1000000 count)
     by_count (Some n) = turns-many n
 turns (a ∷ b ∷ words) = tt
 
-words-of : (words : List (List ℕ)) → Many (inputs_of words)
+words-of : (words : List (List ℕ)) → Many (inputs_of [] words)
 words-of [] = tt
 words-of (kind ∷ words) = by_kind (bytes_eq kind (codes "turn"))
   where
@@ -130,14 +136,14 @@ words-of (kind ∷ words) = by_kind (bytes_eq kind (codes "turn"))
     by_one None is = tt
     by_one (Some given) is = (is, tt)
 
-    by_kind : (b : Bool) → Many (if b then turns_of words else option_map (λ given. given ∷ []) (input_of kind words))
+    by_kind : (b : Bool) → Many (if b then turns_of words else option_map (λ given. given ∷ []) (input_of [] kind words))
     by_kind true = turns words
-    by_kind false = by_one (input_of kind words) (one kind words)
+    by_kind false = by_one (input_of [] kind words) (one kind words)
 
-step : (lexemes : List Lexeme) → Many (step_inputs lexemes)
+step : (lexemes : List Lexeme) → Many (step_inputs [] lexemes)
 step lexemes = by_texts (texts_in lexemes)
   where
-    by_texts : (o : Option (List (List ℕ))) → Many (option_and_then inputs_of o)
+    by_texts : (o : Option (List (List ℕ))) → Many (option_and_then (inputs_of []) o)
     by_texts None = tt
     by_texts (Some words) = words-of words
 
@@ -150,19 +156,34 @@ then-all line None others is rest = tt
 then-all line (Some inputs) (Ok others) is rest = both-all inputs others is rest
 then-all line (Some inputs) (Err bad) is rest = tt
 
-from : (line : ℕ) (steps : List (List Lexeme)) → All (inputs_from line steps)
+-- no table is left of none
+none-left : (words : Option (List (List ℕ))) → left_after [] words ≡ []
+none-left None = refl
+none-left (Some []) = refl
+none-left (Some (kind ∷ words)) = by_kind (bytes_eq kind (codes "load"))
+  where
+    none : List (List JobDef)
+    none = []
+
+    by_kind : (b : Bool) → (if b then drop 1 none else none) ≡ []
+    by_kind true = refl
+    by_kind false = refl
+
+from : (line : ℕ) (steps : List (List Lexeme)) → All (inputs_from [] line steps)
 from line [] = tt
-from line (its ∷ steps) = then-all (line + (begins_on its - 1)) (step_inputs its) (inputs_from line steps) (step its) (from line steps)
+from line (its ∷ steps) =
+    then-all (line + (begins_on its - 1)) (step_inputs [] its) (inputs_from (left_after [] (texts_in its)) line steps) (step its)
+    (subst (λ tables. All (inputs_from tables line steps)) (sym (none-left (texts_in its))) (from line steps))
 
 left : (line : ℕ) (lines : List (List ℕ)) (read : Result (List Input) ℕ) → All read → All (unless_left line lines read)
 left line [] read all = all
 left line (other ∷ lines) (Ok inputs) all = tt
 left line (other ∷ lines) (Err earlier) all = tt
 
-pub script-loadless : (line : ℕ) (script : List ℕ) (inputs : List Input) → Ok inputs ≡ script_inputs line script → AllByRecursion IsLoadless inputs
+pub script-loadless : (line : ℕ) (script : List ℕ) (inputs : List Input) → Ok inputs ≡ script_inputs [] line script → AllByRecursion IsLoadless inputs
 unfolding script_inputs lines_inputs
 script-loadless line script inputs is =
     let lines = lines_of (without_comments script) in
     let texts = prefix_len is_text lines in
     let steps = stanzas (concat (take texts lines)) in
-    subst All (sym is) (left (line + texts) (drop texts lines) (inputs_from line steps) (from line steps))
+    subst All (sym is) (left (line + texts) (drop texts lines) (inputs_from [] line steps) (from line steps))

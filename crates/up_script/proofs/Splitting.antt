@@ -8,6 +8,7 @@ use Rattle.std.specs.List.{concat, list_all, list_any, prefix_len}
 use Rattle.std.specs.Str.{IsUtf8, is_utf8}
 use Rattle.up_text.proofs.Readings.{prefix_len-front}
 use Rattle.up_script.specs.Bundle.{lines_of, first_line, after_line}
+use Rattle.up_conf.specs.declared.job.JobDef.{JobDef}
 use Rattle.up_model.specs.declared.input.Input.{Input}
 use Rattle.up_text.specs.Lexemes.{stanzas}
 use Rattle.up_script.specs.Statements.{is_text, begins_text, inputs_from, lines_inputs, unless_left, Fronts}
@@ -129,10 +130,10 @@ left_err line [] earlier some = absurd (true≢false some)
 left_err line (byte ∷ rest) earlier some = (left_lines line (lines_of (byte ∷ rest)) _ _ (lines_of-first byte rest)).1 earlier
 
 -- a script by its front
-pub by_front : (line : ℕ) (script front rest : List ℕ) (count : ℕ) → Fronts script front rest count
-    → unless_left (line + count) (lines_of rest) (inputs_from line (stanzas front)) ≡ lines_inputs line (lines_of script)
+pub by_front : (tables : List (List JobDef)) (line : ℕ) (script front rest : List ℕ) (count : ℕ) → Fronts script front rest count
+    → unless_left (line + count) (lines_of rest) (inputs_from tables line (stanzas front)) ≡ lines_inputs tables line (lines_of script)
 unfolding lines_inputs
-by_front line script front rest count is =
-    ap (λ lines. unless_left (line + count) lines (inputs_from line (stanzas front))) is.after
-    ∙ ap (λ text. unless_left (line + count) (drop count (lines_of script)) (inputs_from line (stanzas text))) is.lines
-    ∙ ap (λ n. unless_left (line + n) (drop n (lines_of script)) (inputs_from line (stanzas (concat (take n (lines_of script)))))) is.counted
+by_front tables line script front rest count is =
+    ap (λ lines. unless_left (line + count) lines (inputs_from tables line (stanzas front))) is.after
+    ∙ ap (λ text. unless_left (line + count) (drop count (lines_of script)) (inputs_from tables line (stanzas text))) is.lines
+    ∙ ap (λ n. unless_left (line + n) (drop n (lines_of script)) (inputs_from tables line (stanzas (concat (take n (lines_of script)))))) is.counted

@@ -9,8 +9,9 @@ use Rattle.std.proofs.lemmas.Bool.{true≢false}
 use Rattle.std.specs.List.{take_while}
 use Rattle.up_text.proofs.Lexemes.{line_lexemes, none_when_finished, finished_when_none}
 use Rattle.up_text.proofs.Runs.{feeds-length}
+use Rattle.up_conf.specs.declared.job.JobDef.{JobDef}
 use Rattle.up_model.specs.declared.input.Input.{Input}
-use Rattle.up_script.specs.Script.{inputs_of}
+use Rattle.up_script.specs.Script.{inputs_of, left_after}
 use Rattle.up_script.specs.Statements.{begins_on, after_step, inputs_from, step_then, step_inputs, with_inputs, texts_in, ReachesNoFurther}
 
 -- the line of the next token is one of the text that is left
@@ -85,56 +86,59 @@ first_words (Bad line fault ∷ later) = refl
 first_words (End ∷ later) = refl
 
 -- a bad step begins with a token, which is read next
-first_line : (lexemes : List Lexeme) (line : ℕ) → step_inputs lexemes ≡ None → IsLineOf lexemes line → begins_on (first_step lexemes) ≡ line
-first_line [] line bad is = absurd (cc)
-first_line (Word token ∷ later) line bad is = sym is
-first_line (Bad first fault ∷ later) line bad is = sym is
-first_line (End ∷ later) line bad is = absurd (cc)
+first_line : (tables : List (List JobDef)) (lexemes : List Lexeme) (line : ℕ) → step_inputs tables lexemes ≡ None → IsLineOf lexemes line → begins_on (first_step lexemes) ≡ line
+first_line tables [] line bad is = absurd (cc)
+first_line tables (Word token ∷ later) line bad is = sym is
+first_line tables (Bad first fault ∷ later) line bad is = sym is
+first_line tables (End ∷ later) line bad is = absurd (cc)
 
 with_more : (inputs more : List Input) (others : Result (List Input) ℕ) → with_inputs inputs (with_inputs more others) ≡ with_inputs (inputs ++ more) others
 with_more inputs more (Ok others) = ap Ok (sym (append_assoc inputs more others))
 with_more inputs more (Err line) = refl
 
-steps_first : (line : ℕ) (lexeme : Lexeme) (later : List Lexeme) → inputs_from line (split_ends (lexeme ∷ later))
-    ≡ step_then (line + (begins_on (first_step (lexeme ∷ later)) - 1)) (step_inputs (lexeme ∷ later)) (inputs_from line (split_ends (after_step (lexeme ∷ later))))
-steps_first line lexeme later =
-    ap (inputs_from line) (split_first lexeme later)
-    ∙ ap (λ words. step_then (line + (begins_on (first_step (lexeme ∷ later)) - 1)) (option_and_then inputs_of words) (inputs_from line (split_ends (after_step (lexeme ∷ later))))) (first_words (lexeme ∷ later))
+steps_first : (tables : List (List JobDef)) (line : ℕ) (lexeme : Lexeme) (later : List Lexeme) → inputs_from tables line (split_ends (lexeme ∷ later))
+    ≡ step_then (line + (begins_on (first_step (lexeme ∷ later)) - 1)) (step_inputs tables (lexeme ∷ later))
+    (inputs_from (left_after tables (texts_in (lexeme ∷ later))) line (split_ends (after_step (lexeme ∷ later))))
+steps_first tables line lexeme later =
+    ap (inputs_from tables line) (split_first lexeme later)
+    ∙ ap (λ words. step_then (line + (begins_on (first_step (lexeme ∷ later)) - 1)) (option_and_then (inputs_of tables) words) (inputs_from (left_after tables words) line (split_ends (after_step (lexeme ∷ later))))) (first_words (lexeme ∷ later))
 
 -- the inputs of one step more
-more_steps : (line : ℕ) (inputs more : List Input) (left : List Lexeme) → (left ≡ [] → ⊥) → step_inputs left ≡ Some more
-    → with_inputs (inputs ++ more) (inputs_from line (split_ends (after_step left))) ≡ with_inputs inputs (inputs_from line (split_ends left))
-more_steps line inputs more [] some is = absurd (some refl)
-more_steps line inputs more (lexeme ∷ later) some is =
-    let rest = inputs_from line (split_ends (after_step (lexeme ∷ later))) in
+more_steps : (tables : List (List JobDef)) (line : ℕ) (inputs more : List Input) (left : List Lexeme) → (left ≡ [] → ⊥) → step_inputs tables left ≡ Some more
+    → with_inputs (inputs ++ more) (inputs_from (left_after tables (texts_in left)) line (split_ends (after_step left))) ≡ with_inputs inputs (inputs_from tables line (split_ends left))
+more_steps tables line inputs more [] some is = absurd (some refl)
+more_steps tables line inputs more (lexeme ∷ later) some is =
+    let rest = inputs_from (left_after tables (texts_in (lexeme ∷ later))) line (split_ends (after_step (lexeme ∷ later))) in
     sym (with_more inputs more rest)
     ∙ ap (λ found. with_inputs inputs (step_then (line + (begins_on (first_step (lexeme ∷ later)) - 1)) found rest)) (sym is)
-    ∙ ap (with_inputs inputs) (sym (steps_first line lexeme later))
+    ∙ ap (with_inputs inputs) (sym (steps_first tables line lexeme later))
 
 -- a bad step
-bad_steps : (line : ℕ) (inputs : List Input) (left : List Lexeme) (at : ℕ) → step_inputs left ≡ None → IsLineOf left at
-    → with_inputs inputs (inputs_from line (split_ends left)) ≡ Err (line + (at - 1))
-bad_steps line inputs [] at bad is = absurd (cc)
-bad_steps line inputs (lexeme ∷ later) at bad is =
-    let rest = inputs_from line (split_ends (after_step (lexeme ∷ later))) in
-    ap (with_inputs inputs) (steps_first line lexeme later)
+bad_steps : (tables : List (List JobDef)) (line : ℕ) (inputs : List Input) (left : List Lexeme) (at : ℕ) → step_inputs tables left ≡ None → IsLineOf left at
+    → with_inputs inputs (inputs_from tables line (split_ends left)) ≡ Err (line + (at - 1))
+bad_steps tables line inputs [] at bad is = absurd (cc)
+bad_steps tables line inputs (lexeme ∷ later) at bad is =
+    let rest = inputs_from (left_after tables (texts_in (lexeme ∷ later))) line (split_ends (after_step (lexeme ∷ later))) in
+    ap (with_inputs inputs) (steps_first tables line lexeme later)
     ∙ ap (λ found. with_inputs inputs (step_then (line + (begins_on (first_step (lexeme ∷ later)) - 1)) found rest)) bad
-    ∙ ap (λ n. Err (line + (n - 1))) (first_line (lexeme ∷ later) at bad is)
+    ∙ ap (λ n. Err (line + (n - 1))) (first_line tables (lexeme ∷ later) at bad is)
 
-pub one_step : (line : ℕ) (inputs more : List Input) (place : Place) (next : List Lexeme) → is_finished place ≡ false → step_inputs (lexemes_of place) ≡ Some more
-    → next ≡ after_step (lexemes_of place)
-    → with_inputs (inputs ++ more) (inputs_from line (split_ends next)) ≡ with_inputs inputs (inputs_from line (split_ends (lexemes_of place)))
-one_step line inputs more place next goes is after =
-    ap (λ left. with_inputs (inputs ++ more) (inputs_from line (split_ends left))) after
-    ∙ more_steps line inputs more (lexemes_of place) (λ none. true≢false (sym (finished_when_none place none) ∙ goes)) is
+pub one_step : (tables after : List (List JobDef)) (line : ℕ) (inputs more : List Input) (place : Place) (next : List Lexeme) → is_finished place ≡ false
+    → step_inputs tables (lexemes_of place) ≡ Some more → after ≡ left_after tables (texts_in (lexemes_of place)) → next ≡ after_step (lexemes_of place)
+    → with_inputs (inputs ++ more) (inputs_from after line (split_ends next)) ≡ with_inputs inputs (inputs_from tables line (split_ends (lexemes_of place)))
+one_step tables after line inputs more place next goes is left ends =
+    ap (λ lexemes. with_inputs (inputs ++ more) (inputs_from after line (split_ends lexemes))) ends
+    ∙ ap (λ those. with_inputs (inputs ++ more) (inputs_from those line (split_ends (after_step (lexemes_of place))))) left
+    ∙ more_steps tables line inputs more (lexemes_of place) (λ none. true≢false (sym (finished_when_none place none) ∙ goes)) is
 
-pub bad_step : (line : ℕ) (inputs : List Input) (place : Place) → step_inputs (lexemes_of place) ≡ None
-    → with_inputs inputs (inputs_from line (split_ends (lexemes_of place))) ≡ Err (line + (line_at place - 1))
-bad_step line inputs place bad = bad_steps line inputs (lexemes_of place) (line_at place) bad (line_lexemes place)
+pub bad_step : (tables : List (List JobDef)) (line : ℕ) (inputs : List Input) (place : Place) → step_inputs tables (lexemes_of place) ≡ None
+    → with_inputs inputs (inputs_from tables line (split_ends (lexemes_of place))) ≡ Err (line + (line_at place - 1))
+bad_step tables line inputs place bad = bad_steps tables line inputs (lexemes_of place) (line_at place) bad (line_lexemes place)
 
-pub no_step : (line : ℕ) (inputs : List Input) (place : Place) → is_finished place ≡ true → with_inputs inputs (inputs_from line (split_ends (lexemes_of place))) ≡ Ok inputs
-no_step line inputs place finished =
-    ap (λ left. with_inputs inputs (inputs_from line (split_ends left))) (none_when_finished place finished) ∙ ap Ok (append-nil inputs)
+pub no_step : (tables : List (List JobDef)) (line : ℕ) (inputs : List Input) (place : Place) → is_finished place ≡ true
+    → with_inputs inputs (inputs_from tables line (split_ends (lexemes_of place))) ≡ Ok inputs
+no_step tables line inputs place finished =
+    ap (λ left. with_inputs inputs (inputs_from tables line (split_ends left))) (none_when_finished place finished) ∙ ap Ok (append-nil inputs)
 
 after_less : (lexeme : Lexeme) (later : List Lexeme) → length (after_step (lexeme ∷ later)) < length (lexeme ∷ later)
 after_less End later = omega arith

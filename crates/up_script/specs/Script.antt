@@ -1,9 +1,11 @@
 -- What the lines of a script say.
-use Rattle.std.specs.Prelude.{ℕ, List, [], ◌∷◌, replicate, Option, None, Some, option_map, option_and_then, if◌then◌else◌, codes}
+use Rattle.std.specs.Prelude.{ℕ, List, [], ◌∷◌, drop, replicate, Option, None, Some, option_map, option_and_then, if◌then◌else◌, codes}
 use Rattle.std.specs.Str.{bytes_eq}
 use Rattle.up_text.specs.Names.{is_name}
 use Rattle.up_model.specs.declared.input.Input.{Input}
 use Rattle.up_model.specs.declared.input.Input.TheVariants as input
+use Rattle.up_model.specs.declared.loaded.Loaded.TheVariants as loaded
+use Rattle.up_conf.specs.declared.job.JobDef.{JobDef}
 use Rattle.up_stanza.specs.declared.process.Process.{Process}
 use Rattle.up_stanza.specs.declared.process.Process.TheVariants as process
 use Rattle.up_model.specs.declared.process.How.{How}
@@ -67,16 +69,23 @@ abbrev pub clock_of : List (List ℕ) → Option Input
 clock_of (reading ∷ []) = option_map input.Clock (number_in 0 18446744073709551615 reading)
 clock_of words = None
 
--- the one input of a line by its first word and the others
-abbrev pub input_of : List ℕ → List (List ℕ) → Option Input
-input_of kind words =
+-- ID, for a load of the first of these tables; there is none without a table
+abbrev pub load_of : List (List JobDef) → List (List ℕ) → Option Input
+load_of (table ∷ tables) (id ∷ []) = option_map (λ number. input.Load number (loaded.Files table))
+    (number_in 0 18446744073709551615 id)
+load_of tables words = None
+
+-- the one input of a line by its first word and the others, where these tables are left for loads
+abbrev pub input_of : List (List JobDef) → List ℕ → List (List ℕ) → Option Input
+input_of tables kind words =
     if bytes_eq kind (codes "emit") then emit_of words
     else (if bytes_eq kind (codes "request") then request_of words
     else (if bytes_eq kind (codes "spawned") then spawned_of words
     else (if bytes_eq kind (codes "refused") then refused_of words
     else (if bytes_eq kind (codes "ended") then ended_of words
     else (if bytes_eq kind (codes "clock") then clock_of words
-    else None)))))
+    else (if bytes_eq kind (codes "load") then load_of tables words
+    else None))))))
 
 -- [N]: so many turns, or one
 abbrev pub turns_of : List (List ℕ) → Option (List Input)
@@ -84,8 +93,18 @@ turns_of [] = Some (input.Turn ∷ [])
 turns_of (count ∷ []) = option_map (λ n. replicate n input.Turn) (number_in 1 1000000 count)
 turns_of words = None
 
--- the inputs of a line by its words; a line without words has none
-abbrev pub inputs_of : List (List ℕ) → Option (List Input)
-inputs_of [] = Some []
-inputs_of (kind ∷ words) = if bytes_eq kind (codes "turn") then turns_of words else option_map
-    (λ one. one ∷ []) (input_of kind words)
+-- the inputs of a line by its words, where these tables are left for loads; a line without words has none
+abbrev pub inputs_of : List (List JobDef) → List (List ℕ) → Option (List Input)
+inputs_of tables [] = Some []
+inputs_of tables (kind ∷ words) = if bytes_eq kind (codes "turn") then turns_of words else option_map
+    (λ one. one ∷ []) (input_of tables kind words)
+
+-- the tables that a line leaves by its first word: a load takes the first
+abbrev pub left_by : List (List JobDef) → List ℕ → List (List JobDef)
+left_by tables kind = if bytes_eq kind (codes "load") then drop 1 tables else tables
+
+-- the tables that a line leaves by its words, if they are whole
+abbrev pub left_after : List (List JobDef) → Option (List (List ℕ)) → List (List JobDef)
+left_after tables None = tables
+left_after tables (Some []) = tables
+left_after tables (Some (kind ∷ words)) = left_by tables kind

@@ -5,11 +5,12 @@ use Rattle.std.specs.Str.{is_utf8}
 use Rattle.up_text.specs.Comments.{without_comments}
 use Rattle.up_text.specs.Lexemes.{Lexeme, Word, Bad, End, stanzas}
 use Rattle.up_text.specs.Places.{Place}
+use Rattle.up_conf.specs.declared.job.JobDef.{JobDef}
 use Rattle.up_model.specs.declared.input.Input.{Input}
 use Rattle.up_script.specs.declared.script.Next.{Next}
 use Rattle.up_script.specs.declared.script.Next.TheVariants as next
 use Rattle.up_script.specs.Bundle.{lines_of}
-use Rattle.up_script.specs.Script.{inputs_of}
+use Rattle.up_script.specs.Script.{inputs_of, left_after}
 
 -- bytes that may stand in a script: UTF-8 without the byte 0
 unfoldable pub is_text : List ℕ → Bool
@@ -22,9 +23,9 @@ texts_in (Word token ∷ lexemes) = option_map (λ words. token.text ∷ words) 
 texts_in (Bad line fault ∷ lexemes) = None
 texts_in (End ∷ lexemes) = Some []
 
--- the inputs of a step, if its words give some
-abbrev pub step_inputs : List Lexeme → Option (List Input)
-step_inputs step = option_and_then inputs_of (texts_in step)
+-- the inputs of a step, if its words give some, where these tables are left for loads
+abbrev pub step_inputs : List (List JobDef) → List Lexeme → Option (List Input)
+step_inputs tables step = option_and_then (inputs_of tables) (texts_in step)
 
 -- the line on which a step begins: that of its first token; each step has one
 abbrev pub begins_on : List Lexeme → ℕ
@@ -43,11 +44,12 @@ abbrev pub step_then : ℕ → Option (List Input) → Result (List Input) ℕ �
 step_then line None others = Err line
 step_then line (Some inputs) others = with_inputs inputs others
 
--- the inputs of the steps of a text whose first line has this number, or the line on which the first bad step begins
-abbrev pub inputs_from : ℕ → List (List Lexeme) → Result (List Input) ℕ
-inputs_from line [] = Ok []
-inputs_from line (step ∷ steps) = step_then (line + (begins_on step - 1)) (step_inputs step)
-    (inputs_from line steps)
+-- the inputs of the steps of a text whose first line has this number, or the line on which the first bad step begins; each load takes the
+-- first of the tables that those before it left
+abbrev pub inputs_from : List (List JobDef) → ℕ → List (List Lexeme) → Result (List Input) ℕ
+inputs_from tables line [] = Ok []
+inputs_from tables line (step ∷ steps) = step_then (line + (begins_on step - 1)) (step_inputs tables step)
+    (inputs_from (left_after tables (texts_in step)) line steps)
 
 -- what is read if no lines are left; otherwise the first of these has this number, and is bad unless a step before it is
 abbrev pub unless_left : ℕ → List (List ℕ) → Result (List Input) ℕ → Result (List Input) ℕ
@@ -56,15 +58,15 @@ unless_left line (other ∷ lines) (Ok inputs) = Err line
 unless_left line (other ∷ lines) (Err earlier) = Err earlier
 
 -- the inputs of the lines up to the first that is no text, or the number of the first bad line, if the first has this number
-unfoldable pub lines_inputs : ℕ → List (List ℕ) → Result (List Input) ℕ
-lines_inputs line lines =
+unfoldable pub lines_inputs : List (List JobDef) → ℕ → List (List ℕ) → Result (List Input) ℕ
+lines_inputs tables line lines =
     let texts = prefix_len is_text lines in
-    unless_left (line + texts) (drop texts lines) (inputs_from line (stanzas (concat (take texts lines))))
+    unless_left (line + texts) (drop texts lines) (inputs_from tables line (stanzas (concat (take texts lines))))
 
 -- the inputs of a script whose first line has this number, or the number of its first bad line: without its comments, its lines up to
--- the first that is no text are read
-unfoldable pub script_inputs : ℕ → List ℕ → Result (List Input) ℕ
-script_inputs line script = lines_inputs line (lines_of (without_comments script))
+-- the first that is no text are read. Its loads take these tables, one after another, and one for which none is left is bad
+unfoldable pub script_inputs : List (List JobDef) → ℕ → List ℕ → Result (List Input) ℕ
+script_inputs tables line script = lines_inputs tables line (lines_of (without_comments script))
 
 -- whether lines begin with one that is text
 abbrev pub begins_text : List (List ℕ) → Bool

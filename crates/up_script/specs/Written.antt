@@ -92,4 +92,4 @@ script_of inputs = script_after 0 inputs
 
 -- a script can't say these inputs: their lines are too long, or are read as others, since one has a value with a line feed, say
 abbrev pub IsUnsaid : List Input → Type 0
-IsUnsaid inputs = (MAX_LINES < length (script_of inputs)) ⊎ (script_inputs 1 (script_of inputs) ≢ Ok inputs)
+IsUnsaid inputs = (MAX_LINES < length (script_of inputs)) ⊎ (script_inputs [] 1 (script_of inputs) ≢ Ok inputs)

@@ -221,7 +221,11 @@ fn first_bad(bad: Option<u32>, good: bool, line: u32) -> Option<u32>
 fn stray(text: &[u8], line: u32) -> Option<u32>
     ensures { result ≡ (if bundle.begins_header (bundle.lines_of text.now) then None else Some line) }
 {
-    if begins_header(text) { None } else { Some(line) }
+    if begins_header(text) {
+        None
+    } else {
+        Some(line)
+    }
 }
 
 // The folder that begins with a text whose first line has this number.

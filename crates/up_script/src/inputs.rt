@@ -1,5 +1,5 @@
 //! Writes inputs as the lines of a script.
-ghost use Rattle.std.specs.Prelude.{◌≡◌, ◌++◌, None, Ok, OnOk, IfOk, IfSome, codes};
+ghost use Rattle.std.specs.Prelude.{◌≡◌, [], ◌++◌, None, Ok, OnOk, IfOk, IfSome, codes};
 ghost use Rattle.std.specs.List.{flat_map};
 ghost use Rattle.up_script.specs.Statements.{script_inputs};
 ghost use Rattle.up_script.specs.Written.{token_byte, token, variable_token, wait_token, name_token, request_tokens, process_tokens, end_tokens, statement, is_turn, turns_line, script_of, IsUnsaid};
@@ -222,7 +222,7 @@ fn render(alloc: Global, inputs: &[Input]) -> Result<Vec<u8>, AllocError>
 /// feed in it. The lines are read again to see that.
 pub fn script_lines(alloc: Global, inputs: &[Input]) -> Result<Option<Items<u8>>, AllocError>
     ensures said { IfOk result (λ written. IfSome written (λ text. (text ≡ script_of inputs.now)
-        × (script_inputs 1 text ≡ Ok inputs.now))) }
+        × (script_inputs [] 1 text ≡ Ok inputs.now))) }
     ensures unsaid { IfOk result (λ written. written ≡ None → IsUnsaid inputs.now) }
 {
     let text = render(alloc, inputs)?;

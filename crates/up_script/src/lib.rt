@@ -13,5 +13,5 @@ mod words;
 
 pub use bundle::{Bundle, read_bundle};
 pub use inputs::script_lines;
-pub use script::{read_inputs, script_inputs};
+pub use script::{read_inputs, read_inputs_with, script_inputs};
 pub use scripted::ScriptInputs;

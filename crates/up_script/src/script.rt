@@ -1,9 +1,10 @@
 //! Reads a script.
-ghost use Rattle.std.specs.Prelude.{◌≡◌, ◌≤◌, ◌<◌, ◌+◌, IfOk, IfSome, MatchOption, OnErr, true, false, length, option_map};
+ghost use Rattle.std.specs.Prelude.{◌≡◌, ◌≤◌, ◌<◌, ◌+◌, IfOk, IfSome, MatchOption, OnErr, true, false, [], length, option_map};
 ghost use Rattle.up_stanza.specs.Reading.{LacksMemory};
 ghost use Rattle.up_text.specs.Places.{reading};
 ghost use Rattle.up_text.specs.Lexemes.{lexemes_of, stanzas};
 ghost use Rattle.up_script.specs.Bundle.{lines_of};
+ghost use Rattle.up_script.specs.Script.{left_after};
 ghost use Rattle.up_script.specs.ScriptInputs.{inputs_of_step};
 ghost use Rattle.up_script.specs.Statements.{is_text, begins_text, after_step, inputs_from, lines_inputs, step_inputs, script_inputs, unless_left, texts_in, IsNext, Fronts, ReachesNoFurther};
 
@@ -11,6 +12,8 @@ use crate::bundle::{as_text, split_line};
 use crate::scripted::{ScriptInputs, StepInputs};
 use crate::words::inputs_of;
 use std::alloc::{AllocError, Global};
+use std::collections::VecDeque;
+use up_image::Table;
 use up_model::Input;
 use up_text::{Items, Lexer, Text, TextFault, without_comments};
 
@@ -92,15 +95,22 @@ fn step_words(alloc: Global, lexer: &mut Lexer) -> Result<Option<Items<Text>>, A
     Ok(Some(Items::new(words)))
 }
 
-// What the step in front gives, if it is no bad one; the lexer then stands after it.
-fn step_inputs(alloc: Global, lexer: &mut Lexer) -> Result<Option<StepInputs>, AllocError>
-    ensures inputs { IfOk result (λ given. option_map inputs_of_step given ≡ step_inputs (lexemes_of lexer.old)) }
+// What the step in front gives, if it is no bad one; the lexer then stands after it, and a load has taken the next table.
+fn step_inputs(
+    alloc: Global,
+    tables: &mut VecDeque<Table>,
+    lexer: &mut Lexer,
+) -> Result<Option<StepInputs>, AllocError>
+    ensures inputs { IfOk result (λ given. option_map inputs_of_step given
+        ≡ step_inputs tables.old.items (lexemes_of lexer.old)) }
+    ensures left { IfOk result (λ given. IfSome given
+        (λ _. tables.new.items ≡ left_after tables.old.items (texts_in (lexemes_of lexer.old)))) }
     ensures after { IfOk result (λ given. IfSome given
         (λ _. lexemes_of lexer.new ≡ after_step (lexemes_of lexer.old))) }
     ensures within { ReachesNoFurther lexer.new lexer.old }
 {
     match step_words(alloc, lexer)? {
-        Some(words) => inputs_of(alloc, words.as_slice()),
+        Some(words) => inputs_of(alloc, tables, words.as_slice()),
         None => Ok(None),
     }
 }
@@ -109,17 +119,18 @@ fn step_inputs(alloc: Global, lexer: &mut Lexer) -> Result<Option<StepInputs>, A
 #[tactic(auto, using(crate::proofs::Stepping::bad_step, crate::proofs::Stepping::line_within, crate::proofs::Stepping::no_step, crate::proofs::Stepping::one_step, crate::proofs::Stepping::step_less))]
 fn text_inputs(
     alloc: Global,
+    tables: &mut VecDeque<Table>,
     text: &str,
     line: u32,
 ) -> Result<Result<ScriptInputs, u32>, AllocError>
     requires { line + length text.now < 4294967295 }
-    ensures { IfOk result (λ read. read ≡ inputs_from line (stanzas text.now)) }
+    ensures { IfOk result (λ read. read ≡ inputs_from tables.old.items line (stanzas text.now)) }
 {
     let mut inputs = ScriptInputs::none(alloc);
     let mut lexer = Lexer::new(text);
     'steps: while !lexer.at_end() {
         let lines = lexer.line();
-        match step_inputs(alloc, &mut lexer)? {
+        match step_inputs(alloc, tables, &mut lexer)? {
             Some(given) => inputs.push(given)?,
             None => return Ok(Err(line + lines.saturating_sub(1))),
         }
@@ -145,32 +156,48 @@ fn unless_left(read: Result<ScriptInputs, u32>, rest: &[u8], line: u32) -> Resul
 #[tactic(auto, using(crate::proofs::Splitting::by_front))]
 fn lines_inputs(
     alloc: Global,
+    tables: &mut VecDeque<Table>,
     script: &[u8],
     line: u32,
 ) -> Result<Result<ScriptInputs, u32>, AllocError>
     requires { line + length script.now < 4294967295 }
-    ensures { IfOk result (λ read. read ≡ lines_inputs line (lines_of script.now)) }
+    ensures { IfOk result (λ read. read ≡ lines_inputs tables.old.items line (lines_of script.now)) }
 {
     let (front, rest, count) = text_front(script);
     let Some(text) = as_text(front) else {
         unreachable!()
     };
-    let read = text_inputs(alloc, text, line)?;
+    let read = text_inputs(alloc, tables, text, line)?;
     Ok(unless_left(read, rest, line + count))
 }
 
-/// The inputs of a script that begins on this line, or its first bad line.
+/// The inputs of a script that begins on this line, or its first bad line. Each load takes the next of the tables, which are those of
+/// a bundle's later folders.
 #[tactic(auto, unfolding(crate::specs::Statements::script_inputs), using(up_text::proofs::Comments::no_longer))]
+pub fn read_inputs_with(
+    alloc: Global,
+    tables: &mut VecDeque<Table>,
+    script: &[u8],
+    line: u32,
+) -> Result<Result<ScriptInputs, u32>, AllocError>
+    requires { line + length script.now < 4294967295 }
+    ensures { IfOk result (λ read. read ≡ script_inputs tables.old.items line script.now) }
+{
+    let bytes = without_comments(alloc, script)?;
+    lines_inputs(alloc, tables, bytes.as_slice(), line)
+}
+
+/// The same of a script that stands alone, in which a load is a bad step.
 pub fn read_inputs(
     alloc: Global,
     script: &[u8],
     line: u32,
 ) -> Result<Result<ScriptInputs, u32>, AllocError>
     requires { line + length script.now < 4294967295 }
-    ensures { IfOk result (λ read. read ≡ script_inputs line script.now) }
+    ensures { IfOk result (λ read. read ≡ script_inputs [] line script.now) }
 {
-    let bytes = without_comments(alloc, script)?;
-    lines_inputs(alloc, bytes.as_slice(), line)
+    let mut tables: VecDeque<Table> = VecDeque::new(alloc);
+    read_inputs_with(alloc, &mut tables, script, line)
 }
 
 /// The same, each turn for itself.
@@ -180,7 +207,7 @@ pub fn script_inputs(
     line: u32,
 ) -> Result<Result<Items<Input>, u32>, AllocError>
     requires { line + length script.now < 4294967295 }
-    ensures { IfOk result (λ read. read ≡ script_inputs line script.now) }
+    ensures { IfOk result (λ read. read ≡ script_inputs [] line script.now) }
 {
     match read_inputs(alloc, script, line)? {
         Ok(inputs) => {

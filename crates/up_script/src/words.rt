@@ -1,14 +1,16 @@
 //! Reads the words of a script's line.
-ghost use Rattle.std.specs.Prelude.{◌≡◌, IfOk, option_map};
+ghost use Rattle.std.specs.Prelude.{◌≡◌, IfOk, IfSome, Some, drop, option_map};
 ghost use Rattle.up_script.specs.ScriptInputs.{inputs_of_step};
-ghost use Rattle.up_script.specs.Script.{who_named, process_of, how_of, emit_of, spawned_of, refused_of, ended_of, clock_of, input_of, turns_of, inputs_of};
+ghost use Rattle.up_script.specs.Script.{who_named, process_of, how_of, emit_of, spawned_of, refused_of, ended_of, clock_of, load_of, input_of, turns_of, inputs_of, left_by, left_after};
 
 use crate::requests::request_of;
 use crate::scripted::StepInputs;
 use crate::variables::{name_of, vars_of};
 use std::alloc::{AllocError, Global};
+use std::collections::VecDeque;
 use up_conf::{Signal, number_in};
-use up_model::{Event, How, Input, Process, Who};
+use up_image::Table;
+use up_model::{Event, How, Input, Loaded, Process, Who};
 use up_text::Text;
 
 fn who_of(alloc: Global, job: &Text, instance: &Text) -> Result<Option<Who>, AllocError>
@@ -135,9 +137,32 @@ fn clock_of(words: &[Text]) -> Option<Input>
     }
 }
 
+// A load of the next table, if one is left.
+fn load_of(tables: &mut VecDeque<Table>, words: &[Text]) -> Option<Input>
+    ensures input { result ≡ load_of tables.old.items words.now }
+    ensures left { IfSome result (λ _. tables.new.items ≡ drop 1 tables.old.items) }
+{
+    let [id] = words else {
+        return None;
+    };
+    let id = number_in(0, u64::MAX, id.as_str())?;
+    let table = tables.pop_front()?;
+    Some(Input::Load {
+        id,
+        loaded: Loaded::Files(table),
+    })
+}
+
 // The one input of a line by its first word and the others.
-fn input_of(alloc: Global, kind: &Text, words: &[Text]) -> Result<Option<Input>, AllocError>
-    ensures { IfOk result (λ input. input ≡ input_of kind.now words.now) }
+fn input_of(
+    alloc: Global,
+    tables: &mut VecDeque<Table>,
+    kind: &Text,
+    words: &[Text],
+) -> Result<Option<Input>, AllocError>
+    ensures input { IfOk result (λ input. input ≡ input_of tables.old.items kind.now words.now) }
+    ensures left { IfOk result (λ input. IfSome input
+        (λ _. tables.new.items ≡ left_by tables.old.items kind.now)) }
 {
     if kind.is("emit") {
         emit_of(alloc, words)
@@ -151,6 +176,8 @@ fn input_of(alloc: Global, kind: &Text, words: &[Text]) -> Result<Option<Input>,
         ended_of(alloc, words)
     } else if kind.is("clock") {
         Ok(clock_of(words))
+    } else if kind.is("load") {
+        Ok(load_of(tables, words))
     } else {
         Ok(None)
     }
@@ -166,9 +193,15 @@ fn turns_of(words: &[Text]) -> Option<StepInputs>
     }
 }
 
-/// What a line gives by its words; a line without words gives nothing.
-pub(crate) fn inputs_of(alloc: Global, words: &[Text]) -> Result<Option<StepInputs>, AllocError>
-    ensures { IfOk result (λ given. option_map inputs_of_step given ≡ inputs_of words.now) }
+/// What a line gives by its words; a line without words gives nothing. A load takes the next of the tables.
+pub(crate) fn inputs_of(
+    alloc: Global,
+    tables: &mut VecDeque<Table>,
+    words: &[Text],
+) -> Result<Option<StepInputs>, AllocError>
+    ensures inputs { IfOk result (λ given. option_map inputs_of_step given ≡ inputs_of tables.old.items words.now) }
+    ensures left { IfOk result (λ given. IfSome given
+        (λ _. tables.new.items ≡ left_after tables.old.items (Some words.now))) }
 {
     match words {
         [] => Ok(Some(StepInputs::Nothing)),
@@ -176,7 +209,7 @@ pub(crate) fn inputs_of(alloc: Global, words: &[Text]) -> Result<Option<StepInpu
             if kind.is("turn") {
                 Ok(turns_of(words))
             } else {
-                let input = input_of(alloc, kind, words)?;
+                let input = input_of(alloc, tables, kind, words)?;
                 Ok(input.map(StepInputs::One))
             }
         }

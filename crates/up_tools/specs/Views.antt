@@ -54,7 +54,7 @@ Views how files name (Err line) made = Plays files [] name (Err line) made
 pub record ViewsOver (how : View) (files : List File) (name : Bytes) (made : Printed) : Type 0 where
   pub bytes : Bytes
   pub bounded : length bytes ≤ MAX_BUNDLE
-  pub views : Views how files name (script_inputs 1 bytes) made
+  pub views : Views how files name (script_inputs [] 1 bytes) made
 
 -- the same over the files that a folder has
 pub record ViewsFiles (how : View) (name : Bytes) (made : Printed) : Type 0 where

@@ -6,7 +6,7 @@ use Rattle.up_script.proofs.script.text_inputs.Given as goal
 -- what is left, after the inputs so far, gives the whole
 abbrev pub invariant-steps : goal.invariant-steps
 invariant-steps l = record {
-  whole : with_inputs l.inputs (inputs_from l.line (split_ends (lexemes_of l.lexer))) ≡ inputs_from l.line (stanzas l.text);
+  whole : with_inputs l.inputs (inputs_from l.tables.items l.line (split_ends (lexemes_of l.lexer))) ≡ inputs_from l.fn.tables.items l.line (stanzas l.text);
   within : l.lexer.line + length l.lexer.rest ≤ 1 + length l.text;
 }
 
