@@ -152,7 +152,7 @@ def calls_that_fail(work, folder):
     check("only such", kinds - wanted <= {"# door fault: write"}, True)
     host = sum(line.startswith("# host fault: ") for line in found)
     door = sum(line.startswith("# door fault: ") for line in found)
-    check("and counted at the end", found[-1], f"# host faults: {host}, door faults: {door}")
+    check("and counted at the end", found[-1], f"# host faults: {host}, door faults: {door}, source faults: 0")
     check("one start failed", host, 1)
     check("a file gets the same", told.read_text(), printed)
     quiet = Run(work, "no-faults", folder, "--verbose", "--rounds", "3")

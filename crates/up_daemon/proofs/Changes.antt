@@ -1,11 +1,8 @@
 -- One client among others changes.
-use Rattle.std.proofs.Common.{◌≡◌, sym, ◌∙◌, ◌++◌, ◌∷◌, ◌<◌, ◌+◌, ◌⊎◌, ◌==◌, [], ℕ, Bool, true, false, List, Option, None, Some, refl, ap, subst, inl, inr, arith, eq-eqb, eqb-true, if◌then◌else◌, append_assoc}
-use Rattle.std.specs.Prelude.{◌≢◌}
+use Rattle.std.proofs.Common.{◌≡◌, sym, ◌++◌, ◌∷◌, ◌==◌, [], ℕ, Bool, true, false, List, refl, eqb-true, append_assoc}
 use Rattle.std.specs.List.{AllByRecursion}
-use Rattle.std.proofs.lemmas.Option.{none-some}
-use Rattle.std.proofs.lemmas.List.{append-nil}
-use Rattle.up_daemon.specs.Peers.{Peer, newcomer}
-use Rattle.up_daemon.specs.Exchanges.{Apart, AreApart, IsBelow, IsAmong}
+use Rattle.up_daemon.specs.Peers.{Peer}
+use Rattle.up_daemon.specs.Exchanges.{Apart, AreApart}
 
 pub apart_sym : (one other : Peer) → Apart one other → Apart other one
 apart_sym one other apart = record {

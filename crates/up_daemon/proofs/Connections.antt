@@ -1,8 +1,6 @@
 -- Which numbers are connected, as clients come and go.
-use Rattle.std.proofs.Common.{◌≡◌, ◌∙◌, sym, ◌+◌, ◌++◌, ◌∷◌, [], ℕ, ◌==◌, Bool, true, false, if◌then◌else◌, List, map, refl, ap, arith, eq-eqb, eqb-true}
-use Rattle.std.specs.Prelude.{◌≢◌}
+use Rattle.std.proofs.Common.{◌≡◌, ◌∙◌, ◌+◌, ◌++◌, ◌∷◌, [], ℕ, ◌==◌, Bool, true, false, if◌then◌else◌, List, refl, ap, arith, eq-eqb, eqb-true}
 use Rattle.std.proofs.lemmas.Bool.{both_ways}
-use Rattle.std.specs.List.{AllByRecursion}
 use Rattle.up_daemon.specs.Connected.{SameClients, Connects, Disconnects, count_of, AreConnected}
 use Rattle.up_daemon.specs.Peers.{Peer, numbers_of, IsNobody}
 

@@ -1,5 +1,5 @@
 -- The calls of a round, counted.
-use Rattle.std.proofs.Common.{◌≡◌, ◌∙◌, sym, ◌+◌, ◌++◌, ◌∷◌, [], ℕ, suc, min, List, None, Some, length, take, refl, ap, inl, inr, arith}
+use Rattle.std.proofs.Common.{◌≡◌, ◌+◌, ◌++◌, ◌∷◌, [], ℕ, suc, min, List, None, Some, length, take, refl, ap, inl, inr, arith}
 use Rattle.std.proofs.lemmas.List.{length-append}
 use Rattle.up_host.specs.Calls.{Calls, most_count, with_entry, with_failure}
 use Rattle.up_host.specs.declared.happened.Happened.{Happened}
@@ -13,7 +13,7 @@ use Rattle.up_model.specs.declared.loaded.Loaded.{Loaded}
 use Rattle.up_model.specs.declared.output.Output.{Output}
 use Rattle.up_model.specs.declared.output.Output.TheVariants as output
 use Rattle.up_daemon.specs.Asking.{IsAsked}
-use Rattle.up_daemon.specs.Counting.{orders_in, orders_given, ends_in, faults_after, MakesCalls}
+use Rattle.up_daemon.specs.Counting.{orders_in, orders_given, ends_in, faults_after}
 use Rattle.up_daemon.specs.Laws.{CountsCalls}
 use Rattle.up_daemon.specs.declared.passed.Passed.{Passed}
 use Rattle.up_daemon.specs.declared.passed.Passed.TheVariants as passed

@@ -1,5 +1,5 @@
 -- One call of the door more.
-use Rattle.std.proofs.Common.{◌≡◌, ◌∙◌, sym, ◌≤◌, ◌<◌, ◌++◌, ◌∷◌, ◌⊎◌, [], ℕ, Bool, true, false, nat_lt, arith, List, Option, None, Some, IfSome, length, take, refl, inl, inr}
+use Rattle.std.proofs.Common.{◌≡◌, ◌∙◌, sym, ◌≤◌, ◌<◌, ◌∷◌, ◌⊎◌, [], ℕ, Bool, true, false, nat_lt, arith, List, Option, None, Some, IfSome, length, take, refl, inl, inr}
 use Rattle.std.proofs.lemmas.List.{map-append, length-map, length-take}
 use Rattle.std.specs.Prelude.{option_map}
 use Rattle.std.proofs.lemmas.Bool.{ltb-true, ltb-false}

@@ -1,9 +1,9 @@
 -- One call of the host more, and what is fed of it.
-use Rattle.std.proofs.Common.{◌≡◌, ◌∷◌, [], ℕ, List, reverse, refl, inl, inr}
+use Rattle.std.proofs.Common.{◌∷◌, ℕ, List, reverse, refl, inl, inr}
 use Rattle.up_host.specs.Calls.{Calls}
 use Rattle.up_host.specs.declared.happened.Happened.{Happened}
 use Rattle.up_engine.specs.Stands.{Stands}
-use Rattle.up_model.specs.Answers.{answer, after_all}
+use Rattle.up_model.specs.Answers.{after_all}
 use Rattle.up_model.specs.Chronicle.{Chronicle}
 use Rattle.up_model.specs.Configuration.{Configuration}
 use Rattle.up_model.specs.declared.input.Input.{Input}
@@ -14,8 +14,8 @@ use Rattle.up_model.specs.declared.output.Output.TheVariants as output
 use Rattle.up_model.specs.declared.who.Who.{Who}
 use Rattle.up_daemon.specs.declared.passed.Passed.{Passed}
 use Rattle.up_daemon.specs.declared.work.Work.{Work}
-use Rattle.up_daemon.specs.Rounds.{Reaches, Starts, StartFails, Signals, SignalFails}
-use Rattle.up_daemon.specs.RoundStates.{Part, HasOrders, DaemonState, with_input}
+use Rattle.up_daemon.specs.Rounds.{Starts, StartFails, Signals, SignalFails}
+use Rattle.up_daemon.specs.RoundStates.{Part, DaemonState}
 use Rattle.up_daemon.specs.Working.{state_of, IsAt, Carries, Comes, IsFed, IsStarted, IsSent}
 
 -- an input is fed at a state to which the round comes with it

@@ -9,7 +9,7 @@ use Rattle.up_model.specs.Chronicle.{Chronicle}
 use Rattle.up_model.specs.Configuration.{Configuration}
 use Rattle.up_daemon.specs.Asking.{IsAsked}
 use Rattle.up_daemon.specs.Rounds.{Reaches, Opens, ReadsClock, ClockFails, FindsEnd, FindsNone, PollFails, LetsIn, NobodyWaits, AcceptFails, IsFull, PassesOver, FindsNothing, FindsBytes, FindsFault, FindsLast, ReadFails, Closes, ClosesUnrecorded, HasRead, Enters, HasServed, TakesTurn, HasTurned, NothingWaits, Writes, WriteFails, Starts, StartFails, Signals, SignalFails, PassesEvent, Replies}
-use Rattle.up_daemon.specs.RoundStates.{Part, ReadingClock, FindingEnds, LettingIn, ReadingFrom, TakingRequests, TakingTurns, WritingTo, ClosingOf, DaemonState, RoundState}
+use Rattle.up_daemon.specs.RoundStates.{Part, DaemonState, RoundState}
 use Rattle.up_daemon.specs.Numbering.{AreNumbered}
 
 -- one input more

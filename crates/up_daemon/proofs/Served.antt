@@ -1,11 +1,10 @@
 -- In each part of a round its clients are served.
-use Rattle.std.proofs.Common.{◌≡◌, sym, ◌∙◌, ◌++◌, ◌∷◌, ◌<◌, ◌+◌, ◌⊎◌, ◌==◌, [], ℕ, Bool, true, false, List, Option, None, Some, refl, ap, subst, inl, inr, arith, if◌then◌else◌, append_assoc, take, drop}
+use Rattle.std.proofs.Common.{◌≡◌, sym, ◌∙◌, ◌++◌, ◌∷◌, ◌+◌, [], ℕ, List, Option, None, Some, refl, ap, inl, inr, arith, take, drop}
 use Rattle.std.specs.Prelude.{⊤, ◌≢◌}
 use Rattle.std.specs.List.{AllByRecursion}
 use Rattle.std.proofs.lemmas.List.{append-nil}
 use Rattle.std.proofs.lemmas.Option.{none-some}
 use Rattle.up_host.specs.Calls.{Calls}
-use Rattle.up_host.specs.declared.happened.Happened.{Happened}
 use Rattle.up_model.specs.Chronicle.{Chronicle}
 use Rattle.up_model.specs.Configuration.{Configuration}
 use Rattle.up_model.specs.Requests.{RequestValue}
@@ -20,12 +19,12 @@ use Rattle.up_daemon.specs.Asking.{IsAsked}
 use Rattle.up_daemon.specs.Peers.{Peer, newcomer, heard, asked, answered, IsEntered, IsQueued, IsNobody}
 use Rattle.up_daemon.specs.declared.passed.Passed.{Passed}
 use Rattle.up_daemon.specs.declared.passed.Passed.TheVariants as passed
-use Rattle.up_daemon.specs.Exchanges.{Exchange, Asked, Replied, is_open, open_after, frames_for, written_to, weight, weight_given, weight_replied, requests_in, requests_of, IsFedAs, AreFedAs, asked_by, IsQuiet, IsHeard, HearsNothing, HearsOther, Apart, AreApart, IsBelow, IsNumbered, IsAmong}
+use Rattle.up_daemon.specs.Exchanges.{Exchange, Asked, Replied, open_after, frames_for, written_to, weight, weight_given, weight_replied, requests_in, requests_of, IsFedAs, AreFedAs, asked_by, IsQuiet, IsHeard, HearsNothing, HearsOther, Apart, AreApart, IsBelow, IsNumbered, IsAmong}
 use Rattle.up_daemon.specs.Laws.{IsServed, IsJust, LosesNothing}
-use Rattle.up_daemon.specs.Rounds.{Reaches, IsRound, Opens, ReadsClock, ClockFails, FindsEnd, FindsNone, PollFails, LetsIn, NobodyWaits, AcceptFails, IsFull, PassesOver, FindsNothing, FindsBytes, FindsFault, FindsLast, ReadFails, Closes, ClosesUnrecorded, HasRead, Enters, HasServed, TakesTurn, HasTurned, NothingWaits, Writes, WriteFails, Starts, StartFails, Signals, SignalFails, PassesEvent, Replies}
+use Rattle.up_daemon.specs.Rounds.{Reaches, Opens, ReadsClock, ClockFails, FindsEnd, FindsNone, PollFails, LetsIn, NobodyWaits, AcceptFails, IsFull, PassesOver, FindsNothing, FindsBytes, FindsFault, FindsLast, ReadFails, Closes, ClosesUnrecorded, HasRead, Enters, HasServed, TakesTurn, HasTurned, NothingWaits, Writes, WriteFails, Starts, StartFails, Signals, SignalFails, PassesEvent, Replies}
 use Rattle.up_daemon.specs.RoundStates.{Part, ReadingClock, FindingEnds, LettingIn, ReadingFrom, TakingRequests, TakingTurns, WritingTo, ClosingOf, HasOrders, DaemonState, RoundState, HasItsClients}
-use Rattle.up_daemon.proofs.Changes.{all_push, all_each, all_both, all_drop, apart_drop, all_at, all_change, all_put, apart_change, apart_push, all_init, apart_at, differ, regroup}
-use Rattle.up_daemon.proofs.Servings.{written_append, silent, silent_served, other_written, self_written, other_asked, self_asked, other_replied, self_replied, self_heard, weight_append, weight_push}
+use Rattle.up_daemon.proofs.Changes.{all_push, all_each, all_both, all_drop, apart_drop, all_change, all_put, apart_change, apart_push, all_init, apart_at, regroup}
+use Rattle.up_daemon.proofs.Servings.{silent, silent_served, other_written, self_written, other_asked, self_asked, other_replied, self_replied, self_heard, weight_append, weight_push}
 
 -- all clients of a part: those that are done with, and those that aren't
 abbrev pub all : List Peer → Part → List Peer

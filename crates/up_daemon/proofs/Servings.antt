@@ -1,18 +1,16 @@
 -- What an entry and a exchange change for a client.
-use Rattle.std.proofs.Common.{◌≡◌, sym, ◌∙◌, ◌++◌, ◌∷◌, ◌<◌, ◌+◌, ◌⊎◌, ◌==◌, [], ℕ, Bool, true, false, List, Option, None, Some, refl, ap, inl, inr, arith, eq-eqb, eqb-true, if◌then◌else◌, append_assoc, take, drop}
-use Rattle.std.specs.Prelude.{◌≢◌}
+use Rattle.std.proofs.Common.{◌≡◌, sym, ◌∙◌, ◌++◌, ◌∷◌, ◌+◌, ◌==◌, [], ℕ, true, false, List, Option, None, Some, refl, ap, arith, eq-eqb, if◌then◌else◌, append_assoc, take, drop}
 use Rattle.std.proofs.lemmas.List.{append-nil, take-append-drop}
-use Rattle.std.proofs.lemmas.Option.{none-some}
 use Rattle.up_model.specs.declared.output.Output.{Output}
 use Rattle.up_model.specs.declared.output.Output.TheVariants as output
 use Rattle.up_model.specs.declared.request.Answer.{Answer}
 use Rattle.up_model.specs.Requests.{RequestValue}
 use Rattle.up_wire.specs.Answers.{answer_frames}
 use Rattle.up_wire.specs.Frames.{Bytes, Frames}
-use Rattle.up_daemon.specs.Peers.{Peer, asked, answered, heard, newcomer}
+use Rattle.up_daemon.specs.Peers.{Peer, asked, answered, heard}
 use Rattle.up_daemon.specs.declared.passed.Passed.{Passed}
 use Rattle.up_daemon.specs.declared.passed.Passed.TheVariants as passed
-use Rattle.up_daemon.specs.Exchanges.{Exchange, Asked, Replied, is_open, open_after, frames_for, written_to, weight, weight_given, weight_replied, asked_by, IsQuiet, IsHeard, HearsNothing, HearsOther, HearsPiece, Apart}
+use Rattle.up_daemon.specs.Exchanges.{Exchange, Asked, Replied, is_open, open_after, frames_for, written_to, weight, weight_given, asked_by, IsQuiet, HearsOther, HearsPiece}
 use Rattle.up_daemon.specs.Laws.{IsServed}
 use Rattle.up_daemon.proofs.Changes.{differ}
 

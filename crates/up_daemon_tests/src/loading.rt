@@ -2,49 +2,55 @@
 use crate::clients::{RELOAD_ALL, Said, one_client, one_process, pass};
 use crate::stage::{Scene, make_scene, same, table_of, with_loads};
 use crate::waiting::has_written;
-use std::alloc::{AllocError, Global};
+use std::alloc::Global;
 use std::test::Fail;
 use up_daemon::{Source, SourceFault};
 use up_model::Loaded;
 
-/// What the source gives at a client's request, and the frame of the answer.
+// What a source gives at its call.
+#[derive(Clone, Copy)]
+enum Gives {
+    Jobs,
+    Refusal,
+    Nothing,
+}
+
+// What the source gives at a client's request, and the frame of the answer.
 struct Case {
     name: &'static str,
-    gives: fn(Global) -> Result<Option<Loaded>, Fail>,
+    gives: Gives,
     answer: &'static [u8],
     // how many entries the source's record has after the round, and how many of its calls failed
     told: (usize, u64),
 }
 
-fn other_jobs(alloc: Global) -> Result<Option<Loaded>, Fail> {
-    let table = table_of(alloc, "start on go\nexec /bin/e\n")?;
-    Ok(Some(Loaded::Files(table)))
-}
-
-fn truncated(_: Global) -> Result<Option<Loaded>, Fail> {
-    Ok(Some(Loaded::Refused(32)))
-}
-
-fn nothing(_: Global) -> Result<Option<Loaded>, Fail> {
-    Ok(None)
+fn given(alloc: Global, gives: Gives) -> Result<Option<Loaded>, Fail> {
+    match gives {
+        Gives::Jobs => {
+            let table = table_of(alloc, "start on go\nexec /bin/e\n")?;
+            Ok(Some(Loaded::Files(table)))
+        }
+        Gives::Refusal => Ok(Some(Loaded::Refused(32))),
+        Gives::Nothing => Ok(None),
+    }
 }
 
 static CASES: [Case; 3] = [
     Case {
         name: "jobs are loaded",
-        gives: other_jobs,
+        gives: Gives::Jobs,
         answer: b"\0\0\0\x01\0",
         told: (1, 0),
     },
     Case {
         name: "an image is refused",
-        gives: truncated,
+        gives: Gives::Refusal,
         answer: b"\0\0\0\x1a\x01Configuration refused: 32",
         told: (1, 0),
     },
     Case {
         name: "the call fails",
-        gives: nothing,
+        gives: Gives::Nothing,
         answer: b"\0\0\0\x17\x01Configuration not read",
         told: (0, 1),
     },
@@ -67,7 +73,7 @@ fn check_next(scene: &mut Scene, case: &Case) -> Result<(), Fail> {
 }
 
 fn loads_of(alloc: Global, case: &Case) -> Result<Vec<Option<Loaded>>, Fail> {
-    let given = (case.gives)(alloc)?;
+    let given = given(alloc, case.gives)?;
     let mut loads: Vec<Option<Loaded>> = Vec::new(alloc);
     loads.push(given)?;
     Ok(loads)

@@ -74,8 +74,15 @@ fault_lines host door source =
     ++ flat_map door_line door
     ++ repeated source (fault_line (codes "source") (codes "load"))
 
+-- what is counted, and how many
+unfoldable pub tally : List ℕ → ℕ → List ℕ
+tally what count = what ++ decimal count
+
+abbrev pub none_failed : ℕ → ℕ → ℕ → Bool
+none_failed host door source = host == 0 && door == 0 && source == 0
+
 -- the comment on how many calls failed in a run; nothing if none did
 unfoldable pub fault_count : ℕ → ℕ → ℕ → List ℕ
-fault_count host door source = if host == 0 && door == 0 && source == 0 then []
-    else codes "# host faults: " ++ decimal host ++ codes ", door faults: " ++ decimal door
-    ++ codes ", source faults: " ++ decimal source ++ codes "\n"
+fault_count host door source = if none_failed host door source then []
+    else tally (codes "# host faults: ") host ++ tally (codes ", door faults: ") door
+    ++ tally (codes ", source faults: ") source ++ codes "\n"

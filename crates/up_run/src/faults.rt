@@ -2,7 +2,7 @@
 ghost use Rattle.std.specs.Prelude.{◌≡◌, ◌-◌, ◌++◌, not, IfOk, OnOk};
 ghost use Rattle.std.specs.Fmt.{decimal};
 ghost use Rattle.std.specs.List.{count_by, flat_map, list_any};
-ghost use Rattle.up_run.specs.Faults.{are_some, call_name, door_line, fault_count, fault_line, fault_lines, is_last_poll, is_reading, is_refusal, number, repeated};
+ghost use Rattle.up_run.specs.Faults.{are_some, call_name, door_line, fault_count, fault_line, fault_lines, is_last_poll, is_reading, is_refusal, none_failed, number, repeated, tally};
 
 use std::alloc::{AllocError, Global};
 use up_daemon::DoorCall;
@@ -180,6 +180,20 @@ pub(crate) fn fault_lines(
     Ok(text)
 }
 
+#[tactic(auto, unfolding(crate::specs::Faults::tally))]
+fn push_count(text: &mut Vec<u8>, what: &str, count: u64) -> Result<(), AllocError>
+    ensures { OnOk result (text.new.items ≡ text.old.items ++ tally what.now count) }
+{
+    push(text, what)?;
+    push_decimal(text, count)
+}
+
+fn none_failed(host: u64, door: u64, source: u64) -> bool
+    ensures { result ≡ none_failed host door source }
+{
+    host == 0 && door == 0 && source == 0
+}
+
 /// The comment that a run ends with in which calls failed: how many of the host, of the door and of the source.
 #[tactic(auto, unfolding(crate::specs::Faults::fault_count))]
 pub(crate) fn fault_count(
@@ -191,15 +205,12 @@ pub(crate) fn fault_count(
     ensures { IfOk result (λ text. text.items ≡ fault_count host door source) }
 {
     let mut text: Vec<u8> = Vec::new(alloc);
-    if host == 0 && door == 0 && source == 0 {
+    if none_failed(host, door, source) {
         return Ok(text);
     }
-    push(&mut text, "# host faults: ")?;
-    push_decimal(&mut text, host)?;
-    push(&mut text, ", door faults: ")?;
-    push_decimal(&mut text, door)?;
-    push(&mut text, ", source faults: ")?;
-    push_decimal(&mut text, source)?;
+    push_count(&mut text, "# host faults: ", host)?;
+    push_count(&mut text, ", door faults: ", door)?;
+    push_count(&mut text, ", source faults: ", source)?;
     push(&mut text, "\n")?;
     Ok(text)
 }

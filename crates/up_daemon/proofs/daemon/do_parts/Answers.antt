@@ -1,7 +1,5 @@
-use Rattle.std.proofs.Common.{◌≡◌, ◌∙◌, [], List, ap}
-use Rattle.up_engine.specs.Stands.{Stands}
+use Rattle.std.proofs.Common.{◌≡◌, ◌∙◌, [], ap}
 use Rattle.up_model.specs.Answers.{after_all}
-use Rattle.up_model.specs.declared.input.Input.{Input}
 use Rattle.up_daemon.specs.Connected.{AreConnected}
 use Rattle.up_daemon.specs.Peers.{numbers_of}
 use Rattle.up_daemon.specs.Rounds.{Opens}

@@ -1,5 +1,5 @@
 use Rattle.std.proofs.Common.{◌<◌, ◌≡◌, sym, length, get_or, arith}
-use Rattle.up_daemon.specs.Peers.{peers_of, IsAtRest}
+use Rattle.up_daemon.specs.Peers.{IsAtRest}
 use Rattle.up_daemon.proofs.Seats.{entered_at, entered_numbers, same_at, all_more}
 use Rattle.up_daemon.proofs.clients.Clients.enter.Goals as goal
 

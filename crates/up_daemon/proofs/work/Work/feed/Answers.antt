@@ -1,5 +1,5 @@
 use Rattle.std.proofs.Common.{◌≡◌, ◌++◌, ◌∷◌, [], reverse, refl}
-use Rattle.up_engine.specs.Stands.{Stands, left_of}
+use Rattle.up_engine.specs.Stands.{left_of}
 use Rattle.up_engine.proofs.RunLemmas.{after_all_push}
 use Rattle.up_model.specs.Answers.{after_all}
 use Rattle.up_daemon.proofs.Endings.{fed_fewer}

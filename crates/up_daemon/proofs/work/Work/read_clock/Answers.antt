@@ -1,4 +1,4 @@
-use Rattle.std.proofs.Common.{[], refl}
+use Rattle.std.proofs.Common.{[]}
 use Rattle.up_daemon.specs.Rounds.{ReadsClock, ClockFails}
 use Rattle.up_daemon.specs.RoundStates.{FindingEnds}
 use Rattle.up_daemon.specs.Working.{state_of}

@@ -1,4 +1,4 @@
-use Rattle.std.proofs.Common.{◌≡◌, ◌<◌, ◌+◌, ◌∙◌, [], refl, arith}
+use Rattle.std.proofs.Common.{◌≡◌, ◌<◌, ◌+◌, [], refl, arith}
 use Rattle.up_daemon.specs.Peers.{peers_of, last_number}
 use Rattle.up_daemon.specs.Rounds.{Enters}
 use Rattle.up_daemon.specs.RoundStates.{TakingRequests}
