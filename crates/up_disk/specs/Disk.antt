@@ -1,5 +1,5 @@
 -- What is printed of a folder on the disk, and the status.
-use Rattle.std.specs.Prelude.{◌≡◌, ◌⊎◌, ℕ, ◌≤◌, Bool, true, false, List, [], length, Result, Ok, Err}
+use Rattle.std.specs.Prelude.{◌≡◌, ◌⊎◌, ℕ, ◌≤◌, Bool, true, false, List, [], length, Result, Ok, Err, Option, None, Some}
 use Rattle.up_conf.specs.declared.folder.File.{File}
 use Rattle.up_conf.specs.declared.job.JobDef.{JobDef}
 use Rattle.up_print.specs.declared.printed.Printed.{Printed}
@@ -95,14 +95,14 @@ DefinesImage files image = (has_twice (read_paths files) ≡ false) × IsImage i
 abbrev pub DefinesAll : List ℕ → List JobDef → Type 0
 DefinesAll bundle jobs = (length bundle ≤ MAX_BUNDLE) × Defines (files_of (lines_of bundle)) jobs
 
+-- the bundle is kept exactly if its files define these jobs
+abbrev pub KeepsBundle : List ℕ → List JobDef → Option (List ℕ) → Type 0
+KeepsBundle bundle jobs None = DefinesAll bundle jobs → ⊥
+KeepsBundle bundle jobs (Some kept) = (kept ≡ bundle) × DefinesAll bundle jobs
+
 -- what is printed for a table: a bundle whose files define it, or that it can't be printed so
 abbrev pub ShowsTable : List ℕ → List JobDef → Printed → Type 0
 ShowsTable image jobs made = (DefinesAll made.text jobs × (made.status ≡ Done)) ⊎ IsUnusable image made
-
--- the same, if this bundle is the one that is tried
-abbrev pub ShowsBundle : List ℕ → List ℕ → List JobDef → Printed → Type 0
-ShowsBundle bundle image jobs made =
-    ((made ≡ prints bundle Done) × DefinesAll bundle jobs) ⊎ (IsUnusable image made × (DefinesAll bundle jobs → ⊥))
 
 -- what is printed for the bytes of an image: what is for the table that they have, or that they are refused
 abbrev pub ShowsBytes : List ℕ → List ℕ → Printed → Type 0

@@ -1,6 +1,6 @@
 //! Images of tables on the disk: writes the one of a folder, and prints what one says.
-ghost use Rattle.std.specs.Prelude.{◌≡◌, ◌+◌, ◌≤◌, Decides, IfOk, IfSome, length};
-ghost use Rattle.up_disk.specs.Disk.{CompilesDir, Defines, DefinesAll, DefinesImage, IsUnusable, ShowsBundle, ShowsBytes, ShowsFile, ShowsTable, StoresFiles, StoresTable};
+ghost use Rattle.std.specs.Prelude.{◌≡◌, ◌+◌, ◌≤◌, Decides, IfOk, IfSome, length, option_map};
+ghost use Rattle.up_disk.specs.Disk.{CompilesDir, Defines, DefinesAll, DefinesImage, IsUnusable, KeepsBundle, ShowsBytes, ShowsFile, ShowsTable, StoresFiles, StoresTable};
 ghost use Rattle.up_disk.specs.Walk.{IsWalked};
 ghost use Rattle.up_image.specs.declared.limits.TheConstants.{MAX_IMAGE};
 
@@ -239,24 +239,26 @@ pub(crate) fn no_files<R: Eprint + AllocGlobal>(rt: &R, image: &str) -> Result<P
     cannot_use(rt.alloc(), image)
 }
 
-// What is printed for the table of an image, in the file with this path, if this bundle is to have the files that define its jobs.
-fn show_bundle<R: Eprint + AllocGlobal>(
-    rt: &R,
-    bundle: Vec<u8>,
-    table: &Table,
-    image: &str,
-) -> Result<Printed, AllocError>
-    ensures { IfOk result (ShowsBundle bundle.items image.now table.now) }
+// The bundle, if its files define the jobs of a table.
+fn bundle_if(alloc: Global, bundle: Vec<u8>, table: &Table) -> Result<Option<Vec<u8>>, AllocError>
+    ensures { IfOk result (λ kept. KeepsBundle bundle.items table.now (option_map (λ text. text.items) kept)) }
 {
-    if defines(rt.alloc(), bundle.as_slice(), table)? {
-        let text = Items::new(bundle);
-        Ok(Printed {
-            text,
-            status: ExitStatus::Done,
-        })
+    if defines(alloc, bundle.as_slice(), table)? {
+        Ok(Some(bundle))
     } else {
-        no_files(rt, image)
+        drop(bundle);
+        Ok(None)
     }
+}
+
+/// The job files that define the jobs of a table, as the files of a bundle. They are compiled again: none if that doesn't give the table, as
+/// of a job with a line `%script` in its script.
+pub fn bundle_files(alloc: Global, table: &Table) -> Result<Option<Vec<u8>>, AllocError>
+    ensures { IfOk result (λ made. IfSome made (λ text. DefinesAll text.items table.now)) }
+{
+    let folder = job_files(alloc, table)?;
+    let bundle = bundle_of(alloc, &folder)?;
+    bundle_if(alloc, bundle, table)
 }
 
 // What is printed for the table of an image, in the file with this path.
@@ -267,9 +269,16 @@ fn show_table<R: Eprint + AllocGlobal>(
 ) -> Result<Printed, AllocError>
     ensures { IfOk result (ShowsTable image.now table.now) }
 {
-    let folder = job_files(rt.alloc(), table)?;
-    let bundle = bundle_of(rt.alloc(), &folder)?;
-    show_bundle(rt, bundle, table, image)
+    match bundle_files(rt.alloc(), table)? {
+        Some(bundle) => {
+            let text = Items::new(bundle);
+            Ok(Printed {
+                text,
+                status: ExitStatus::Done,
+            })
+        }
+        None => no_files(rt, image),
+    }
 }
 
 // What is printed for the bytes of an image, in the file with this path.

@@ -23,3 +23,7 @@ word path = if stands_bare path then path else codes "'" ++ flat_map quoted path
 unfoldable pub log_head : List ℕ → List ℕ → List ℕ → List ℕ
 log_head source log path = codes "# initd replay " ++ word source ++ codes " " ++ word log
     ++ codes " --env PATH=" ++ word path ++ codes "\n"
+
+-- the command that replays a record that is a bundle
+unfoldable pub bundle_head : List ℕ → List ℕ → List ℕ
+bundle_head log path = codes "# initd replay --bundle " ++ word log ++ codes " --env PATH=" ++ word path ++ codes "\n"

@@ -1,7 +1,7 @@
 //! The comment with which a record begins: the command that replays it.
 ghost use Rattle.std.specs.Prelude.{◌≡◌, ◌++◌, IfOk, OnOk};
 ghost use Rattle.std.specs.List.{flat_map, list_all};
-ghost use Rattle.up_run.specs.Heads.{is_plain, log_head, quoted, stands_bare, word};
+ghost use Rattle.up_run.specs.Heads.{bundle_head, is_plain, log_head, quoted, stands_bare, word};
 
 use std::alloc::{AllocError, Global};
 
@@ -75,6 +75,20 @@ pub(crate) fn log_head(
     text.extend_from_slice(b"# initd replay ")?;
     push_word(&mut text, source)?;
     text.extend_from_slice(b" ")?;
+    push_word(&mut text, log)?;
+    text.extend_from_slice(b" --env PATH=")?;
+    push_word(&mut text, path)?;
+    text.extend_from_slice(b"\n")?;
+    Ok(text)
+}
+
+/// The comment with which the script of a record that is a bundle begins: the command that replays it.
+#[tactic(auto, unfolding(crate::specs::Heads::bundle_head))]
+pub(crate) fn bundle_head(alloc: Global, log: &str, path: &str) -> Result<Vec<u8>, AllocError>
+    ensures { IfOk result (λ text. text.items ≡ bundle_head log.now path.now) }
+{
+    let mut text: Vec<u8> = Vec::new(alloc);
+    text.extend_from_slice(b"# initd replay --bundle ")?;
     push_word(&mut text, log)?;
     text.extend_from_slice(b" --env PATH=")?;
     push_word(&mut text, path)?;

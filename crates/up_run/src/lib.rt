@@ -3,6 +3,7 @@
 
 mod failures;
 mod faults;
+mod files;
 mod head;
 mod jobs;
 mod outlet;

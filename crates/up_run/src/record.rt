@@ -1,42 +1,257 @@
-//! The files to which a run tells what happens.
-use std::fs::File;
-use std::io;
-use std::io::{Eprint, ErrorKind};
+//! The record of a run: a script of what happened, and a bundle once other jobs were loaded.
+use crate::unsaid::unsaid;
+use std::alloc::{AllocError, Global};
+use std::fs::{File, OpenFile, remove_file, rename};
+use std::io::{Read, Write};
 use std::rt::Files;
-use up_disk::why::{say, say_error};
+use std::{fmt, io};
+use up_disk::image::bundle_files;
+use up_disk::why::Reason;
+use up_image::Table;
+use up_model::{Input, Loaded};
+use up_script::script_lines;
 
-// A file that wasn't there, or one that is emptied if it is there.
-fn open<R: Files>(rt: &R, path: &str, over: bool) -> io::Result<R::File> {
-    if over {
-        File::create(rt, path)
-    } else {
-        File::create_new(rt, path)
+/// So many bytes of the record may wait while nothing happens.
+const MOST_WAITING: usize = 65_536;
+
+/// What a record begins with.
+#[derive(Drop)]
+pub(crate) struct Heading {
+    /// The comment with which a script begins.
+    pub(crate) script: Vec<u8>,
+    /// The one with which the script of a bundle begins.
+    pub(crate) bundle: Vec<u8>,
+    /// The files of the jobs with which the run begins, unless these can't be written as files.
+    pub(crate) jobs: Option<Vec<u8>>,
+}
+
+/// Why a record ends before its run.
+#[derive(Clone, Copy, Drop)]
+pub(crate) enum Ending {
+    /// No step of a script says an input.
+    Unsaid,
+    /// Jobs that were loaded can't be written as job files.
+    NoFiles,
+    /// The system refused to write it.
+    Unwritten(io::Error),
+    Memory,
+}
+
+impl From<AllocError> for Ending {
+    fn from(_: AllocError) -> Ending {
+        Ending::Memory
     }
 }
 
-/// The file of a record, if one is asked for. One that is there is emptied if `over`, and refused if not. None if it can't be made, and
-/// then it is said why.
-pub(crate) fn open_file<R: Files + Eprint>(
-    rt: &R,
-    path: Option<&str>,
-    over: bool,
-) -> Option<Option<R::File>> {
-    let Some(path) = path else {
-        return Some(None);
-    };
-    match open(rt, path, over) {
-        Ok(file) => Some(Some(file)),
-        Err(error) => {
-            if error.kind() == ErrorKind::AlreadyExists {
-                say(
-                    rt,
-                    path,
-                    "it is there; with --record-over it is written over",
-                );
-            } else {
-                say_error(rt, path, &error);
-            }
-            None
+impl From<io::Error> for Ending {
+    fn from(error: io::Error) -> Ending {
+        Ending::Unwritten(error)
+    }
+}
+
+impl fmt::Display for Ending {
+    fn fmt<W: fmt::Write>(&self, f: &mut fmt::Formatter<W>) -> fmt::Result {
+        match self {
+            Ending::Unsaid => f.write_str("no step of a script says what came next"),
+            Ending::NoFiles => f.write_str(
+                "the jobs that were loaded can't be written as job files",
+            ),
+            Ending::Unwritten(error) => fmt::Display::fmt(&Reason(*error), f),
+            Ending::Memory => f.write_str("out of memory"),
         }
+    }
+}
+
+/// The record of a run. It is a script until jobs are loaded. From then on it is a bundle, which has a folder of the jobs with which the run
+/// began, and one for each load.
+#[derive(Drop)]
+pub(crate) struct Record<'a, W> {
+    path: &'a str,
+    file: W,
+    heading: Heading,
+    // where the line is that begins the script, once the record is a bundle
+    script_at: Option<u64>,
+    // how many bytes of whole rounds the file has
+    written: u64,
+    // the lines that aren't written yet
+    waiting: Vec<u8>,
+}
+
+// Copies so many bytes.
+fn copy_front<F: Read, W: Write>(from: &mut F, count: u64, to: &mut W) -> io::Result<u64> {
+    let mut front = Read::take(from, count);
+    io::copy(&mut front, to)
+}
+
+impl<'a, W: Read + Write + OpenFile + Drop> Record<'a, W> {
+    /// A record in a new file with this path.
+    pub(crate) fn new(
+        alloc: Global,
+        path: &'a str,
+        file: W,
+        heading: Heading,
+    ) -> Result<Self, AllocError> {
+        let waiting = Vec::from_slice(alloc, heading.script.as_slice())?;
+        Ok(Record {
+            path,
+            file,
+            heading,
+            script_at: None,
+            written: 0,
+            waiting,
+        })
+    }
+
+    /// Cuts the record back to its last whole round. False if that can't be done.
+    pub(crate) fn cut(&self) -> bool {
+        self.file.set_len(self.written).is_ok()
+    }
+
+    /// Writes the lines that wait.
+    pub(crate) fn write_waiting(&mut self) -> Result<(), Ending> {
+        self.file.write_all(self.waiting.as_slice())?;
+        self.written = self.written.saturating_add(self.waiting.len() as u64);
+        self.waiting.clear();
+        Ok(())
+    }
+
+    // Writes the folders that the record has, and returns how many bytes they are.
+    fn write_folders(&self, old: &mut W, new: &mut W) -> Result<u64, Ending> {
+        match (self.script_at, &self.heading.jobs) {
+            (Some(at), _) => Ok(copy_front(old, at, new)?),
+            (None, Some(jobs)) => {
+                new.write_all(jobs.as_slice())?;
+                Ok(jobs.len() as u64)
+            }
+            (None, None) => Err(Ending::NoFiles),
+        }
+    }
+
+    // Writes the script that the record has, and returns how many bytes it is, its own line among them.
+    fn write_script(&self, old: &mut W, new: &mut W) -> io::Result<u64> {
+        if self.script_at.is_some() {
+            return io::copy(old, new);
+        }
+        let head = &self.heading.bundle;
+        new.write_all(b"%script\n")?;
+        new.write_all(head.as_slice())?;
+        let _ = copy_front(old, self.heading.script.len() as u64, &mut io::sink())?;
+        let rest = io::copy(old, new)?;
+        Ok(rest.saturating_add(8).saturating_add(head.len() as u64))
+    }
+
+    // Writes the record with one folder more to a new file. Returns where its script begins, and how long it is.
+    fn write_anew(&self, old: &mut W, new: &mut W, jobs: &[u8]) -> Result<(u64, u64), Ending> {
+        let before = self.write_folders(old, new)?;
+        new.write_all(b"%folder\n")?;
+        new.write_all(jobs)?;
+        let at = before.saturating_add(8).saturating_add(jobs.len() as u64);
+        let script = self.write_script(old, new)?;
+        new.sync_all()?;
+        Ok((at, at.saturating_add(script)))
+    }
+
+    // Writes the record with one folder more beside it, and puts that in its place.
+    fn replace<R: Files<File = W>>(
+        &mut self,
+        rt: &R,
+        temporary: &str,
+        jobs: &[u8],
+    ) -> Result<(), Ending> {
+        let mut old = File::open(rt, self.path)?;
+        let mut new = File::create_new(rt, temporary)?;
+        let made = self.write_anew(&mut old, &mut new, jobs);
+        drop(old);
+        let (at, length) = made?;
+        rename(rt, temporary, self.path)?;
+        self.file = new;
+        self.script_at = Some(at);
+        self.written = length;
+        Ok(())
+    }
+
+    // Adds a folder of these jobs, after which a step loads them.
+    fn load<R: Files<File = W>>(
+        &mut self,
+        rt: &R,
+        alloc: Global,
+        id: u64,
+        table: &Table,
+    ) -> Result<(), Ending> {
+        let Some(jobs) = bundle_files(alloc, table)? else {
+            return Err(Ending::NoFiles);
+        };
+        let temporary = format!(in alloc; "{}.new", self.path)?;
+        if let Err(ending) = self.replace(rt, temporary.as_str(), jobs.as_slice()) {
+            let _ = remove_file(rt, temporary.as_str());
+            return Err(ending);
+        }
+        let line = format!(in alloc; "load {id}\n")?;
+        self.waiting.extend_from_slice(line.as_bytes())?;
+        Ok(())
+    }
+
+    // Says in the record that it ends, since no step says an input.
+    fn end_unsaid(&mut self, alloc: Global, input: &Input) -> Result<(), Ending> {
+        let what = unsaid(alloc, input)?;
+        let line = format!(in alloc; "# The record ends: no step says what came next: {what}\n")?;
+        self.waiting.extend_from_slice(line.as_bytes())?;
+        self.write_waiting()?;
+        Err(Ending::Unsaid)
+    }
+
+    // Adds the line of one input to those that wait.
+    fn keep_one<R: Files<File = W>>(
+        &mut self,
+        rt: &R,
+        alloc: Global,
+        one: &[Input],
+    ) -> Result<(), Ending> {
+        if let Some(lines) = script_lines(alloc, one)? {
+            self.waiting.extend_from_slice(lines.as_slice())?;
+            return Ok(());
+        }
+        match one.first() {
+            Some(
+                Input::Load {
+                    id,
+                    loaded: Loaded::Files(table),
+                },
+            ) => self.load(rt, alloc, *id, table),
+            Some(input) => self.end_unsaid(alloc, input),
+            None => Ok(()),
+        }
+    }
+
+    // Adds the lines of inputs to those that wait.
+    fn keep<R: Files<File = W>>(
+        &mut self,
+        rt: &R,
+        alloc: Global,
+        inputs: &[Input],
+    ) -> Result<(), Ending> {
+        if let Some(lines) = script_lines(alloc, inputs)? {
+            self.waiting.extend_from_slice(lines.as_slice())?;
+            return Ok(());
+        }
+        for one in inputs.chunks(1) {
+            self.keep_one(rt, alloc, one)?;
+        }
+        Ok(())
+    }
+
+    /// Records inputs, and writes the record as far as it goes if they were more than a reading of the clock.
+    pub(crate) fn note<R: Files<File = W>>(
+        &mut self,
+        rt: &R,
+        alloc: Global,
+        inputs: &[Input],
+        idle: bool,
+    ) -> Result<(), Ending> {
+        self.keep(rt, alloc, inputs)?;
+        if !idle || self.waiting.len() >= MOST_WAITING {
+            self.write_waiting()?;
+        }
+        Ok(())
     }
 }

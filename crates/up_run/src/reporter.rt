@@ -5,21 +5,17 @@ ghost use Rattle.up_print.specs.Lines.{output_lines};
 
 use crate::faults::{HostFaults, fault_count, fault_lines};
 use crate::outlet::Outlet;
-use crate::unsaid::unsaid;
+use crate::record::{Ending, Record};
 use std::alloc::{AllocError, Global};
-use std::fmt::Display;
 use std::fs::OpenFile;
 use std::io;
-use std::io::{Eprint, Write};
+use std::io::{Eprint, Read, Write};
+use std::rt::Files;
 use up_daemon::{DoorCall, Round};
 use up_disk::why::Reason;
 use up_model::{Input, Output};
 use up_print::push_outputs;
-use up_script::script_lines;
 use up_text::Items;
-
-/// So many bytes of the record may wait while nothing happens.
-const MOST_WAITING: usize = 65_536;
 
 /// What is told of a run.
 #[derive(Clone, Copy, PartialEq, Eq)]
@@ -38,17 +34,13 @@ pub struct ReportOptions<'a> {
 
 /// Tells of a run's rounds.
 #[derive(Drop)]
-pub(crate) struct Reporter<W> {
+pub(crate) struct Reporter<'a, W> {
     // standard output, if it gets the lines of what rounds gave
     verbose: Option<Outlet>,
     // the file that gets them, until it can't be written
     told: Option<W>,
-    // the file of the record, until it ends
-    log: Option<W>,
-    // how many bytes of whole rounds the record has
-    written: u64,
-    // the lines of the record that are not written yet
-    waiting: Vec<u8>,
+    // the record, until it ends
+    record: Option<Record<'a, W>>,
 }
 
 // Appends the lines of what a round gave.
@@ -82,37 +74,28 @@ fn say_lost<R: Eprint>(rt: &R, lost: u64) {
     }
 }
 
-impl<W: Write + OpenFile + Drop> Reporter<W> {
-    /// Tells of a run. The record, if one is kept, begins with these lines.
+impl<'a, W: Read + Write + OpenFile + Drop> Reporter<'a, W> {
+    /// Tells of a run, with a record if one is kept.
     pub(crate) fn new(
         verbose: Option<Outlet>,
         told: Option<W>,
-        log: Option<W>,
-        head: Vec<u8>,
+        record: Option<Record<'a, W>>,
     ) -> Self {
         Reporter {
             verbose,
             told,
-            log,
-            written: 0,
-            waiting: head,
+            record,
         }
     }
 
-    // Says why the record ends, and ends it.
-    fn end_record<R: Eprint, D: Display + Drop>(&mut self, rt: &R, why: D) {
-        self.log = None;
-        self.waiting.clear();
-        let _ = eprintln!(rt; "initd: the record ends: {why}");
-    }
-
-    // Ends a record that the system refused to write, and says why. It is cut back to its last whole round.
-    fn end_unwritten<R: Eprint>(&mut self, rt: &R, error: &io::Error) {
-        let is_whole = match &self.log {
-            Some(log) => log.set_len(self.written).is_ok(),
-            None => true,
+    // Ends the record, and says why. One that the system refused to write is cut back to its last whole round.
+    fn end_record<R: Eprint>(&mut self, rt: &R, ending: Ending) {
+        let is_whole = match (&self.record, ending) {
+            (Some(record), Ending::Unwritten(_)) => record.cut(),
+            _ => true,
         };
-        self.end_record(rt, Reason(*error));
+        self.record = None;
+        let _ = eprintln!(rt; "initd: the record ends: {ending}");
         if !is_whole {
             let _ = eprintln!(rt;
                 "initd: the record's last line may be half a line: it can't be cut off"
@@ -120,68 +103,27 @@ impl<W: Write + OpenFile + Drop> Reporter<W> {
         }
     }
 
-    // Writes the lines that wait.
-    fn write_waiting<R: Eprint>(&mut self, rt: &R) {
-        let Some(log) = &mut self.log else {
-            return;
-        };
-        match log.write_all(self.waiting.as_slice()) {
-            Ok(()) => {
-                self.written = self.written.saturating_add(self.waiting.len() as u64);
-                self.waiting.clear();
-            }
-            Err(error) => self.end_unwritten(rt, &error),
-        }
-    }
-
-    // Adds the lines of inputs to those that wait, up to the first that no statement can say, which is returned.
-    fn keep<'a>(
+    /// Records inputs, which may have been idle.
+    pub(crate) fn note<R: Files<File = W> + Eprint>(
         &mut self,
+        rt: &R,
         alloc: Global,
-        inputs: &'a [Input],
-    ) -> Result<Option<&'a Input>, AllocError> {
-        if let Some(lines) = script_lines(alloc, inputs)? {
-            self.waiting.extend_from_slice(lines.as_slice())?;
-            return Ok(None);
-        }
-        for one in inputs.chunks(1) {
-            match script_lines(alloc, one)? {
-                Some(lines) => self.waiting.extend_from_slice(lines.as_slice())?,
-                None => return Ok(one.first()),
+        inputs: &[Input],
+        idle: bool,
+    ) {
+        if let Some(record) = &mut self.record {
+            if let Err(ending) = record.note(rt, alloc, inputs, idle) {
+                self.end_record(rt, ending);
             }
         }
-        Ok(None)
     }
 
-    // Adds the comment that the record ends with, since no statement can say an input.
-    fn keep_unsaid(&mut self, alloc: Global, input: &Input) -> Result<(), AllocError> {
-        let what = unsaid(alloc, input)?;
-        let line = format!(in alloc; "# The record ends: no step says what came next: {what}\n")?;
-        self.waiting.extend_from_slice(line.as_bytes())
-    }
-
-    // Says in the record that it ends, and ends it.
-    fn end_early<R: Eprint>(&mut self, rt: &R, alloc: Global, input: &Input) {
-        let _ = self.keep_unsaid(alloc, input);
-        self.write_waiting(rt);
-        if self.log.is_some() {
-            self.end_record(rt, "no step of a script says what came next");
-        }
-    }
-
-    /// Records inputs, and writes the record as far as it goes if they were more than a reading of the clock.
-    pub(crate) fn note<R: Eprint>(&mut self, rt: &R, alloc: Global, inputs: &[Input], idle: bool) {
-        if self.log.is_none() {
-            return;
-        }
-        match self.keep(alloc, inputs) {
-            Ok(None) => {
-                if !idle || self.waiting.len() >= MOST_WAITING {
-                    self.write_waiting(rt);
-                }
+    // Writes what waits of the record.
+    fn write_record<R: Eprint>(&mut self, rt: &R) {
+        if let Some(record) = &mut self.record {
+            if let Err(ending) = record.write_waiting() {
+                self.end_record(rt, ending);
             }
-            Ok(Some(input)) => self.end_early(rt, alloc, input),
-            Err(_) => self.end_record(rt, "out of memory"),
         }
     }
 
@@ -234,7 +176,7 @@ impl<W: Write + OpenFile + Drop> Reporter<W> {
     }
 
     /// Tells of a round, which may have been idle.
-    pub(crate) fn report_round<R: Print + Eprint>(
+    pub(crate) fn report_round<R: Files<File = W> + Print + Eprint>(
         &mut self,
         rt: &R,
         alloc: Global,
@@ -271,7 +213,7 @@ impl<W: Write + OpenFile + Drop> Reporter<W> {
         door: u64,
         source: u64,
     ) {
-        self.write_waiting(rt);
+        self.write_record(rt);
         if self.has_reader() {
             self.tell_lines(rt, fault_count(alloc, host, door, source));
         }

@@ -10,24 +10,26 @@ ghost use Rattle.up_run.specs.Starts.{Begins, first_inputs, run_base, run_of};
 
 use crate::failures::say_failures;
 use crate::faults::host_faults;
-use crate::head::log_head;
+use crate::files::open_file;
+use crate::head::{bundle_head, log_head};
 use crate::jobs::read_jobs;
 use crate::outlet::Outlet;
 use crate::pace::{Pace, SHORT_PAUSE, is_idle};
-use crate::record::open_file;
+use crate::record::{Heading, Record};
 use crate::reporter::{ReportOptions, Reporter};
 use crate::silence::Silences;
 use crate::socket::say_no_socket;
 use crate::source::PathSource;
 use std::alloc::{AllocError, Global};
 use std::fs::{File, OpenFile, remove_file};
-use std::io::{Eprint, Write};
+use std::io::{Eprint, Read, Write};
 use std::net::Net;
 use std::process::Processes;
 use std::rt::{Clock, Files};
 use std::time::Duration;
 use std::{io, thread};
 use up_daemon::{Daemon, Door, SocketFault, Source, UnixDoor};
+use up_disk::image::bundle_files;
 use up_disk::print::print;
 use up_disk::why::say_error;
 use up_engine::Engine;
@@ -146,11 +148,11 @@ fn round<R, W>(
     daemon: &mut Daemon,
     (host, door, source): (&mut RealHost<R>, &mut UnixDoor, &mut PathSource<'_, R>),
     going: &mut Going,
-    reporter: &mut Reporter<W>,
+    reporter: &mut Reporter<'_, W>,
 ) -> bool
 where
-    R: Files + Processes + Clock + Print + Eprint + AllocGlobal + Clone + Drop,
-    W: Write + OpenFile + Drop,
+    R: Files<File = W> + Processes + Clock + Print + Eprint + AllocGlobal + Clone + Drop,
+    W: Read + Write + OpenFile + Drop,
 {
     let faults = host.faults();
     let unread = source.faults();
@@ -181,11 +183,11 @@ fn all_rounds<R, W>(
     (host, door, source): (&mut RealHost<R>, &mut UnixDoor, &mut PathSource<'_, R>),
     count: u32,
     mut going: Going,
-    reporter: &mut Reporter<W>,
+    reporter: &mut Reporter<'_, W>,
 ) -> ExitStatus
 where
-    R: Files + Processes + Clock + Print + Eprint + AllocGlobal + Clone + Drop,
-    W: Write + OpenFile + Drop,
+    R: Files<File = W> + Processes + Clock + Print + Eprint + AllocGlobal + Clone + Drop,
+    W: Read + Write + OpenFile + Drop,
 {
     for _ in 0..count {
         if !round(rt, daemon, (host, door, source), &mut going, reporter) {
@@ -201,10 +203,10 @@ fn unusable(rt: &(impl Print + AllocGlobal), path: &str) -> io::Result<ExitStatu
 }
 
 // A daemon over jobs, with the first inputs in the record.
-fn first_daemon<R: Eprint + AllocGlobal, W: Write + OpenFile + Drop>(
+fn first_daemon<R: Files<File = W> + Eprint + AllocGlobal, W: Read + Write + OpenFile + Drop>(
     rt: &R,
     table: Table,
-    reporter: &mut Reporter<W>,
+    reporter: &mut Reporter<'_, W>,
 ) -> Result<Daemon, AllocError>
     ensures { IfOk result (Begins table) }
 {
@@ -222,14 +224,14 @@ fn first_daemon<R: Eprint + AllocGlobal, W: Write + OpenFile + Drop>(
 
 // The rounds of a daemon with the system's processes, and the status.
 fn serve_with<
-    R: Files + Processes + Clock + Print + Eprint + AllocGlobal + Clone + Drop,
-    W: Write + OpenFile + Drop,
+    R: Files<File = W> + Processes + Clock + Print + Eprint + AllocGlobal + Clone + Drop,
+    W: Read + Write + OpenFile + Drop,
 >(
     rt: &R,
     daemon: &mut Daemon,
     (door, source): (&mut UnixDoor, &str),
     (rounds, quiet): (Rounds, bool),
-    reporter: &mut Reporter<W>,
+    reporter: &mut Reporter<'_, W>,
 ) -> io::Result<ExitStatus> {
     let mut host = match RealHost::new(rt.alloc(), rt.clone()?) {
         Ok(host) => host,
@@ -260,14 +262,14 @@ fn serve_with<
 
 // The rounds over jobs with the system's processes, and the status.
 fn serve<
-    R: Files + Processes + Clock + Print + Eprint + AllocGlobal + Clone + Drop,
-    W: Write + OpenFile + Drop,
+    R: Files<File = W> + Processes + Clock + Print + Eprint + AllocGlobal + Clone + Drop,
+    W: Read + Write + OpenFile + Drop,
 >(
     rt: &R,
     table: Table,
     (door, source): (&mut UnixDoor, &str),
     (rounds, quiet): (Rounds, bool),
-    reporter: &mut Reporter<W>,
+    reporter: &mut Reporter<'_, W>,
 ) -> io::Result<ExitStatus> {
     let mut daemon = first_daemon(rt, table, reporter)?;
     let served = serve_with(rt, &mut daemon, (door, source), (rounds, quiet), reporter);
@@ -288,24 +290,63 @@ fn no_socket<R: Files + Net + Print + Eprint + AllocGlobal>(
     unusable(rt, socket)
 }
 
+// What the record of a run begins with.
+fn heading_of(
+    alloc: Global,
+    table: &Table,
+    source: &str,
+    log: &str,
+) -> Result<Heading, AllocError> {
+    let script = log_head(alloc, source, log, SEARCHED)?;
+    let bundle = bundle_head(alloc, log, SEARCHED)?;
+    let jobs = bundle_files(alloc, table)?;
+    Ok(Heading {
+        script,
+        bundle,
+        jobs,
+    })
+}
+
+// The record of a run, if one is asked for; or its path, if its file can't be made.
+fn record_of<'a, R: Files<File = File> + Eprint + AllocGlobal>(
+    rt: &R,
+    table: &Table,
+    source: &str,
+    options: ReportOptions<'a>,
+) -> Result<Result<Option<Record<'a, File>>, &'a str>, AllocError> {
+    let Some(log) = options.log else {
+        return Ok(Ok(None));
+    };
+    let heading = heading_of(rt.alloc(), table, source, log)?;
+    match open_file(rt, options.log, options.over) {
+        Some(Some(file)) => {
+            let record = Record::new(rt.alloc(), log, file, heading)?;
+            Ok(Ok(Some(record)))
+        }
+        _ => {
+            drop(heading);
+            Ok(Err(log))
+        }
+    }
+}
+
 // What tells of a run, once its files are there; or the path of one that can't be made.
 fn reporter_of<'a, R: Files<File = File> + Net + Eprint + AllocGlobal>(
     rt: &R,
+    table: &Table,
     source: &str,
     options: ReportOptions<'a>,
-) -> Result<Result<Reporter<File>, &'a str>, AllocError> {
-    let head = log_head(rt.alloc(), source, options.log.unwrap_or("-"), SEARCHED)?;
-    let Some(log) = open_file(rt, options.log, options.over) else {
-        drop(head);
-        return Ok(Err(options.log.unwrap_or("-")));
+) -> Result<Result<Reporter<'a, File>, &'a str>, AllocError> {
+    let record = match record_of(rt, table, source, options)? {
+        Ok(record) => record,
+        Err(path) => return Ok(Err(path)),
     };
     let Some(told) = open_file(rt, options.tell, options.over) else {
-        drop(head);
-        drop(log);
+        drop(record);
         return Ok(Err(options.tell.unwrap_or("-")));
     };
     let verbose = options.verbose.then(|| Outlet::new(rt, rt.alloc()));
-    Ok(Ok(Reporter::new(verbose, told, log, head)))
+    Ok(Ok(Reporter::new(verbose, told, record)))
 }
 
 // The rounds over jobs, once the files to which they are told are there. Without them there is no run, and the socket that was made goes.
@@ -320,7 +361,7 @@ fn record_run<R>(
 where
     R: Files<File = File> + Net + Processes + Clock + Print + Eprint + AllocGlobal + Clone + Drop,
 {
-    match reporter_of(rt, source, options) {
+    match reporter_of(rt, &table, source, options) {
         Ok(Ok(mut reporter)) => {
             let served = serve(
                 rt,

@@ -1,0 +1,42 @@
+//! The files to which a run tells what happens.
+use std::fs::File;
+use std::io;
+use std::io::{Eprint, ErrorKind};
+use std::rt::Files;
+use up_disk::why::{say, say_error};
+
+// A file that wasn't there, or one that is emptied if it is there.
+fn open<R: Files>(rt: &R, path: &str, over: bool) -> io::Result<R::File> {
+    if over {
+        File::create(rt, path)
+    } else {
+        File::create_new(rt, path)
+    }
+}
+
+/// The file of a record, if one is asked for. One that is there is emptied if `over`, and refused if not. None if it can't be made, and
+/// then it is said why.
+pub(crate) fn open_file<R: Files + Eprint>(
+    rt: &R,
+    path: Option<&str>,
+    over: bool,
+) -> Option<Option<R::File>> {
+    let Some(path) = path else {
+        return Some(None);
+    };
+    match open(rt, path, over) {
+        Ok(file) => Some(Some(file)),
+        Err(error) => {
+            if error.kind() == ErrorKind::AlreadyExists {
+                say(
+                    rt,
+                    path,
+                    "it is there; with --record-over it is written over",
+                );
+            } else {
+                say_error(rt, path, &error);
+            }
+            None
+        }
+    }
+}
