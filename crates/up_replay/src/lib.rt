@@ -1,6 +1,7 @@
 //! What is printed for a folder of job files, and for a script of what happens to its jobs.
 #![tactic(auto)]
 
+mod compiled;
 pub mod replay;
 mod reread;
 mod running;

@@ -11,11 +11,14 @@ ghost use Rattle.up_print.specs.Lines.{step_lines};
 ghost use Rattle.up_print.specs.Writing.{IsBegun};
 ghost use Rattle.up_script.specs.Statements.{script_inputs};
 ghost use Rattle.up_script.specs.declared.bundle.TheConstants.{MAX_BUNDLE};
-ghost use Rattle.up_replay.specs.Replay.{play_output, unless_bad, Plays, Prints, Replays};
+ghost use Rattle.up_replay.specs.Compiling.{joined};
+ghost use Rattle.up_replay.specs.Replay.{play_output, unless_bad, Plays, PlaysFirst, Prints, PrintsFolders, Replays};
 
+use crate::compiled::{Compiled, compile, compile_all, joined};
 use crate::reread::reread;
 use crate::running::push_run;
 use std::alloc::{AllocError, Global};
+use std::collections::VecDeque;
 use std::io;
 use std::io::{ErrorKind, Read, Write};
 use up_conf::Folder;
@@ -24,18 +27,22 @@ use up_model::ExitStatus;
 use up_print::check::faults_and_compile;
 use up_print::{Printed, cannot_use, push_bad_step, write_printed};
 use up_script::bundle::MAX_BUNDLE;
-use up_script::{Bundle, ScriptInputs, read_bundle, read_inputs};
+use up_script::{Bundle, ScriptInputs, read_bundle, read_inputs_with};
 use up_text::{Env, Items};
 
-// The inputs of a bundle, or its first bad line.
-fn inputs_in(alloc: Global, bundle: &Bundle<'_>) -> Result<Result<ScriptInputs, u32>, AllocError>
+// The inputs of a bundle, or its first bad line. Its loads take the tables.
+fn inputs_in(
+    alloc: Global,
+    tables: &mut VecDeque<Table>,
+    bundle: &Bundle<'_>,
+) -> Result<Result<ScriptInputs, u32>, AllocError>
     requires { bundle.now.line + length bundle.now.script.now < 4294967295 }
     ensures { IfOk result (λ read. read ≡ unless_bad bundle.now.bad
-        (script_inputs bundle.now.line bundle.now.script.now)) }
+        (script_inputs tables.old.items bundle.now.line bundle.now.script.now)) }
 {
     match bundle.bad {
         Some(line) => Ok(Err(line)),
-        None => read_inputs(alloc, bundle.script, bundle.line),
+        None => read_inputs_with(alloc, tables, bundle.script, bundle.line),
     }
 }
 
@@ -103,8 +110,70 @@ pub fn render_folder(
     }
 }
 
+// What is printed once all folders are compiled.
+fn play_all(
+    alloc: Global,
+    bundle: &Bundle<'_>,
+    faults: Printed,
+    table: Table,
+    later: Compiled,
+) -> Result<Printed, AllocError>
+    requires { bundle.now.line + length bundle.now.script.now < 4294967295 }
+    ensures { IfOk result (λ made. made ≡ play_output [] (codes "-") table (joined faults later.faults)
+        (unless_bad bundle.now.bad (script_inputs later.tables.items bundle.now.line bundle.now.script.now))) }
+{
+    let Compiled {
+        faults: more,
+        mut tables,
+    } = later;
+    let faults = joined(faults, &more)?;
+    let read = inputs_in(alloc, &mut tables, bundle)?;
+    drop(tables);
+    play(alloc, faults, table, Env::new(alloc), "-", read)
+}
+
+// What is printed once the first folder is compiled.
+#[tactic(auto, using(crate::proofs::Compiling::first_plays, crate::proofs::Compiling::first_refused))]
+fn play_first(
+    alloc: Global,
+    bundle: &Bundle<'_>,
+    faults: Printed,
+    table: Table,
+) -> Result<Printed, AllocError>
+    requires { bundle.now.line + length bundle.now.script.now < 4294967295 }
+    ensures { IfOk result (PlaysFirst bundle.now.later faults table (λ tables. unless_bad bundle.now.bad
+        (script_inputs tables bundle.now.line bundle.now.script.now))) }
+{
+    match compile_all(alloc, bundle.later.as_slice()) {
+        Ok(Ok(later)) => play_all(alloc, bundle, faults, table, later),
+        Ok(Err(refusal)) => {
+            drop(table);
+            drop(faults);
+            Ok(refusal)
+        }
+        Err(error) => {
+            drop(table);
+            drop(faults);
+            Err(error)
+        }
+    }
+}
+
+// What is printed for a bundle that was read.
+fn render_read(alloc: Global, bundle: &Bundle<'_>) -> Result<Printed, AllocError>
+    requires { bundle.now.line + length bundle.now.script.now < 4294967295 }
+    ensures { IfOk result (PrintsFolders bundle.now.folder bundle.now.later (λ tables. unless_bad bundle.now.bad
+        (script_inputs tables bundle.now.line bundle.now.script.now))) }
+{
+    let (faults, table) = compile(alloc, &bundle.folder)?;
+    match table {
+        Some(table) => play_first(alloc, bundle, faults, table),
+        None => Ok(faults),
+    }
+}
+
 /// What is printed for the bytes of a bundle.
-#[tactic(auto, unfolding(crate::specs::Replay::bundle_printed, crate::specs::Replay::inputs_in), using(up_script::proofs::Sizes::script_small, crate::proofs::Limits::prints_long))]
+#[tactic(auto, using(up_script::proofs::Sizes::script_small, crate::proofs::Limits::prints_long, crate::proofs::Limits::prints_read))]
 pub fn render_bundle(alloc: Global, bytes: &[u8]) -> Result<Printed, AllocError>
     ensures { IfOk result (Prints bytes.now) }
 {
@@ -112,8 +181,7 @@ pub fn render_bundle(alloc: Global, bytes: &[u8]) -> Result<Printed, AllocError>
         return cannot_use(alloc, "-");
     }
     let bundle = read_bundle(alloc, bytes)?;
-    let read = inputs_in(alloc, &bundle)?;
-    render_folder(alloc, &bundle.folder, Env::new(alloc), "-", read)
+    render_read(alloc, &bundle)
 }
 
 // All bytes, but at most one more than a bundle may have.
