@@ -39,6 +39,29 @@ BUNDLES = [
     (b'%file a.conf\nstart on go\nstop on halt\nexec /bin/d x\n%script\nemit go B=1 \'A=b\'\\=c B=\nturn 3\nspawned a "" main 4294967295\nturn 3\nemit halt\nturn 3\n', 'event starting JOB="a" INSTANCE=""\nspawn a main "/bin/d" "x"\n  B=""\n  A="b=c"\n  UPSTART_EVENTS="go"\n  UPSTART_JOB="a"\n  UPSTART_INSTANCE=""\nevent started JOB="a" INSTANCE=""\nevent stopping JOB="a" INSTANCE="" RESULT="ok"\nsignal a 4294967295 TERM\n', 0),
 ]
 
+# A line `%folder` begins the next folder. All are compiled before the first step, and each `load` takes the next one.
+FOLDERS = [
+    (b'%folder\n', '', 0),
+    (b'%folder', '', 0),
+    (b'%folder\n%file a.conf\nexec /bin/d\n%script\nrequest 1 list\nload 2\nrequest 3 list\n', 'reply 1 ok ""\nreply 2 ok ""\nreply 3 ok "a stop/waiting"\n', 0),
+    (b'%file a.conf\nexec /bin/d\n%folder\n%folder\n%file b.conf\nexec /bin/d\n%script\nrequest 1 list\nload 2\nrequest 3 list\nload 18446744073709551615\nrequest 4 list\n', 'reply 1 ok "a stop/waiting"\nreply 2 ok ""\nreply 3 ok ""\nreply 18446744073709551615 ok ""\nreply 4 ok "b stop/waiting"\n', 0),
+    (b'%file a.conf\nexec /bin/d\n%folder\n%file a.conf\nexec /bin/d\n%script\nload 1\n', 'reply 1 ok ""\n', 0),
+    (b'%file a.conf\nexec /bin/d\n%folders\n%folder \n%script\n', 'a.conf:2: 1 UnknownStanza\n', 1),
+    (b'%file a.conf\nexec /bin/d\n%folder\n\n%file b.conf\n%script\nnonsense\n', '-:4: bad step\n', 2),
+    (b'%folder\nexec /bin/d\n', '-:2: bad step\n', 2),
+    (b'%folder\n%file \xff\n%folder\nexec /bin/d\n', '-:2: bad step\n', 2),
+    (b'\n%folder\n\n', '-:1: bad step\n', 2),
+    (b'%script\nturn\n%folder\n', '-:3: bad step\n', 2),
+    (b'%folder\n%script\nload 1\nload 1\nnonsense\n', '-:4: bad step\n', 2),
+    (b'%folder\n%script\nturn\n\nload 1 2\n', '-:5: bad step\n', 2),
+    (b'%folder\n%script\nload\n', '-:3: bad step\n', 2),
+    (b'%folder\n%script\nload 18446744073709551616\n', '-:3: bad step\n', 2),
+    (b'%file b.conf\nnonsense\n%folder\n%file a.conf\nexec /bin/d\nnonsense\n%script\nload 1\n', 'b.conf:1: 1 UnknownStanza\na.conf:2: 1 UnknownStanza\nreply 1 ok ""\n', 1),
+    (b'%folder\n%file a.conf\nnonsense\n%script\nturn\nload one\n', 'a.conf:1: 1 UnknownStanza\n-:6: bad step\n', 2),
+    (b'%file a.conf\nnonsense\n%folder\n%file b.conf\n%file b.conf\n%folder\n%file c.conf\nnonsense\n%script\nnonsense\n', 'initd: 21 SameName\n', 3),
+    (b'%file a.conf\n%folder\n\n%folder\n%file a.conf\n%file a.conf\n', 'initd: 21 SameName\n', 3),
+]
+
 # A quoted piece goes on over line ends, and a run of blanks with a line end in it is one space.
 QUOTED = [
     (b'%file a.conf\nstart on A\nexec /bin/d\n%script\nemit A X="b\n c"\nturn 3\n', SPAWNED, 0),
@@ -163,6 +186,8 @@ BAD_STEPS = [
     b'clock 18446744073709551616',
     b'clock 1 2',
     b'clock one',
+    b'load',
+    b'load 1',
     b'request',
     b'request 1',
     b'request one list',
@@ -195,6 +220,7 @@ BAD_STEPS = [
 
 TOPICS = [
     ("bundles", BUNDLES),
+    ("folders after the first", FOLDERS),
     ("quoted pieces span lines", QUOTED),
     ("backslashes join lines", JOINED),
     ("a bad step is told where it begins", BAD),

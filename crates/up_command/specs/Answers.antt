@@ -1,7 +1,7 @@
 -- The status of what a command line asks for.
 use Rattle.up_command.specs.declared.command.Invocation.{Invocation}
-use Rattle.up_command.specs.declared.command.Invocation.TheVariants.{Bundle, Check, Compare, Compile, Graph, Lint, Replay, Run, Show, View}
-use Rattle.up_disk.specs.Disk.{ChecksBy, CompilesDir, EndsWith, GraphsDir, PlaysSource, ShowsFile}
+use Rattle.up_command.specs.declared.command.Invocation.TheVariants.{Bundle, Check, Compare, Compile, Graph, Lint, Replay, ReplayFile, Run, Show, View}
+use Rattle.up_disk.specs.Disk.{ChecksBy, CompilesDir, EndsWith, GraphsDir, PlaysFile, PlaysSource, ShowsFile}
 use Rattle.up_model.specs.declared.exit_status.ExitStatus.{ExitStatus}
 use Rattle.up_tools.specs.Compares.{ComparesDir}
 use Rattle.up_tools.specs.Lints.{LintsDir}
@@ -17,5 +17,6 @@ Answers (Lint dir left_out outside) status = EndsWith (LintsDir dir.now left_out
 Answers (Compile dir image) status = EndsWith (CompilesDir dir.now image.now) status
 Answers (Show image) status = EndsWith (ShowsFile image.now) status
 Answers (Replay source script base) status = EndsWith (PlaysSource source.now base script.now) status
+Answers (ReplayFile bundle base) status = EndsWith (PlaysFile bundle.now base) status
 Answers (View view source log) status = EndsWith (ViewsSource source.now view log.now) status
 Answers (Run source socket rounds options) status = Unit {0}

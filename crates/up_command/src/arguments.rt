@@ -137,8 +137,14 @@ static SUBCOMMANDS: [Subcommand; 9] = [
             Argument {
                 id: "SCRIPT",
                 shown: "SCRIPT",
-                help: "The file of what happens",
-                kind: ArgumentKind::Place,
+                help: "The file of what happens; none with --bundle",
+                kind: ArgumentKind::LastPlace,
+            },
+            Argument {
+                id: "bundle",
+                shown: "",
+                help: "Replays the file of a bundle, which has its folders and its script, in place of DIR|IMAGE and SCRIPT",
+                kind: ArgumentKind::Flag,
             },
             Argument {
                 id: "env",

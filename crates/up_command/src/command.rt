@@ -59,6 +59,12 @@ pub enum Invocation<'a> {
         /// The variables of each process, on top of which its job's are set.
         base: Env,
     },
+    /// To replay the bundle in a file.
+    ReplayFile {
+        bundle: &'a str,
+        /// The variables of each process, on top of which its job's are set.
+        base: Env,
+    },
     /// To show what a record says of a run over a folder or an image.
     View {
         view: View,
@@ -147,14 +153,24 @@ fn parse_replay<'a>(
     alloc: Global,
     given: &ArgMatches<'a>,
 ) -> Result<Option<Invocation<'a>>, TextFault> {
-    let (Some(source), Some(script)) = (given.get_str("SOURCE"), given.get_str("SCRIPT")) else {
+    let Some(source) = given.get_str("SOURCE") else {
         return Ok(None);
     };
+    let script = given.get_str("SCRIPT");
+    if script.is_some() == is_set(given, "bundle") {
+        return Ok(None);
+    }
     let base = base_of(alloc, given.get_strs("env").unwrap_or(&[]))?;
-    Ok(Some(Invocation::Replay {
-        source,
-        script,
-        base,
+    Ok(Some(match script {
+        Some(script) => Invocation::Replay {
+            source,
+            script,
+            base,
+        },
+        None => Invocation::ReplayFile {
+            bundle: source,
+            base,
+        },
     }))
 }
 

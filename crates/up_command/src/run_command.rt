@@ -11,7 +11,9 @@ use std::net::Net;
 use std::process::Processes;
 use std::rt::{Clock, Files};
 use up_disk::print::print;
-use up_disk::{check_dir, compile_dir, explain_dir, graph_dir, replay_source, show_image};
+use up_disk::{
+    check_dir, compile_dir, explain_dir, graph_dir, replay_file, replay_source, show_image,
+};
 use up_model::ExitStatus;
 use up_replay::replay::replay_bundle;
 use up_run::run_source;
@@ -71,6 +73,7 @@ pub fn run_command<
             script,
             base,
         } => print(rt, replay_source(rt, source, base, script)),
+        Invocation::ReplayFile { bundle, base } => print(rt, replay_file(rt, bundle, base)),
         Invocation::View { view, source, log } => print(rt, view_source(rt, view, source, log)),
         Invocation::Run {
             source,

@@ -11,7 +11,7 @@ use Rattle.up_image.specs.Image.{IsImage}
 use Rattle.up_image.specs.Reading.{HasTable, ReadsImage, head_error}
 use Rattle.up_script.specs.Bundle.{files_of, lines_of}
 use Rattle.up_print.specs.Folders.{Checks, ChecksExplained, Graphs, image_refusal_line, prints, unusable}
-use Rattle.up_replay.specs.Replay.{Plays}
+use Rattle.up_replay.specs.Replay.{Plays, Prints}
 use Rattle.up_script.specs.declared.bundle.TheConstants.{MAX_BUNDLE}
 use Rattle.up_script.specs.Statements.{script_inputs}
 use Rattle.up_disk.specs.declared.walk.WalkError.TheVariants.{Unusable}
@@ -128,6 +128,15 @@ pub record PlaysFiles (base : List (List ℕ × List ℕ)) (script : List ℕ) (
 
 abbrev pub PlaysDir : List ℕ → List (List ℕ × List ℕ) → List ℕ → Printed → Type 0
 PlaysDir dir base script made = PlaysFiles base script made ⊎ (CannotWalk dir made ⊎ IsUnusable script made)
+
+-- a replay of a bundle that has this path, and 64 MiB at most
+pub record PlaysBundle (path : List ℕ) (base : List (List ℕ × List ℕ)) (made : Printed) : Type 0 where
+  pub bytes : List ℕ
+  pub bounded : length bytes ≤ MAX_BUNDLE
+  pub prints : Prints base path bytes made
+
+abbrev pub PlaysFile : List ℕ → List (List ℕ × List ℕ) → Printed → Type 0
+PlaysFile path base made = PlaysBundle path base made ⊎ IsUnusable path made
 
 -- a replay of a script over files that define these jobs
 pub record PlaysJobs (jobs : List JobDef) (base : List (List ℕ × List ℕ)) (script : List ℕ)

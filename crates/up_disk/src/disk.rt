@@ -1,6 +1,6 @@
 //! Checks and replays folders on the disk.
 ghost use Rattle.std.specs.Prelude.{◌≡◌, ◌≤◌, ◌⊎◌, IfOk, IfSome, length};
-ghost use Rattle.up_disk.specs.Disk.{ChecksDir, ExplainsDir, GraphsDir, PlaysDir, PlaysFiles, PlaysOver, IsUnusable};
+ghost use Rattle.up_disk.specs.Disk.{ChecksDir, ExplainsDir, GraphsDir, PlaysDir, PlaysFile, PlaysFiles, PlaysOver, IsUnusable};
 ghost use Rattle.up_disk.specs.Walk.{IsWalked};
 ghost use Rattle.up_script.specs.declared.bundle.TheConstants.{MAX_BUNDLE};
 
@@ -12,7 +12,7 @@ use std::rt::Files;
 use up_conf::Folder;
 use up_print::check::{check, check_explained, graph_folder};
 use up_print::{Printed, cannot_use};
-use up_replay::render_folder;
+use up_replay::{play_bundle, render_folder};
 use up_script::bundle::MAX_BUNDLE;
 use up_script::read_inputs;
 use up_text::Env;
@@ -130,5 +130,30 @@ pub fn replay_dir<R: Files + Eprint + AllocGlobal + Clone + Drop>(
         Ok(folder) => replay_folder(rt, &folder, base, script),
         Err(WalkError::Unusable(path)) => cannot_use(rt.alloc(), path.as_str()),
         Err(WalkError::Memory) => Err(AllocError),
+    }
+}
+
+/// What a replay of the bundle in a file prints, if each process gets the base environment.
+pub fn replay_file<R: Files + Eprint + AllocGlobal>(
+    rt: &R,
+    bundle: &str,
+    base: Env,
+) -> Result<Printed, AllocError>
+    ensures { IfOk result (PlaysFile bundle.now base) }
+{
+    match read_script(rt, bundle) {
+        Ok(Some(bytes)) => {
+            let made = play_bundle(rt.alloc(), bytes.as_slice(), base, bundle);
+            drop(bytes);
+            made
+        }
+        Ok(None) => {
+            drop(base);
+            cannot_use(rt.alloc(), bundle)
+        }
+        Err(refused) => {
+            drop(base);
+            Err(refused)
+        }
     }
 }

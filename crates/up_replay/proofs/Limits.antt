@@ -1,69 +1,102 @@
 -- What is printed depends on no more than one byte past the most that a bundle has.
-use Rattle.std.proofs.Common.{◌≡◌, ℕ, ◌<◌, ◌≤◌, false, List, length, take, nat_le, length-take, arith, refl, ap, ◌⊎◌, ⊎_elim, subst, inl, inr, ◌∙◌, Option, Some, None, codes}
+use Rattle.std.proofs.Common.{◌≡◌, ℕ, ◌<◌, ◌≤◌, true, false, List, length, take, nat_le, length-take, arith, refl, sym, ap, ◌⊎◌, ⊎_elim, subst, inl, inr, ◌∙◌, Option, Some, None, codes, ◌×◌, []}
 use Rattle.std.specs.Prelude.{IfSome}
 use Rattle.std.specs.Io.KnownBytes.{Appends}
 use Rattle.std.proofs.lemmas.Bool.{cases_lt}
 use Rattle.std.proofs.lemmas.Bool.Decides.{nat_tests}
 use Rattle.std.proofs.lemmas.List.{take_all}
-use Rattle.up_conf.specs.declared.report.Fault.{Fault}
+use Rattle.up_conf.specs.declared.folder.File.{File}
 use Rattle.up_print.specs.declared.printed.Printed.{Printed}
-use Rattle.up_script.specs.Bundle.{files_of, lines_of}
-use Rattle.up_print.specs.Folders.{prints, unusable}
-use Rattle.up_replay.specs.Replay.{bundle_printed, Prints, Replayed, IsCutOff, Replays}
+use Rattle.up_script.specs.Bundle.{files_of, later_folders, lines_of, bad_line, script_line, script_text}
+use Rattle.up_script.specs.Statements.{script_inputs}
+use Rattle.up_print.specs.Folders.{prints, unusable, compile_outcome}
+use Rattle.up_replay.specs.Replay.{bundle_printed, inputs_in, unless_bad, Folders, Prints, PrintsFolders, Replayed, IsCutOff, Replays}
+use Rattle.up_replay.proofs.Compiling.{some_made, some_are}
 use Rattle.up_print.specs.Writing.{IsBegun}
 use Rattle.up_print.proofs.Reports.{any_report}
 use Rattle.up_model.specs.ExitStatuses.{status_number}
 use Rattle.up_model.specs.declared.exit_status.ExitStatus.{ExitStatus}
 use Rattle.up_model.specs.declared.exit_status.ExitStatus.TheVariants.{Memory, Unusable}
 
--- what is printed for a bundle that is too long tells of no report
-other_report : (report other : List Fault) (bytes : List ℕ) → nat_le (length bytes) 67108864 ≡ false → (others : List ℕ) → nat_le (length others) 67108864 ≡ false → bundle_printed report bytes ≡ bundle_printed other others
+-- some folders of a bundle, compiled
+any_folders : (lines : List (List ℕ)) → Folders lines
+any_folders lines = record {
+  first = compile_outcome (any_report (files_of lines)).0 (files_of lines);
+  is = record { report = (any_report (files_of lines)).0; is = (any_report (files_of lines)).1; same = refl };
+  later = some_made (later_folders lines);
+  are = some_are (later_folders lines);
+}
+
+-- what is printed for a bundle that is too long tells of no folder
+other_folders : (base : List (List ℕ × List ℕ)) (name bytes others : List ℕ) (folders : Folders (lines_of bytes)) (those : Folders (lines_of others)) → nat_le (length bytes) 67108864 ≡ false
+    → nat_le (length others) 67108864 ≡ false → bundle_printed base name bytes folders ≡ bundle_printed base name others those
 unfolding bundle_printed
-other_report report other bytes one others two = rw (one, two) refl
+other_folders base name bytes others folders those one two = rw (one, two) refl
 
 long : (n : ℕ) → 67108864 < n → nat_le n 67108864 ≡ false
 long n more = grind (arith, nat_tests)
 
 -- what is printed for a bundle's first bytes is printed for the bundle
-pub prints_take : (all : List ℕ) (made : Printed) → Prints (take 67108865 all) made → Prints all made
+pub prints_take : (all : List ℕ) (made : Printed) → Prints [] (codes "-") (take 67108865 all) made → Prints [] (codes "-") all made
 prints_take all made had = ⊎_elim by_long by_short (cases_lt 67108864 (length all))
   where
-    by_short : length all ≤ 67108864 → Prints all made
-    by_short few = let whole : length all ≤ 67108865 = omega arith in subst (λ bytes. Prints bytes made) (take_all 67108865 all whole) had
+    by_short : length all ≤ 67108864 → Prints [] (codes "-") all made
+    by_short few = let whole : length all ≤ 67108865 = omega arith in subst (λ bytes. Prints [] (codes "-") bytes made) (take_all 67108865 all whole) had
 
-    by_long : 67108864 < length all → Prints all made
+    by_long : 67108864 < length all → Prints [] (codes "-") all made
     by_long more =
-        let any = any_report (files_of (lines_of all)) in
+        let any = any_folders (lines_of all) in
         let size : 67108864 < length (take 67108865 all) = rw length-take (omega arith) in
-        record { report = any.0; is = any.1; same = had.same ∙ other_report had.report any.0 (take 67108865 all) (long _ size) all (long _ more) }
+        record { folders = any; same = had.same ∙ other_folders [] (codes "-") (take 67108865 all) all had.folders any (long _ size) (long _ more) }
 
 -- what is printed for a bundle that is too long
-pub prints_long : (bytes : List ℕ) (made : Printed) → 67108864 < length bytes → made ≡ prints (unusable (codes "-")) Unusable → Prints bytes made
+pub prints_long : (base : List (List ℕ × List ℕ)) (name bytes : List ℕ) (made : Printed) → 67108864 < length bytes → made ≡ prints (unusable name) Unusable → Prints base name bytes made
 unfolding bundle_printed
-prints_long bytes made more is =
-    let any = any_report (files_of (lines_of bytes)) in
-    record { report = any.0; is = any.1; same = is ∙ rw (long _ more) refl }
+prints_long base name bytes made more is = record { folders = any_folders (lines_of bytes); same = is ∙ rw (long _ more) refl }
 
-replayed_whole : (all bytes : List ℕ) (made : Printed) (status : ExitStatus) (old new : Option (List ℕ)) → bytes ≡ take 67108865 all → Prints bytes made
+few : (n : ℕ) → n ≤ 67108864 → nat_le n 67108864 ≡ true
+few n less = grind (arith, nat_tests)
+
+-- what is printed for a bundle's lines
+by_lines : (base : List (List ℕ × List ℕ)) (name bytes : List ℕ) (made : Printed) → length bytes ≤ 67108864
+    → PrintsFolders base name (files_of (lines_of bytes)) (later_folders (lines_of bytes)) (inputs_in (lines_of bytes)) made → Prints base name bytes made
+unfolding bundle_printed
+by_lines base name bytes made less had =
+    record { folders = record { first = had.first; is = had.is; later = had.later; are = had.are }; same = had.same ∙ sym (rw (few _ less) refl) }
+
+-- what is printed for a bundle that was read
+pub prints_read : (base : List (List ℕ × List ℕ)) (name bytes : List ℕ) (files : List File) (folders : List (List File)) (bad : Option ℕ) (line : ℕ) (script : List ℕ) (made : Printed) → length bytes ≤ 67108864
+    → files ≡ files_of (lines_of bytes) → folders ≡ later_folders (lines_of bytes) → bad ≡ bad_line 1 (lines_of bytes) → line ≡ script_line 1 (lines_of bytes)
+    → script ≡ script_text (lines_of bytes) → PrintsFolders base name files folders (λ tables. unless_bad bad (script_inputs tables line script)) made → Prints base name bytes made
+unfolding inputs_in
+prints_read base name bytes files folders bad line script made less its later wrong number text had =
+    let lines = lines_of bytes in
+    by_lines base name bytes made less
+    (subst (λ found. PrintsFolders base name (files_of lines) (later_folders lines) (λ tables. unless_bad found (script_inputs tables (script_line 1 lines) (script_text lines))) made) wrong
+    (subst (λ n. PrintsFolders base name (files_of lines) (later_folders lines) (λ tables. unless_bad bad (script_inputs tables n (script_text lines))) made) number
+    (subst (λ said. PrintsFolders base name (files_of lines) (later_folders lines) (λ tables. unless_bad bad (script_inputs tables line said)) made) text
+    (subst (λ those. PrintsFolders base name (files_of lines) those (λ tables. unless_bad bad (script_inputs tables line script)) made) later
+    (subst (λ those. PrintsFolders base name those folders (λ tables. unless_bad bad (script_inputs tables line script)) made) its had)))))
+
+replayed_whole : (all bytes : List ℕ) (made : Printed) (status : ExitStatus) (old new : Option (List ℕ)) → bytes ≡ take 67108865 all → Prints [] (codes "-") bytes made
     → (status_number status < 3 → (status ≡ made.status) × Appends old new made.text) → status_number status < 3 → Replayed all (status_number status) old new
 replayed_whole all bytes made status old new front had wrote below =
-    let whole = prints_take all made (subst (λ b. Prints b made) front had) in
+    let whole = prints_take all made (subst (λ b. Prints [] (codes "-") b made) front had) in
     let written = wrote below in
     record {
-      report = whole.report;
-      is = whole.is;
+      folders = whole.folders;
       ends = ap status_number (written.0 ∙ ap (λ (m : Printed). m.status) whole.same);
       text = subst (λ text. Appends old new text) (ap (λ (m : Printed). m.text) whole.same) written.1;
     }
 
-cut_off : (all bytes : List ℕ) (made : Printed) (old new : Option (List ℕ)) → bytes ≡ take 67108865 all → Prints bytes made
+cut_off : (all bytes : List ℕ) (made : Printed) (old new : Option (List ℕ)) → bytes ≡ take 67108865 all → Prints [] (codes "-") bytes made
     → IsBegun old new made.text → IsCutOff all old new
 cut_off all bytes made old new front had begun =
-    let whole = prints_take all made (subst (λ b. Prints b made) front had) in
-    inl (whole.report, whole.is, subst (λ text. IsBegun old new text) (ap (λ (m : Printed). m.text) whole.same) begun)
+    let whole = prints_take all made (subst (λ b. Prints [] (codes "-") b made) front had) in
+    inl (whole.folders, subst (λ text. IsBegun old new text) (ap (λ (m : Printed). m.text) whole.same) begun)
 
 -- what was written for a reader's bytes, if these are known
-pub replayed_known : (known : Option (List ℕ)) (bytes : List ℕ) (made : Printed) (status : ExitStatus) (old new : Option (List ℕ)) → IfSome known (λ all. bytes ≡ take 67108865 all) → Prints bytes made
+pub replayed_known : (known : Option (List ℕ)) (bytes : List ℕ) (made : Printed) (status : ExitStatus) (old new : Option (List ℕ)) → IfSome known (λ all. bytes ≡ take 67108865 all) → Prints [] (codes "-") bytes made
     → (status_number status < 3 → (status ≡ made.status) × Appends old new made.text) → IsBegun old new made.text
     → IfSome known (λ all. Replays all (status_number status) old new)
 replayed_known None bytes made status old new front had wrote begun = tt

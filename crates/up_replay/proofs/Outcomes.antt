@@ -25,7 +25,7 @@ tables false false small jobs report other = refl
 tables false true true jobs report other = refl
 tables false true false jobs report other = refl
 
-same_table : (files : List File) (report other : List Fault) → table_of (compile_outcome report files) ≡ table_of (compile_outcome other files)
+pub same_table : (files : List File) (report other : List Fault) → table_of (compile_outcome report files) ≡ table_of (compile_outcome other files)
 unfolding compile_outcome
 same_table files report other = tables (has_twice (read_paths files)) (nat_le (length (jobs_of files)) MAX_JOBS) (has_image (jobs_of files)) (jobs_of files) report other
 

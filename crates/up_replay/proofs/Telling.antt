@@ -14,7 +14,7 @@ use Rattle.up_replay.specs.Running.{Tells}
 use Rattle.up_script.specs.ScriptInputs.{inputs_of_step, inputs_of_steps}
 use Rattle.up_script.specs.declared.scripted.StepInputs.{StepInputs}
 
-flat-append : {X Y : Type 0} (f : X → List Y) (xs ys : List X) → flat_map f (xs ++ ys) ≡ flat_map f xs ++ flat_map f ys
+pub flat-append : {X Y : Type 0} (f : X → List Y) (xs ys : List X) → flat_map f (xs ++ ys) ≡ flat_map f xs ++ flat_map f ys
 flat-append f [] ys = refl
 flat-append f (x ∷ xs) ys = ap (λ rest. f x ++ rest) (flat-append f xs ys) ∙ sym (append_assoc (f x) (flat_map f xs) (flat_map f ys))
 

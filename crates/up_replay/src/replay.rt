@@ -11,11 +11,14 @@ ghost use Rattle.up_print.specs.Lines.{step_lines};
 ghost use Rattle.up_print.specs.Writing.{IsBegun};
 ghost use Rattle.up_script.specs.Statements.{script_inputs};
 ghost use Rattle.up_script.specs.declared.bundle.TheConstants.{MAX_BUNDLE};
-ghost use Rattle.up_replay.specs.Replay.{play_output, unless_bad, Plays, Prints, Replays};
+ghost use Rattle.up_replay.specs.Compiling.{joined};
+ghost use Rattle.up_replay.specs.Replay.{play_output, unless_bad, Plays, PlaysFirst, Prints, PrintsFolders, Replays};
 
+use crate::compiled::{Compiled, compile, compile_all, joined};
 use crate::reread::reread;
 use crate::running::push_run;
 use std::alloc::{AllocError, Global};
+use std::collections::VecDeque;
 use std::io;
 use std::io::{ErrorKind, Read, Write};
 use up_conf::Folder;
@@ -24,18 +27,22 @@ use up_model::ExitStatus;
 use up_print::check::faults_and_compile;
 use up_print::{Printed, cannot_use, push_bad_step, write_printed};
 use up_script::bundle::MAX_BUNDLE;
-use up_script::{Bundle, ScriptInputs, read_bundle, read_inputs};
+use up_script::{Bundle, ScriptInputs, read_bundle, read_inputs_with};
 use up_text::{Env, Items};
 
-// The inputs of a bundle, or its first bad line.
-fn inputs_in(alloc: Global, bundle: &Bundle<'_>) -> Result<Result<ScriptInputs, u32>, AllocError>
+// The inputs of a bundle, or its first bad line. Its loads take the tables.
+fn inputs_in(
+    alloc: Global,
+    tables: &mut VecDeque<Table>,
+    bundle: &Bundle<'_>,
+) -> Result<Result<ScriptInputs, u32>, AllocError>
     requires { bundle.now.line + length bundle.now.script.now < 4294967295 }
     ensures { IfOk result (λ read. read ≡ unless_bad bundle.now.bad
-        (script_inputs bundle.now.line bundle.now.script.now)) }
+        (script_inputs tables.old.items bundle.now.line bundle.now.script.now)) }
 {
     match bundle.bad {
         Some(line) => Ok(Err(line)),
-        None => read_inputs(alloc, bundle.script, bundle.line),
+        None => read_inputs_with(alloc, tables, bundle.script, bundle.line),
     }
 }
 
@@ -103,17 +110,105 @@ pub fn render_folder(
     }
 }
 
-/// What is printed for the bytes of a bundle.
-#[tactic(auto, unfolding(crate::specs::Replay::bundle_printed, crate::specs::Replay::inputs_in), using(up_script::proofs::Sizes::script_small, crate::proofs::Limits::prints_long))]
-pub fn render_bundle(alloc: Global, bytes: &[u8]) -> Result<Printed, AllocError>
-    ensures { IfOk result (Prints bytes.now) }
+// What is printed once all folders are compiled.
+fn play_all(
+    alloc: Global,
+    bundle: &Bundle<'_>,
+    faults: Printed,
+    table: Table,
+    later: Compiled,
+    base: Env,
+    name: &str,
+) -> Result<Printed, AllocError>
+    requires { bundle.now.line + length bundle.now.script.now < 4294967295 }
+    ensures { IfOk result (λ made. made ≡ play_output base name.now table (joined faults later.faults)
+        (unless_bad bundle.now.bad (script_inputs later.tables.items bundle.now.line bundle.now.script.now))) }
+{
+    let Compiled {
+        faults: more,
+        mut tables,
+    } = later;
+    let faults = joined(faults, &more)?;
+    let read = inputs_in(alloc, &mut tables, bundle)?;
+    drop(tables);
+    play(alloc, faults, table, base, name, read)
+}
+
+// What is printed once the first folder is compiled.
+#[tactic(auto, using(crate::proofs::Compiling::first_plays, crate::proofs::Compiling::first_refused))]
+fn play_first(
+    alloc: Global,
+    bundle: &Bundle<'_>,
+    faults: Printed,
+    table: Table,
+    base: Env,
+    name: &str,
+) -> Result<Printed, AllocError>
+    requires { bundle.now.line + length bundle.now.script.now < 4294967295 }
+    ensures { IfOk result (PlaysFirst base name.now bundle.now.later faults table (λ tables. unless_bad bundle.now.bad
+        (script_inputs tables bundle.now.line bundle.now.script.now))) }
+{
+    match compile_all(alloc, bundle.later.as_slice()) {
+        Ok(Ok(later)) => play_all(alloc, bundle, faults, table, later, base, name),
+        Ok(Err(refusal)) => {
+            drop(base);
+            drop(table);
+            drop(faults);
+            Ok(refusal)
+        }
+        Err(error) => {
+            drop(base);
+            drop(table);
+            drop(faults);
+            Err(error)
+        }
+    }
+}
+
+// What is printed for a bundle that was read.
+fn render_read(
+    alloc: Global,
+    bundle: &Bundle<'_>,
+    base: Env,
+    name: &str,
+) -> Result<Printed, AllocError>
+    requires { bundle.now.line + length bundle.now.script.now < 4294967295 }
+    ensures { IfOk result (PrintsFolders base name.now bundle.now.folder bundle.now.later (λ tables. unless_bad bundle.now.bad
+        (script_inputs tables bundle.now.line bundle.now.script.now))) }
+{
+    let (faults, table) = compile(alloc, &bundle.folder)?;
+    match table {
+        Some(table) => play_first(alloc, bundle, faults, table, base, name),
+        None => {
+            drop(base);
+            Ok(faults)
+        }
+    }
+}
+
+/// What is printed for the bytes of a bundle with this name. Each process gets the base environment.
+#[tactic(auto, using(up_script::proofs::Sizes::script_small, crate::proofs::Limits::prints_long, crate::proofs::Limits::prints_read))]
+pub fn play_bundle(
+    alloc: Global,
+    bytes: &[u8],
+    base: Env,
+    name: &str,
+) -> Result<Printed, AllocError>
+    ensures { IfOk result (Prints base name.now bytes.now) }
 {
     if bytes.len() > MAX_BUNDLE {
-        return cannot_use(alloc, "-");
+        drop(base);
+        return cannot_use(alloc, name);
     }
     let bundle = read_bundle(alloc, bytes)?;
-    let read = inputs_in(alloc, &bundle)?;
-    render_folder(alloc, &bundle.folder, Env::new(alloc), "-", read)
+    render_read(alloc, &bundle, base, name)
+}
+
+/// What is printed for the bytes of a bundle on standard input.
+pub fn render_bundle(alloc: Global, bytes: &[u8]) -> Result<Printed, AllocError>
+    ensures { IfOk result (Prints [] (codes "-") bytes.now) }
+{
+    play_bundle(alloc, bytes, Env::new(alloc), "-")
 }
 
 // All bytes, but at most one more than a bundle may have.

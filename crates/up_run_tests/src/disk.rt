@@ -80,7 +80,7 @@ fn a_folder_is_checked(rt: HostRuntime) -> Result<(), Fail> {
     Ok(())
 }
 
-static REPLAYS: [Step; 4] = [
+static REPLAYS: [Step; 5] = [
     (&[], "initd: cannot use @/up.script\n", 3),
     (
         &[
@@ -98,6 +98,11 @@ static REPLAYS: [Step; 4] = [
     (
         &[("up.script", b"emit go\nturn 3 3\n")],
         "a.override:2: 1 UnknownStanza\n@/up.script:2: bad step\n",
+        2,
+    ),
+    (
+        &[("up.script", b"emit go\n\nload 1\n")],
+        "a.override:2: 1 UnknownStanza\n@/up.script:3: bad step\n",
         2,
     ),
 ];

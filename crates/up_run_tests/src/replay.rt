@@ -1,6 +1,7 @@
 //! What is printed for bundles whose reader or writer fails, for folders, inputs and outputs. Whole bundles stand in `tests/rows` and
 //! `tests/bundles.py`, and the built program replays them.
 mod distribution;
+mod folders;
 mod inputs;
 mod lines;
 mod memory;
