@@ -1,7 +1,6 @@
 -- Folders are compiled one after another.
 use Rattle.std.proofs.Common.{◌≡◌, ◌+◌, ◌<◌, ◌≤◌, List, [], ◌∷◌, ◌++◌, length, take, drop, get_or, Option, None, Some, Result, Ok, Err, refl, sym, ap, subst, ◌∙◌, append_assoc, append-nil}
 use Rattle.std.specs.Prelude.{ℕ, IfOk, codes}
-use Rattle.std.specs.List.{flat_map}
 use Rattle.std.proofs.lemmas.List.{drop_more, take_more, take_all, take-append-drop}
 use Rattle.std.proofs.lemmas.Option.{none-some, same_Some}
 use Rattle.up_conf.specs.declared.folder.File.{File}
@@ -14,7 +13,7 @@ use Rattle.up_print.specs.declared.printed.Printed.{Printed}
 use Rattle.up_print.specs.Folders.{compile_outcome, faults_output, fault_line, prints, status_of, table_of, IsCompiled, IsTable, PrintsFaults}
 use Rattle.up_print.proofs.Reports.{any_report}
 use Rattle.up_replay.specs.declared.compiled.Compiled.{Compiled}
-use Rattle.up_replay.specs.Compiling.{all_compiled, with_folder, joined, status_with, Adds, AreCompiled, HasTables, IsOutcome, IsRefused}
+use Rattle.up_replay.specs.Compiling.{all_compiled, with_folder, joined, Adds, AreCompiled, HasTables, IsOutcome, IsRefused}
 use Rattle.up_replay.specs.Replay.{after_first, folders_output, play_output, PlaysFirst, PrintsFolders}
 use Rattle.up_replay.proofs.Outcomes.{same_table}
 use Rattle.up_replay.proofs.Telling.{flat-append}

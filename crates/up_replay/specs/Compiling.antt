@@ -1,5 +1,5 @@
 -- What folders are compiled to, one after another.
-use Rattle.std.specs.Prelude.{◌≡◌, List, [], ◌∷◌, ◌++◌, Result, Ok, Err}
+use Rattle.std.specs.Prelude.{◌≡◌, List, [], ◌∷◌, ◌++◌, Option, Result, Ok, Err}
 use Rattle.up_conf.specs.declared.folder.File.{File}
 use Rattle.up_conf.specs.declared.job.JobDef.{JobDef}
 use Rattle.up_conf.specs.declared.report.Fault.{Fault}
@@ -9,7 +9,6 @@ use Rattle.up_model.specs.declared.exit_status.ExitStatus.TheVariants.{Done, Fai
 use Rattle.up_print.specs.declared.printed.Printed.{Printed}
 use Rattle.up_print.specs.Folders.{faults_output, prints, table_of, IsCompiled}
 use Rattle.up_replay.specs.declared.compiled.Compiled.{Compiled}
-use Rattle.std.specs.Prelude.{Option}
 
 -- each of these folders is compiled, with some report of its faults
 abbrev pub AreCompiled : List (List File) → List (Result (List JobDef × List Fault) CompileError) → Type 0
