@@ -1,5 +1,5 @@
 """Runs whose configuration is read again for a client: that of a folder, and that of an image which is compiled once more."""
-from harness import Run, check, initd, wait_for, write
+from harness import SEARCHED, Run, check, initd, wait_for, without_comments, write
 
 SLEEPS = "exec sleep 1006\n"
 
@@ -57,6 +57,52 @@ def over_an_image(work):
         run.end()
 
 
+def recorded(work):
+    """A run whose jobs are exchanged is recorded as a bundle, whose replay prints what the run told; a refused reload ends the record."""
+    folder, record = work / "recorded", work / "run.record"
+    write(folder, {"a.conf": "start on startup\nexec sleep 1006\n", "b.conf": "start on started a\nrespawn\nexec sleep 1006\n"})
+    run = Run(work, "recorded", folder, "--verbose", "--record", record)
+    try:
+        check("two services come up", wait_for(lambda: run.pid("b")), True)
+        head = record.read_text().splitlines()[0]
+        check("the record is a script", head, f"# initd replay {folder} {record} --env {SEARCHED}")
+        for jobs in ({"c.conf": "start on go\nexec sleep 1006\n"}, {"c.conf": "start on go\ntask\nexec /bin/true\n"}, {"d.conf": "exec sleep 1006\n"}):
+            for old in folder.iterdir():
+                old.unlink()
+            write(folder, jobs)
+            check("other jobs are loaded", run.ask("reload-configuration"), ("", 0))
+            run.ask("emit", "go")
+        check("one goes on", run.ask("restart", "b")[1], 1)
+        check("and is stopped", run.ask("stop", "b"), ("b stop/waiting\n", 0))
+        lines = record.read_text().splitlines()
+        check("the record is a bundle", (lines[0], lines.count("%folder")), ("%file a.conf", 3))
+        script = lines.index("%script")
+        check("its script begins with a comment", lines[script + 1], f"# initd replay --bundle {record} --env {SEARCHED}")
+        check("nothing is left beside it", sorted(path.name for path in work.glob("run.record*")), ["run.record"])
+    finally:
+        told = run.end()
+    again, status = initd("replay", "--bundle", record, "--env", SEARCHED)
+    check("its replay prints the same", (again, status), (without_comments(told), 0))
+
+
+def ended(work):
+    """A reload that is refused ends the record, which says so."""
+    folder, image, record = work / "ended", work / "ended.image", work / "ended.record"
+    write(folder, {"a.conf": "start on startup\n" + SLEEPS})
+    initd("compile", folder, image)
+    run = Run(work, "ended", image, "--record", record)
+    try:
+        image.write_bytes(b"")
+        check("an empty image is refused", run.ask("reload-configuration"), ("initctl: Configuration refused: 32\n", 1))
+        wanted = "# The record ends: no step says what came next: load 1"
+        check("which ends the record", record.read_text().splitlines()[-1], wanted)
+        check("and is said", "initd: the record ends: no step of a script says what came next" in run.err.read_text(), True)
+    finally:
+        run.end()
+
+
 def all_of(work):
+    recorded(work)
+    ended(work)
     over_a_folder(work)
     over_an_image(work)
