@@ -72,7 +72,7 @@ def recorded(work):
             write(folder, jobs)
             check("other jobs are loaded", run.ask("reload-configuration"), ("", 0))
             run.ask("emit", "go")
-        check("one goes on", run.ask("restart", "b")[1], 1)
+        check("one whose file is gone can't be restarted", run.ask("restart", "b"), ("initctl: Unknown job: b\n", 1))
         check("and is stopped", run.ask("stop", "b"), ("b stop/waiting\n", 0))
         lines = record.read_text().splitlines()
         check("the record is a bundle", (lines[0], lines.count("%folder")), ("%file a.conf", 3))
