@@ -1,5 +1,5 @@
 -- What is printed depends on no more than one byte past the most that a bundle has.
-use Rattle.std.proofs.Common.{◌≡◌, ℕ, ◌<◌, ◌≤◌, true, false, List, length, take, nat_le, length-take, arith, refl, sym, ap, ◌⊎◌, ⊎_elim, subst, inl, inr, ◌∙◌, Option, Some, None, codes, ◌×◌, []}
+use Rattle.std.proofs.Common.{◌≡◌, ℕ, ◌<◌, ◌≤◌, true, false, List, length, take, nat_le, length-take, arith, refl, sym, ap, ◌⊎◌, ⊎_elim, subst, inl, inr, ◌∙◌, Option, Some, None, codes, []}
 use Rattle.std.specs.Prelude.{IfSome}
 use Rattle.std.specs.Io.KnownBytes.{Appends}
 use Rattle.std.proofs.lemmas.Bool.{cases_lt}
