@@ -151,23 +151,43 @@ impl<'a, W: Read + Write + OpenFile + Drop> Record<'a, W> {
         Ok((at, at.saturating_add(script)))
     }
 
-    // Writes the record with one folder more beside it, and puts that in its place.
+    // Writes the record with one folder more to a new file, and gives that its name. Returns what `write_anew` does.
+    fn fill<R: Files<File = W>>(
+        &self,
+        rt: &R,
+        temporary: &str,
+        new: &mut W,
+        jobs: &[u8],
+    ) -> Result<(u64, u64), Ending> {
+        let mut old = File::open(rt, self.path)?;
+        let made = self.write_anew(&mut old, new, jobs);
+        drop(old);
+        let places = made?;
+        rename(rt, temporary, self.path)?;
+        Ok(places)
+    }
+
+    // Puts the record with one folder more in its place. It is written beside it, to a file that isn't there yet, and that goes if it isn't whole.
     fn replace<R: Files<File = W>>(
         &mut self,
         rt: &R,
         temporary: &str,
         jobs: &[u8],
     ) -> Result<(), Ending> {
-        let mut old = File::open(rt, self.path)?;
         let mut new = File::create_new(rt, temporary)?;
-        let made = self.write_anew(&mut old, &mut new, jobs);
-        drop(old);
-        let (at, length) = made?;
-        rename(rt, temporary, self.path)?;
-        self.file = new;
-        self.script_at = Some(at);
-        self.written = length;
-        Ok(())
+        match self.fill(rt, temporary, &mut new, jobs) {
+            Ok((at, length)) => {
+                self.file = new;
+                self.script_at = Some(at);
+                self.written = length;
+                Ok(())
+            }
+            Err(ending) => {
+                drop(new);
+                let _ = remove_file(rt, temporary);
+                Err(ending)
+            }
+        }
     }
 
     // Adds a folder of these jobs, after which a step loads them.
@@ -182,10 +202,7 @@ impl<'a, W: Read + Write + OpenFile + Drop> Record<'a, W> {
             return Err(Ending::NoFiles);
         };
         let temporary = format!(in alloc; "{}.new", self.path)?;
-        if let Err(ending) = self.replace(rt, temporary.as_str(), jobs.as_slice()) {
-            let _ = remove_file(rt, temporary.as_str());
-            return Err(ending);
-        }
+        self.replace(rt, temporary.as_str(), jobs.as_slice())?;
         let line = format!(in alloc; "load {id}\n")?;
         self.waiting.extend_from_slice(line.as_bytes())?;
         Ok(())
