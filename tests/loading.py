@@ -94,6 +94,7 @@ def ended(work):
     try:
         image.write_bytes(b"")
         check("an empty image is refused", run.ask("reload-configuration"), ("initctl: Configuration refused: 32\n", 1))
+        wait_for(lambda: "the record ends" in run.err.read_text())
         wanted = "# The record ends: no step says what came next: load 1"
         check("which ends the record", record.read_text().splitlines()[-1], wanted)
         check("and is said", "initd: the record ends: no step of a script says what came next" in run.err.read_text(), True)
@@ -109,6 +110,7 @@ def beside(work):
     run = Run(work, "beside", folder, "--record", record)
     try:
         check("a folder is read again, unrecorded", run.ask("reload-configuration"), ("", 0))
+        wait_for(lambda: "the record ends" in run.err.read_text())
         check("the file beside the record stays", (work / "beside.record.new").read_text(), "somebody's")
         check("the record ends", run.err.read_text(), "initd: the record ends: File exists\n")
         check("as a script", record.read_text().startswith("# initd replay "), True)
