@@ -102,25 +102,8 @@ def ended(work):
         run.end()
 
 
-def beside(work):
-    """A file that is there already beside the record stays, and the record ends."""
-    folder, record = work / "beside", work / "beside.record"
-    write(folder, {"a.conf": SLEEPS})
-    (work / "beside.record.new").write_text("somebody's")
-    run = Run(work, "beside", folder, "--record", record)
-    try:
-        check("a folder is read again, unrecorded", run.ask("reload-configuration"), ("", 0))
-        wait_for(lambda: "the record ends" in run.err.read_text())
-        check("the file beside the record stays", (work / "beside.record.new").read_text(), "somebody's")
-        check("the record ends", run.err.read_text(), "initd: the record ends: File exists\n")
-        check("as a script", record.read_text().startswith("# initd replay "), True)
-    finally:
-        run.end()
-
-
 def all_of(work):
     recorded(work)
     ended(work)
-    beside(work)
     over_a_folder(work)
     over_an_image(work)
